@@ -1,3 +1,6 @@
-mod ConversionLemmas
 mod DigitLemmas
-mod ReadLemmas
+mod FrameLemmas
+mod InputLemmas
+mod LineLemmas
+mod RecordLemmas
+mod StepLemmas

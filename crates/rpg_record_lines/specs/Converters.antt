@@ -1,15 +1,49 @@
 -- What a converter is made for.
-use Rattle.std.specs.Prelude.{Bool, List}
+use Rattle.std.specs.Prelude.{ℕ, Bool, false, List, Option}
 use Rattle.rpg_records.specs.Translations.{is_low_blank, page_of}
 use Rattle.rpg_records.specs.declared.translation.Page.{Page}
+use Rattle.rpg_records.specs.declared.translation.Page.TheVariants as pages
+use Rattle.rpg_record_lines.specs.Lines.{characters_of, line_of, whole_line_of}
+use Rattle.rpg_record_lines.specs.Outcomes.{Outcome}
+use Rattle.rpg_record_lines.specs.Records.{checked_record, record_of, typed_record}
+use Rattle.rpg_record_lines.specs.Types.{first_type}
 use Rattle.rpg_record_lines.specs.declared.layout.RecordType.{RecordType}
 use Rattle.rpg_record_lines.specs.declared.line.Converter.{Converter}
 
 abbrev pub types_of : Converter → List RecordType
 types_of c = c.layout.now.types.items
 
+abbrev pub length_of : Converter → ℕ
+length_of c = c.layout.now.length
+
 abbrev pub page_of_records : Converter → Page
 page_of_records c = page_of c.records
 
 abbrev pub is_low_blank_of : Converter → Bool
 is_low_blank_of c = is_low_blank c.records
+
+-- the type that columns are of
+abbrev pub type_again : Converter → List ℕ → Option RecordType
+type_again c columns = first_type pages.Ascii false columns (types_of c)
+
+-- ---- what it makes
+
+abbrev pub characters_by : Converter → RecordType → List ℕ → Outcome
+characters_by c t = characters_of (page_of_records c) (is_low_blank_of c) t.columns.items
+
+abbrev pub whole_line_by : Converter → RecordType → List ℕ → Outcome
+whole_line_by c t r = whole_line_of (page_of_records c) (is_low_blank_of c) (types_of c) r t
+
+-- the line of a record
+abbrev pub line_by : Converter → List ℕ → Outcome
+line_by c = line_of (page_of_records c) (is_low_blank_of c) (types_of c)
+
+abbrev pub checked_by : Converter → RecordType → List ℕ → Outcome
+checked_by c = checked_record (page_of_records c) (is_low_blank_of c) (types_of c)
+
+abbrev pub typed_by : Converter → List ℕ → List ℕ → RecordType → Outcome
+typed_by c = typed_record (page_of_records c) (is_low_blank_of c) (types_of c)
+
+-- the record of a line
+abbrev pub record_by : Converter → List ℕ → Outcome
+record_by c = record_of (page_of_records c) (is_low_blank_of c) (types_of c) (length_of c)

@@ -1,11 +1,13 @@
 -- Records as lines.
+pub mod Conversions
 pub mod Converters
+pub mod Cuts
 pub mod Fields
-pub mod Files
-pub mod Formats
 pub mod Frames
+pub mod Inputs
 pub mod Lines
-pub mod Makers
 pub mod Numbers
-pub mod Refusals
+pub mod Outcomes
+pub mod Records
 pub mod Types
+pub mod Ways

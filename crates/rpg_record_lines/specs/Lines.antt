@@ -1,25 +1,47 @@
 -- The line of a record.
-use Rattle.std.specs.Prelude.{ℕ, ◌==◌, ◌&&◌, not, Bool, false, if◌then◌else◌, List, Option, None, option_map, option_and_then}
-use Rattle.std.specs.List.{list_any}
+use Rattle.std.specs.Prelude.{ℕ, ◌+◌, ◌==◌, Bool, false, if◌then◌else◌, List, position, slice_index, Option, None, Some, option_map, Ok, Err}
 use Rattle.rpg_text.specs.Texts.{trimmed}
 use Rattle.rpg_records.specs.Columns.{image}
+use Rattle.rpg_records.specs.declared.column.Column.{Column}
 use Rattle.rpg_records.specs.declared.translation.Page.{Page}
 use Rattle.rpg_records.specs.declared.translation.Page.TheVariants as pages
-use Rattle.rpg_record_lines.specs.Numbers.{appended_digits, digits_of}
-use Rattle.rpg_record_lines.specs.Types.{first_type, is_card}
+use Rattle.rpg_record_lines.specs.Numbers.{digits_of}
+use Rattle.rpg_record_lines.specs.Outcomes.{Outcome, and_then, joined}
+use Rattle.rpg_record_lines.specs.Types.{card_of, first_type, is_card}
+use Rattle.rpg_record_lines.specs.declared.fault.RecordFault.{RecordFault}
+use Rattle.rpg_record_lines.specs.declared.fault.RecordFault.TheVariants as faults
 use Rattle.rpg_record_lines.specs.declared.layout.RecordType.{RecordType}
 
--- each column has a character, and by these the record is of the same type once more
-abbrev pub keeps_type : List RecordType → ℕ → List ℕ → Bool
-keeps_type types card columns = not (list_any (λ c. c == 0) columns) && is_card card (first_type pages.Ascii false columns types)
+-- these columns, unless the byte at a place is no character
+abbrev pub unless_bad : List ℕ → List ℕ → Option ℕ → Outcome
+unless_bad bytes columns None = Ok columns
+unless_bad bytes columns (Some place) = Err (faults.NoCharacter (place + 1) (slice_index bytes place))
 
--- characters for all columns, and after them the digits
-abbrev pub whole_line_of : Page → Bool → List RecordType → List ℕ → RecordType → Option (List ℕ)
-whole_line_of page low_blank types record_bytes t =
-    if keeps_type types t.card (image page low_blank t.columns.items record_bytes)
-    then appended_digits (digits_of record_bytes t.numbers.items) (image page low_blank t.columns.items record_bytes) else None
+-- the characters of a record's columns: 0 is none
+abbrev pub characters_of : Page → Bool → List Column → List ℕ → Outcome
+characters_of page low_blank kinds record_bytes =
+    unless_bad record_bytes (image page low_blank kinds record_bytes) (position (λ c. c == 0) (image page low_blank kinds record_bytes))
 
--- the line of a record, if it has one: without the blanks at the end
-abbrev pub line_of : Page → Bool → List RecordType → List ℕ → Option (List ℕ)
+-- what follows from the type of a record or of a line
+abbrev pub of_type : Option RecordType → (RecordType → Outcome) → Outcome
+of_type None next = Err faults.NoType
+of_type (Some t) next = next t
+
+-- by these columns a record is of another type, or of none
+abbrev pub other_line : RecordType → Option RecordType → RecordFault
+other_line t other = faults.OtherLine t.card (option_map card_of other)
+
+-- columns and the digits of a record after them, if by these columns it is of its type once more
+abbrev pub line_after : List RecordType → List ℕ → RecordType → List ℕ → Outcome
+line_after types record_bytes t columns =
+    if is_card t.card (first_type pages.Ascii false columns types) then joined (Ok columns) (digits_of record_bytes t.numbers.items)
+    else Err (other_line t (first_type pages.Ascii false columns types))
+
+-- the line of a record of a type, with the blanks at its end
+abbrev pub whole_line_of : Page → Bool → List RecordType → List ℕ → RecordType → Outcome
+whole_line_of page low_blank types record_bytes t = and_then (characters_of page low_blank t.columns.items record_bytes) (line_after types record_bytes t)
+
+-- the line of a record: without the blanks at the end
+abbrev pub line_of : Page → Bool → List RecordType → List ℕ → Outcome
 line_of page low_blank types record_bytes =
-    option_and_then (λ t. option_map trimmed (whole_line_of page low_blank types record_bytes t)) (first_type page low_blank record_bytes types)
+    of_type (first_type page low_blank record_bytes types) (λ t. and_then (whole_line_of page low_blank types record_bytes t) (λ line. Ok (trimmed line)))

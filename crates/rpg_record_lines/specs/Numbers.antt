@@ -1,8 +1,13 @@
--- The digits of a record's packed and binary fields.
-use Rattle.std.specs.Prelude.{ℕ, ◌+◌, ◌-◌, nat_le, if◌then◌else◌, List, [], ◌∷◌, ◌++◌, length, slice_range, Option, Some, None, option_map}
-use Rattle.std.specs.Fmt.{◌++?◌}
-use Rattle.rpg_records.specs.Unpacked.{binary_text, packed_text}
+-- The digits of a record's packed and binary fields, and the bytes of such digits.
+use Rattle.std.specs.Prelude.{ℕ, ◌+◌, ◌-◌, ◌∷◌, min, nat_le, nat_lt, if◌then◌else◌, List, [], ◌++◌, drop, length, replicate, slice_range, take, Option, Some, None, Result, Ok, Err}
+use Rattle.rpg_records.specs.Unpacked.{binary_text, bytes_of_binary_text, bytes_of_packed_text, packed_text}
+use Rattle.rpg_records.specs.declared.digits.NumberFault.{NumberFault}
+use Rattle.rpg_records.specs.declared.digits.NumberFault.TheVariants as numbers
+use Rattle.rpg_record_lines.specs.Cuts.{counted}
 use Rattle.rpg_record_lines.specs.Fields.{digit_count}
+use Rattle.rpg_record_lines.specs.Outcomes.{Outcome, and_then, joined, some_or}
+use Rattle.rpg_record_lines.specs.declared.fault.FieldBytes.{FieldBytes}
+use Rattle.rpg_record_lines.specs.declared.fault.RecordFault.TheVariants as faults
 use Rattle.rpg_record_lines.specs.declared.layout.NumberField.{NumberField}
 use Rattle.rpg_record_lines.specs.declared.layout.NumberForm.{NumberForm}
 use Rattle.rpg_record_lines.specs.declared.layout.NumberForm.TheVariants as forms
@@ -13,20 +18,62 @@ field_size f = f.last - f.first + 1
 abbrev pub field_digits : NumberField → ℕ
 field_digits f = digit_count f.form (field_size f)
 
--- the digits of bytes, if they are a number that has them
-abbrev pub number_text : NumberForm → List ℕ → Option (List ℕ)
-number_text forms.Packed bytes = packed_text bytes
-number_text forms.Binary bytes = binary_text (digit_count forms.Binary (length bytes)) bytes
+-- ---- digits of bytes
 
--- those of a record's field, which the record must have
-abbrev pub field_text : List ℕ → NumberField → Option (List ℕ)
-field_text record_bytes f = if nat_le f.last (length record_bytes) then number_text f.form (slice_range record_bytes (f.first - 1) f.last) else None
+-- the digits of bytes, or why they have none
+abbrev pub digits_in : NumberForm → List ℕ → Result (List ℕ) NumberFault
+digits_in forms.Packed bytes = some_or numbers.NotPacked (packed_text bytes)
+digits_in forms.Binary bytes = some_or numbers.TooLarge (binary_text (digit_count forms.Binary (length bytes)) bytes)
 
--- the digits of all fields, in order, if all are numbers
-abbrev pub digits_of : List ℕ → List NumberField → Option (List ℕ)
-digits_of record_bytes [] = Some []
-digits_of record_bytes (f ∷ fs) = field_text record_bytes f ++? digits_of record_bytes fs
+-- the first 8 bytes of a field, and how many it has
+abbrev pub field_bytes : List ℕ → FieldBytes
+field_bytes bytes = record { bytes = take 8 bytes ++ replicate (8 - length bytes) 0; len = min (length bytes) 8 }
 
--- digits after a text, if they are there
-abbrev pub appended_digits : Option (List ℕ) → List ℕ → Option (List ℕ)
-appended_digits digits text = option_map (λ more. text ++ more) digits
+-- digits, or what is wrong with the field of these bytes
+abbrev pub field_outcome : NumberField → List ℕ → Result (List ℕ) NumberFault → Outcome
+field_outcome f bytes (Ok digits) = Ok digits
+field_outcome f bytes (Err fault) = Err (faults.BadNumber f.card f.first f.last (field_bytes bytes) fault)
+
+-- the bytes of a record's field
+abbrev pub bytes_at : NumberField → List ℕ → List ℕ
+bytes_at f record_bytes = slice_range record_bytes (f.first - 1) f.last
+
+-- the digits of a record's field, which the record must have
+abbrev pub field_text : List ℕ → NumberField → Outcome
+field_text record_bytes f =
+    if nat_le f.last (length record_bytes) then field_outcome f (bytes_at f record_bytes) (digits_in f.form (bytes_at f record_bytes)) else Err faults.NoType
+
+-- the digits of all fields, in order
+abbrev pub digits_of : List ℕ → List NumberField → Outcome
+digits_of record_bytes [] = Ok []
+digits_of record_bytes (f ∷ fs) = joined (field_text record_bytes f) (digits_of record_bytes fs)
+
+-- ---- bytes of digits
+
+-- the k bytes of digits, if they are a number
+abbrev pub number_bytes : NumberForm → ℕ → List ℕ → Option (List ℕ)
+number_bytes forms.Packed k digits = bytes_of_packed_text k digits
+number_bytes forms.Binary k digits = bytes_of_binary_text k digits
+
+-- a text in n columns: blanks follow its end
+abbrev pub filled : ℕ → List ℕ → List ℕ
+filled n text = take n text ++ replicate (n - length text) 32
+
+-- the digits of a field that stand from a place of a line on
+abbrev pub digits_at : List ℕ → ℕ → NumberField → List ℕ
+digits_at line place f = filled (field_digits f) (drop place line)
+
+-- a record with a field's bytes, or what is wrong with the digits at this place of the line
+abbrev pub with_bytes : NumberField → ℕ → List ℕ → Option (List ℕ) → Outcome
+with_bytes f place record_bytes (Some bytes) = Ok ((take (f.first - 1) record_bytes ++ bytes) ++ drop f.last record_bytes)
+with_bytes f place record_bytes None = Err (faults.BadDigits f.card (counted (place + 1)) (counted (place + field_digits f)))
+
+-- a record, which must have the field, with the bytes of a line's digits
+abbrev pub with_number : List ℕ → ℕ → List ℕ → NumberField → Outcome
+with_number line place record_bytes f =
+    if nat_le f.last (length record_bytes) then with_bytes f place record_bytes (number_bytes f.form (field_size f) (digits_at line place f)) else Err faults.NoType
+
+-- a record with the bytes of all digits, which stand one after the other from a place of a line on, to its end
+abbrev pub with_numbers : List ℕ → List NumberField → ℕ → List ℕ → Outcome
+with_numbers line [] place record_bytes = if nat_lt place (length line) then Err (faults.TooLong (length line)) else Ok record_bytes
+with_numbers line (f ∷ fs) place record_bytes = and_then (with_number line place record_bytes f) (with_numbers line fs (counted (place + field_digits f)))

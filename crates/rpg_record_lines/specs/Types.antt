@@ -29,3 +29,6 @@ first_type page low_blank record_bytes (t ∷ ts) = if is_of page low_blank reco
 abbrev pub is_card : ℕ → Option RecordType → Bool
 is_card card None = false
 is_card card (Some t) = t.card == card
+
+abbrev pub card_of : RecordType → ℕ
+card_of t = t.card

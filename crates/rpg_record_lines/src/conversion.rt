@@ -1,19 +1,19 @@
 //! All records of an input as lines, and all lines as records.
 
-ghost use Rattle.std.specs.Prelude.{◌≡◌, ◌≢◌, ◌-◌, ◌++◌, replicate, vec_len, Some, option_map, IfOk, IfSome, OnOk};
-ghost use Rattle.std.specs.Io.KnownBytes.{Appends};
-ghost use Rattle.rpg_record_lines.specs.Files.{HasConverted, ConvertsRest, is_dropped, whole_text_of};
-ghost use Rattle.rpg_record_lines.specs.Formats.{file_for};
-ghost use Rattle.rpg_record_lines.specs.declared.frames.Framing.TheVariants as framings;
-ghost use Rattle.rpg_record_lines.specs.Frames.{GivesFrame, framing_of, most_of, remaining_of};
-ghost use Rattle.rpg_record_lines.specs.Makers.{TakesStep, file_of};
+ghost use Rattle.std.specs.Prelude.{◌≡◌, ◌+◌, ◌<◌, ◌≤◌, List, IfOk, IfSome};
+ghost use Rattle.rpg_record_lines.specs.Conversions.{EndsFull, HasConverted, counts_after, fault_at, frame_stop, line_stop};
+ghost use Rattle.rpg_record_lines.specs.Inputs.{framing_of, most_of, position_of, remaining_of};
+ghost use Rattle.rpg_record_lines.specs.Ways.{Steps, place_at, to_lines, to_records, way_by, way_of};
 
 use crate::fault::{LineFault, RecordFault};
 use crate::frames::{FrameFault, Frames, Framing, Next};
+use crate::input::InputFault;
 use crate::layout::Layout;
 use crate::line::Converter;
+use crate::maker::{Maker, Making, Room};
+use crate::sending::send;
 use rpg_records::Page;
-use std::alloc::{AllocError, AllocFailed, Global};
+use std::alloc::{AllocError, Global};
 use std::io::{Read, Write};
 
 /// The most records of a file.
@@ -38,17 +38,35 @@ pub struct Counts {
 }
 
 impl Counts {
-    fn after(self, step: Step) -> Self {
-        match step {
-            Step::Written => Counts {
-                records: self.records.saturating_add(1),
-                ..self
-            },
-            Step::Dropped => Counts {
-                dropped: self.dropped.saturating_add(1),
-                ..self
-            },
-            Step::End => self,
+    ghost use Rattle.std.specs.Prelude.{Some, None, ℕ};
+
+    /// The number of the next record, from 1.
+    fn next_number(&self) -> u64
+        requires { self.now.records + self.now.dropped ≤ 10000000 }
+        ensures { result ≡ self.now.records + self.now.dropped + 1 }
+    {
+        self.records + self.dropped + 1
+    }
+
+    /// With one more that is left out.
+    fn with_dropped(self) -> Self
+        requires { self.records + self.dropped ≤ 10000000 }
+        ensures { result ≡ counts_after self None }
+    {
+        Counts {
+            records: self.records,
+            dropped: self.dropped + 1,
+        }
+    }
+
+    /// With one more that is written.
+    fn with_written(self) -> Self
+        requires { self.records + self.dropped ≤ 10000000 }
+        ensures { (text : List ℕ) → result ≡ counts_after self (Some text) }
+    {
+        Counts {
+            records: self.records + 1,
+            dropped: self.dropped,
         }
     }
 }
@@ -70,196 +88,141 @@ pub enum ConversionFault {
 }
 
 impl From<AllocError> for ConversionFault {
+    ghost use Rattle.std.specs.Prelude.{◌≡◌};
+    ghost use Rattle.rpg_record_lines.specs.declared.conversion.ConversionFault.TheVariants.{NoMemory};
+
+    ghost from_gives = { λ _ e. e ≡ NoMemory };
+
     fn from(_: AllocError) -> Self {
         ConversionFault::NoMemory
     }
 }
 
-impl<T: Drop> From<AllocFailed<T>> for ConversionFault {
-    fn from(_: AllocFailed<T>) -> Self {
-        ConversionFault::NoMemory
+fn refused(counts: Counts, offset: u64, fault: RecordFault) -> ConversionFault
+    requires { counts.records + counts.dropped ≤ 10000000 }
+    ensures { result ≡ fault_at (record { counts = counts; offset = offset }) fault }
+{
+    ConversionFault::Record {
+        number: counts.next_number(),
+        offset,
+        fault,
     }
 }
 
-fn frame_fault(number: u64, offset: u64, fault: FrameFault) -> ConversionFault {
+fn frame_fault(counts: Counts, offset: u64, fault: FrameFault) -> ConversionFault
+    requires { counts.records + counts.dropped ≤ 10000000 }
+    ensures { result ≡ frame_stop (record { counts = counts; offset = offset }) fault }
+{
     match fault {
-        FrameFault::Device => ConversionFault::Read,
-        FrameFault::NoMemory => ConversionFault::NoMemory,
-        FrameFault::Record(fault) => ConversionFault::Record {
-            number,
-            offset,
-            fault,
-        },
+        FrameFault::Input(InputFault::Device) => ConversionFault::Read,
+        FrameFault::Input(InputFault::NoMemory) => ConversionFault::NoMemory,
+        FrameFault::Record(fault) => refused(counts, offset, fault),
     }
 }
 
-fn line_fault(number: u64, offset: u64, fault: LineFault) -> ConversionFault {
+fn line_fault(counts: Counts, offset: u64, fault: LineFault) -> ConversionFault
+    requires { counts.records + counts.dropped ≤ 10000000 }
+    ensures { result ≡ line_stop (record { counts = counts; offset = offset }) fault }
+{
     match fault {
         LineFault::NoMemory => ConversionFault::NoMemory,
-        LineFault::Record(fault) => ConversionFault::Record {
-            number,
-            offset,
-            fault,
-        },
+        LineFault::Record(fault) => refused(counts, offset, fault),
     }
 }
 
-fn send<W: Write>(writer: &mut W, bytes: &[u8]) -> Result<(), ConversionFault>
-    ensures { OnOk result (Appends (W.contents writer.old) (W.contents writer.new) bytes.now) }
+/// Writes what the next record brings. There are no counts at the end.
+#[tactic(auto, using(crate::proofs::StepLemmas::taken_end, crate::proofs::StepLemmas::fault_taken, crate::proofs::StepLemmas::refused_taken, crate::proofs::StepLemmas::dropped_taken, crate::proofs::StepLemmas::taken_part, crate::proofs::StepLemmas::text_taken))]
+fn convert_next<R: Read + Drop, W: Write>(
+    maker: &Maker<'_>,
+    frames: &mut Frames<R>,
+    room: &mut Room,
+    counts: Counts,
+    writer: &mut W,
+) -> Result<Option<Counts>, ConversionFault>
+    requires { counts.records + counts.dropped < 10000000 }
+    ensures framing { framing_of frames.new ≡ framing_of frames.old }
+    ensures most { most_of frames.new ≡ most_of frames.old }
+    ensures counts { IfOk result (λ more. IfSome more (λ more. more.records + more.dropped ≡ counts.records + counts.dropped + 1)) }
+    ensures step { Steps R.remaining maker.now counts frames.old frames.new (W.contents writer.old) (W.contents writer.new) result }
 {
-    match writer.write_all(bytes) {
-        Ok(()) => Ok(()),
+    let offset = frames.position();
+    match frames.next(&mut room.given) {
+        Ok(Next::Record) => {}
+        Ok(Next::End) => return Ok(None),
+        Err(fault) => return Err(frame_fault(counts, offset, fault)),
+    }
+    match maker.make(room) {
+        Ok(true) => {}
+        Ok(false) => return Ok(Some(counts.with_dropped())),
+        Err(fault) => return Err(line_fault(counts, offset, fault)),
+    }
+    match send(writer, room.made.as_slice()) {
+        Ok(()) => Ok(Some(counts.with_written())),
         Err(_) => Err(ConversionFault::Write),
     }
 }
 
-/// The next record of an input, by its number; none at the end.
-fn next_record<R: Read + Drop>(
+/// Ends a file that has as many records as it may.
+#[tactic(auto, using(crate::proofs::StepLemmas::last_end, crate::proofs::StepLemmas::full_record, crate::proofs::StepLemmas::full_fault))]
+fn end_full_file<R: Read + Drop>(
     frames: &mut Frames<R>,
-    number: u64,
-    record: &mut Vec<u8>,
-) -> Result<Next, ConversionFault>
-    ensures framing { framing_of frames.new ≡ framing_of frames.old }
-    ensures most { most_of frames.new ≡ most_of frames.old }
-    ensures record { framing_of frames.old ≢ framings.Lines → IfOk result (GivesFrame (framing_of frames.old) (most_of frames.old) (remaining_of R.remaining frames.old) (remaining_of R.remaining frames.new) record.new.items) }
+    room: &mut Room,
+    counts: Counts,
+) -> Result<Counts, ConversionFault>
+    requires { counts.records + counts.dropped ≤ 10000000 }
+    ensures { EndsFull (framing_of frames.old) (most_of frames.old) (place_at counts frames.old) (remaining_of R.remaining frames.old) result }
 {
-    match frames.next(record) {
-        Err(fault) => Err(frame_fault(number, frames.offset(), fault)),
-        Ok(Next::Record) if number > MOST_RECORDS => Err(ConversionFault::Record {
-            number,
-            offset: frames.offset(),
-            fault: RecordFault::TooMany,
-        }),
-        Ok(next) => Ok(next),
+    let offset = frames.position();
+    match frames.next(&mut room.given) {
+        Ok(Next::End) => Ok(counts),
+        Ok(Next::Record) => Err(refused(counts, offset, RecordFault::TooMany)),
+        Err(fault) => Err(frame_fault(counts, offset, fault)),
     }
 }
 
-/// Fills a record up to so many bytes.
-fn pad(record: &mut Vec<u8>, length: usize, blank: u8) -> Result<(), AllocError>
-    ensures { OnOk result (record.new.items ≡ record.old.items ++ replicate (length - vec_len record.old) blank) }
-{
-    while record.len() < length {
-        record.push(blank)?;
-    }
-    Ok(())
-}
-
-/// Makes lines of the records of an input, one after the other.
-#[derive(Drop)]
-struct LineMaker<'a> {
-    converter: Converter<'a>,
-    /// Records that begin with this byte are left out.
-    dropped: Option<u8>,
-    /// How many bytes a record has.
-    length: usize,
-    record: Vec<u8>,
-    line: Vec<u8>,
-}
-
-/// What became of a record.
-#[derive(Clone, Copy)]
-enum Step {
-    Written,
-    Dropped,
-    End,
-}
-
-impl<'a> LineMaker<'a> {
-    /// Room for one record and one line.
-    fn new(alloc: Global, layout: &'a Layout, format: RecordFormat) -> Result<Self, AllocError>
-        ensures file { IfOk result (λ maker. file_of format.framing maker ≡ file_for layout.now format) }
-    {
-        let length = usize::from(layout.length);
-        Ok(LineMaker {
-            converter: Converter::new(layout, format.page, format.low_blank),
-            dropped: format.dropped,
-            length,
-            record: Vec::with_capacity(alloc, length.saturating_add(2))?,
-            line: Vec::with_capacity(alloc, layout.columns().saturating_add(1))?,
-        })
-    }
-
-    /// Whether the last record is left out.
-    fn is_dropped(&self) -> bool
-        ensures { result ≡ is_dropped self.now.dropped self.now.record.items }
-    {
-        match (self.dropped, self.record.first()) {
-            (Some(byte), Some(first)) => *first == byte,
-            _ => false,
-        }
-    }
-
-    /// Makes the line of the last record, with its line feed.
-    fn make_line(&mut self) -> Result<(), LineFault>
-        ensures converter { self.new.converter ≡ self.old.converter }
-        ensures dropped { self.new.dropped ≡ self.old.dropped }
-        ensures length { self.new.length ≡ self.old.length }
-        ensures line { OnOk result (whole_text_of (file_of framings.EndToEnd self.old) self.old.record.items ≡ Some self.new.line.items) }
-    {
-        let blank = self.converter.byte_of(b' ');
-        pad(&mut self.record, self.length, blank)?;
-        self.converter
-            .write_line(self.record.as_slice(), &mut self.line)?;
-        self.line.push(b'\n')?;
-        Ok(())
-    }
-
-    /// Writes the line of the next record, if it isn't left out.
-    #[tactic(auto, using(crate::proofs::ConversionLemmas::converts_line))]
-    fn write_next<R: Read + Drop, W: Write>(
-        &mut self,
-        frames: &mut Frames<R>,
-        number: u64,
-        writer: &mut W,
-    ) -> Result<Step, ConversionFault>
-        requires { most_of frames.old ≡ self.old.length }
-        ensures converter { self.new.converter ≡ self.old.converter }
-        ensures dropped { self.new.dropped ≡ self.old.dropped }
-        ensures length { self.new.length ≡ self.old.length }
-        ensures framing { framing_of frames.new ≡ framing_of frames.old }
-        ensures most { most_of frames.new ≡ most_of frames.old }
-        ensures step { framing_of frames.old ≢ framings.Lines → IfOk result (TakesStep (file_of (framing_of frames.old) self.old) (remaining_of R.remaining frames.old) (remaining_of R.remaining frames.new) (W.contents writer.old) (W.contents writer.new)) }
-    {
-        if let Next::End = next_record(frames, number, &mut self.record)? {
-            return Ok(Step::End);
-        }
-        if self.is_dropped() {
-            return Ok(Step::Dropped);
-        }
-        if let Err(fault) = self.make_line() {
-            return Err(line_fault(number, frames.offset(), fault));
-        }
-        send(writer, self.line.as_slice())?;
-        Ok(Step::Written)
-    }
-}
-
-/// Writes the lines of all records that are left.
-#[tactic(auto, using(crate::proofs::ConversionLemmas::converts_nothing, crate::proofs::ConversionLemmas::converts_step, crate::proofs::ConversionLemmas::converts_end))]
-fn write_all<R: Read + Drop, W: Write>(
-    maker: &mut LineMaker<'_>,
+/// Writes what all records bring.
+#[tactic(auto, using(crate::proofs::StepLemmas::reached_start, crate::proofs::StepLemmas::reached_next, crate::proofs::StepLemmas::reached_last, crate::proofs::StepLemmas::reached_stop, crate::proofs::StepLemmas::reached_all))]
+fn convert_all<R: Read + Drop, W: Write>(
+    maker: &Maker<'_>,
     frames: &mut Frames<R>,
+    room: &mut Room,
     writer: &mut W,
 ) -> Result<Counts, ConversionFault>
-    requires { most_of frames.old ≡ maker.old.length }
-    ensures lines { framing_of frames.old ≢ framings.Lines → OnOk result (ConvertsRest (file_of (framing_of frames.old) maker.old) (remaining_of R.remaining frames.old) (remaining_of R.remaining frames.new) (W.contents writer.old) (W.contents writer.new)) }
+    requires { position_of frames.old ≡ 0 }
+    ensures { HasConverted (way_of maker.now frames.old) (remaining_of R.remaining frames.old) (W.contents writer.old) (W.contents writer.new) result }
 {
     let mut counts = Counts {
         records: 0,
         dropped: 0,
     };
-    for number in 1..=MOST_RECORDS + 1 {
-        let step = maker.write_next(frames, number, writer)?;
-        if let Step::End = step {
-            return Ok(counts);
+    while counts.next_number() <= MOST_RECORDS {
+        match convert_next(maker, frames, room, counts, writer)? {
+            Some(more) => counts = more,
+            None => return Ok(counts),
         }
-        counts = counts.after(step);
     }
-    Err(ConversionFault::Record {
-        number: MOST_RECORDS + 1,
-        offset: frames.offset(),
-        fault: RecordFault::TooMany,
-    })
+    end_full_file(frames, room, counts)
+}
+
+/// Converts all records of a reader, which have at most so many bytes.
+#[tactic(auto, using(crate::proofs::StepLemmas::unread))]
+fn convert<R: Read + Drop, W: Write>(
+    alloc: Global,
+    maker: &Maker<'_>,
+    framing: Framing,
+    most: usize,
+    reader: R,
+    writer: &mut W,
+) -> Result<Counts, ConversionFault>
+    ensures { HasConverted (way_by framing most maker.now) (R.remaining reader) (W.contents writer.old) (W.contents writer.new) result }
+{
+    let mut room = Room {
+        given: Vec::new(alloc),
+        bytes: Vec::new(alloc),
+        made: Vec::new(alloc),
+    };
+    let mut frames = Frames::new(alloc, reader, framing, most)?;
+    convert_all(maker, &mut frames, &mut room, writer)
 }
 
 /// Writes a line for each record of a reader. Memory is taken for one record, for one line and for a piece of the input, however many records there are.
@@ -270,29 +233,17 @@ pub fn records_to_lines<R: Read + Drop, W: Write>(
     reader: R,
     writer: &mut W,
 ) -> Result<Counts, ConversionFault>
-    // What was read are whole records, to the reader's end; what was written are their lines, in order.
-    ensures lines { format.framing ≢ framings.Lines → OnOk result (HasConverted (file_for layout.now format) (R.remaining reader) (W.contents writer.old) (W.contents writer.new)) }
+    // However reads are cut: what is written, the counts and the first record that is refused are those of the definition.
+    ensures { HasConverted (to_lines layout.now format) (R.remaining reader) (W.contents writer.old) (W.contents writer.new) result }
 {
-    let mut maker = LineMaker::new(alloc, layout, format)?;
-    let mut frames = Frames::new(alloc, reader, format.framing, maker.length)?;
-    write_all(&mut maker, &mut frames, writer)
-}
-
-/// Writes a record as it stands in a file.
-fn send_record<W: Write>(
-    writer: &mut W,
-    framing: Framing,
-    record: &mut Vec<u8>,
-) -> Result<(), ConversionFault> {
-    match framing {
-        Framing::EndToEnd => {}
-        Framing::Lines => record.push(b'\n')?,
-        Framing::Descriptors => {
-            let whole = record.len().saturating_add(4) % 65_536;
-            send(writer, &[(whole / 256) as u8, (whole % 256) as u8, 0, 0])?;
-        }
-    }
-    send(writer, record.as_slice())
+    let maker = Maker {
+        converter: Converter::new(layout, format.page, format.low_blank),
+        making: Making::Lines {
+            dropped: format.dropped,
+        },
+    };
+    let most = usize::from(layout.length);
+    convert(alloc, &maker, format.framing, most, reader, writer)
 }
 
 /// Writes a record for each line of a reader.
@@ -302,25 +253,16 @@ pub fn lines_to_records<R: Read + Drop, W: Write>(
     format: RecordFormat,
     reader: R,
     writer: &mut W,
-) -> Result<Counts, ConversionFault> {
-    let converter = Converter::new(layout, format.page, false);
-    let columns = layout.columns();
-    let mut frames = Frames::new(alloc, reader, Framing::Lines, columns)?;
-    let mut line = Vec::with_capacity(alloc, columns.saturating_add(2))?;
-    let mut record = Vec::with_capacity(alloc, usize::from(layout.length).saturating_add(1))?;
-    let mut records = 0u64;
-    for number in 1..=MOST_RECORDS + 1 {
-        if let Next::End = next_record(&mut frames, number, &mut line)? {
-            break;
-        }
-        if let Err(fault) = converter.write_record(&mut line, &mut record) {
-            return Err(line_fault(number, frames.offset(), fault));
-        }
-        send_record(writer, format.framing, &mut record)?;
-        records = records.saturating_add(1);
-    }
-    Ok(Counts {
-        records,
-        dropped: 0,
-    })
+) -> Result<Counts, ConversionFault>
+    // However reads are cut: what is written, the count and the first line that is refused are those of the definition.
+    ensures { HasConverted (to_records layout.now format) (R.remaining reader) (W.contents writer.old) (W.contents writer.new) result }
+{
+    let maker = Maker {
+        converter: Converter::new(layout, format.page, false),
+        making: Making::Records {
+            framing: format.framing,
+        },
+    };
+    let most = layout.columns();
+    convert(alloc, &maker, Framing::Lines, most, reader, writer)
 }

@@ -11,16 +11,17 @@ pub struct FieldBytes {
 }
 
 impl FieldBytes {
+    ghost use Rattle.std.specs.Prelude.{◌≡◌};
+    ghost use Rattle.rpg_record_lines.specs.Numbers.{field_bytes};
+
     /// The first 8 bytes at most.
-    pub(crate) fn new(given: &[u8]) -> Self {
+    pub(crate) fn new(given: &[u8]) -> Self
+        ensures { result ≡ field_bytes given.now }
+    {
+        let len = given.len().min(8);
         let mut bytes = [0; 8];
-        for (there, byte) in bytes.iter_mut().zip(given) {
-            *there = *byte;
-        }
-        FieldBytes {
-            bytes,
-            len: given.len().min(8),
-        }
+        bytes[..len].copy_from_slice(&given[..len]);
+        FieldBytes { bytes, len }
     }
 
     pub fn as_slice(&self) -> &[u8] {

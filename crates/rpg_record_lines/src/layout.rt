@@ -81,8 +81,12 @@ pub struct RecordType {
 }
 
 impl RecordType {
+    ghost use Rattle.rpg_record_lines.specs.Ways.{digits_after};
+
     /// How many digits stand after the record's columns.
-    pub fn digit_count(&self) -> usize {
+    pub fn digit_count(&self) -> usize
+        ensures { result ≡ digits_after self.now }
+    {
         let mut digits = 0usize;
         for field in self.numbers.as_slice() {
             digits = digits.saturating_add(field.digit_count());
@@ -103,8 +107,12 @@ pub struct Layout {
 }
 
 impl Layout {
+    ghost use Rattle.rpg_record_lines.specs.Ways.{columns_of};
+
     /// How many columns the longest line has.
-    pub fn columns(&self) -> usize {
+    pub fn columns(&self) -> usize
+        ensures { result ≡ columns_of self.now }
+    {
         let mut most = 0;
         for kind in self.types.as_slice() {
             most = most.max(kind.digit_count());

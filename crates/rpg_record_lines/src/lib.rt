@@ -4,10 +4,13 @@
 mod conversion;
 mod fault;
 mod frames;
+mod input;
 mod layout;
 mod line;
+mod maker;
 mod numbers;
 mod record;
+mod sending;
 
 pub use conversion::{ConversionFault, Counts, RecordFormat, lines_to_records, records_to_lines};
 pub use fault::{FieldBytes, LineFault, NumberFault, RecordFault};

@@ -1,9 +1,10 @@
 //! A record as a line.
 
-ghost use Rattle.std.specs.Prelude.{◌≡◌, false, true, length, None, Some, IfErr, IfSome, OnErr, OnOk, option_map};
+ghost use Rattle.std.specs.Prelude.{◌≡◌, ◌==◌, false, true, length, position, Err, IfErr, IfSome, Ok, OnOk, option_map};
 ghost use Rattle.std.specs.List.{list_all};
-ghost use Rattle.rpg_record_lines.specs.Refusals.{IsRefusedWhere};
-ghost use Rattle.rpg_record_lines.specs.Types.{character_at, code_holds, first_type, is_of};
+ghost use Rattle.rpg_record_lines.specs.Lines.{other_line, unless_bad};
+ghost use Rattle.rpg_record_lines.specs.Outcomes.{IsFaultOf};
+ghost use Rattle.rpg_record_lines.specs.Types.{card_of, character_at, code_holds, first_type, is_card, is_of};
 ghost use Rattle.rpg_records.specs.Translations.{is_low_blank, page_of};
 ghost use Rattle.rpg_records.specs.declared.translation.Page.TheVariants as pages;
 
@@ -68,6 +69,49 @@ pub(crate) fn first_type<'a>(
     None
 }
 
+/// The card of a type.
+pub(crate) fn card_of(kind: Option<&RecordType>) -> Option<u16>
+    ensures { result ≡ option_map (λ kind. card_of kind.now) kind.entry }
+{
+    match kind {
+        Some(kind) => Some(kind.card),
+        None => None,
+    }
+}
+
+/// Whether a type is that of a card.
+pub(crate) fn is_card(card: u16, kind: Option<&RecordType>) -> bool
+    ensures { result ≡ is_card card (option_map (λ kind. kind.now) kind.entry) }
+{
+    match kind {
+        Some(kind) => kind.card == card,
+        None => false,
+    }
+}
+
+/// The first column without a character.
+fn missing_in(columns: &[u8]) -> Option<usize>
+    ensures { result ≡ position (λ c. c == 0) columns.now }
+{
+    columns.iter().position(|character| *character == 0)
+}
+
+/// The first byte that is no character of its column: there its character is 0.
+#[tactic(auto, using(crate::proofs::LineLemmas::place_within))]
+fn bad_character(record: &[u8], columns: &[u8]) -> Result<(), RecordFault>
+    requires { length record.now ≡ length columns.now }
+    ensures good { OnOk result (unless_bad record.now columns.now (position (λ c. c == 0) columns.now) ≡ Ok columns.now) }
+    ensures bad { IfErr result (λ fault. unless_bad record.now columns.now (position (λ c. c == 0) columns.now) ≡ Err fault) }
+{
+    match missing_in(columns) {
+        Some(place) => Err(RecordFault::NoCharacter {
+            column: place + 1,
+            byte: record[place],
+        }),
+        None => Ok(()),
+    }
+}
+
 /// Makes lines of records of a layout.
 #[derive(Drop)]
 pub struct Converter<'a> {
@@ -80,17 +124,15 @@ pub struct Converter<'a> {
 }
 
 impl<'a> Converter<'a> {
-    ghost use Rattle.std.specs.Prelude.{◌==◌, IsTrue};
+    ghost use Rattle.std.specs.Prelude.{IsTrue};
     ghost use Rattle.rpg_text.specs.Texts.{is_character};
-    ghost use Rattle.std.specs.List.{list_any};
-    ghost use Rattle.rpg_records.specs.Columns.{image, page_byte};
-    ghost use Rattle.rpg_record_lines.specs.Lines.{line_of, whole_line_of};
-    ghost use Rattle.rpg_record_lines.specs.Types.{is_card};
-    ghost use Rattle.rpg_record_lines.specs.Converters.{is_low_blank_of, page_of_records, types_of};
+    ghost use Rattle.rpg_records.specs.Columns.{page_byte};
+    ghost use Rattle.rpg_record_lines.specs.Converters.{characters_by, is_low_blank_of, length_of, line_by, page_of_records, type_again, types_of, whole_line_by};
 
     /// With `low_blank` the byte 0 of a record is a blank.
     pub fn new(layout: &'a Layout, page: Page, low_blank: bool) -> Self
         ensures types { types_of result ≡ layout.now.types.items }
+        ensures length { length_of result ≡ layout.now.length }
         ensures page { page_of_records result ≡ page }
         ensures low_blank { is_low_blank_of result ≡ low_blank }
     {
@@ -101,8 +143,11 @@ impl<'a> Converter<'a> {
         }
     }
 
-    pub fn layout(&self) -> &Layout {
-        self.layout
+    /// How many bytes a record has.
+    pub(crate) fn length(&self) -> usize
+        ensures { result ≡ length_of self.now }
+    {
+        usize::from(self.layout.length)
     }
 
     /// The byte of a character in a record.
@@ -114,12 +159,18 @@ impl<'a> Converter<'a> {
     }
 
     /// The type that a record is of.
-    pub(crate) fn type_of_record(&self, record: &[u8]) -> Option<&RecordType> {
+    pub(crate) fn type_of_record(&self, record: &[u8]) -> Option<&RecordType>
+        ensures value { option_map (λ kind. kind.now) result ≡ first_type (page_of_records self.now) (is_low_blank_of self.now) record.now (types_of self.now) }
+        ensures length { IfSome result (λ kind. length kind.now.columns.items ≡ length record.now) }
+    {
         first_type(&self.records, record, self.types())
     }
 
     /// The type that a line is of by its first columns.
-    pub(crate) fn type_of_line(&self, columns: &[u8]) -> Option<&RecordType> {
+    pub(crate) fn type_of_line(&self, columns: &[u8]) -> Option<&RecordType>
+        ensures value { option_map (λ kind. kind.now) result ≡ type_again self.now columns.now }
+        ensures length { IfSome result (λ kind. length kind.now.columns.items ≡ length columns.now) }
+    {
         first_type(&self.lines, columns, self.types())
     }
 
@@ -130,6 +181,7 @@ impl<'a> Converter<'a> {
     }
 
     /// Writes the characters of a record's columns.
+    #[tactic(auto, using(crate::proofs::LineLemmas::all_characters))]
     fn write_columns(
         &self,
         kind: &RecordType,
@@ -137,46 +189,37 @@ impl<'a> Converter<'a> {
         line: &mut Vec<u8>,
     ) -> Result<(), LineFault>
         requires { length kind.now.columns.items ≡ length record.now }
-        ensures image { OnOk result (line.new.items ≡ image (page_of_records self.now) (is_low_blank_of self.now) kind.now.columns.items record.now) }
-        ensures all { OnOk result (list_any (λ c. c == 0) line.new.items ≡ false) }
-        ensures refused { IfErr result (IsRefusedWhere (list_any (λ c. c == 0) (image (page_of_records self.now) (is_low_blank_of self.now) kind.now.columns.items record.now) ≡ true)) }
+        ensures characters { OnOk result (characters_by self.now kind.now record.now ≡ Ok line.new.items) }
+        ensures fault { IfErr result (IsFaultOf (characters_by self.now kind.now record.now)) }
     {
         line.resize(record.len(), 0)?;
-        if self
+        let columns = kind.columns.as_slice();
+        let are_all = self
             .records
-            .write_image(kind.columns.as_slice(), record, line.as_mut_slice())
-        {
-            Ok(())
-        } else {
-            Err(LineFault::Record(self.bad_character(kind, record)))
+            .write_image(columns, record, line.as_mut_slice());
+        if are_all {
+            return Ok(());
         }
-    }
-
-    /// The first byte that is no character of its column.
-    fn bad_character(&self, kind: &RecordType, record: &[u8]) -> RecordFault {
-        for (place, (column, byte)) in kind.columns.iter().zip(record).enumerate() {
-            if self.records.character_in(*column, *byte) == 0 {
-                return RecordFault::NoCharacter {
-                    column: place.saturating_add(1),
-                    byte: *byte,
-                };
-            }
+        match bad_character(record, line.as_slice()) {
+            Ok(()) => Ok(()),
+            Err(fault) => Err(LineFault::Record(fault)),
         }
-        RecordFault::NoType
     }
 
     /// Tests that the characters of a record's columns are of its type once more.
     fn check_type(&self, kind: &RecordType, columns: &[u8]) -> Result<(), RecordFault>
-        ensures same { OnOk result (is_card kind.now.card (first_type pages.Ascii false columns.now (types_of self.now)) ≡ true) }
-        ensures other { OnErr result (is_card kind.now.card (first_type pages.Ascii false columns.now (types_of self.now)) ≡ false) }
+        ensures same { OnOk result (is_card kind.now.card (type_again self.now columns.now) ≡ true) }
+        ensures other { IfErr result (λ fault. (is_card kind.now.card (type_again self.now columns.now) ≡ false)
+            × (fault ≡ other_line kind.now (type_again self.now columns.now))) }
     {
-        match first_type(&self.lines, columns, self.types()) {
-            Some(other) if other.card == kind.card => Ok(()),
-            other => Err(RecordFault::OtherLine {
-                card: kind.card,
-                other: other.map(|other| other.card),
-            }),
+        let found = self.type_of_line(columns);
+        if is_card(kind.card, found) {
+            return Ok(());
         }
+        Err(RecordFault::OtherLine {
+            card: kind.card,
+            other: card_of(found),
+        })
     }
 
     /// Writes the line of a record of a type, with the blanks at its end.
@@ -187,8 +230,8 @@ impl<'a> Converter<'a> {
         line: &mut Vec<u8>,
     ) -> Result<(), LineFault>
         requires { length kind.now.columns.items ≡ length record.now }
-        ensures line { OnOk result (whole_line_of (page_of_records self.now) (is_low_blank_of self.now) (types_of self.now) record.now kind.now ≡ Some line.new.items) }
-        ensures refused { IfErr result (IsRefusedWhere (whole_line_of (page_of_records self.now) (is_low_blank_of self.now) (types_of self.now) record.now kind.now ≡ None)) }
+        ensures line { OnOk result (whole_line_by self.now kind.now record.now ≡ Ok line.new.items) }
+        ensures fault { IfErr result (IsFaultOf (whole_line_by self.now kind.now record.now)) }
     {
         self.write_columns(kind, record, line)?;
         if let Err(fault) = self.check_type(kind, line.as_slice()) {
@@ -203,10 +246,10 @@ impl<'a> Converter<'a> {
     ///
     /// The record has no line, or memory ran out. The text is then unusable.
     pub fn write_line(&self, record: &[u8], line: &mut Vec<u8>) -> Result<(), LineFault>
-        ensures line { OnOk result (line_of (page_of_records self.now) (is_low_blank_of self.now) (types_of self.now) record.now ≡ Some line.new.items) }
-        ensures refused { IfErr result (IsRefusedWhere (line_of (page_of_records self.now) (is_low_blank_of self.now) (types_of self.now) record.now ≡ None)) }
+        ensures line { OnOk result (line_by self.now record.now ≡ Ok line.new.items) }
+        ensures fault { IfErr result (IsFaultOf (line_by self.now record.now)) }
     {
-        let Some(kind) = first_type(&self.records, record, self.types()) else {
+        let Some(kind) = self.type_of_record(record) else {
             return Err(LineFault::Record(RecordFault::NoType));
         };
         self.write_whole_line(kind, record, line)?;

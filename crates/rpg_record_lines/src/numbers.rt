@@ -1,8 +1,8 @@
 //! The digits of a record's packed and binary fields, and the bytes of such digits.
 
-ghost use Rattle.std.specs.Prelude.{◌≡◌, length, None, Some, IfErr, OnErr, OnOk};
-ghost use Rattle.rpg_record_lines.specs.Numbers.{appended_digits, digits_of, field_digits, field_size, field_text, number_text};
-ghost use Rattle.rpg_record_lines.specs.Refusals.{IsRefusedWhere};
+ghost use Rattle.std.specs.Prelude.{◌≡◌, ◌++◌, length, None, Some, Ok, Err, IfErr, OnErr, OnOk, drop, replicate, take};
+ghost use Rattle.rpg_record_lines.specs.Numbers.{digits_at, digits_in, digits_of, field_digits, field_size, field_text, filled, number_bytes, with_number, with_numbers};
+ghost use Rattle.rpg_record_lines.specs.Outcomes.{IsFaultOf, joined};
 
 use crate::fault::{FieldBytes, LineFault, NumberFault, RecordFault};
 use crate::layout::{NumberField, NumberForm};
@@ -12,8 +12,8 @@ use rpg_records::{binary_to_zoned, packed_to_zoned, zoned_to_binary, zoned_to_pa
 fn write_digits(field: &NumberField, bytes: &[u8], digits: &mut [u8]) -> Result<(), NumberFault>
     requires bytes { length bytes.now ≡ field_size field.now }
     requires digits { length digits.old ≡ field_digits field.now }
-    ensures digits { OnOk result (number_text field.now.form bytes.now ≡ Some digits.new) }
-    ensures fault { OnErr result (number_text field.now.form bytes.now ≡ None) }
+    ensures digits { OnOk result (digits_in field.now.form bytes.now ≡ Ok digits.new) }
+    ensures fault { IfErr result (λ fault. digits_in field.now.form bytes.now ≡ Err fault) }
 {
     match field.form {
         NumberForm::Packed => packed_to_zoned(bytes, digits),
@@ -23,8 +23,8 @@ fn write_digits(field: &NumberField, bytes: &[u8], digits: &mut [u8]) -> Result<
 
 /// Appends the digits of a record's field to a line.
 fn append_digits(field: &NumberField, record: &[u8], line: &mut Vec<u8>) -> Result<(), LineFault>
-    ensures digits { OnOk result (appended_digits (field_text record.now field.now) line.old.items ≡ Some line.new.items) }
-    ensures refused { IfErr result (IsRefusedWhere (field_text record.now field.now ≡ None)) }
+    ensures digits { OnOk result (joined (Ok line.old.items) (field_text record.now field.now) ≡ Ok line.new.items) }
+    ensures fault { IfErr result (IsFaultOf (field_text record.now field.now)) }
 {
     let (start, end) = (usize::from(field.first - 1), usize::from(field.last));
     if end > record.len() {
@@ -47,14 +47,14 @@ fn append_digits(field: &NumberField, record: &[u8], line: &mut Vec<u8>) -> Resu
 }
 
 /// Appends the digits of all fields to a line.
-#[tactic(auto, using(crate::proofs::DigitLemmas::appended_next, crate::proofs::DigitLemmas::no_digits))]
+#[tactic(auto, using(crate::proofs::DigitLemmas::joined_next, crate::proofs::DigitLemmas::joined_fault, crate::proofs::DigitLemmas::joined_nothing))]
 pub(crate) fn append_all_digits(
     fields: &[NumberField],
     record: &[u8],
     line: &mut Vec<u8>,
 ) -> Result<(), LineFault>
-    ensures digits { OnOk result (appended_digits (digits_of record.now fields.now) line.old.items ≡ Some line.new.items) }
-    ensures refused { IfErr result (IsRefusedWhere (digits_of record.now fields.now ≡ None)) }
+    ensures digits { OnOk result (joined (Ok line.old.items) (digits_of record.now fields.now) ≡ Ok line.new.items) }
+    ensures fault { IfErr result (IsFaultOf (joined (Ok line.old.items) (digits_of record.now fields.now))) }
 {
     for field in fields {
         append_digits(field, record, line)?;
@@ -66,6 +66,8 @@ pub(crate) fn append_all_digits(
 fn write_bytes(field: &NumberField, digits: &[u8], bytes: &mut [u8]) -> Result<(), NumberFault>
     requires bytes { length bytes.old ≡ field_size field.now }
     requires digits { length digits.now ≡ field_digits field.now }
+    ensures bytes { OnOk result (number_bytes field.now.form (field_size field.now) digits.now ≡ Some bytes.new) }
+    ensures none { OnErr result (number_bytes field.now.form (field_size field.now) digits.now ≡ None) }
 {
     match field.form {
         NumberForm::Packed => zoned_to_packed(digits, bytes),
@@ -73,24 +75,46 @@ fn write_bytes(field: &NumberField, digits: &[u8], bytes: &mut [u8]) -> Result<(
     }
 }
 
+/// Writes a text at the front of blanks.
+#[tactic(auto, using(crate::proofs::DigitLemmas::filled_front))]
+fn fill(text: &[u8], room: &mut [u8])
+    requires { room.old ≡ replicate (length room.old) 32 }
+    ensures { room.new ≡ filled (length room.old) text.now }
+{
+    let n = text.len().min(room.len());
+    room[..n].copy_from_slice(&text[..n]);
+}
+
+/// What a line has from a place on.
+#[tactic(auto, using(crate::proofs::DigitLemmas::beyond))]
+fn from_place(line: &[u8], place: usize) -> &[u8]
+    ensures { result.now ≡ drop place line.now }
+{
+    if place < line.len() {
+        &line[place..]
+    } else {
+        &line[line.len()..]
+    }
+}
+
 /// Writes the bytes of a line's digits into a record. The digits stand at a place, counted from 0; blanks follow the line's end.
+#[tactic(auto, using(crate::proofs::DigitLemmas::blank_room))]
 fn write_number(
     field: &NumberField,
     line: &[u8],
     place: usize,
     record: &mut [u8],
-) -> Result<(), RecordFault> {
+) -> Result<(), RecordFault>
+    ensures bytes { OnOk result (with_number line.now place record.old field.now ≡ Ok record.new) }
+    ensures fault { IfErr result (λ fault. with_number line.now place record.old field.now ≡ Err fault) }
+{
     let (start, end) = (usize::from(field.first - 1), usize::from(field.last));
     if end > record.len() {
         return Err(RecordFault::NoType);
     }
     let mut room = [b' '; 15];
     let digits = &mut room[..field.digit_count()];
-    if let Some(given) = line.get(place..) {
-        for (there, character) in digits.iter_mut().zip(given) {
-            *there = *character;
-        }
-    }
+    fill(from_place(line, place), digits);
     if write_bytes(field, digits, &mut record[start..end]).is_err() {
         return Err(RecordFault::BadDigits {
             card: field.card,
@@ -101,16 +125,22 @@ fn write_number(
     Ok(())
 }
 
-/// Writes the bytes of all digits of a line into a record, and returns the place where the line must end.
+/// Writes the bytes of all digits of a line into a record. The digits stand after its columns, and nothing after them.
 pub(crate) fn write_numbers(
     fields: &[NumberField],
     line: &[u8],
     record: &mut [u8],
-) -> Result<usize, RecordFault> {
+) -> Result<(), RecordFault>
+    ensures bytes { OnOk result (with_numbers line.now fields.now (length record.old) record.old ≡ Ok record.new) }
+    ensures fault { IfErr result (λ fault. with_numbers line.now fields.now (length record.old) record.old ≡ Err fault) }
+{
     let mut place = record.len();
     for field in fields {
         write_number(field, line, place, record)?;
         place = place.saturating_add(field.digit_count());
     }
-    Ok(place)
+    if line.len() > place {
+        return Err(RecordFault::TooLong { bytes: line.len() });
+    }
+    Ok(())
 }

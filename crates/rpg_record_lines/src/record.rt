@@ -1,52 +1,67 @@
 //! A line as a record.
 
+ghost use Rattle.std.specs.Prelude.{◌≡◌, ◌≤◌, length, Ok, Err, IfErr, OnOk};
+ghost use Rattle.rpg_record_lines.specs.Outcomes.{IsFaultOf};
+ghost use Rattle.rpg_record_lines.specs.Records.{bytes_from, widened};
+
 use crate::fault::{LineFault, RecordFault};
 use crate::layout::RecordType;
-use crate::line::Converter;
+use crate::line::{Converter, card_of, is_card};
 use crate::numbers::write_numbers;
 use rpg_text::{is_character, trimmed};
+use std::alloc::AllocError;
 
 impl<'a> Converter<'a> {
+    ghost use Rattle.rpg_record_lines.specs.Converters.{checked_by, page_of_records, record_by, typed_by};
+
     /// Writes the bytes of a line's first columns. A blank is one too.
-    fn write_characters(&self, columns: &[u8], record: &mut [u8]) -> Result<(), RecordFault> {
-        for (place, (there, character)) in record.iter_mut().zip(columns).enumerate() {
+    #[tactic(auto, using(crate::proofs::DigitLemmas::joined_empty, crate::proofs::DigitLemmas::joined_nothing, crate::proofs::RecordLemmas::bytes_next, crate::proofs::RecordLemmas::bytes_bad))]
+    fn write_characters(&self, columns: &[u8], record: &mut [u8]) -> Result<(), RecordFault>
+        requires { length columns.now ≡ length record.old }
+        ensures bytes { OnOk result (bytes_from (page_of_records self.now) 0 columns.now ≡ Ok record.new) }
+        ensures fault { IfErr result (λ fault. bytes_from (page_of_records self.now) 0 columns.now ≡ Err fault) }
+    {
+        for (place, character) in columns.iter().enumerate() {
             if !is_character(*character) {
                 return Err(RecordFault::NoCharacter {
-                    column: place.saturating_add(1),
+                    column: place + 1,
                     byte: *character,
                 });
             }
-            *there = self.byte_of(*character);
+            record[place] = self.byte_of(*character);
         }
         Ok(())
     }
 
     /// Tests that a record is of the type of its line.
-    fn check_record(&self, kind: &RecordType, record: &[u8]) -> Result<(), RecordFault> {
-        match self.type_of_record(record) {
-            Some(other) if other.card == kind.card => Ok(()),
-            other => Err(RecordFault::OtherRecord {
-                card: kind.card,
-                other: other.map(|other| other.card),
-            }),
+    fn check_record(&self, kind: &RecordType, record: &[u8]) -> Result<(), RecordFault>
+        ensures same { OnOk result (checked_by self.now kind.now record.now ≡ Ok record.now) }
+        ensures other { IfErr result (λ fault. checked_by self.now kind.now record.now ≡ Err fault) }
+    {
+        let found = self.type_of_record(record);
+        if is_card(kind.card, found) {
+            return Ok(());
         }
+        Err(RecordFault::OtherRecord {
+            card: kind.card,
+            other: card_of(found),
+        })
     }
 
-    /// Writes the record of a line that has all columns of a record.
+    /// Writes the record of a line of a type, which has all columns of a record.
     fn write_typed_record(
         &self,
+        kind: &RecordType,
         columns: &[u8],
         line: &[u8],
         record: &mut [u8],
-    ) -> Result<(), RecordFault> {
-        let Some(kind) = self.type_of_line(columns) else {
-            return Err(RecordFault::NoType);
-        };
+    ) -> Result<(), RecordFault>
+        requires { length columns.now ≡ length record.old }
+        ensures bytes { OnOk result (typed_by self.now columns.now line.now kind.now ≡ Ok record.new) }
+        ensures fault { IfErr result (λ fault. typed_by self.now columns.now line.now kind.now ≡ Err fault) }
+    {
         self.write_characters(columns, record)?;
-        let end = write_numbers(kind.numbers.as_slice(), line, record)?;
-        if line.len() > end {
-            return Err(RecordFault::TooLong { bytes: line.len() });
-        }
+        write_numbers(kind.numbers.as_slice(), line, record)?;
         self.check_record(kind, record)
     }
 
@@ -55,18 +70,32 @@ impl<'a> Converter<'a> {
     /// # Errors
     ///
     /// The line has no record, or memory ran out. What was written is then unusable.
-    pub fn write_record(&self, line: &mut Vec<u8>, record: &mut Vec<u8>) -> Result<(), LineFault> {
-        let length = usize::from(self.layout().length);
+    pub fn write_record(&self, line: &mut Vec<u8>, record: &mut Vec<u8>) -> Result<(), LineFault>
+        ensures bytes { OnOk result (record_by self.now line.old.items ≡ Ok record.new.items) }
+        ensures fault { IfErr result (IsFaultOf (record_by self.now line.old.items)) }
+    {
+        let length = self.length();
         record.resize(length, 0)?;
-        if line.len() < length {
-            line.resize(length, b' ')?;
-        }
-        let Some(columns) = line.get(..length) else {
+        widen(line, length)?;
+        let wide = line.as_slice();
+        let columns = &wide[..length];
+        let Some(kind) = self.type_of_line(columns) else {
             return Err(LineFault::Record(RecordFault::NoType));
         };
-        match self.write_typed_record(columns, trimmed(line.as_slice()), record.as_mut_slice()) {
+        match self.write_typed_record(kind, columns, trimmed(wide), record.as_mut_slice()) {
             Ok(()) => Ok(()),
             Err(fault) => Err(LineFault::Record(fault)),
         }
     }
+}
+
+/// Gives a line blanks up to so many columns.
+fn widen(line: &mut Vec<u8>, columns: usize) -> Result<(), AllocError>
+    ensures line { OnOk result (line.new.items ≡ widened columns line.old.items) }
+    ensures long { OnOk result (columns ≤ length line.new.items) }
+{
+    if line.len() < columns {
+        line.resize(columns, b' ')?;
+    }
+    Ok(())
 }

@@ -1,5 +1,5 @@
 use Rattle.std.proofs.Common.{◌≡◌, ◌≤◌, ◌-◌, ◌++◌, replicate, vec_len, ◌⊎◌}
-use Rattle.rpg_record_lines.proofs.conversion.pad.Given as goal
+use Rattle.rpg_record_lines.proofs.maker.pad.Given as goal
 
 abbrev pub invariant-loop-record : goal.invariant-loop-record
 invariant-loop-record l = record {

@@ -1,0 +1,11 @@
+use Rattle.std.proofs.Common.{◌≡◌, ◌+◌, ◌^◌, ◌<◌, drop, sum_by}
+use Rattle.rpg_record_lines.specs.Cuts.{counted}
+use Rattle.rpg_record_lines.specs.Numbers.{field_digits}
+use Rattle.rpg_record_lines.specs.Ways.{digits_after}
+use Rattle.rpg_record_lines.proofs.layout.RecordType.digit_count.Given as goal
+
+abbrev pub invariant-loop-field : goal.invariant-loop-field
+invariant-loop-field l = record {
+  in_range : l.digits < 2 ^ 64;
+  sum : counted (l.digits + sum_by field_digits (drop l.field-index l.self.numbers.items)) ≡ digits_after l.self;
+}

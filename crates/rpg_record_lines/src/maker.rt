@@ -1,0 +1,124 @@
+//! What is written for a record, or for a line.
+
+ghost use Rattle.std.specs.Prelude.{◌≡◌, ◌-◌, ◌++◌, replicate, vec_len, Some, None, Ok, IfErr, IfOk, OnOk, if◌then◌else◌};
+ghost use Rattle.rpg_records.specs.Columns.{page_byte};
+ghost use Rattle.rpg_record_lines.specs.Frames.{frame};
+ghost use Rattle.rpg_record_lines.specs.Outcomes.{IsFaultOf};
+ghost use Rattle.rpg_record_lines.specs.Ways.{is_dropped};
+
+use crate::fault::LineFault;
+use crate::frames::Framing;
+use crate::line::Converter;
+use std::alloc::AllocError;
+
+/// What is made.
+#[derive(Clone, Copy)]
+pub(crate) enum Making {
+    /// Lines of records, but for those that begin with this byte.
+    Lines { dropped: Option<u8> },
+    /// Records that stand so in their file.
+    Records { framing: Framing },
+}
+
+/// Makes lines of records, or records of lines.
+#[derive(Drop)]
+pub(crate) struct Maker<'a> {
+    pub converter: Converter<'a>,
+    pub making: Making,
+}
+
+/// Room for one record and one line, however many there are.
+#[derive(Drop)]
+pub(crate) struct Room {
+    /// What was read.
+    pub given: Vec<u8>,
+    /// The record of a line.
+    pub bytes: Vec<u8>,
+    /// What is to be written.
+    pub made: Vec<u8>,
+}
+
+/// Whether a record is left out.
+fn is_dropped(dropped: Option<u8>, record: &[u8]) -> bool
+    ensures { result ≡ is_dropped dropped record.now }
+{
+    match (dropped, record.first()) {
+        (Some(byte), Some(first)) => *first == byte,
+        _ => false,
+    }
+}
+
+/// Fills a record up to so many bytes.
+fn pad(record: &mut Vec<u8>, length: usize, blank: u8) -> Result<(), AllocError>
+    ensures { OnOk result (record.new.items ≡ record.old.items ++ replicate (length - vec_len record.old) blank) }
+{
+    while record.len() < length {
+        record.push(blank)?;
+    }
+    Ok(())
+}
+
+/// Gives a record what stands around it in its file.
+fn put_in_frame(framing: Framing, record: &[u8], framed: &mut Vec<u8>) -> Result<(), AllocError>
+    ensures { OnOk result (framed.new.items ≡ frame framing record.now) }
+{
+    framed.clear();
+    match framing {
+        Framing::EndToEnd => framed.extend_from_slice(record)?,
+        Framing::Descriptors => {
+            let whole = (record.len() % 65_536 + 4) % 65_536;
+            framed.extend_from_slice(&[(whole / 256) as u8, (whole % 256) as u8, 0, 0])?;
+            framed.extend_from_slice(record)?;
+        }
+        Framing::Lines => {
+            framed.extend_from_slice(record)?;
+            framed.push(b'\n')?;
+        }
+    }
+    Ok(())
+}
+
+impl<'a> Maker<'a> {
+    ghost use Rattle.rpg_record_lines.specs.Ways.{line_text_by, record_text_by, text_by};
+
+    /// Makes the line of a record, with its line feed.
+    fn make_line(&self, room: &mut Room) -> Result<(), LineFault>
+        ensures text { OnOk result (line_text_by self.now.converter room.old.given.items ≡ Ok (Some room.new.made.items)) }
+        ensures fault { IfErr result (IsFaultOf (line_text_by self.now.converter room.old.given.items)) }
+    {
+        let blank = self.converter.byte_of(b' ');
+        pad(&mut room.given, self.converter.length(), blank)?;
+        self.converter
+            .write_line(room.given.as_slice(), &mut room.made)?;
+        room.made.push(b'\n')?;
+        Ok(())
+    }
+
+    /// Makes the record of a line, as it stands in its file.
+    fn make_record(&self, framing: Framing, room: &mut Room) -> Result<(), LineFault>
+        ensures text { OnOk result (record_text_by framing self.now.converter room.old.given.items ≡ Ok (Some room.new.made.items)) }
+        ensures fault { IfErr result (IsFaultOf (record_text_by framing self.now.converter room.old.given.items)) }
+    {
+        self.converter
+            .write_record(&mut room.given, &mut room.bytes)?;
+        put_in_frame(framing, room.bytes.as_slice(), &mut room.made)?;
+        Ok(())
+    }
+
+    /// Makes what is to be written for what was read, and answers whether there is anything.
+    pub fn make(&self, room: &mut Room) -> Result<bool, LineFault>
+        ensures text { IfOk result (λ is_made. text_by self.now room.old.given.items ≡ Ok (if is_made then Some room.new.made.items else None)) }
+        ensures fault { IfErr result (IsFaultOf (text_by self.now room.old.given.items)) }
+    {
+        match self.making {
+            Making::Lines { dropped } => {
+                if is_dropped(dropped, room.given.as_slice()) {
+                    return Ok(false);
+                }
+                self.make_line(room)?;
+            }
+            Making::Records { framing } => self.make_record(framing, room)?,
+        }
+        Ok(true)
+    }
+}
