@@ -6,7 +6,7 @@ usage: bench/fit_wrong_rules.py [--decks COUNT] [--right] [WORD..]        only t
 RPG2 names the program that runs the new decks. With --right the rules as they are are tried too: no case may see them.
 
 bench/fit_wrong_rules.txt has the wrong rules, each an edit of a file of the rules. They are tried in rounds, one of each rule in a round:
-`rt try` builds the rules with their edits, unproved, below a small program (fit_program.rt), and runs that over the cases and over decks
+`rt try` builds the rules with their edits, unproved, below a small program (fit_program.txt), and runs that over the cases and over decks
 by chance. A case sees a wrong rule if its right answer has sentences of this rule alone, and another answer comes. A deck by chance, made
 with the feature of the rule alone, sees it if what rpg2 makes of the new deck isn't what the old deck means (fit.py). Nothing is proved.
 
@@ -126,7 +126,7 @@ def build_room(folder, wrong):
     (folder / "HANDLES").write_text((TOP / "HANDLES").read_text())
     (folder / "crates.txt").write_text((TOP / "crates.txt").read_text() + "fit_program: rpg_fit\n")
     (folder / "crates/fit_program/src").mkdir(parents=True)
-    (folder / "crates/fit_program/src/main.rt").write_text((HERE / "fit_program.rt").read_text())
+    (folder / "crates/fit_program/src/main.rt").write_text((HERE / "fit_program.txt").read_text())
 
 
 def answers(folder, inputs):
