@@ -106,6 +106,8 @@ impl<'a, S: Store + Drop> Job<'a, S> {
     ghost use Rattle.rpg_cycle.specs.Phases.{takes_records};
     ghost use Rattle.rpg_cycle.specs.Stages.{Failed, is_going, told};
     ghost use Rattle.rpg_cycle.specs.Starting.{date_in};
+    ghost use Rattle.rpg_cycle_records.specs.Holding.{inputs_of};
+    ghost use Rattle.rpg_cycle_records.specs.Keeping.{left_of};
     ghost use Rattle.rpg_machine.specs.Run.{running_place};
     ghost use Rattle.rpg_memory.specs.Memory.{first_working};
     ghost use Rattle.rpg_verify.specs.Bound.{bound};
@@ -268,6 +270,21 @@ impl<'a, S: Store + Drop> Job<'a, S> {
         } else {
             Some(place)
         }
+    }
+
+    /// What its program's fields hold, and which indicators are on.
+    pub fn memory(&self) -> &Memory<'a, S>
+        ensures { result.now.world ≡ self.now.config.world }
+    {
+        self.machine.memory()
+    }
+
+    /// What it keeps of earlier records, and the record that waits in each file.
+    pub fn kept(&self) -> &Kept
+        ensures left { left_of result.now ≡ self.now.left }
+        ensures inputs { inputs_of result.now ≡ self.now.inputs }
+    {
+        &self.kept
     }
 
     /// What was put out since it was taken last.

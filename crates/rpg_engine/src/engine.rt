@@ -14,6 +14,7 @@ use crate::fault::RunFault;
 use crate::object::accepted_object;
 use crate::report::Report;
 use crate::run::run;
+use crate::watching::{Unwatched, Watcher};
 use rpg_cycle::{Job, StartFault};
 use rpg_cycle_safety::run_laws::runs_keep;
 use rpg_cycle_safety::step_laws::first_values_hold;
@@ -51,12 +52,12 @@ fn first_job<'a>(
 }
 
 /// Runs an accepted program over the records of a primary and of a secondary input, on a date of six digits, and sends what it prints and
-/// what it writes to the disk file.
+/// what it writes to the disk file. A watcher looks at the job between its cycles; whatever it does, the run is the same.
 ///
 /// The date is read before anything else is. Then a record is read of each file that the cycle needs one from, of the primary first, and
-/// its output waits until there are 32 KiB for a writer. All waiting output is sent before a call of a reader, when memory runs out, and at
+/// its output waits until there are 32 KiB for a writer, or for no cycle if the watcher looks at each. All waiting output is sent before a call of a reader, when memory runs out, and at
 /// the end, the printer's first. Memory use doesn't grow with the number of records.
-pub fn execute_program<R1: Read, R2: Read, W1: Write, W2: Write>(
+pub fn watch_program<R1: Read, R2: Read, W1: Write, W2: Write, W: Watcher>(
     alloc: Global,
     program: &Verified,
     date: &[u8],
@@ -64,6 +65,7 @@ pub fn execute_program<R1: Read, R2: Read, W1: Write, W2: Write>(
     secondary: &mut Counted<R2>,
     print: &mut Counted<W1>,
     disk: &mut Counted<W2>,
+    watcher: &mut W,
 ) -> Result<Report, RunFault>
     requires input { faults_of input.old < 2 ^ 64 - 1 }
     requires secondary { faults_of secondary.old < 2 ^ 64 - 1 }
@@ -101,10 +103,59 @@ pub fn execute_program<R1: Read, R2: Read, W1: Write, W2: Write>(
         print,
         disk,
         program.bound(),
+        watcher,
     );
     let _input = records.into_reader();
     let _secondary = others.into_reader();
     report
+}
+
+/// Runs an accepted program over the records of a primary and of a secondary input, on a date of six digits, and sends what it prints and
+/// what it writes to the disk file.
+///
+/// The run is that of `watch_program`, with nothing that watches it.
+pub fn execute_program<R1: Read, R2: Read, W1: Write, W2: Write>(
+    alloc: Global,
+    program: &Verified,
+    date: &[u8],
+    input: &mut Counted<R1>,
+    secondary: &mut Counted<R2>,
+    print: &mut Counted<W1>,
+    disk: &mut Counted<W2>,
+) -> Result<Report, RunFault>
+    requires input { faults_of input.old < 2 ^ 64 - 1 }
+    requires secondary { faults_of secondary.old < 2 ^ 64 - 1 }
+    requires print { faults_of print.old < 2 ^ 64 - 1 }
+    requires disk { faults_of disk.old < 2 ^ 64 - 1 }
+
+    // A date that is no date is reported.
+    ensures refused { IsToldOfDate result date.now }
+    // Then nothing is read and nothing written; and the secondary input is never read where the program has no such file.
+    ensures untouched { date_in date.now ≡ None → (input.new ≡ input.old) × (secondary.new ≡ secondary.old) × (print.new ≡ print.old) × (disk.new ≡ disk.old) }
+    ensures alone { program.now.secondary_length ≡ 0 → secondary.new ≡ secondary.old }
+
+    // Else the job ends, at its end or at a halt, within one cycle more than both inputs have records, and no cycle takes more steps than the bound.
+    ensures headline { IfOk result (EndsWellOn R1.remaining R2.remaining program.now date.now input secondary) }
+    // The report and all output are those of the run over the inputs' records.
+    ensures report { IfOk result (ReportsOn R1.remaining R2.remaining W1.contents W2.contents program.now date.now input secondary print disk) }
+    // Where it stops early each writer has a first part of the run's output, the printer before the disk file; where a reader failed the job
+    // had sent all that was put out, and waited for a record of that reader's file; and where memory ran out each writer has the output of as
+    // many cycles as the fault reports, unless one failed over that.
+    ensures early { IfErr result (SendsPartsOn R1.remaining R2.remaining W1.contents W2.contents program.now date.now input secondary print disk) }
+    // The error says whose fault that was.
+    ensures faults { TellsWhoseFault R1.remaining R2.remaining input secondary print disk result }
+{
+    let mut watcher = Unwatched;
+    watch_program(
+        alloc,
+        program,
+        date,
+        input,
+        secondary,
+        print,
+        disk,
+        &mut watcher,
+    )
 }
 
 /// Runs an object program over the records of a primary and of a secondary input, on a date of six digits, and sends what it prints and

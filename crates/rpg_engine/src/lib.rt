@@ -9,8 +9,9 @@ mod object;
 mod report;
 mod run;
 mod sending;
+mod watching;
 
-pub use engine::{execute, execute_program};
+pub use engine::{execute, execute_program, watch_program};
 pub use fault::RunFault;
 pub use object::{
     ObjectFault, accept, decode_object, has_disk_file, has_secondary_file, verify_bytes,
@@ -26,3 +27,4 @@ pub use rpg_object::Code;
 pub use rpg_object_program::Program;
 pub use rpg_object_program::section::{Place, Section};
 pub use rpg_verify::{BrokenRule, Rule, Verified};
+pub use watching::{Unwatched, Watcher};

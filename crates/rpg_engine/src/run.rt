@@ -11,21 +11,25 @@ ghost use Rattle.rpg_engine.specs.Streaming.{IsRunFault};
 use crate::cycle::next_cycle;
 use crate::fault::RunFault;
 use crate::report::Report;
-use crate::sending::{Sent, fault_behind, send_before_reading, send_where_enough, waiting_in};
+use crate::sending::{
+    Sent, enough_for, fault_behind, send_before_reading, send_where_enough, waiting_in,
+};
+use crate::watching::Watcher;
 use rpg_cycle::Job;
 use rpg_files::{Counted, RecordReader};
 use rpg_store::Store;
 use std::io::{Read, Write};
 
 /// Does the cycles of a job that hasn't begun, up to the one that ends it, and sends their output: where there are 32 KiB, before a
-/// device is read, and at the end.
-pub(crate) fn run<S: Store + Drop, R1: Read, R2: Read, W1: Write, W2: Write>(
+/// device is read, and at the end. A watcher that looks at each cycle does so before its output is sent, which doesn't wait then.
+pub(crate) fn run<S: Store + Drop, R1: Read, R2: Read, W1: Write, W2: Write, W: Watcher>(
     job: &mut Job<'_, S>,
     primary: &mut RecordReader<'_, R1>,
     secondary: &mut RecordReader<'_, R2>,
     print: &mut Counted<W1>,
     disk: &mut Counted<W2>,
     bound: u64,
+    watcher: &mut W,
 ) -> Result<Report, RunFault>
     requires input { faults_of (reader_of primary.old) < 2 ^ 64 - 1 }
     requires secondary { faults_of (reader_of secondary.old) < 2 ^ 64 - 1 }
@@ -43,6 +47,8 @@ pub(crate) fn run<S: Store + Drop, R1: Read, R2: Read, W1: Write, W2: Write>(
     ensures only { IfErr result IsRunFault }
     ensures faults { TellsWhoseFaultOf R1.remaining R2.remaining primary secondary print disk result }
 {
+    let enough = enough_for(watcher);
+    watcher.begin(job);
     let mut cycles = 0u64;
     let mut most = 0u64;
     let mut sent = Sent { print: 0, disk: 0 };
@@ -58,7 +64,7 @@ pub(crate) fn run<S: Store + Drop, R1: Read, R2: Read, W1: Write, W2: Write>(
         };
         cycles += 1;
         most = most.max(job.steps());
-        send_where_enough(job, ended.is_some(), print, disk, &mut sent)?;
+        send_where_enough(job, ended, enough, watcher, print, disk, &mut sent)?;
         if let Some(ending) = ended {
             return Ok(Report {
                 ending,

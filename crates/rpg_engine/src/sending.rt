@@ -1,6 +1,6 @@
 //! What a run puts out, on its way to the writers. It waits in the job, so that a writer is called once for many cycles.
 
-ghost use Rattle.std.specs.Prelude.{◌≡◌, ◌+◌, ◌-◌, ◌^◌, ◌<◌, ◌≤◌, ◌⊎◌, length, take, true, OnOk, IfErr};
+ghost use Rattle.std.specs.Prelude.{◌≡◌, ◌+◌, ◌-◌, ◌^◌, ◌<◌, ◌≤◌, ◌⊎◌, length, take, true, is_some, OnOk, IfErr};
 ghost use Rattle.std.specs.Io.KnownBytes.{Appends};
 ghost use Rattle.rpg_files.specs.Counting.{device_of, faults_of};
 ghost use Rattle.rpg_machine.specs.Running.{no_bytes};
@@ -8,13 +8,20 @@ ghost use Rattle.rpg_engine.specs.Devices.{GoesOutTo, GoesOutUnlessTo, SendsSome
 ghost use Rattle.rpg_engine.specs.Streaming.{FaultsOfWriters, IsSureWhereAsked, MayFail, WriterFaults};
 
 use crate::fault::{CycleFault, RunFault};
-use rpg_cycle::{Job, Need, Output};
+use crate::watching::Watcher;
+use rpg_cycle::{Job, JobEnd, Need, Output};
 use rpg_files::{Counted, RecordReader, send};
 use rpg_store::Store;
 use std::io::{Read, Write};
 
-/// How many bytes of a file wait before they are sent.
+/// How many bytes of a file wait before they are sent, if no watcher looks at each cycle.
 const ENOUGH: usize = 32_768;
+
+/// How many bytes of a file wait before the watcher looks at the job and they are sent. It is found once, so that a run without a watcher
+/// takes no step more for it.
+pub(crate) fn enough_for<W: Watcher>(watcher: &W) -> usize {
+    if watcher.looks() { 0 } else { ENOUGH }
+}
 
 /// How many bytes were written to each writer.
 #[derive(Clone, Copy)]
@@ -141,11 +148,41 @@ pub(crate) fn send_before_reading<S: Store + Drop, R1: Read, R2: Read, W1: Write
     send_waiting(job, print, disk, sent)
 }
 
-/// Sends what waits once there is enough of it, or after the last cycle.
-#[inline(always)]
-pub(crate) fn send_where_enough<S: Store + Drop, W1: Write, W2: Write>(
+/// Has the watcher look at a job after a cycle, and sends all that waits there.
+#[inline(never)]
+fn look_and_send<S: Store + Drop, W1: Write, W2: Write, W: Watcher>(
     job: &mut Job<'_, S>,
-    is_last: bool,
+    ended: Option<JobEnd>,
+    watcher: &mut W,
+    print: &mut Counted<W1>,
+    disk: &mut Counted<W2>,
+    sent: &mut Sent,
+) -> Result<(), RunFault>
+    requires print { faults_of print.old < 2 ^ 64 - 1 }
+    requires disk { faults_of disk.old < 2 ^ 64 - 1 }
+    requires printed { sent.old.print ≤ 2 ^ 100 }
+    requires stored { sent.old.disk ≤ 2 ^ 100 }
+    ensures printed { OnOk result (Appends (W1.contents (device_of print.old)) (W1.contents (device_of print.new)) job.old.output.print) }
+    ensures stored { OnOk result (Appends (W2.contents (device_of disk.old)) (W2.contents (device_of disk.new)) job.old.output.disk) }
+    ensures sent_print { OnOk result (sent.new.print ≡ sent.old.print + length job.old.output.print) }
+    ensures sent_disk { OnOk result (sent.new.disk ≡ sent.old.disk + length job.old.output.disk) }
+    ensures few_printed { OnOk result (sent.new.print < sent.old.print + 2 ^ 64) }
+    ensures few_stored { OnOk result (sent.new.disk < sent.old.disk + 2 ^ 64) }
+    ensures taken { OnOk result (job.new ≡ record job.old { output = no_bytes }) }
+    ensures some { IfErr result (SendsSomeTo W1.contents W2.contents print disk sent.old.print sent.old.disk job.old.output.print job.old.output.disk) }
+    ensures faults { WriterFaults result (faults_of print.old) (faults_of print.new) (faults_of disk.old) (faults_of disk.new) }
+{
+    watcher.look(job, ended);
+    send_waiting(job, print, disk, sent)
+}
+
+/// Has the watcher look at a job after a cycle and sends what waits there, once there is enough of it, or after the last cycle.
+#[inline(always)]
+pub(crate) fn send_where_enough<S: Store + Drop, W1: Write, W2: Write, W: Watcher>(
+    job: &mut Job<'_, S>,
+    ended: Option<JobEnd>,
+    enough: usize,
+    watcher: &mut W,
     print: &mut Counted<W1>,
     disk: &mut Counted<W2>,
     sent: &mut Sent,
@@ -159,15 +196,15 @@ pub(crate) fn send_where_enough<S: Store + Drop, W1: Write, W2: Write>(
     ensures few_printed { OnOk result (sent.new.print < sent.old.print + 2 ^ 64) }
     ensures few_stored { OnOk result (sent.new.disk < sent.old.disk + 2 ^ 64) }
     ensures rest { OnOk result (job.new ≡ record job.old { output = job.new.output }) }
-    ensures all { is_last ≡ true → OnOk result (job.new.output ≡ no_bytes) }
+    ensures all { is_some ended ≡ true → OnOk result (job.new.output ≡ no_bytes) }
     ensures some { IfErr result (SendsSomeTo W1.contents W2.contents print disk sent.old.print sent.old.disk job.old.output.print job.old.output.disk) }
     ensures faults { WriterFaults result (faults_of print.old) (faults_of print.new) (faults_of disk.old) (faults_of disk.new) }
 {
     let waiting = waiting_in(job.output());
-    if !is_last && waiting.print < ENOUGH && waiting.disk < ENOUGH {
+    if ended.is_none() && waiting.print < enough && waiting.disk < enough {
         return Ok(());
     }
-    send_waiting(job, print, disk, sent)
+    look_and_send(job, ended, watcher, print, disk, sent)
 }
 
 /// Sends bytes to the printer, and then bytes to the disk file, unless the printer fails. Failures are ignored.

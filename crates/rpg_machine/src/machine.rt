@@ -207,6 +207,14 @@ impl<'a, S: Store + Drop> Machine<'a, S> {
         }
     }
 
+    /// What its program's fields hold, and which indicators are on.
+    pub fn memory(&self) -> &Memory<'a, S>
+        ensures program { result.now.program ≡ self.now.program }
+        ensures world { result.now.world ≡ self.now.config.world }
+    {
+        &self.state.memory
+    }
+
     /// Adds to the steps.
     pub fn charge(&mut self, n: u32)
         requires { self.old.config.steps < 2 ^ 63 }

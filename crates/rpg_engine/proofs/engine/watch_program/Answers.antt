@@ -6,7 +6,7 @@ use Rattle.rpg_engine.proofs.Headline.{report_ends_well, with_run}
 use Rattle.rpg_engine.proofs.Refusing.{no_room, not_started, on_err, on_ok, parts_same, reports_same, told_of_run}
 use Rattle.rpg_engine.proofs.Whose.{start_faults}
 use Rattle.rpg_engine.specs.declared.report.Report.{Report}
-use Rattle.rpg_engine.proofs.engine.execute_program.Goals as goal
+use Rattle.rpg_engine.proofs.engine.watch_program.Goals as goal
 
 pub returns-in_err-job-clause-early : goal.returns-in_err-job-clause-early
 returns-in_err-job-clause-early g c =
