@@ -4,3 +4,4 @@ mod InputLemmas
 mod LineLemmas
 mod RecordLemmas
 mod StepLemmas
+mod TextLemmas

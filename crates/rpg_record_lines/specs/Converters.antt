@@ -7,7 +7,7 @@ use Rattle.rpg_record_lines.specs.Lines.{characters_of, line_of, whole_line_of}
 use Rattle.rpg_record_lines.specs.Outcomes.{Outcome}
 use Rattle.rpg_record_lines.specs.Records.{checked_record, record_of, typed_record}
 use Rattle.rpg_record_lines.specs.Types.{first_type}
-use Rattle.rpg_record_lines.specs.declared.layout.RecordType.{RecordType}
+use Rattle.rpg_record_layouts.specs.declared.layout.RecordType.{RecordType}
 use Rattle.rpg_record_lines.specs.declared.line.Converter.{Converter}
 
 abbrev pub types_of : Converter → List RecordType
@@ -21,6 +21,10 @@ page_of_records c = page_of c.records
 
 abbrev pub is_low_blank_of : Converter → Bool
 is_low_blank_of c = is_low_blank c.records
+
+-- the type that a record is of
+abbrev pub type_by : Converter → List ℕ → Option RecordType
+type_by c r = first_type (page_of_records c) (is_low_blank_of c) r (types_of c)
 
 -- the type that columns are of
 abbrev pub type_again : Converter → List ℕ → Option RecordType

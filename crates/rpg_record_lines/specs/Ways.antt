@@ -1,15 +1,14 @@
 -- Lines of records, and records of lines.
-use Rattle.std.specs.Prelude.{ℕ, ◌+◌, ◌-◌, ◌==◌, ◌++◌, max, Bool, false, if◌then◌else◌, List, [], ◌∷◌, length, replicate, sum_by, Option, Some, None, Result, Ok, Err}
+use Rattle.std.specs.Prelude.{ℕ, ◌+◌, ◌-◌, ◌==◌, ◌++◌, Bool, false, if◌then◌else◌, List, [], ◌∷◌, length, replicate, Option, Some, None, Result, Ok, Err}
 use Rattle.rpg_text.specs.Lines.{with_line_feed}
 use Rattle.rpg_records.specs.Columns.{page_byte}
 use Rattle.rpg_records.specs.declared.translation.Page.{Page}
 use Rattle.rpg_record_lines.specs.Conversions.{Made, Place, TakesStep, Way}
 use Rattle.rpg_record_lines.specs.Converters.{is_low_blank_of, length_of, line_by, page_of_records, record_by, types_of}
-use Rattle.rpg_record_lines.specs.Cuts.{counted}
+use Rattle.rpg_record_layouts.specs.Sizes.{columns_of}
 use Rattle.rpg_record_lines.specs.Frames.{frame}
 use Rattle.rpg_record_lines.specs.Inputs.{framing_of, most_of, position_of, remaining_of}
 use Rattle.rpg_record_lines.specs.Lines.{line_of}
-use Rattle.rpg_record_lines.specs.Numbers.{field_digits}
 use Rattle.rpg_record_lines.specs.Outcomes.{Outcome}
 use Rattle.rpg_record_lines.specs.Records.{record_of}
 use Rattle.rpg_record_lines.specs.declared.conversion.ConversionFault.{ConversionFault}
@@ -18,8 +17,8 @@ use Rattle.rpg_record_lines.specs.declared.conversion.RecordFormat.{RecordFormat
 use Rattle.rpg_record_lines.specs.declared.frames.Frames.{Frames}
 use Rattle.rpg_record_lines.specs.declared.frames.Framing.{Framing}
 use Rattle.rpg_record_lines.specs.declared.frames.Framing.TheVariants as framings
-use Rattle.rpg_record_lines.specs.declared.layout.Layout.{Layout}
-use Rattle.rpg_record_lines.specs.declared.layout.RecordType.{RecordType}
+use Rattle.rpg_record_layouts.specs.declared.layout.Layout.{Layout}
+use Rattle.rpg_record_layouts.specs.declared.layout.RecordType.{RecordType}
 use Rattle.rpg_record_lines.specs.declared.line.Converter.{Converter}
 use Rattle.rpg_record_lines.specs.declared.maker.Maker.{Maker}
 use Rattle.rpg_record_lines.specs.declared.maker.Making.{Making}
@@ -57,18 +56,6 @@ to_lines layout format = record {
   most = layout.length;
   text_of = line_text format.dropped format.page format.low_blank layout.types.items layout.length;
 }
-
--- how many digits the fields of a type have
-abbrev pub digits_after : RecordType → ℕ
-digits_after t = counted (sum_by field_digits t.numbers.items)
-
-abbrev pub most_digits : List RecordType → ℕ
-most_digits [] = 0
-most_digits (t ∷ ts) = max (digits_after t) (most_digits ts)
-
--- how many columns the longest line has
-abbrev pub columns_of : Layout → ℕ
-columns_of layout = counted (most_digits layout.types.items + layout.length)
 
 -- lines become records
 abbrev pub to_records : Layout → RecordFormat → Way

@@ -3,15 +3,16 @@
 ghost use Rattle.std.specs.Prelude.{◌≡◌, ◌+◌, ◌<◌, ◌≤◌, List, IfOk, IfSome};
 ghost use Rattle.rpg_record_lines.specs.Conversions.{EndsFull, HasConverted, counts_after, fault_at, frame_stop, line_stop};
 ghost use Rattle.rpg_record_lines.specs.Inputs.{framing_of, most_of, position_of, remaining_of};
-ghost use Rattle.rpg_record_lines.specs.Ways.{Steps, place_at, to_lines, to_records, way_by, way_of};
+ghost use Rattle.rpg_record_lines.specs.Texts.{EndsAfter, WritesNext, WritesTexts};
+ghost use Rattle.rpg_record_lines.specs.Ways.{Steps, place_at, text_by, to_lines, to_records, way_by, way_of};
 
 use crate::fault::{LineFault, RecordFault};
 use crate::frames::{FrameFault, Frames, Framing, Next};
 use crate::input::InputFault;
-use crate::layout::Layout;
 use crate::line::Converter;
 use crate::maker::{Maker, Making, Room};
 use crate::sending::send;
+use rpg_record_layouts::Layout;
 use rpg_records::Page;
 use std::alloc::{AllocError, Global};
 use std::io::{Read, Write};
@@ -144,6 +145,7 @@ fn convert_next<R: Read + Drop, W: Write>(
     ensures most { most_of frames.new ≡ most_of frames.old }
     ensures counts { IfOk result (λ more. IfSome more (λ more. more.records + more.dropped ≡ counts.records + counts.dropped + 1)) }
     ensures step { Steps R.remaining maker.now counts frames.old frames.new (W.contents writer.old) (W.contents writer.new) result }
+    ensures text { WritesNext (text_by maker.now) (W.contents writer.old) (W.contents writer.new) counts result }
 {
     let offset = frames.position();
     match frames.next(&mut room.given) {
@@ -170,7 +172,8 @@ fn end_full_file<R: Read + Drop>(
     counts: Counts,
 ) -> Result<Counts, ConversionFault>
     requires { counts.records + counts.dropped ≤ 10000000 }
-    ensures { EndsFull (framing_of frames.old) (most_of frames.old) (place_at counts frames.old) (remaining_of R.remaining frames.old) result }
+    ensures known { EndsFull (framing_of frames.old) (most_of frames.old) (place_at counts frames.old) (remaining_of R.remaining frames.old) result }
+    ensures any { EndsAfter counts result }
 {
     let offset = frames.position();
     match frames.next(&mut room.given) {
@@ -181,7 +184,7 @@ fn end_full_file<R: Read + Drop>(
 }
 
 /// Writes what all records bring.
-#[tactic(auto, using(crate::proofs::StepLemmas::reached_start, crate::proofs::StepLemmas::reached_next, crate::proofs::StepLemmas::reached_last, crate::proofs::StepLemmas::reached_stop, crate::proofs::StepLemmas::reached_all))]
+#[tactic(auto, using(crate::proofs::StepLemmas::reached_start, crate::proofs::StepLemmas::reached_next, crate::proofs::StepLemmas::reached_last, crate::proofs::StepLemmas::reached_stop, crate::proofs::StepLemmas::reached_all, crate::proofs::TextLemmas::none_written, crate::proofs::TextLemmas::one_written, crate::proofs::TextLemmas::ended_all))]
 fn convert_all<R: Read + Drop, W: Write>(
     maker: &Maker<'_>,
     frames: &mut Frames<R>,
@@ -189,7 +192,8 @@ fn convert_all<R: Read + Drop, W: Write>(
     writer: &mut W,
 ) -> Result<Counts, ConversionFault>
     requires { position_of frames.old ≡ 0 }
-    ensures { HasConverted (way_of maker.now frames.old) (remaining_of R.remaining frames.old) (W.contents writer.old) (W.contents writer.new) result }
+    ensures known { HasConverted (way_of maker.now frames.old) (remaining_of R.remaining frames.old) (W.contents writer.old) (W.contents writer.new) result }
+    ensures any { WritesTexts (text_by maker.now) (W.contents writer.old) (W.contents writer.new) result }
 {
     let mut counts = Counts {
         records: 0,
@@ -205,7 +209,7 @@ fn convert_all<R: Read + Drop, W: Write>(
 }
 
 /// Converts all records of a reader, which have at most so many bytes.
-#[tactic(auto, using(crate::proofs::StepLemmas::unread))]
+#[tactic(auto, using(crate::proofs::StepLemmas::unread, crate::proofs::TextLemmas::unwritten))]
 fn convert<R: Read + Drop, W: Write>(
     alloc: Global,
     maker: &Maker<'_>,
@@ -214,7 +218,8 @@ fn convert<R: Read + Drop, W: Write>(
     reader: R,
     writer: &mut W,
 ) -> Result<Counts, ConversionFault>
-    ensures { HasConverted (way_by framing most maker.now) (R.remaining reader) (W.contents writer.old) (W.contents writer.new) result }
+    ensures known { HasConverted (way_by framing most maker.now) (R.remaining reader) (W.contents writer.old) (W.contents writer.new) result }
+    ensures any { WritesTexts (text_by maker.now) (W.contents writer.old) (W.contents writer.new) result }
 {
     let mut room = Room {
         given: Vec::new(alloc),
@@ -234,7 +239,9 @@ pub fn records_to_lines<R: Read + Drop, W: Write>(
     writer: &mut W,
 ) -> Result<Counts, ConversionFault>
     // However reads are cut: what is written, the counts and the first record that is refused are those of the definition.
-    ensures { HasConverted (to_lines layout.now format) (R.remaining reader) (W.contents writer.old) (W.contents writer.new) result }
+    ensures known { HasConverted (to_lines layout.now format) (R.remaining reader) (W.contents writer.old) (W.contents writer.new) result }
+    // Of any reader: whole lines were written, each of which is that of some record.
+    ensures any { WritesTexts (to_lines layout.now format).text_of (W.contents writer.old) (W.contents writer.new) result }
 {
     let maker = Maker {
         converter: Converter::new(layout, format.page, format.low_blank),
@@ -255,7 +262,9 @@ pub fn lines_to_records<R: Read + Drop, W: Write>(
     writer: &mut W,
 ) -> Result<Counts, ConversionFault>
     // However reads are cut: what is written, the count and the first line that is refused are those of the definition.
-    ensures { HasConverted (to_records layout.now format) (R.remaining reader) (W.contents writer.old) (W.contents writer.new) result }
+    ensures known { HasConverted (to_records layout.now format) (R.remaining reader) (W.contents writer.old) (W.contents writer.new) result }
+    // Of any reader: whole records were written, as they stand in a file, each of which is that of some line.
+    ensures any { WritesTexts (to_records layout.now format).text_of (W.contents writer.old) (W.contents writer.new) result }
 {
     let maker = Maker {
         converter: Converter::new(layout, format.page, false),

@@ -1,7 +1,7 @@
 //! Why a record has no line, or a line no record.
 
 pub use rpg_records::NumberFault;
-use std::alloc::{AllocError, AllocFailed};
+use std::alloc::AllocError;
 
 /// The bytes of a field.
 #[derive(Clone, Copy)]
@@ -97,17 +97,6 @@ impl From<AllocError> for LineFault {
     ghost from_gives = { λ _ e. e ≡ NoMemory };
 
     fn from(_: AllocError) -> Self {
-        LineFault::NoMemory
-    }
-}
-
-impl<T: Drop> From<AllocFailed<T>> for LineFault {
-    ghost use Rattle.std.specs.Prelude.{◌≡◌};
-    ghost use Rattle.rpg_record_lines.specs.declared.fault.LineFault.TheVariants.{NoMemory};
-
-    ghost from_gives = { λ _ e. e ≡ NoMemory };
-
-    fn from(_: AllocFailed<T>) -> Self {
         LineFault::NoMemory
     }
 }

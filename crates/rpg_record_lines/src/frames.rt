@@ -122,27 +122,27 @@ impl<R: Read + Drop> Frames<R> {
     }
 
     /// Reads the next record in the place of what is there: with fewer bytes than the cards say, if it has no more.
-    pub fn next(&mut self, record: &mut Vec<u8>) -> Result<Next, FrameFault>
+    pub fn next(&mut self, room: &mut Vec<u8>) -> Result<Next, FrameFault>
         ensures framing { framing_of self.new ≡ framing_of self.old }
         ensures most { most_of self.new ≡ most_of self.old }
-        ensures next { ReadsNext (framing_of self.old) R.remaining self.old self.new record.new.items result }
+        ensures next { ReadsNext (framing_of self.old) R.remaining self.old self.new room.new.items result }
     {
         match self.framing {
-            Framing::EndToEnd => self.next_of_length(record),
-            Framing::Descriptors => self.next_described(record),
-            Framing::Lines => self.next_line(record),
+            Framing::EndToEnd => self.next_of_length(room),
+            Framing::Descriptors => self.next_described(room),
+            Framing::Lines => self.next_line(room),
         }
     }
 
     /// Reads a record that has the length of all.
     #[tactic(auto, using(crate::proofs::FrameLemmas::of_length_whole, crate::proofs::FrameLemmas::of_length_end, crate::proofs::FrameLemmas::of_length_cut))]
-    fn next_of_length(&mut self, record: &mut Vec<u8>) -> Result<Next, FrameFault>
+    fn next_of_length(&mut self, room: &mut Vec<u8>) -> Result<Next, FrameFault>
         ensures framing { framing_of self.new ≡ framing_of self.old }
         ensures most { most_of self.new ≡ most_of self.old }
-        ensures next { ReadsNext framings.EndToEnd R.remaining self.old self.new record.new.items result }
+        ensures next { ReadsNext framings.EndToEnd R.remaining self.old self.new room.new.items result }
     {
-        self.input.read_up_to(self.most, record)?;
-        let bytes = record.len();
+        self.input.read_up_to(self.most, room)?;
+        let bytes = room.len();
         if bytes == self.most {
             Ok(Next::Record)
         } else if bytes == 0 {
@@ -154,25 +154,25 @@ impl<R: Read + Drop> Frames<R> {
 
     /// Reads a record that follows its descriptor word.
     #[tactic(auto, using(crate::proofs::FrameLemmas::word_end, crate::proofs::FrameLemmas::word_cut, crate::proofs::FrameLemmas::word_refused, crate::proofs::FrameLemmas::described_cut_off, crate::proofs::FrameLemmas::described_read))]
-    fn next_described(&mut self, record: &mut Vec<u8>) -> Result<Next, FrameFault>
+    fn next_described(&mut self, room: &mut Vec<u8>) -> Result<Next, FrameFault>
         ensures framing { framing_of self.new ≡ framing_of self.old }
         ensures most { most_of self.new ≡ most_of self.old }
-        ensures next { ReadsNext framings.Descriptors R.remaining self.old self.new record.new.items result }
+        ensures next { ReadsNext framings.Descriptors R.remaining self.old self.new room.new.items result }
     {
-        self.input.read_up_to(4, record)?;
-        let bytes = record.len();
+        self.input.read_up_to(4, room)?;
+        let bytes = room.len();
         if bytes == 0 {
             return Ok(Next::End);
         }
         if bytes < 4 {
             return Err(FrameFault::Record(RecordFault::Cut { bytes }));
         }
-        let length = match described_length(record.as_slice(), self.most) {
+        let length = match described_length(room.as_slice(), self.most) {
             Ok(length) => length,
             Err(fault) => return Err(FrameFault::Record(fault)),
         };
-        self.input.read_up_to(length, record)?;
-        let bytes = record.len();
+        self.input.read_up_to(length, room)?;
+        let bytes = room.len();
         if bytes < length {
             return Err(FrameFault::Record(RecordFault::Cut { bytes: bytes + 4 }));
         }
@@ -181,17 +181,17 @@ impl<R: Read + Drop> Frames<R> {
 
     /// Reads a line, of which a line feed, and a carriage return before it, are no bytes.
     #[tactic(auto, using(crate::proofs::FrameLemmas::line_end, crate::proofs::FrameLemmas::line_long, crate::proofs::FrameLemmas::line_read))]
-    fn next_line(&mut self, record: &mut Vec<u8>) -> Result<Next, FrameFault>
+    fn next_line(&mut self, room: &mut Vec<u8>) -> Result<Next, FrameFault>
         ensures framing { framing_of self.new ≡ framing_of self.old }
         ensures most { most_of self.new ≡ most_of self.old }
-        ensures next { ReadsNext framings.Lines R.remaining self.old self.new record.new.items result }
+        ensures next { ReadsNext framings.Lines R.remaining self.old self.new room.new.items result }
     {
-        self.input.read_line(self.most.saturating_add(2), record)?;
-        if record.is_empty() {
+        self.input.read_line(self.most.saturating_add(2), room)?;
+        if room.is_empty() {
             return Ok(Next::End);
         }
-        cut_line_end(record);
-        if record.len() > self.most {
+        cut_line_end(room);
+        if room.len() > self.most {
             return Err(FrameFault::Record(RecordFault::LongLine { most: self.most }));
         }
         Ok(Next::Record)

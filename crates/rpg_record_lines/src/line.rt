@@ -9,35 +9,35 @@ ghost use Rattle.rpg_records.specs.Translations.{is_low_blank, page_of};
 ghost use Rattle.rpg_records.specs.declared.translation.Page.TheVariants as pages;
 
 use crate::fault::{LineFault, RecordFault};
-use crate::layout::{Code, Layout, RecordType};
 use crate::numbers::append_all_digits;
+use rpg_record_layouts::{Code, Layout, RecordType};
 use rpg_records::{Column, Page, Translation};
 use rpg_text::trimmed;
 
 /// The character at a place of a record, 0 where there is none.
-fn character_at(translation: &Translation, record: &[u8], place: usize) -> u8
-    ensures { result ≡ character_at (page_of translation.now) (is_low_blank translation.now) record.now place }
+fn character_at(translation: &Translation, bytes: &[u8], place: usize) -> u8
+    ensures { result ≡ character_at (page_of translation.now) (is_low_blank translation.now) bytes.now place }
 {
-    match record.get(place) {
+    match bytes.get(place) {
         Some(byte) => translation.character_in(Column::Text, *byte),
         None => 0,
     }
 }
 
 /// Whether a code holds of a record.
-fn code_holds(translation: &Translation, record: &[u8], code: &Code) -> bool
-    ensures { result ≡ code_holds (page_of translation.now) (is_low_blank translation.now) record.now code.now }
+fn code_holds(translation: &Translation, bytes: &[u8], code: &Code) -> bool
+    ensures { result ≡ code_holds (page_of translation.now) (is_low_blank translation.now) bytes.now code.now }
 {
-    let stands = character_at(translation, record, code.place) == code.character;
+    let stands = character_at(translation, bytes, code.place) == code.character;
     if code.is_negated { !stands } else { stands }
 }
 
 /// Whether all codes hold of a record.
-fn codes_hold(translation: &Translation, record: &[u8], codes: &[Code]) -> bool
-    ensures { result ≡ list_all (code_holds (page_of translation.now) (is_low_blank translation.now) record.now) codes.now }
+fn codes_hold(translation: &Translation, bytes: &[u8], codes: &[Code]) -> bool
+    ensures { result ≡ list_all (code_holds (page_of translation.now) (is_low_blank translation.now) bytes.now) codes.now }
 {
     for code in codes {
-        if !code_holds(translation, record, code) {
+        if !code_holds(translation, bytes, code) {
             return false;
         }
     }
@@ -45,24 +45,24 @@ fn codes_hold(translation: &Translation, record: &[u8], codes: &[Code]) -> bool
 }
 
 /// Whether a record is of a type: it has its length, and all codes hold.
-fn is_of(translation: &Translation, record: &[u8], kind: &RecordType) -> bool
-    ensures value { result ≡ is_of (page_of translation.now) (is_low_blank translation.now) record.now kind.now }
-    ensures length { result ≡ true → length kind.now.columns.items ≡ length record.now }
+fn is_of(translation: &Translation, bytes: &[u8], kind: &RecordType) -> bool
+    ensures value { result ≡ is_of (page_of translation.now) (is_low_blank translation.now) bytes.now kind.now }
+    ensures length { result ≡ true → length kind.now.columns.items ≡ length bytes.now }
 {
-    kind.columns.len() == record.len() && codes_hold(translation, record, kind.codes.as_slice())
+    kind.columns.len() == bytes.len() && codes_hold(translation, bytes, kind.codes.as_slice())
 }
 
 /// The first type that a record is of.
 pub(crate) fn first_type<'a>(
     translation: &Translation,
-    record: &[u8],
+    bytes: &[u8],
     types: &'a [RecordType],
 ) -> Option<&'a RecordType>
-    ensures value { option_map (λ kind. kind.now) result ≡ first_type (page_of translation.now) (is_low_blank translation.now) record.now types.now }
-    ensures length { IfSome result (λ kind. length kind.now.columns.items ≡ length record.now) }
+    ensures value { option_map (λ kind. kind.now) result ≡ first_type (page_of translation.now) (is_low_blank translation.now) bytes.now types.now }
+    ensures length { IfSome result (λ kind. length kind.now.columns.items ≡ length bytes.now) }
 {
     for kind in types {
-        if is_of(translation, record, kind) {
+        if is_of(translation, bytes, kind) {
             return Some(kind);
         }
     }
@@ -98,15 +98,15 @@ fn missing_in(columns: &[u8]) -> Option<usize>
 
 /// The first byte that is no character of its column: there its character is 0.
 #[tactic(auto, using(crate::proofs::LineLemmas::place_within))]
-fn bad_character(record: &[u8], columns: &[u8]) -> Result<(), RecordFault>
-    requires { length record.now ≡ length columns.now }
-    ensures good { OnOk result (unless_bad record.now columns.now (position (λ c. c == 0) columns.now) ≡ Ok columns.now) }
-    ensures bad { IfErr result (λ fault. unless_bad record.now columns.now (position (λ c. c == 0) columns.now) ≡ Err fault) }
+fn bad_character(bytes: &[u8], columns: &[u8]) -> Result<(), RecordFault>
+    requires { length bytes.now ≡ length columns.now }
+    ensures good { OnOk result (unless_bad bytes.now columns.now (position (λ c. c == 0) columns.now) ≡ Ok columns.now) }
+    ensures bad { IfErr result (λ fault. unless_bad bytes.now columns.now (position (λ c. c == 0) columns.now) ≡ Err fault) }
 {
     match missing_in(columns) {
         Some(place) => Err(RecordFault::NoCharacter {
             column: place + 1,
-            byte: record[place],
+            byte: bytes[place],
         }),
         None => Ok(()),
     }
@@ -127,7 +127,7 @@ impl<'a> Converter<'a> {
     ghost use Rattle.std.specs.Prelude.{IsTrue};
     ghost use Rattle.rpg_text.specs.Texts.{is_character};
     ghost use Rattle.rpg_records.specs.Columns.{page_byte};
-    ghost use Rattle.rpg_record_lines.specs.Converters.{characters_by, is_low_blank_of, length_of, line_by, page_of_records, type_again, types_of, whole_line_by};
+    ghost use Rattle.rpg_record_lines.specs.Converters.{characters_by, is_low_blank_of, length_of, line_by, page_of_records, type_again, type_by, types_of, whole_line_by};
 
     /// With `low_blank` the byte 0 of a record is a blank.
     pub fn new(layout: &'a Layout, page: Page, low_blank: bool) -> Self
@@ -159,11 +159,11 @@ impl<'a> Converter<'a> {
     }
 
     /// The type that a record is of.
-    pub(crate) fn type_of_record(&self, record: &[u8]) -> Option<&RecordType>
-        ensures value { option_map (λ kind. kind.now) result ≡ first_type (page_of_records self.now) (is_low_blank_of self.now) record.now (types_of self.now) }
-        ensures length { IfSome result (λ kind. length kind.now.columns.items ≡ length record.now) }
+    pub(crate) fn type_of_record(&self, bytes: &[u8]) -> Option<&RecordType>
+        ensures value { option_map (λ kind. kind.now) result ≡ type_by self.now bytes.now }
+        ensures length { IfSome result (λ kind. length kind.now.columns.items ≡ length bytes.now) }
     {
-        first_type(&self.records, record, self.types())
+        first_type(&self.records, bytes, self.types())
     }
 
     /// The type that a line is of by its first columns.
@@ -185,22 +185,22 @@ impl<'a> Converter<'a> {
     fn write_columns(
         &self,
         kind: &RecordType,
-        record: &[u8],
+        bytes: &[u8],
         line: &mut Vec<u8>,
     ) -> Result<(), LineFault>
-        requires { length kind.now.columns.items ≡ length record.now }
-        ensures characters { OnOk result (characters_by self.now kind.now record.now ≡ Ok line.new.items) }
-        ensures fault { IfErr result (IsFaultOf (characters_by self.now kind.now record.now)) }
+        requires { length kind.now.columns.items ≡ length bytes.now }
+        ensures characters { OnOk result (characters_by self.now kind.now bytes.now ≡ Ok line.new.items) }
+        ensures fault { IfErr result (IsFaultOf (characters_by self.now kind.now bytes.now)) }
     {
-        line.resize(record.len(), 0)?;
+        line.resize(bytes.len(), 0)?;
         let columns = kind.columns.as_slice();
         let are_all = self
             .records
-            .write_image(columns, record, line.as_mut_slice());
+            .write_image(columns, bytes, line.as_mut_slice());
         if are_all {
             return Ok(());
         }
-        match bad_character(record, line.as_slice()) {
+        match bad_character(bytes, line.as_slice()) {
             Ok(()) => Ok(()),
             Err(fault) => Err(LineFault::Record(fault)),
         }
@@ -226,18 +226,18 @@ impl<'a> Converter<'a> {
     fn write_whole_line(
         &self,
         kind: &RecordType,
-        record: &[u8],
+        bytes: &[u8],
         line: &mut Vec<u8>,
     ) -> Result<(), LineFault>
-        requires { length kind.now.columns.items ≡ length record.now }
-        ensures line { OnOk result (whole_line_by self.now kind.now record.now ≡ Ok line.new.items) }
-        ensures fault { IfErr result (IsFaultOf (whole_line_by self.now kind.now record.now)) }
+        requires { length kind.now.columns.items ≡ length bytes.now }
+        ensures line { OnOk result (whole_line_by self.now kind.now bytes.now ≡ Ok line.new.items) }
+        ensures fault { IfErr result (IsFaultOf (whole_line_by self.now kind.now bytes.now)) }
     {
-        self.write_columns(kind, record, line)?;
+        self.write_columns(kind, bytes, line)?;
         if let Err(fault) = self.check_type(kind, line.as_slice()) {
             return Err(LineFault::Record(fault));
         }
-        append_all_digits(kind.numbers.as_slice(), record, line)
+        append_all_digits(kind.numbers.as_slice(), bytes, line)
     }
 
     /// Writes the line of a record in the place of what a text has, without a line feed.
@@ -245,14 +245,14 @@ impl<'a> Converter<'a> {
     /// # Errors
     ///
     /// The record has no line, or memory ran out. The text is then unusable.
-    pub fn write_line(&self, record: &[u8], line: &mut Vec<u8>) -> Result<(), LineFault>
-        ensures line { OnOk result (line_by self.now record.now ≡ Ok line.new.items) }
-        ensures fault { IfErr result (IsFaultOf (line_by self.now record.now)) }
+    pub fn write_line(&self, bytes: &[u8], line: &mut Vec<u8>) -> Result<(), LineFault>
+        ensures line { OnOk result (line_by self.now bytes.now ≡ Ok line.new.items) }
+        ensures fault { IfErr result (IsFaultOf (line_by self.now bytes.now)) }
     {
-        let Some(kind) = self.type_of_record(record) else {
+        let Some(kind) = self.type_of_record(bytes) else {
             return Err(LineFault::Record(RecordFault::NoType));
         };
-        self.write_whole_line(kind, record, line)?;
+        self.write_whole_line(kind, bytes, line)?;
         let length = trimmed(line.as_slice()).len();
         line.truncate(length);
         Ok(())

@@ -39,39 +39,39 @@ pub(crate) struct Room {
 }
 
 /// Whether a record is left out.
-fn is_dropped(dropped: Option<u8>, record: &[u8]) -> bool
-    ensures { result ≡ is_dropped dropped record.now }
+fn is_dropped(dropped: Option<u8>, bytes: &[u8]) -> bool
+    ensures { result ≡ is_dropped dropped bytes.now }
 {
-    match (dropped, record.first()) {
+    match (dropped, bytes.first()) {
         (Some(byte), Some(first)) => *first == byte,
         _ => false,
     }
 }
 
 /// Fills a record up to so many bytes.
-fn pad(record: &mut Vec<u8>, length: usize, blank: u8) -> Result<(), AllocError>
-    ensures { OnOk result (record.new.items ≡ record.old.items ++ replicate (length - vec_len record.old) blank) }
+fn pad(bytes: &mut Vec<u8>, length: usize, blank: u8) -> Result<(), AllocError>
+    ensures { OnOk result (bytes.new.items ≡ bytes.old.items ++ replicate (length - vec_len bytes.old) blank) }
 {
-    while record.len() < length {
-        record.push(blank)?;
+    while bytes.len() < length {
+        bytes.push(blank)?;
     }
     Ok(())
 }
 
 /// Gives a record what stands around it in its file.
-fn put_in_frame(framing: Framing, record: &[u8], framed: &mut Vec<u8>) -> Result<(), AllocError>
-    ensures { OnOk result (framed.new.items ≡ frame framing record.now) }
+fn put_in_frame(framing: Framing, bytes: &[u8], framed: &mut Vec<u8>) -> Result<(), AllocError>
+    ensures { OnOk result (framed.new.items ≡ frame framing bytes.now) }
 {
     framed.clear();
     match framing {
-        Framing::EndToEnd => framed.extend_from_slice(record)?,
+        Framing::EndToEnd => framed.extend_from_slice(bytes)?,
         Framing::Descriptors => {
-            let whole = (record.len() % 65_536 + 4) % 65_536;
+            let whole = (bytes.len() % 65_536 + 4) % 65_536;
             framed.extend_from_slice(&[(whole / 256) as u8, (whole % 256) as u8, 0, 0])?;
-            framed.extend_from_slice(record)?;
+            framed.extend_from_slice(bytes)?;
         }
         Framing::Lines => {
-            framed.extend_from_slice(record)?;
+            framed.extend_from_slice(bytes)?;
             framed.push(b'\n')?;
         }
     }
@@ -90,7 +90,7 @@ impl<'a> Maker<'a> {
         pad(&mut room.given, self.converter.length(), blank)?;
         self.converter
             .write_line(room.given.as_slice(), &mut room.made)?;
-        room.made.push(b'\n')?;
+        room.made.extend_from_slice(b"\n")?;
         Ok(())
     }
 

@@ -1,11 +1,12 @@
 //! The digits of a record's packed and binary fields, and the bytes of such digits.
 
 ghost use Rattle.std.specs.Prelude.{◌≡◌, ◌++◌, length, None, Some, Ok, Err, IfErr, OnErr, OnOk, drop, replicate, take};
-ghost use Rattle.rpg_record_lines.specs.Numbers.{digits_at, digits_in, digits_of, field_digits, field_size, field_text, filled, number_bytes, with_number, with_numbers};
+ghost use Rattle.rpg_record_layouts.specs.Sizes.{field_digits, field_size};
+ghost use Rattle.rpg_record_lines.specs.Numbers.{digits_at, digits_in, digits_of, field_text, filled, number_bytes, with_number, with_numbers};
 ghost use Rattle.rpg_record_lines.specs.Outcomes.{IsFaultOf, joined};
 
 use crate::fault::{FieldBytes, LineFault, NumberFault, RecordFault};
-use crate::layout::{NumberField, NumberForm};
+use rpg_record_layouts::{NumberField, NumberForm};
 use rpg_records::{binary_to_zoned, packed_to_zoned, zoned_to_binary, zoned_to_packed};
 
 /// Writes the digits of a field's bytes.
@@ -22,23 +23,23 @@ fn write_digits(field: &NumberField, bytes: &[u8], digits: &mut [u8]) -> Result<
 }
 
 /// Appends the digits of a record's field to a line.
-fn append_digits(field: &NumberField, record: &[u8], line: &mut Vec<u8>) -> Result<(), LineFault>
-    ensures digits { OnOk result (joined (Ok line.old.items) (field_text record.now field.now) ≡ Ok line.new.items) }
-    ensures fault { IfErr result (IsFaultOf (field_text record.now field.now)) }
+fn append_digits(field: &NumberField, bytes: &[u8], line: &mut Vec<u8>) -> Result<(), LineFault>
+    ensures digits { OnOk result (joined (Ok line.old.items) (field_text bytes.now field.now) ≡ Ok line.new.items) }
+    ensures fault { IfErr result (IsFaultOf (field_text bytes.now field.now)) }
 {
     let (start, end) = (usize::from(field.first - 1), usize::from(field.last));
-    if end > record.len() {
+    if end > bytes.len() {
         return Err(LineFault::Record(RecordFault::NoType));
     }
-    let bytes = &record[start..end];
+    let part = &bytes[start..end];
     let mut room = [0; 15];
     let digits = &mut room[..field.digit_count()];
-    if let Err(fault) = write_digits(field, bytes, digits) {
+    if let Err(fault) = write_digits(field, part, digits) {
         return Err(LineFault::Record(RecordFault::BadNumber {
             card: field.card,
             first: field.first,
             last: field.last,
-            bytes: FieldBytes::new(bytes),
+            bytes: FieldBytes::new(part),
             fault,
         }));
     }
@@ -50,14 +51,14 @@ fn append_digits(field: &NumberField, record: &[u8], line: &mut Vec<u8>) -> Resu
 #[tactic(auto, using(crate::proofs::DigitLemmas::joined_next, crate::proofs::DigitLemmas::joined_fault, crate::proofs::DigitLemmas::joined_nothing))]
 pub(crate) fn append_all_digits(
     fields: &[NumberField],
-    record: &[u8],
+    bytes: &[u8],
     line: &mut Vec<u8>,
 ) -> Result<(), LineFault>
-    ensures digits { OnOk result (joined (Ok line.old.items) (digits_of record.now fields.now) ≡ Ok line.new.items) }
-    ensures fault { IfErr result (IsFaultOf (joined (Ok line.old.items) (digits_of record.now fields.now))) }
+    ensures digits { OnOk result (joined (Ok line.old.items) (digits_of bytes.now fields.now) ≡ Ok line.new.items) }
+    ensures fault { IfErr result (IsFaultOf (joined (Ok line.old.items) (digits_of bytes.now fields.now))) }
 {
     for field in fields {
-        append_digits(field, record, line)?;
+        append_digits(field, bytes, line)?;
     }
     Ok(())
 }
@@ -103,19 +104,19 @@ fn write_number(
     field: &NumberField,
     line: &[u8],
     place: usize,
-    record: &mut [u8],
+    bytes: &mut [u8],
 ) -> Result<(), RecordFault>
-    ensures bytes { OnOk result (with_number line.now place record.old field.now ≡ Ok record.new) }
-    ensures fault { IfErr result (λ fault. with_number line.now place record.old field.now ≡ Err fault) }
+    ensures bytes { OnOk result (with_number line.now place bytes.old field.now ≡ Ok bytes.new) }
+    ensures fault { IfErr result (λ fault. with_number line.now place bytes.old field.now ≡ Err fault) }
 {
     let (start, end) = (usize::from(field.first - 1), usize::from(field.last));
-    if end > record.len() {
+    if end > bytes.len() {
         return Err(RecordFault::NoType);
     }
     let mut room = [b' '; 15];
     let digits = &mut room[..field.digit_count()];
     fill(from_place(line, place), digits);
-    if write_bytes(field, digits, &mut record[start..end]).is_err() {
+    if write_bytes(field, digits, &mut bytes[start..end]).is_err() {
         return Err(RecordFault::BadDigits {
             card: field.card,
             first: place.saturating_add(1),
@@ -129,14 +130,14 @@ fn write_number(
 pub(crate) fn write_numbers(
     fields: &[NumberField],
     line: &[u8],
-    record: &mut [u8],
+    bytes: &mut [u8],
 ) -> Result<(), RecordFault>
-    ensures bytes { OnOk result (with_numbers line.now fields.now (length record.old) record.old ≡ Ok record.new) }
-    ensures fault { IfErr result (λ fault. with_numbers line.now fields.now (length record.old) record.old ≡ Err fault) }
+    ensures bytes { OnOk result (with_numbers line.now fields.now (length bytes.old) bytes.old ≡ Ok bytes.new) }
+    ensures fault { IfErr result (λ fault. with_numbers line.now fields.now (length bytes.old) bytes.old ≡ Err fault) }
 {
-    let mut place = record.len();
+    let mut place = bytes.len();
     for field in fields {
-        write_number(field, line, place, record)?;
+        write_number(field, line, place, bytes)?;
         place = place.saturating_add(field.digit_count());
     }
     if line.len() > place {

@@ -5,9 +5,9 @@ ghost use Rattle.rpg_record_lines.specs.Outcomes.{IsFaultOf};
 ghost use Rattle.rpg_record_lines.specs.Records.{bytes_from, widened};
 
 use crate::fault::{LineFault, RecordFault};
-use crate::layout::RecordType;
 use crate::line::{Converter, card_of, is_card};
 use crate::numbers::write_numbers;
+use rpg_record_layouts::RecordType;
 use rpg_text::{is_character, trimmed};
 use std::alloc::AllocError;
 
@@ -16,9 +16,9 @@ impl<'a> Converter<'a> {
 
     /// Writes the bytes of a line's first columns. A blank is one too.
     #[tactic(auto, using(crate::proofs::DigitLemmas::joined_empty, crate::proofs::DigitLemmas::joined_nothing, crate::proofs::RecordLemmas::bytes_next, crate::proofs::RecordLemmas::bytes_bad))]
-    fn write_characters(&self, columns: &[u8], record: &mut [u8]) -> Result<(), RecordFault>
-        requires { length columns.now ≡ length record.old }
-        ensures bytes { OnOk result (bytes_from (page_of_records self.now) 0 columns.now ≡ Ok record.new) }
+    fn write_characters(&self, columns: &[u8], bytes: &mut [u8]) -> Result<(), RecordFault>
+        requires { length columns.now ≡ length bytes.old }
+        ensures bytes { OnOk result (bytes_from (page_of_records self.now) 0 columns.now ≡ Ok bytes.new) }
         ensures fault { IfErr result (λ fault. bytes_from (page_of_records self.now) 0 columns.now ≡ Err fault) }
     {
         for (place, character) in columns.iter().enumerate() {
@@ -28,17 +28,17 @@ impl<'a> Converter<'a> {
                     byte: *character,
                 });
             }
-            record[place] = self.byte_of(*character);
+            bytes[place] = self.byte_of(*character);
         }
         Ok(())
     }
 
     /// Tests that a record is of the type of its line.
-    fn check_record(&self, kind: &RecordType, record: &[u8]) -> Result<(), RecordFault>
-        ensures same { OnOk result (checked_by self.now kind.now record.now ≡ Ok record.now) }
-        ensures other { IfErr result (λ fault. checked_by self.now kind.now record.now ≡ Err fault) }
+    fn check_record(&self, kind: &RecordType, bytes: &[u8]) -> Result<(), RecordFault>
+        ensures same { OnOk result (checked_by self.now kind.now bytes.now ≡ Ok bytes.now) }
+        ensures other { IfErr result (λ fault. checked_by self.now kind.now bytes.now ≡ Err fault) }
     {
-        let found = self.type_of_record(record);
+        let found = self.type_of_record(bytes);
         if is_card(kind.card, found) {
             return Ok(());
         }
@@ -54,15 +54,15 @@ impl<'a> Converter<'a> {
         kind: &RecordType,
         columns: &[u8],
         line: &[u8],
-        record: &mut [u8],
+        bytes: &mut [u8],
     ) -> Result<(), RecordFault>
-        requires { length columns.now ≡ length record.old }
-        ensures bytes { OnOk result (typed_by self.now columns.now line.now kind.now ≡ Ok record.new) }
+        requires { length columns.now ≡ length bytes.old }
+        ensures bytes { OnOk result (typed_by self.now columns.now line.now kind.now ≡ Ok bytes.new) }
         ensures fault { IfErr result (λ fault. typed_by self.now columns.now line.now kind.now ≡ Err fault) }
     {
-        self.write_characters(columns, record)?;
-        write_numbers(kind.numbers.as_slice(), line, record)?;
-        self.check_record(kind, record)
+        self.write_characters(columns, bytes)?;
+        write_numbers(kind.numbers.as_slice(), line, bytes)?;
+        self.check_record(kind, bytes)
     }
 
     /// Writes the record of a line in the place of what is there. The line gets blanks up to the record's columns.
@@ -70,19 +70,19 @@ impl<'a> Converter<'a> {
     /// # Errors
     ///
     /// The line has no record, or memory ran out. What was written is then unusable.
-    pub fn write_record(&self, line: &mut Vec<u8>, record: &mut Vec<u8>) -> Result<(), LineFault>
-        ensures bytes { OnOk result (record_by self.now line.old.items ≡ Ok record.new.items) }
+    pub fn write_record(&self, line: &mut Vec<u8>, bytes: &mut Vec<u8>) -> Result<(), LineFault>
+        ensures bytes { OnOk result (record_by self.now line.old.items ≡ Ok bytes.new.items) }
         ensures fault { IfErr result (IsFaultOf (record_by self.now line.old.items)) }
     {
         let length = self.length();
-        record.resize(length, 0)?;
+        bytes.resize(length, 0)?;
         widen(line, length)?;
         let wide = line.as_slice();
         let columns = &wide[..length];
         let Some(kind) = self.type_of_line(columns) else {
             return Err(LineFault::Record(RecordFault::NoType));
         };
-        match self.write_typed_record(kind, columns, trimmed(wide), record.as_mut_slice()) {
+        match self.write_typed_record(kind, columns, trimmed(wide), bytes.as_mut_slice()) {
             Ok(()) => Ok(()),
             Err(fault) => Err(LineFault::Record(fault)),
         }

@@ -6,5 +6,5 @@ use Rattle.rpg_record_lines.proofs.line.codes_hold.Given as goal
 
 abbrev pub invariant-loop-code : goal.invariant-loop-code
 invariant-loop-code l =
-    list_all (code_holds (page_of l.translation) (is_low_blank l.translation) l.record) (drop l.code-index l.codes)
-    ≡ list_all (code_holds (page_of l.translation) (is_low_blank l.translation) l.record) l.codes
+    list_all (code_holds (page_of l.translation) (is_low_blank l.translation) l.bytes) (drop l.code-index l.codes)
+    ≡ list_all (code_holds (page_of l.translation) (is_low_blank l.translation) l.bytes) l.codes

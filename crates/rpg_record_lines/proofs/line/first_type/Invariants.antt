@@ -5,5 +5,5 @@ use Rattle.rpg_record_lines.proofs.line.first_type.Given as goal
 
 abbrev pub invariant-loop-kind : goal.invariant-loop-kind
 invariant-loop-kind l =
-    first_type (page_of l.translation) (is_low_blank l.translation) l.record (drop l.kind-index l.types)
-    ≡ first_type (page_of l.translation) (is_low_blank l.translation) l.record l.types
+    first_type (page_of l.translation) (is_low_blank l.translation) l.bytes (drop l.kind-index l.types)
+    ≡ first_type (page_of l.translation) (is_low_blank l.translation) l.bytes l.types

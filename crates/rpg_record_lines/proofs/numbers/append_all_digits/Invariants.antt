@@ -5,4 +5,4 @@ use Rattle.rpg_record_lines.proofs.numbers.append_all_digits.Given as goal
 
 abbrev pub invariant-loop-field : goal.invariant-loop-field
 invariant-loop-field l =
-    joined (Ok l.line.items) (digits_of l.record (drop l.field-index l.fields)) ≡ joined (Ok l.initial.line.items) (digits_of l.record l.fields)
+    joined (Ok l.line.items) (digits_of l.bytes (drop l.field-index l.fields)) ≡ joined (Ok l.initial.line.items) (digits_of l.bytes l.fields)

@@ -6,6 +6,6 @@ use Rattle.rpg_record_lines.proofs.line.Converter.write_characters.Given as goal
 
 abbrev pub invariant-loop-place : goal.invariant-loop-place
 invariant-loop-place l = record {
-  same : length l.record ≡ length l.columns;
-  written : joined (Ok (take l.place l.record)) (bytes_from (page_of_records l.self) l.place (drop l.place l.columns)) ≡ bytes_from (page_of_records l.self) 0 l.columns;
+  same : length l.bytes ≡ length l.columns;
+  written : joined (Ok (take l.place l.bytes)) (bytes_from (page_of_records l.self) l.place (drop l.place l.columns)) ≡ bytes_from (page_of_records l.self) 0 l.columns;
 }

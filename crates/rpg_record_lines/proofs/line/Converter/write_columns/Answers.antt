@@ -12,5 +12,5 @@ returns-then-are_all-clause-characters c =
     let all : not (list_any (λ (b : ℕ). b == 0) text) ≡ true = sym c.write_image-are_all.ensures.all ∙ c.if-are_all.true in
     let whole = whole_text n text (drop (length text) c.resize.new.self.items) count in
     let image = rw c.as_slice-columns.ensures.value at c.write_image-are_all.ensures.image in
-    subst (λ (l : List ℕ). unless_bad c.args.record.now l (position (λ (b : ℕ). b == 0) l) ≡ Ok (take n (text ++ drop (length text) c.resize.new.self.items))) image
-    (all_characters c.args.record.now text all ∙ ap Ok (sym whole))
+    subst (λ (l : List ℕ). unless_bad c.args.bytes.now l (position (λ (b : ℕ). b == 0) l) ≡ Ok (take n (text ++ drop (length text) c.resize.new.self.items))) image
+    (all_characters c.args.bytes.now text all ∙ ap Ok (sym whole))

@@ -1,7 +1,7 @@
 -- The sizes of packed and binary fields.
 use Rattle.std.specs.Prelude.{ℕ, ◌-◌, ◌*◌, ◌==◌, ◌&&◌, ◌||◌, nat_le, Bool, if◌then◌else◌}
-use Rattle.rpg_record_lines.specs.declared.layout.NumberForm.{NumberForm}
-use Rattle.rpg_record_lines.specs.declared.layout.NumberForm.TheVariants as forms
+use Rattle.rpg_record_layouts.specs.declared.layout.NumberForm.{NumberForm}
+use Rattle.rpg_record_layouts.specs.declared.layout.NumberForm.TheVariants as forms
 
 abbrev pub is_field_size : NumberForm → ℕ → Bool
 is_field_size forms.Packed k = nat_le 1 k && nat_le k 8

@@ -1,0 +1,51 @@
+-- What a layout says, whatever room its lists take.
+use Rattle.std.specs.Prelude.{ℕ, ◌+◌, ◌-◌, max, List, [], ◌∷◌, map, sum_by}
+use Rattle.rpg_records.specs.declared.column.Column.{Column}
+use Rattle.rpg_record_layouts.specs.Fields.{digit_count}
+use Rattle.rpg_record_layouts.specs.Sizes.{counted}
+use Rattle.rpg_record_layouts.specs.declared.layout.Code.{Code}
+use Rattle.rpg_record_layouts.specs.declared.layout.Layout.{Layout}
+use Rattle.rpg_record_layouts.specs.declared.layout.NumberField.{NumberField}
+use Rattle.rpg_record_layouts.specs.declared.layout.NumberForm.{NumberForm}
+use Rattle.rpg_record_layouts.specs.declared.layout.RecordType.{RecordType}
+
+-- a packed or binary field: its card, its columns and how its bytes stand
+pub record NumberSeen : Type 0 where
+  pub card : ℕ
+  pub first : ℕ
+  pub last : ℕ
+  pub form : NumberForm
+
+-- a record type: its card, its codes, what stands in each column, its packed and binary fields
+pub record TypeSeen : Type 0 where
+  pub card : ℕ
+  pub codes : List Code
+  pub columns : List Column
+  pub numbers : List NumberSeen
+
+-- the file's card, how many bytes a record has, and the types in order
+pub record LayoutSeen : Type 0 where
+  pub card : ℕ
+  pub length : ℕ
+  pub types : List TypeSeen
+
+abbrev pub number_seen : NumberField → NumberSeen
+number_seen f = record { card = f.card; first = f.first; last = f.last; form = f.form }
+
+abbrev pub type_seen : RecordType → TypeSeen
+type_seen t = record { card = t.card; codes = t.codes.items; columns = t.columns.items; numbers = map number_seen t.numbers.items }
+
+abbrev pub layout_seen : Layout → LayoutSeen
+layout_seen layout = record { card = layout.card; length = layout.length; types = map type_seen layout.types.items }
+
+-- how many digits a field has
+abbrev pub digits_seen : NumberSeen → ℕ
+digits_seen f = digit_count f.form (f.last - f.first + 1)
+
+abbrev pub most_seen : List TypeSeen → ℕ
+most_seen [] = 0
+most_seen (t ∷ ts) = max (counted (sum_by digits_seen t.numbers)) (most_seen ts)
+
+-- how many columns the longest line has
+abbrev pub columns_seen : LayoutSeen → ℕ
+columns_seen layout = counted (most_seen layout.types + layout.length)

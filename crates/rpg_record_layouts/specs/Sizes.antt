@@ -1,0 +1,30 @@
+-- How many digits and columns records have as lines.
+use Rattle.std.specs.Prelude.{ℕ, ◌+◌, ◌-◌, ◌^◌, max, min, List, [], ◌∷◌, sum_by}
+use Rattle.rpg_record_layouts.specs.Fields.{digit_count}
+use Rattle.rpg_record_layouts.specs.declared.layout.Layout.{Layout}
+use Rattle.rpg_record_layouts.specs.declared.layout.NumberField.{NumberField}
+use Rattle.rpg_record_layouts.specs.declared.layout.RecordType.{RecordType}
+
+-- a count stops at the largest number of 64 bits
+abbrev pub counted : ℕ → ℕ
+counted n = min n (2 ^ 64 - 1)
+
+-- how many bytes a field has
+abbrev pub field_size : NumberField → ℕ
+field_size f = f.last - f.first + 1
+
+-- how many digits its number has
+abbrev pub field_digits : NumberField → ℕ
+field_digits f = digit_count f.form (field_size f)
+
+-- how many digits the fields of a type have
+abbrev pub digits_after : RecordType → ℕ
+digits_after t = counted (sum_by field_digits t.numbers.items)
+
+abbrev pub most_digits : List RecordType → ℕ
+most_digits [] = 0
+most_digits (t ∷ ts) = max (digits_after t) (most_digits ts)
+
+-- how many columns the longest line has
+abbrev pub columns_of : Layout → ℕ
+columns_of layout = counted (most_digits layout.types.items + layout.length)
