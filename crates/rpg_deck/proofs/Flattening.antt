@@ -1,0 +1,157 @@
+-- The sheets of cards in order, one after the other, are the cards.
+use Rattle.std.specs.List.{cons_option}
+use Rattle.std.specs.Option.{option_map}
+use Rattle.std.proofs.Common.{◌≡◌, ℕ, ◌<◌, List, [], ◌∷◌, ◌++◌, Option, None, Some, refl, ap, ◌∙◌, arith}
+use Rattle.rpg_cards.specs.Cards.{calculation_on, data_on, extension_on, file_on, input_on, output_on}
+use Rattle.rpg_cards.specs.declared.spec_card.SpecCard.{SpecCard}
+use Rattle.rpg_deck.specs.Cut.{all_in, flat_sheet}
+use Rattle.rpg_deck.specs.declared.card.Card.{Card}
+use Rattle.rpg_sheet_specs.specs.declared.calculation.CalculationSpec.{CalculationSpec}
+use Rattle.rpg_sheet_specs.specs.declared.data.DataSpec.{DataSpec}
+use Rattle.rpg_sheet_specs.specs.declared.input.InputSpec.{InputSpec}
+use Rattle.rpg_sheet_specs.specs.declared.output.OutputSpec.{OutputSpec}
+use Rattle.rpg_deck.proofs.Cutting.{whole_groups, whole_sheet}
+use Rattle.rpg_deck.specs.Tree.{begins_calculation, begins_deck, begins_line, begins_type, cards_on, header_on, tree}
+use Rattle.rpg_deck.specs.Flat.{IsInOrder, back, flat, place}
+use Rattle.rpg_sheet_specs.specs.declared.spec.Spec.{Spec}
+use Rattle.rpg_sheet_specs.specs.declared.spec.Spec.TheVariants as spec
+
+-- the cards of a sheet
+abbrev sheet : {X : Type 0} → (Spec → Option X) → (X → Spec) → List SpecCard → List SpecCard
+sheet on make cards = back make (cards_on on cards)
+
+abbrev joined : List SpecCard → List SpecCard
+joined cards =
+    sheet header_on spec.Header cards ++ (sheet file_on spec.File cards ++ (sheet extension_on spec.Extension cards
+    ++ (sheet input_on spec.Input cards ++ (sheet calculation_on spec.Calculation cards
+    ++ (sheet output_on spec.Output cards ++ sheet data_on spec.Data cards)))))
+
+-- after a card of a later sheet there is none of an earlier one
+none : {X : Type 0} (on : Spec → Option X) (make : X → Spec) (i : ℕ) → ((s : Spec) → i < place s → on s ≡ None) → (low : ℕ) (cards : List SpecCard) → i < low → IsInOrder low cards → sheet on make cards ≡ []
+none on make i other low [] past ordered = refl
+none on make i other low (c ∷ cs) past ordered =
+    let later : i < place c.spec = omega arith in
+    by (on c.spec) (other c.spec later) (none on make i other (place c.spec) cs later ordered.1)
+  where
+    by : (o : Option _) → o ≡ None → sheet on make cs ≡ [] → back make (cons_option (option_map (λ x. record { number = c.number; spec = x }) o) (cards_on on cs)) ≡ []
+    by None is rest = rest
+    by (Some x) is rest = absurd cc
+
+no_header : (s : Spec) → 0 < place s → header_on s ≡ None
+no_header (spec.Header x) l = absurd (omega arith)
+no_header (spec.File x) l = refl
+no_header (spec.Extension x) l = refl
+no_header (spec.Input x) l = refl
+no_header (spec.Calculation x) l = refl
+no_header (spec.Output x) l = refl
+no_header (spec.Data x) l = refl
+
+no_file : (s : Spec) → 1 < place s → file_on s ≡ None
+no_file (spec.Header x) l = absurd (omega arith)
+no_file (spec.File x) l = absurd (omega arith)
+no_file (spec.Extension x) l = refl
+no_file (spec.Input x) l = refl
+no_file (spec.Calculation x) l = refl
+no_file (spec.Output x) l = refl
+no_file (spec.Data x) l = refl
+
+no_extension : (s : Spec) → 2 < place s → extension_on s ≡ None
+no_extension (spec.Header x) l = absurd (omega arith)
+no_extension (spec.File x) l = absurd (omega arith)
+no_extension (spec.Extension x) l = absurd (omega arith)
+no_extension (spec.Input x) l = refl
+no_extension (spec.Calculation x) l = refl
+no_extension (spec.Output x) l = refl
+no_extension (spec.Data x) l = refl
+
+no_input : (s : Spec) → 3 < place s → input_on s ≡ None
+no_input (spec.Header x) l = refl
+no_input (spec.File x) l = refl
+no_input (spec.Extension x) l = refl
+no_input (spec.Input x) l = absurd (omega arith)
+no_input (spec.Calculation x) l = refl
+no_input (spec.Output x) l = refl
+no_input (spec.Data x) l = refl
+
+no_calculation : (s : Spec) → 4 < place s → calculation_on s ≡ None
+no_calculation (spec.Header x) l = refl
+no_calculation (spec.File x) l = refl
+no_calculation (spec.Extension x) l = refl
+no_calculation (spec.Input x) l = refl
+no_calculation (spec.Calculation x) l = absurd (omega arith)
+no_calculation (spec.Output x) l = refl
+no_calculation (spec.Data x) l = refl
+
+no_output : (s : Spec) → 5 < place s → output_on s ≡ None
+no_output (spec.Header x) l = refl
+no_output (spec.File x) l = refl
+no_output (spec.Extension x) l = refl
+no_output (spec.Input x) l = refl
+no_output (spec.Calculation x) l = refl
+no_output (spec.Output x) l = absurd (omega arith)
+no_output (spec.Data x) l = refl
+
+-- past an empty front a card comes first
+past : {X : Type 0} (front behind all : List X) (x : X) → front ≡ [] → behind ≡ x ∷ all → front ++ behind ≡ x ∷ (front ++ all)
+past front behind all x empty is = cc
+
+module _ (n : ℕ) (cs : List SpecCard) where
+  first : (s : Spec) → IsInOrder (place s) cs → joined (record { number = n; spec = s } ∷ cs) ≡ record { number = n; spec = s } ∷ joined cs
+  first (spec.Header x) ordered = refl
+  first (spec.File x) ordered =
+      past (sheet header_on spec.Header cs) _ _ _ (none header_on spec.Header 0 no_header 1 cs (omega arith) ordered) refl
+  first (spec.Extension x) ordered =
+      past (sheet header_on spec.Header cs) _ _ _ (none header_on spec.Header 0 no_header 2 cs (omega arith) ordered)
+      (past (sheet file_on spec.File cs) _ _ _ (none file_on spec.File 1 no_file 2 cs (omega arith) ordered) refl)
+  first (spec.Input x) ordered =
+      past (sheet header_on spec.Header cs) _ _ _ (none header_on spec.Header 0 no_header 3 cs (omega arith) ordered)
+      (past (sheet file_on spec.File cs) _ _ _ (none file_on spec.File 1 no_file 3 cs (omega arith) ordered)
+      (past (sheet extension_on spec.Extension cs) _ _ _ (none extension_on spec.Extension 2 no_extension 3 cs (omega arith) ordered) refl))
+  first (spec.Calculation x) ordered =
+      past (sheet header_on spec.Header cs) _ _ _ (none header_on spec.Header 0 no_header 4 cs (omega arith) ordered)
+      (past (sheet file_on spec.File cs) _ _ _ (none file_on spec.File 1 no_file 4 cs (omega arith) ordered)
+      (past (sheet extension_on spec.Extension cs) _ _ _ (none extension_on spec.Extension 2 no_extension 4 cs (omega arith) ordered)
+      (past (sheet input_on spec.Input cs) _ _ _ (none input_on spec.Input 3 no_input 4 cs (omega arith) ordered) refl)))
+  first (spec.Output x) ordered =
+      past (sheet header_on spec.Header cs) _ _ _ (none header_on spec.Header 0 no_header 5 cs (omega arith) ordered)
+      (past (sheet file_on spec.File cs) _ _ _ (none file_on spec.File 1 no_file 5 cs (omega arith) ordered)
+      (past (sheet extension_on spec.Extension cs) _ _ _ (none extension_on spec.Extension 2 no_extension 5 cs (omega arith) ordered)
+      (past (sheet input_on spec.Input cs) _ _ _ (none input_on spec.Input 3 no_input 5 cs (omega arith) ordered)
+      (past (sheet calculation_on spec.Calculation cs) _ _ _ (none calculation_on spec.Calculation 4 no_calculation 5 cs (omega arith) ordered) refl))))
+  first (spec.Data x) ordered =
+      past (sheet header_on spec.Header cs) _ _ _ (none header_on spec.Header 0 no_header 6 cs (omega arith) ordered)
+      (past (sheet file_on spec.File cs) _ _ _ (none file_on spec.File 1 no_file 6 cs (omega arith) ordered)
+      (past (sheet extension_on spec.Extension cs) _ _ _ (none extension_on spec.Extension 2 no_extension 6 cs (omega arith) ordered)
+      (past (sheet input_on spec.Input cs) _ _ _ (none input_on spec.Input 3 no_input 6 cs (omega arith) ordered)
+      (past (sheet calculation_on spec.Calculation cs) _ _ _ (none calculation_on spec.Calculation 4 no_calculation 6 cs (omega arith) ordered)
+      (past (sheet output_on spec.Output cs) _ _ _ (none output_on spec.Output 5 no_output 6 cs (omega arith) ordered) refl)))))
+
+in_order : (low : ℕ) (cards : List SpecCard) → IsInOrder low cards → joined cards ≡ cards
+in_order low [] ordered = refl
+in_order low (c ∷ cs) ordered = first c.number cs c.spec ordered.1 ∙ ap (λ ds. c ∷ ds) (in_order (place c.spec) cs ordered.1)
+
+-- the law
+pub flat-tree : (cards : List SpecCard) → IsInOrder 0 cards → flat (tree cards) ≡ cards
+flat-tree cards ordered =
+    ap (λ xs. laid xs (all_in (tree cards).calculations) (flat_sheet (tree cards).lines) (flat_sheet (tree cards).decks)) (whole_sheet begins_type inputs)
+    ∙ ap (λ xs. laid inputs xs (flat_sheet (tree cards).lines) (flat_sheet (tree cards).decks)) (whole_groups begins_calculation calculations)
+    ∙ ap (λ xs. laid inputs calculations xs (flat_sheet (tree cards).decks)) (whole_sheet begins_line outputs)
+    ∙ ap (λ xs. laid inputs calculations outputs xs) (whole_sheet begins_deck decks)
+    ∙ in_order 0 cards ordered
+  where
+    inputs : List (Card InputSpec)
+    inputs = cards_on input_on cards
+
+    calculations : List (Card CalculationSpec)
+    calculations = cards_on calculation_on cards
+
+    outputs : List (Card OutputSpec)
+    outputs = cards_on output_on cards
+
+    decks : List (Card DataSpec)
+    decks = cards_on data_on cards
+
+    laid : List (Card InputSpec) → List (Card CalculationSpec) → List (Card OutputSpec) → List (Card DataSpec) → List SpecCard
+    laid is ks os ds =
+        sheet header_on spec.Header cards ++ (sheet file_on spec.File cards ++ (sheet extension_on spec.Extension cards
+        ++ (back spec.Input is ++ (back spec.Calculation ks ++ (back spec.Output os ++ back spec.Data ds)))))

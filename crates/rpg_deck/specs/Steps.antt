@@ -1,0 +1,115 @@
+-- The steps of a source: each calculation with the section that it stands in.
+use Rattle.std.specs.Prelude.{ℕ, suc, Bool, ◌&&◌, List, [], ◌∷◌, Option, None, Some, unwrap_or, if◌then◌else◌}
+use Rattle.std.specs.List.{filter_map, last_or}
+use Rattle.std.specs.Option.{option_and_then, option_map, option_map_or}
+use Rattle.rpg_cards.specs.Calls.{called_subroutine, subroutine_in}
+use Rattle.rpg_cards.specs.Deeds.{Deed, deed_of}
+use Rattle.rpg_cards.specs.Keys.{Key}
+use Rattle.rpg_cards.specs.Labels.{gives, is_begsr, is_endsr, wants}
+use Rattle.rpg_cards.specs.Sections.{is_subroutine}
+use Rattle.rpg_cards.specs.declared.labels.Label.{Label}
+use Rattle.rpg_cards.specs.declared.labels.Section.{Section}
+use Rattle.rpg_cards.specs.declared.labels.Section.TheVariants.{Detail, Outside, Subroutine, Total}
+use Rattle.rpg_deck.specs.Cut.{Group}
+use Rattle.rpg_deck.specs.Tree.{Tree}
+use Rattle.rpg_deck.specs.declared.card.Card.{Card}
+use Rattle.rpg_sheet_specs.specs.declared.calculation.CalculationSpec.{CalculationSpec}
+use Rattle.rpg_sheet_specs.specs.declared.calculation.ControlLevel.{ControlLevel}
+use Rattle.rpg_sheet_specs.specs.declared.calculation.ControlLevel.TheVariants as control
+
+-- a C card with its AN and OR cards
+abbrev pub CalculationGroup : Type 0
+CalculationGroup = Group (Card CalculationSpec)
+
+-- the card with the operation
+abbrev pub last_card : CalculationGroup → Card CalculationSpec
+last_card g = unwrap_or (last_or None g.followers) g.first
+
+-- what is in columns 7 and 8 of the first card
+abbrev pub control_of : CalculationGroup → ControlLevel
+control_of g = g.first.spec.control_level
+
+-- what the operation does
+abbrev pub group_deed : CalculationGroup → Deed Key
+group_deed g = deed_of (last_card g).spec
+
+-- a BEGSR with SR in columns 7 and 8
+abbrev pub begins : CalculationGroup → Bool
+begins g = is_subroutine (control_of g) && is_begsr (group_deed g)
+
+-- an ENDSR with SR in columns 7 and 8
+abbrev pub ends : CalculationGroup → Bool
+ends g = is_subroutine (control_of g) && is_endsr (group_deed g)
+
+-- ---- where it stands
+
+pub record Step : Type 0 where
+  pub section : Section
+  pub group : CalculationGroup
+
+-- after some calculations: how many subroutines are begun, and the number of the open one
+pub record Place : Type 0 where
+  pub begun : ℕ
+  pub own : Option ℕ
+
+-- before all calculations
+abbrev pub at_start : Place
+at_start = record { begun = 0; own = None }
+
+-- SR: the subroutine that the calculation begins, else the open one
+abbrev pub subroutine_section : Place → CalculationGroup → Section
+subroutine_section p g = if is_begsr (group_deed g) then Subroutine p.begun else option_map_or Subroutine p.own Outside
+
+-- the section by columns 7 and 8, if SR stands for that one
+abbrev pub section_by : ControlLevel → Section → Section
+section_by control.Detail own = Detail
+section_by (control.Total i) own = Total
+section_by control.Subroutine own = own
+section_by control.And own = Outside
+section_by control.Or own = Outside
+
+-- the section of a calculation
+abbrev pub section_of : Place → CalculationGroup → Section
+section_of p g = section_by (control_of g) (subroutine_section p g)
+
+-- after one more calculation
+abbrev pub place_after : Place → CalculationGroup → Place
+place_after p g =
+    if begins g then record { begun = suc p.begun; own = Some p.begun }
+    else if ends g then record { begun = p.begun; own = None }
+    else p
+
+-- the steps from a place on
+abbrev pub steps_from : Place → List CalculationGroup → List Step
+steps_from p [] = []
+steps_from p (g ∷ gs) = record { section = section_of p g; group = g } ∷ steps_from (place_after p g) gs
+
+-- all steps
+abbrev pub steps : List CalculationGroup → List Step
+steps gs = steps_from at_start gs
+
+-- the steps of a tree
+abbrev pub steps_in : Tree → List Step
+steps_in t = steps t.calculations
+
+-- ---- labels and calls
+
+-- what a step does
+abbrev pub deed : Step → Deed Key
+deed s = group_deed s.group
+
+-- the label or the name of a subroutine that a step gives
+abbrev pub label_of : Step → Option Label
+label_of s = option_map (λ n. record { named = n; section = s.section }) (gives (deed s))
+
+-- all that are given
+abbrev pub labels : List Step → List Label
+labels ss = filter_map label_of ss
+
+-- the call of a step in a subroutine, as caller and callee, by the labels that are given
+abbrev pub call_of : List Label → Step → Option (ℕ × ℕ)
+call_of given s = option_and_then (λ caller. option_map (λ callee. (caller, callee)) (option_and_then (called_subroutine given) (wants (deed s)))) (subroutine_in s.section)
+
+-- all calls
+abbrev pub calls : List Step → List (ℕ × ℕ)
+calls ss = filter_map (call_of (labels ss)) ss

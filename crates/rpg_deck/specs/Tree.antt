@@ -1,0 +1,76 @@
+-- The cards of a source as one tree. Each card keeps its number.
+use Rattle.std.specs.Prelude.{List, Option, None, Some, Bool}
+use Rattle.std.specs.List.{filter_map}
+use Rattle.std.specs.Option.{option_map}
+use Rattle.rpg_cards.specs.Cards.{calculation_on, data_on, extension_on, file_on, input_on, output_on}
+use Rattle.rpg_cards.specs.declared.spec_card.SpecCard.{SpecCard}
+use Rattle.rpg_deck.specs.Begins.{is_calculation, is_deck, is_line, is_type}
+use Rattle.rpg_deck.specs.Cut.{Group, Sheet, all_groups, sheet_of}
+use Rattle.rpg_deck.specs.declared.card.Card.{Card}
+use Rattle.rpg_sheet_specs.specs.declared.calculation.CalculationSpec.{CalculationSpec}
+use Rattle.rpg_sheet_specs.specs.declared.data.DataSpec.{DataSpec}
+use Rattle.rpg_sheet_specs.specs.declared.extension.ExtensionSpec.{ExtensionSpec}
+use Rattle.rpg_sheet_specs.specs.declared.file.FileSpec.{FileSpec}
+use Rattle.rpg_sheet_specs.specs.declared.header.HeaderSpec.{HeaderSpec}
+use Rattle.rpg_sheet_specs.specs.declared.input.InputSpec.{InputSpec}
+use Rattle.rpg_sheet_specs.specs.declared.output.OutputSpec.{OutputSpec}
+use Rattle.rpg_sheet_specs.specs.declared.spec.Spec.{Spec}
+use Rattle.rpg_sheet_specs.specs.declared.spec.Spec.TheVariants as spec
+
+-- ---- the cards of a sheet
+
+-- what an H card has, and nothing on another card
+abbrev pub header_on : Spec → Option HeaderSpec
+header_on (spec.Header x) = Some x
+header_on (spec.File x) = None
+header_on (spec.Extension x) = None
+header_on (spec.Input x) = None
+header_on (spec.Calculation x) = None
+header_on (spec.Output x) = None
+header_on (spec.Data x) = None
+
+module _ {X : Type 0} (on : Spec → Option X) where
+  -- a card of the sheet, with its number
+  abbrev pub card_on : SpecCard → Option (Card X)
+  card_on c = option_map (λ x. record { number = c.number; spec = x }) (on c.spec)
+
+  -- all cards of the sheet
+  abbrev pub cards_on : List SpecCard → List (Card X)
+  cards_on cards = filter_map card_on cards
+
+-- ---- which cards begin a group
+
+abbrev pub begins_type : Card InputSpec → Bool
+begins_type c = is_type c.spec
+
+abbrev pub begins_calculation : Card CalculationSpec → Bool
+begins_calculation c = is_calculation c.spec
+
+abbrev pub begins_line : Card OutputSpec → Bool
+begins_line c = is_line c.spec
+
+abbrev pub begins_deck : Card DataSpec → Bool
+begins_deck c = is_deck c.spec
+
+-- ---- the tree
+
+pub record Tree : Type 0 where
+  pub headers : List (Card HeaderSpec)
+  pub files : List (Card FileSpec)
+  pub tables : List (Card ExtensionSpec)
+  pub types : Sheet (Card InputSpec)  -- a record type with its AND cards and its fields
+  pub calculations : List (Group (Card CalculationSpec))  -- a C card with its AN and OR cards
+  pub lines : Sheet (Card OutputSpec)  -- a line with its AND and OR cards and its fields
+  pub decks : Sheet (Card DataSpec)  -- a `**` card with its data
+
+-- the tree of any cards: an AN or OR card before all other C cards begins a group, so no C card strays
+abbrev pub tree : List SpecCard → Tree
+tree cards = record {
+  headers = cards_on header_on cards;
+  files = cards_on file_on cards;
+  tables = cards_on extension_on cards;
+  types = sheet_of begins_type (cards_on input_on cards);
+  calculations = all_groups begins_calculation (cards_on calculation_on cards);
+  lines = sheet_of begins_line (cards_on output_on cards);
+  decks = sheet_of begins_deck (cards_on data_on cards);
+}

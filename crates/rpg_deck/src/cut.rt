@@ -1,0 +1,72 @@
+//! The cards of a sheet, cut into groups.
+
+ghost use Rattle.std.specs.Prelude.{◌≡◌, ◌≤◌, length, map, take, drop, IfOk};
+ghost use Rattle.rpg_deck.specs.Cut as spec;
+ghost use Rattle.rpg_deck.specs.Seen.{group_at, sheet_at};
+
+use crate::begins::Grouped;
+use crate::card::Card;
+use std::alloc::{AllocError, Global};
+
+/// A card that begins a group, and the cards after it up to the next that begins one.
+#[derive(Drop)]
+pub struct Group<'a, X> {
+    pub first: &'a Card<&'a X>,
+    pub followers: &'a [Card<&'a X>],
+}
+
+/// The cards of a sheet: those before the first group, and the groups.
+#[derive(Drop)]
+pub struct Sheet<'a, X> {
+    pub strays: &'a [Card<&'a X>],
+    pub groups: Vec<Group<'a, X>>,
+}
+
+/// The cards of a sheet, cut.
+pub(crate) fn sheet_of<'a, X: Grouped>(
+    alloc: Global,
+    cards: &'a [Card<&'a X>],
+) -> Result<Sheet<'a, X>, AllocError>
+    ensures { IfOk result (λ s. sheet_at s ≡ spec.sheet_of (λ c. X.begins c.spec.now) cards.now) }
+{
+    let (strays, rest) = cards.split_at(stray_count(cards));
+    let groups = groups_of(alloc, rest)?;
+    Ok(Sheet { strays, groups })
+}
+
+/// The groups of cards of which the first begins one, whatever it is.
+pub(crate) fn groups_of<'a, X: Grouped>(
+    alloc: Global,
+    cards: &'a [Card<&'a X>],
+) -> Result<Vec<Group<'a, X>>, AllocError>
+    ensures { IfOk result (λ gs. map group_at gs.items ≡ spec.all_groups (λ c. X.begins c.spec.now) cards.now) }
+{
+    let mut groups = Vec::new(alloc);
+    let mut start = 0;
+    while start < cards.len() {
+        let after = &cards[start + 1..];
+        let count = stray_count(after);
+        groups.push(Group {
+            first: &cards[start],
+            followers: &after[..count],
+        })?;
+        start += 1 + count;
+    }
+    Ok(groups)
+}
+
+/// How many cards at the front begin no group.
+fn stray_count<X: Grouped>(cards: &[Card<&X>]) -> usize
+    ensures within { result ≤ length cards.now }
+    ensures strays { take result cards.now ≡ spec.strays (λ c. X.begins c.spec.now) cards.now }
+    ensures groups { spec.all_groups (λ c. X.begins c.spec.now) (drop result cards.now) ≡ spec.groups (λ c. X.begins c.spec.now) cards.now }
+{
+    let mut count = 0;
+    while count < cards.len() {
+        if cards[count].spec.begins() {
+            return count;
+        }
+        count += 1;
+    }
+    count
+}

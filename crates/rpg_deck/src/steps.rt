@@ -1,0 +1,113 @@
+//! The calculations of a source in order, each with its section.
+
+ghost use Rattle.std.specs.Prelude.{◌≡◌, ◌≤◌, suc, length, map, IfOk};
+ghost use Rattle.rpg_deck.specs.Seen.{group_in, place_in, seen, step_in};
+ghost use Rattle.rpg_deck.specs.Steps as spec;
+
+use crate::card::Card;
+use crate::cut::Group;
+use rpg_cards::{Section, begins_subroutine, ends_subroutine, is_subroutine};
+use rpg_sheet_specs::{CalculationSpec, ControlLevel};
+use std::alloc::{AllocError, Global};
+
+/// A calculation, and where it stands.
+#[derive(Clone, Copy)]
+pub struct Step<'a> {
+    pub section: Section,
+    pub group: &'a Group<'a, CalculationSpec>,
+}
+
+/// After some calculations: how many subroutines are begun, and the one that is open.
+#[derive(Clone, Copy)]
+struct Place {
+    begun: u16,
+    own: Option<u16>,
+}
+
+/// The card of a calculation that has the operation.
+pub fn last_card<'a>(group: &Group<'a, CalculationSpec>) -> &'a Card<&'a CalculationSpec>
+    ensures { seen result.now ≡ spec.last_card (group_in group.now) }
+{
+    let Some(last) = group.followers.last() else {
+        return group.first;
+    };
+    last
+}
+
+fn begins(group: &Group<CalculationSpec>) -> bool
+    ensures { result ≡ spec.begins (group_in group.now) }
+{
+    is_subroutine(group.first.spec.control_level) && begins_subroutine(last_card(group).spec)
+}
+
+fn ends(group: &Group<CalculationSpec>) -> bool
+    ensures { result ≡ spec.ends (group_in group.now) }
+{
+    is_subroutine(group.first.spec.control_level) && ends_subroutine(last_card(group).spec)
+}
+
+impl Place {
+    fn section(self, group: &Group<CalculationSpec>) -> Section
+        ensures { result ≡ spec.section_of (place_in self) (group_in group.now) }
+    {
+        match group.first.spec.control_level {
+            ControlLevel::Detail => Section::Detail,
+            ControlLevel::Total(_) => Section::Total,
+            ControlLevel::Subroutine => {
+                if begins_subroutine(last_card(group).spec) {
+                    Section::Subroutine(self.begun)
+                } else {
+                    match self.own {
+                        None => Section::Outside,
+                        Some(own) => Section::Subroutine(own),
+                    }
+                }
+            }
+            ControlLevel::And | ControlLevel::Or => Section::Outside,
+        }
+    }
+
+    /// After one more calculation.
+    fn after(self, group: &Group<CalculationSpec>) -> Self
+        requires { self.begun ≤ 2000 }
+        ensures place { place_in result ≡ spec.place_after (place_in self) (group_in group.now) }
+        ensures few { result.begun ≤ suc self.begun }
+    {
+        if begins(group) {
+            Place {
+                begun: self.begun + 1,
+                own: Some(self.begun),
+            }
+        } else if ends(group) {
+            Place {
+                begun: self.begun,
+                own: None,
+            }
+        } else {
+            self
+        }
+    }
+}
+
+/// Each calculation with its section.
+pub fn steps_of<'a>(
+    alloc: Global,
+    groups: &'a [Group<'a, CalculationSpec>],
+) -> Result<Vec<Step<'a>>, AllocError>
+    requires { length groups.now ≤ 2000 }
+    ensures { IfOk result (λ v. map step_in v.items ≡ spec.steps (map group_in groups.now)) }
+{
+    let mut steps = Vec::new(alloc);
+    let mut place = Place {
+        begun: 0,
+        own: None,
+    };
+    for group in groups {
+        steps.push(Step {
+            section: place.section(group),
+            group,
+        })?;
+        place = place.after(group);
+    }
+    Ok(steps)
+}
