@@ -1,0 +1,4 @@
+//! Laws of sources and their trees.
+#![tactic(auto)]
+
+pub mod laws;
