@@ -1,1 +1,3 @@
+pub mod Marking
+pub mod Unnamed
 pub mod UpTo

@@ -159,6 +159,11 @@ no_level n cards = if is_level n && not (list_any (turns_on n) cards) && not (li
 abbrev pub listed : Option Warning → List Warning
 listed w = option_to_list w
 
+-- what an indicator is warned of
+abbrev pub indicator_warnings : ℕ → List SpecCard → List Warning
+indicator_warnings n cards = listed (never_on n cards) ++ listed (never_asked n cards) ++ listed (no_level n cards)
+
+-- what the indicators up to a number are warned of
 unfoldable pub warnings_up_to : ℕ → List SpecCard → List Warning
 warnings_up_to zero cards = []
-warnings_up_to (suc n) cards = warnings_up_to n cards ++ listed (never_on (suc n) cards) ++ listed (never_asked (suc n) cards) ++ listed (no_level (suc n) cards)
+warnings_up_to (suc n) cards = warnings_up_to n cards ++ indicator_warnings (suc n) cards

@@ -1,6 +1,7 @@
 -- What a source is warned of, as definitions.
 pub mod Digits
 pub mod Indicators
+pub mod Marks
 pub mod Overlaps
 pub mod Pages
 pub mod Warnings

@@ -7,7 +7,7 @@ use rpg_cards::{SpecCard, line_conditions_on};
 use rpg_sheet_specs::{ColumnFault, Condition, Spec, Three};
 
 /// The conditions of a card.
-fn asked_on(card: &SpecCard) -> Option<Three<Option<Condition>>>
+pub(crate) fn asked_on(card: &SpecCard) -> Option<Three<Option<Condition>>>
     ensures { result ≡ indicators.asked_on card.now.spec }
 {
     match &card.spec {

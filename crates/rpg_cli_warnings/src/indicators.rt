@@ -1,10 +1,12 @@
 //! W1, W2 and W5: indicators that are asked and never turned on, or turned on and never asked, and levels that no field has.
 
 ghost use Rattle.std.specs.Prelude.{◌≡◌, ◌++◌, ◌≤◌, OnOk};
+ghost use Rattle.std.specs.List.{list_any};
 ghost use Rattle.rpg_cli_warnings.specs.Indicators as indicators;
 
 use crate::asking::{asked_columns, first_asking};
 use crate::levels::any_has_level;
+use crate::marks::{asked_by, shown_by};
 use crate::turning::{any_turns_on, first_showing, shown_columns};
 use crate::warning::{Warning, WarningKind};
 use rpg_cards::SpecCard;
@@ -81,6 +83,27 @@ pub(crate) fn put(warnings: &mut Vec<Warning>, warning: Option<Warning>) -> Resu
     Ok(())
 }
 
+/// Appends the warnings of an indicator, given whether a card asks for it, and whether one turns it on for others to ask.
+fn put_of(
+    warnings: &mut Vec<Warning>,
+    cards: &[SpecCard],
+    indicator: u8,
+    is_asked: bool,
+    is_shown: bool,
+) -> Result<(), AllocError>
+    requires asked { is_asked ≡ list_any (indicators.asks indicator) cards.now }
+    requires shown { is_shown ≡ list_any (indicators.shows indicator) cards.now }
+    ensures { OnOk result (warnings.new.items ≡ warnings.old.items ++ indicators.indicator_warnings indicator cards.now) }
+{
+    if is_asked {
+        put(warnings, never_on(cards, indicator))?;
+        put(warnings, no_level(cards, indicator))?;
+    } else if is_shown {
+        put(warnings, never_asked(cards, indicator))?;
+    }
+    Ok(())
+}
+
 /// Appends the warnings of the indicators up to a number, in their order.
 pub(crate) fn put_indicators(
     warnings: &mut Vec<Warning>,
@@ -89,12 +112,13 @@ pub(crate) fn put_indicators(
 ) -> Result<(), AllocError>
     ensures { OnOk result (warnings.new.items ≡ warnings.old.items ++ indicators.warnings_up_to last cards.now) }
 {
+    let asked = asked_by(cards);
+    let shown = shown_by(cards);
     let mut indicator = 0;
     while indicator < last {
         indicator += 1;
-        put(warnings, never_on(cards, indicator))?;
-        put(warnings, never_asked(cards, indicator))?;
-        put(warnings, no_level(cards, indicator))?;
+        let number = usize::from(indicator);
+        put_of(warnings, cards, indicator, asked[number], shown[number])?;
     }
     Ok(())
 }

@@ -6,6 +6,7 @@ mod asking;
 mod digits;
 mod indicators;
 mod levels;
+mod marks;
 mod messages;
 mod overlaps;
 mod pages;

@@ -69,7 +69,7 @@ pub(crate) fn any_turns_on(cards: &[SpecCard], indicator: u8) -> bool
 }
 
 /// The indicators that a card turns on for others to ask: those of an input field, and of a result. A search has to have one.
-fn shown_on(card: &SpecCard) -> Option<Three<Option<Indicator>>>
+pub(crate) fn shown_on(card: &SpecCard) -> Option<Three<Option<Indicator>>>
     ensures { result ≡ indicators.shown_on card.now.spec }
 {
     match &card.spec {

@@ -1,0 +1,77 @@
+//! Which indicators cards ask for, and which they turn on for others to ask. Each card is read once.
+
+ghost use Rattle.std.specs.Prelude.{◌≡◌, ℕ, ◌||◌, length};
+ghost use Rattle.std.specs.List.{list_any};
+ghost use Rattle.rpg_cli_warnings.specs.Indicators as indicators;
+ghost use Rattle.rpg_cli_warnings.specs.Marks.{is_marked};
+
+use crate::asking::asked_on;
+use crate::turning::shown_on;
+use rpg_cards::SpecCard;
+use rpg_sheet_specs::{Condition, Indicator};
+
+/// Marks the number of a condition's indicator.
+#[tactic(auto, using(crate::proofs::Marking::mark_one, crate::proofs::Marking::or_false))]
+fn mark_asked(marks: &mut [bool; 256], condition: Option<Condition>)
+    ensures { (n : ℕ) → is_marked n marks.new ≡ (is_marked n marks.old || indicators.one_asks n condition) }
+{
+    if let Some(condition) = condition {
+        marks[usize::from(condition.indicator.number())] = true;
+    }
+}
+
+/// Marks the indicators that a card asks for.
+#[tactic(auto, using(crate::proofs::Marking::or_false))]
+fn note_asked(marks: &mut [bool; 256], card: &SpecCard)
+    ensures { (n : ℕ) → is_marked n marks.new ≡ (is_marked n marks.old || indicators.asks n card.now) }
+{
+    if let Some(conditions) = asked_on(card) {
+        mark_asked(marks, conditions.first);
+        mark_asked(marks, conditions.second);
+        mark_asked(marks, conditions.third);
+    }
+}
+
+/// A mark at each indicator that one of the cards asks for.
+pub(crate) fn asked_by(cards: &[SpecCard]) -> [bool; 256]
+    ensures { (n : ℕ) → is_marked n result ≡ list_any (indicators.asks n) cards.now }
+{
+    let mut marks = [false; 256];
+    for card in cards {
+        note_asked(&mut marks, card);
+    }
+    marks
+}
+
+/// Marks the number of an indicator.
+#[tactic(auto, using(crate::proofs::Marking::mark_one, crate::proofs::Marking::or_false))]
+fn mark_shown(marks: &mut [bool; 256], shown: Option<Indicator>)
+    ensures { (n : ℕ) → is_marked n marks.new ≡ (is_marked n marks.old || indicators.is_number n shown) }
+{
+    if let Some(shown) = shown {
+        marks[usize::from(shown.number())] = true;
+    }
+}
+
+/// Marks the indicators that a card turns on for others to ask.
+#[tactic(auto, using(crate::proofs::Marking::or_false))]
+fn note_shown(marks: &mut [bool; 256], card: &SpecCard)
+    ensures { (n : ℕ) → is_marked n marks.new ≡ (is_marked n marks.old || indicators.shows n card.now) }
+{
+    if let Some(shown) = shown_on(card) {
+        mark_shown(marks, shown.first);
+        mark_shown(marks, shown.second);
+        mark_shown(marks, shown.third);
+    }
+}
+
+/// A mark at each indicator that one of the cards turns on for others to ask.
+pub(crate) fn shown_by(cards: &[SpecCard]) -> [bool; 256]
+    ensures { (n : ℕ) → is_marked n result ≡ list_any (indicators.shows n) cards.now }
+{
+    let mut marks = [false; 256];
+    for card in cards {
+        note_shown(&mut marks, card);
+    }
+    marks
+}
