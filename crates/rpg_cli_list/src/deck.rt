@@ -12,13 +12,14 @@ const COLUMNS: usize = 80;
 /// The last card that a source may have.
 const LAST_CARD: u16 = 2000;
 
-/// The lines of a source up to the card that ends it, or to the first one too many; the cards that are on a sheet and can be read; and what
-/// is wrong with those that can't.
+/// The lines of a source up to the card that ends it, or to the first one too many; the cards that are on a sheet and can be read; what is wrong with
+/// those that can't; and the cards that data begin with.
 #[derive(Drop)]
 pub(crate) struct Deck<'a> {
     pub lines: Vec<&'a [u8]>,
     pub cards: Vec<SpecCard>,
     pub unread: Vec<CardFault>,
+    pub beginnings: Vec<u16>,
 }
 
 /// Why a card can't be read.
@@ -92,12 +93,21 @@ fn card_of(line: &[u8]) -> Result<Card, SheetCode> {
     Ok(Card::new(line))
 }
 
+/// Whether a line is a card that data begin with.
+fn begins_data(line: &[u8]) -> bool {
+    match card_of(line) {
+        Ok(card) => card.begins_data(),
+        Err(_) => false,
+    }
+}
+
 impl<'a> Deck<'a> {
     fn empty(alloc: Global) -> Self {
         Deck {
             lines: Vec::new(alloc),
             cards: Vec::new(alloc),
             unread: Vec::new(alloc),
+            beginnings: Vec::new(alloc),
         }
     }
 
@@ -123,6 +133,7 @@ impl<'a> Deck<'a> {
     fn take(&mut self, reader: &mut Reader, number: u16, line: &'a [u8]) -> Result<(), AllocError> {
         self.lines.push(line)?;
         match reader.read(number, line) {
+            Ok(None) if begins_data(line) => self.beginnings.push(number)?,
             Ok(None) => {}
             Ok(Some(spec)) => self.cards.push(SpecCard { number, spec })?,
             Err(Unread { code, columns }) => self.unread.push(CardFault {

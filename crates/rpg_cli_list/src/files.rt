@@ -2,11 +2,14 @@
 
 use indexmap::IndexMap;
 use rpg_cards::{FileUse, SpecCard, use_of};
-use rpg_cli_list_names::name_text;
+use rpg_cli_list_names::{Numbers, name_text};
 use rpg_cli_show_fields::Indicator;
 use rpg_cli_text::TextWriter;
 use rpg_sheet_specs::{FileSpec, Word};
 use std::alloc::{AllocError, Global};
+
+/// How many columns stand before the further cards that name a file.
+const NAMED: usize = 23;
 
 /// What the first F card of a file says of it.
 #[derive(Clone, Copy)]
@@ -80,16 +83,45 @@ impl FileIndex {
         self.files.get(name).copied()
     }
 
-    /// Writes a row for each file.
-    pub fn write(&self, out: &mut TextWriter) {
+    /// Writes a row for each file, with the cards of record types and lines that name it.
+    pub fn write(
+        &self,
+        alloc: Global,
+        out: &mut TextWriter,
+        cards: &[SpecCard],
+    ) -> Result<(), AllocError> {
         if self.files.is_empty() {
-            return;
+            return Ok(());
         }
         out.write_str("\nFILES\n");
         for (name, file) in &self.files {
             write_file(out, name_text(name.as_slice()), *file);
+            cards_with(alloc, cards, name)?.write_lines(out, NAMED);
+            out.write_char('\n');
+        }
+        Ok(())
+    }
+}
+
+/// The file that a record type or a line names.
+fn named_on(card: &SpecCard) -> Option<&Word<8>> {
+    match (card.record_type(), card.line()) {
+        (Some(record_type), _) => record_type.file.as_ref(),
+        (None, Some(line)) => line.file.as_ref(),
+        (None, None) => None,
+    }
+}
+
+/// The cards of record types and lines that name a file.
+fn cards_with(alloc: Global, cards: &[SpecCard], name: &Word<8>) -> Result<Numbers, AllocError> {
+    let mut numbers = Numbers::new(alloc);
+    for card in cards {
+        match named_on(card) {
+            Some(named) if named == name => numbers.note(card.number)?,
+            _ => {}
         }
     }
+    Ok(numbers)
 }
 
 fn write_file(out: &mut TextWriter, name: &str, file: DescribedFile) {
@@ -104,5 +136,5 @@ fn write_file(out: &mut TextWriter, name: &str, file: DescribedFile) {
         let name = Indicator(number).name();
         out.fill(", turns on {} where a page is full", &[name.into()]);
     }
-    out.write_char('\n');
+    out.write_str(", named on ");
 }

@@ -64,16 +64,17 @@ fn write_indicators(
     Ok(())
 }
 
-/// Writes what the cards describe and name.
+/// Writes what the cards describe and name; the data of tables begin on these cards.
 fn write_contents(
     alloc: Global,
     out: &mut TextWriter,
     source: &IndexedCards,
+    beginnings: &[u16],
 ) -> Result<(), AllocError> {
     let cards = source.as_slice();
     let files = FileIndex::of(alloc, cards)?;
-    files.write(out);
-    write_tables(out, cards);
+    files.write(alloc, out, cards)?;
+    write_tables(out, cards, beginnings);
     write_records(alloc, out, &files, cards)?;
     write_fields(alloc, out, source)?;
     write_labels(alloc, out, cards)?;
@@ -91,7 +92,7 @@ fn deck_text(
     let mut out = TextWriter::new(alloc);
     write_head(&mut out, path, deck, faults.len());
     write_cards(&mut out, deck, &source, faults);
-    write_contents(alloc, &mut out, &source)?;
+    write_contents(alloc, &mut out, &source, &deck.beginnings)?;
     out.finish()
 }
 

@@ -5,7 +5,13 @@ use rpg_cli_list_names::name_text;
 use rpg_cli_text::TextWriter;
 use rpg_sheet_specs::{ExtensionSpec, TableSpec};
 
-fn write_table(out: &mut TextWriter, card: u16, extension: &ExtensionSpec, table: &TableSpec) {
+fn write_table(
+    out: &mut TextWriter,
+    card: u16,
+    extension: &ExtensionSpec,
+    table: &TableSpec,
+    beginning: Option<u16>,
+) {
     let name = name_text(table.name.as_slice());
     let row = if is_table(&table.name) {
         "table  {:>7}  {:>6}  "
@@ -18,6 +24,9 @@ fn write_table(out: &mut TextWriter, card: u16, extension: &ExtensionSpec, table
     let order = if table.ascending { "ascending" } else { "" };
     out.fill("  {:<9}  ", &[order.into()]);
     write_data(out, extension);
+    if let Some(beginning) = beginning {
+        out.fill(", after card {}", &[beginning.into()]);
+    }
     out.end_line();
 }
 
@@ -38,16 +47,28 @@ fn write_data(out: &mut TextWriter, extension: &ExtensionSpec) {
     }
 }
 
-fn write_extension(out: &mut TextWriter, card: u16, extension: &ExtensionSpec) {
-    write_table(out, card, extension, &extension.table);
+fn write_extension(
+    out: &mut TextWriter,
+    card: u16,
+    extension: &ExtensionSpec,
+    beginning: Option<u16>,
+) {
+    write_table(out, card, extension, &extension.table, beginning);
     if let Some(table) = &extension.alternating {
-        write_table(out, card, extension, table);
+        write_table(out, card, extension, table, beginning);
     }
 }
 
-/// Writes a row for each table and array of the E cards.
-pub(crate) fn write_tables(out: &mut TextWriter, cards: &[SpecCard]) {
+/// The card after which the data of an E card come, if it has data; so many E cards before it have some.
+fn beginning_of(extension: &ExtensionSpec, beginnings: &[u16], before: usize) -> Option<u16> {
+    extension.entries_per_card?;
+    beginnings.get(before).copied()
+}
+
+/// Writes a row for each table and array of the E cards, whose data begin on these cards.
+pub(crate) fn write_tables(out: &mut TextWriter, cards: &[SpecCard], beginnings: &[u16]) {
     let mut is_first = true;
+    let mut with_data = 0usize;
     for card in cards {
         if let Some(extension) = card.extension() {
             if is_first {
@@ -56,7 +77,9 @@ pub(crate) fn write_tables(out: &mut TextWriter, cards: &[SpecCard]) {
                 );
             }
             is_first = false;
-            write_extension(out, card.number, extension);
+            let beginning = beginning_of(extension, beginnings, with_data);
+            with_data = with_data.saturating_add(usize::from(beginning.is_some()));
+            write_extension(out, card.number, extension, beginning);
         }
     }
 }

@@ -12,6 +12,9 @@ use std::alloc::{AllocError, Global};
 /// One more than the greatest number of an indicator.
 const BEHIND: usize = 130;
 
+/// The number of MR.
+const MATCHING: u8 = 129;
+
 const HEADING: &str =
     "\nINDICATORS\n      turned on by                              asked on (N: where it's off)\n";
 
@@ -120,6 +123,9 @@ impl Indicators {
     fn note_field(&mut self, card: u16, field: &InputField) -> Result<(), AllocError> {
         if let Some(level) = field.level {
             self.turned(level.number().saturating_add(100), card, By::ControlField)?;
+        }
+        if let Some(level) = field.match_level {
+            self.turned(MATCHING, card, By::MatchField(level.number()))?;
         }
         let shown = field.indicators;
         self.note_turned(card, shown.first, By::Field(Outcome::Plus))?;

@@ -13,4 +13,5 @@ pub use constants::Constants;
 pub use indicators::Indicators;
 pub use labels::Labels;
 pub use names::Names;
+pub use numbers::Numbers;
 pub use rpg_cli_show_fields::name_text;

@@ -1,7 +1,7 @@
 //! The names of a source, with the cards that define, set and use them.
 
 use crate::numbers::Numbers;
-use rpg_cards::{Column, Content, Defined, IndexedCards, SpecCard, columns};
+use rpg_cards::{Column, Content, Defined, IndexedCards, SpecCard, columns, is_table};
 use rpg_cli_show_fields::{name_text, write_form};
 use rpg_cli_text::TextWriter;
 use rpg_sheet_specs::{
@@ -119,6 +119,11 @@ fn factor_columns(operation: Option<Operation>) -> (Column, Column) {
     }
 }
 
+/// Whether a field is the number of the page, which is one more each time it is printed.
+fn is_page(entry: &Entry) -> bool {
+    entry.name.as_slice() == b"PAGE".as_slice()
+}
+
 impl Names {
     pub fn of(alloc: Global, cards: &[SpecCard]) -> Result<Self, AllocError> {
         let mut names = Names {
@@ -190,7 +195,24 @@ impl Names {
         let (first, second) = factor_columns(calculation.operation);
         self.note_entry(card, entry_in(first, &calculation.factor_1), By::Using)?;
         self.note_entry(card, entry_in(second, &calculation.factor_2), By::Using)?;
+        if let (Some(Operation::LookUp), Some(Factor::Entry(searched))) = (
+            calculation.operation,
+            &calculation.factor_2,
+        ) {
+            self.note_found(card, searched)?;
+        }
         self.note_entry(card, calculation.result_field.as_ref(), By::Setting)
+    }
+
+    /// Notes what LOKUP sets by the entry that it finds: the current entry of a table, and an index that is a field.
+    fn note_found(&mut self, card: u16, searched: &Entry) -> Result<(), AllocError> {
+        if is_table(&searched.name) {
+            self.note(&searched.name, card, By::Setting)?;
+        }
+        match &searched.index {
+            Some(EntryIndex::Name(name)) => self.note(name, card, By::Setting),
+            Some(EntryIndex::Literal(_)) | None => Ok(()),
+        }
     }
 
     fn note_entry(&mut self, card: u16, entry: Option<&Entry>, by: By) -> Result<(), AllocError> {
@@ -206,10 +228,12 @@ impl Names {
 
     fn note_output(&mut self, card: u16, field: &OutputField) -> Result<(), AllocError> {
         self.note_entry(card, field.operand.as_ref(), By::Using)?;
-        if field.blank_after {
-            self.note_entry(card, field.operand.as_ref(), By::Setting)?;
+        match &field.operand {
+            Some(entry) if field.blank_after || is_page(entry) => {
+                self.note(&entry.name, card, By::Setting)
+            }
+            _ => Ok(()),
         }
-        Ok(())
     }
 
     /// Writes a row for each name.

@@ -11,7 +11,7 @@ const COLUMN: usize = 10;
 
 /// Numbers of cards, each once, in their order.
 #[derive(Drop)]
-pub(crate) struct Numbers {
+pub struct Numbers {
     list: Vec<u16>,
 }
 

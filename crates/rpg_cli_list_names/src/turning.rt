@@ -17,6 +17,8 @@ pub(crate) enum Outcome {
 pub(crate) enum By {
     RecordType,
     ControlField,
+    /// A match field of a level, for MR.
+    MatchField(u8),
     FullPage,
     /// An input field that is so.
     Field(Outcome),
@@ -61,6 +63,7 @@ fn write_by(out: &mut TextWriter, by: By) {
     match by {
         By::RecordType => out.write_str("record type"),
         By::ControlField => out.write_str("control field"),
+        By::MatchField(level) => out.fill("match field M{}", &[level.into()]),
         By::FullPage => out.write_str("a full page"),
         By::Field(Outcome::Zero) => out.write_str("input field zero or blank"),
         By::Field(outcome) => out.fill("input field {}", &[outcome_word(outcome).into()]),
