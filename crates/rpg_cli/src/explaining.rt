@@ -1,7 +1,7 @@
 //! The pages of codes.
 
 use rpg_cli_answers::{Answer, Listener, Stop};
-use rpg_cli_explain::{Topic, all_pages, list_text, pages_text, topic_of};
+use rpg_cli_explain::{HALTS, Topic, all_pages, list_text, pages_text, topic_of};
 use rpg_cli_words::ExplainWords;
 use std::alloc::{AllocError, Global};
 
@@ -11,27 +11,78 @@ fn halt_of(alloc: Global, number: &str) -> Result<Option<Topic>, AllocError> {
     Ok(topic_of(name.as_str()))
 }
 
-/// What the words are about: codes, and `halt` with the number after it. None where one is no code.
-fn topics_of(alloc: Global, words: &[&str]) -> Result<Option<Vec<Topic>>, AllocError> {
-    let mut topics = Vec::new(alloc);
-    let mut is_number = false;
-    for word in words {
-        if !is_number && word.eq_ignore_ascii_case("halt") {
-            is_number = true;
-            continue;
+/// What the words so far are about.
+#[derive(Drop)]
+struct Topics {
+    alloc: Global,
+    topics: Vec<Topic>,
+    /// Whether the last word is `halt`, which a number may follow.
+    is_halt: bool,
+}
+
+impl Topics {
+    fn push_halts(&mut self) -> Result<(), AllocError> {
+        for halt in HALTS {
+            self.topics.push(Topic::Halt(halt))?;
         }
-        let topic = if is_number {
-            halt_of(alloc, word)?
+        Ok(())
+    }
+
+    /// Ends the word `halt` without a number, which is all halts.
+    fn end_halt(&mut self) -> Result<(), AllocError> {
+        if !self.is_halt {
+            return Ok(());
+        }
+        self.is_halt = false;
+        self.push_halts()
+    }
+
+    /// Takes a word that is no number of a halt, and answers whether it is a code or `halt`.
+    fn take_code(&mut self, word: &str) -> Result<bool, AllocError> {
+        self.end_halt()?;
+        if word.eq_ignore_ascii_case("halts") {
+            self.push_halts()?;
+        } else if word.eq_ignore_ascii_case("halt") {
+            self.is_halt = true;
+        } else if let Some(topic) = topic_of(word) {
+            self.topics.push(topic)?;
         } else {
-            topic_of(word)
-        };
-        is_number = false;
-        match topic {
-            Some(topic) => topics.push(topic)?,
-            None => return Ok(None),
+            return Ok(false);
+        }
+        Ok(true)
+    }
+
+    /// Takes a word, and answers whether it is a code, or part of one.
+    fn take(&mut self, word: &str) -> Result<bool, AllocError> {
+        if !self.is_halt {
+            return self.take_code(word);
+        }
+        match halt_of(self.alloc, word)? {
+            Some(topic) => {
+                self.is_halt = false;
+                self.topics.push(topic)?;
+                Ok(true)
+            }
+            None => self.take_code(word),
         }
     }
-    Ok((!is_number).then_some(topics))
+}
+
+/// What the words are about: codes, and `halt` with the number after it; `halt` without one, and `halts`, are all of them. None where one is no code.
+fn topics_of(alloc: Global, words: &[&str]) -> Result<Option<Vec<Topic>>, AllocError> {
+    let mut topics = Topics {
+        alloc,
+        topics: Vec::new(alloc),
+        is_halt: false,
+    };
+    for word in words {
+        if !topics.take(word)? {
+            return Ok(None);
+        }
+    }
+    topics.end_halt()?;
+    let Topics { topics, .. } = topics;
+    Ok(Some(topics))
 }
 
 /// The pages that the words ask for, or all of them, or the list of codes; none where there is no such code.

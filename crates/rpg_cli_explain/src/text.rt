@@ -7,7 +7,7 @@ use std::alloc::{AllocError, Global};
 
 /// What stands before all pages.
 const TITLE: &str =
-    "# What rpg2's codes mean\n\nrpg2 explain CODE prints one code of this list, as F16, S5, V21, B5 or halt 4; rpg2 explain prints them\nall. A line of cards has its columns as on a sheet: column 1 is the first of the line.\n";
+    "# What rpg2's codes mean\n\nrpg2 explain CODE prints one code of this list, as F16, S5, V21, B5 or halt 4; rpg2 explain prints them\nall. Cards stand below a ruler, which is a comment card: column 1 is the first of the line.\n";
 
 fn write_code(out: &mut TextWriter, topic: Topic) {
     match topic {
@@ -30,12 +30,49 @@ fn write_code(out: &mut TextWriter, topic: Topic) {
     }
 }
 
+/// What stands above cards: a ruler, which is a card itself, as `rpg2 cards --ruler` prints it.
+const RULER: &str =
+    "```text\n....+.*..1....+....2....+....3....+....4....+....5....+....6....+....7....+....8\n";
+
+/// What stands below them.
+const FENCE: &str = "```\n";
+
 /// What stands above the examples of a page.
 const fn headings(topic: Topic) -> (&'static str, &'static str) {
     match topic {
         Topic::Rewriting(_) => ("Before", "After"),
         _ => ("Breaks it", "Keeps it"),
     }
+}
+
+/// Whether a line of a page is the first of some cards: prose begins in the first column.
+fn begins_cards(line: &str) -> bool {
+    line.starts_with("    ")
+}
+
+/// Writes examples: prose as it is, and cards up to an empty line between a ruler and a fence.
+fn write_examples(out: &mut TextWriter, text: &str) {
+    let mut are_cards = false;
+    for line in text.lines() {
+        if are_cards && line.is_empty() {
+            out.write_str(FENCE);
+            are_cards = false;
+        } else if !are_cards && begins_cards(line) {
+            out.write_str(RULER);
+            are_cards = true;
+        }
+        out.write_str(line);
+        out.write_char('\n');
+    }
+    if are_cards {
+        out.write_str(FENCE);
+    }
+}
+
+/// Writes what breaks the rule, or keeps it, below its heading.
+fn write_part(out: &mut TextWriter, heading: &str, examples: &str) {
+    out.fill("\n{}:\n\n", &[heading.into()]);
+    write_examples(out, examples);
 }
 
 fn write_page(out: &mut TextWriter, topic: Topic) {
@@ -54,7 +91,8 @@ fn write_page(out: &mut TextWriter, topic: Topic) {
         write!(out, "\n{given}\n");
     }
     let (bad, good) = headings(topic);
-    write!(out, "\n{bad}:\n\n{breaks}\n\n{good}:\n\n{keeps}\n");
+    write_part(out, bad, breaks);
+    write_part(out, good, keeps);
     write!(out, "\nWhat to do: {advice}.\n\nThen: {behind}.\n");
 }
 

@@ -70,7 +70,8 @@ const WARNINGS: [WarningCode; 6] = [
     WarningCode::W6,
 ];
 
-const HALTS: [Halt; 8] = [
+/// The halts, in the order of their numbers.
+pub const HALTS: [Halt; 8] = [
     Halt::ZeroDivisor,
     Halt::BadIndex,
     Halt::NoRecordType,
