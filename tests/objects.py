@@ -12,7 +12,7 @@ from outcome import Outcome
 from program import SECONDS, Program
 
 # The commands that have --format.
-COMMANDS = ("compile", "check", "run", "go")
+COMMANDS = ("compile", "check", "list", "records", "fit", "verify", "show", "run", "go")
 
 # How an answer begins.
 ANSWER = b'{"answer":'

@@ -8,7 +8,7 @@ use rpg_cli_run::{
     verified,
 };
 use rpg_cli_show::{program_overview, program_text};
-use rpg_cli_words::{CompileWords, FileWord, ShowWords, VerifyWords};
+use rpg_cli_words::{CompileWords, FileWord, Format, ShowWords, VerifyWords};
 use rpg_engine::decode_object;
 use std::rt::Files;
 
@@ -82,6 +82,19 @@ fn shown_text<R: Files + AllocGlobal, L: Listener>(
     }
 }
 
+/// Reports the rule that a program breaks as an object of JSON, if the words want that: the line for people stands among the rows.
+fn tell_as_object<R: Files + AllocGlobal, L: Listener>(
+    rt: &R,
+    words: &ShowWords,
+    object: &[u8],
+    bound: Result<u64, Answer>,
+    listener: &mut L,
+) {
+    if let (Format::Json, Err(Answer::Object(fault))) = (words.format, bound) {
+        tell_object(rt.alloc(), words.object, object, fault, listener);
+    }
+}
+
 /// Shows the program of an object file, and returns what `verify_file` does.
 pub(crate) fn show_file<R: Files + AllocGlobal, L: Listener>(
     rt: &R,
@@ -93,6 +106,9 @@ pub(crate) fn show_file<R: Files + AllocGlobal, L: Listener>(
     if let Err(Answer::Object(fault)) = &text {
         tell_object(rt.alloc(), words.object, &object, *fault, listener);
     }
-    listener.show(text?.as_str())?;
-    Ok(verified(rt.alloc(), &object)?)
+    let text = text?;
+    let bound = verified(rt.alloc(), &object);
+    tell_as_object(rt, words, &object, bound, listener);
+    listener.show(text.as_str())?;
+    Ok(bound?)
 }

@@ -149,8 +149,7 @@ fn tell_fit<L: Listener>(
     if let Ok(messages) = change_messages(alloc, words.source, source, fit) {
         listener.tell(messages.as_str());
     }
-    let new_path = words.new_deck.unwrap_or("NEW");
-    if let Ok(messages) = new_deck_messages(alloc, new_path, words.source, fit) {
+    if let Ok(messages) = new_deck_messages(alloc, words.new_name(), words.source, fit) {
         listener.tell(messages.as_str());
     }
 }

@@ -3,10 +3,18 @@
 use crate::reading::source_bytes;
 use rpg_cli_answers::{Answer, Listener, Stop, named};
 use rpg_cli_list::source_listing;
-use rpg_cli_words::{FileWord, ListWords};
+use rpg_cli_run::tell_faults;
+use rpg_cli_words::{FileWord, Format, ListWords};
 use rpg_faults::{SourceFault, faultless_cards};
 use std::alloc::Global;
 use std::rt::Files;
+
+/// Reports all faults of a source as objects of JSON, if the words want them: lines for people stand in the listing.
+fn tell_as_objects<L: Listener>(alloc: Global, words: &ListWords, source: &[u8], listener: &mut L) {
+    if words.format == Format::Json {
+        tell_faults(alloc, words.source, source, u16::MAX, listener);
+    }
+}
 
 /// Shows the listing of a source, with or without faults, and returns the least fault. If memory runs out, nothing is shown.
 pub(crate) fn list_file<R: Files + Input + AllocGlobal, L: Listener>(
@@ -20,6 +28,7 @@ pub(crate) fn list_file<R: Files + Input + AllocGlobal, L: Listener>(
         return Err(Answer::NoMemory.into());
     }
     let text = listing(rt.alloc(), words.source, &source)?;
+    tell_as_objects(rt.alloc(), words, &source, listener);
     listener.show(text.as_str())?;
     match fault {
         None => Ok(()),

@@ -13,7 +13,7 @@ use crate::explaining::explain;
 use crate::files::{compile_files, show_file, verify_file};
 use crate::fitting::fit_file;
 use crate::listing::list_file;
-use crate::naming::files_of;
+use crate::naming::{files_of, uncoded_severity};
 use crate::outlet::Outlet;
 use crate::records::records_file;
 use crate::telling::{tell_answer, tell_unwritten};
@@ -203,7 +203,8 @@ fn obey<R: Clock + Env + Files + Input + Print + Eprint + AllocGlobal, W: Write,
         Format::Text => obey_as_asked(rt, request, out, listener),
         Format::Json => match files_of(rt.alloc(), request) {
             Ok(files) => {
-                let mut listener = JsonListener::new(rt.alloc(), listener, files);
+                let uncoded = uncoded_severity(request);
+                let mut listener = JsonListener::new(rt.alloc(), listener, files, uncoded);
                 obey_as_asked(rt, request, out, &mut listener)
             }
             Err(_) => conclude(

@@ -29,10 +29,18 @@ report_members report = halt_member report.ending ++ member (codes "cycles") rep
 abbrev pub checked_members : (sources rejected : ℕ) → List ℕ
 checked_members sources rejected = member (codes "sources") sources ++ member (codes "rejected") rejected
 
+-- how many records were converted, how many left out, and how many columns a line has at most
+abbrev pub record_members : (records dropped columns : ℕ) → List ℕ
+record_members records dropped columns = member (codes "records") records ++ member (codes "dropped") dropped ++ member (codes "columns") columns
+
 -- the numbers of an answer that counts
 abbrev pub counts_of : Answer → List ℕ
 counts_of (answers.Ended report) = report_members report
 counts_of (answers.Checked sources rejected status) = checked_members sources rejected
+counts_of (answers.Accepted bound) = member (codes "bound") bound
+counts_of (answers.OverLimit bound) = member (codes "bound") bound
+counts_of (answers.Records records dropped columns) = record_members records dropped columns
+counts_of (answers.Fitted changes) = member (codes "changes") changes
 counts_of a = []
 
 -- the answer in words

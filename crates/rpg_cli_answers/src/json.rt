@@ -94,6 +94,16 @@ fn add_checked(text: &mut Object, sources: u64, rejected: u64)
     add_number(text, b"rejected", rejected);
 }
 
+fn add_records(text: &mut Object, records: u64, dropped: u64, columns: u64)
+    requires { array_vec_len text.old ≤ 110 }
+    ensures items { text.new.items ≡ text.old.items ++ json.record_members records dropped columns }
+    ensures len { array_vec_len text.new ≤ array_vec_len text.old + 100 }
+{
+    add_number(text, b"records", records);
+    add_number(text, b"dropped", dropped);
+    add_number(text, b"columns", columns);
+}
+
 /// The numbers of an answer that counts.
 fn add_counts(text: &mut Object, answer: &Answer)
     requires { array_vec_len text.old ≤ 110 }
@@ -107,26 +117,31 @@ fn add_counts(text: &mut Object, answer: &Answer)
             rejected,
             ..
         } => add_checked(text, sources, rejected),
+        Answer::Accepted { bound } | Answer::OverLimit { bound } => {
+            add_number(text, b"bound", bound)
+        }
+        Answer::Records {
+            records,
+            dropped,
+            columns,
+        } => add_records(text, records, dropped, columns),
+        Answer::Fitted { changes } => add_number(text, b"changes", changes),
         Answer::Compiled
         | Answer::Faultless
         | Answer::Denied { .. }
-        | Answer::Accepted { .. }
         | Answer::Source(_)
         | Answer::Object(_)
         | Answer::OtherSource
         | Answer::DiskFileWanted
         | Answer::SecondaryFileWanted
         | Answer::DateWanted
-        | Answer::OverLimit { .. }
         | Answer::Run(_)
         | Answer::File { .. }
         | Answer::Explained
         | Answer::Deck
         | Answer::NoCard { .. }
-        | Answer::Records { .. }
         | Answer::DeckRefused { .. }
         | Answer::RecordRefused { .. }
-        | Answer::Fitted { .. }
         | Answer::FitRefused { .. }
         | Answer::NewDeck(_)
         | Answer::NoSuchCode

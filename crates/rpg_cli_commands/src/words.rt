@@ -155,7 +155,7 @@ const COMPILE: [Word; 8] = [
 
 const CHECK: [Word; 6] = [SOURCES, FAULTS, DENY, ALLOW, FORMAT, QUIET];
 
-const LIST: [Word; 1] = [SOURCE_OR_INPUT];
+const LIST: [Word; 2] = [SOURCE_OR_INPUT, FORMAT];
 
 const CARDS: [Word; 3] = [
     Word {
@@ -178,7 +178,7 @@ const CARDS: [Word; 3] = [
     },
 ];
 
-const RECORDS: [Word; 12] = [
+const RECORDS: [Word; 13] = [
     Word {
         name: "IN",
         kind: Kind::Placed,
@@ -251,9 +251,10 @@ const RECORDS: [Word; 12] = [
         is_required: false,
         help: "Where the deck goes that reads the lines",
     },
+    FORMAT,
 ];
 
-const FIT: [Word; 5] = [
+const FIT: [Word; 6] = [
     Word {
         name: "SRC",
         kind: Kind::Placed,
@@ -284,9 +285,10 @@ const FIT: [Word; 5] = [
         is_required: false,
         help: "No form gets more lines than its L card has",
     },
+    FORMAT,
 ];
 
-const VERIFY: [Word; 2] = [OBJECT, QUIET];
+const VERIFY: [Word; 3] = [OBJECT, FORMAT, QUIET];
 
 const EXPLAIN: [Word; 2] = [
     Word {
@@ -310,7 +312,7 @@ const ROWS: Word = Word {
     help: "Prints all rows of the object program",
 };
 
-const SHOW: [Word; 3] = [OBJECT, OWN_SOURCE, ROWS];
+const SHOW: [Word; 4] = [OBJECT, OWN_SOURCE, ROWS, FORMAT];
 
 const INPUT: Word = Word {
     name: "INPUT",

@@ -16,11 +16,33 @@ pub(crate) struct Diagnostic<'f, 't> {
     pub topic: Option<Topic>,
 }
 
+impl<'f, 't> Diagnostic<'f, 't> {
+    /// Whether it is about a rule by which old decks are rewritten.
+    fn is_rewriting(&self) -> bool {
+        matches!(self.topic, Some(Topic::Rewriting(_)))
+    }
+
+    /// Whether this and the next one are changes of one card, which have one picture.
+    pub fn shares_picture(&self, next: &Diagnostic<'f, 't>) -> bool {
+        self.is_rewriting() && next.is_rewriting() && self.line == next.line
+    }
+}
+
+/// How the message about a card begins that can't be rewritten.
+const REFUSED: &str = "can't be rewritten: ";
+
 #[derive(Clone, Copy)]
-pub(crate) enum Severity {
+pub enum Severity {
     Error,
     Warning,
     Note,
+}
+
+/// What diagnostics may be about, and how severe those are that have no code.
+#[derive(Clone, Copy)]
+pub(crate) struct Known<'f, 'k> {
+    pub files: &'k [&'f str],
+    pub uncoded: Severity,
 }
 
 impl Severity {
@@ -32,10 +54,12 @@ impl Severity {
         }
     }
 
-    fn of(topic: Option<Topic>) -> Severity {
+    /// A rule's change of an old deck is a note; that a card can't be rewritten is an error.
+    fn of(topic: Option<Topic>, message: &str, uncoded: Severity) -> Severity {
         match topic {
-            None => Severity::Note,
+            None => uncoded,
             Some(Topic::Warning(_)) => Severity::Warning,
+            Some(Topic::Rewriting(_)) if !message.starts_with(REFUSED) => Severity::Note,
             Some(_) => Severity::Error,
         }
     }
@@ -74,18 +98,22 @@ fn file_of<'f, 't>(line: &'t str, files: &[&'f str]) -> Option<(&'f str, &'t str
     found
 }
 
+fn is_number(text: &str) -> bool {
+    !text.is_empty() && text.bytes().all(|b| b.is_ascii_digit())
+}
+
 /// The digits that a text begins with, and what stands after them and a colon.
 fn number_of(text: &str) -> (Option<&str>, &str) {
     match text.split_once(':') {
-        Some((digits, rest)) if !digits.is_empty() && digits.bytes().all(|b| b.is_ascii_digit()) =>
-            { (Some(digits), rest) }
+        Some((digits, rest)) if is_number(digits) => (Some(digits), rest),
         _ => (None, text),
     }
 }
 
-/// A code that a message begins with, what it is about, and the message after it.
+/// A code that a message begins with, what it is about, and the message after it. A note has the word in place of a code.
 fn code_of(text: &str) -> (Option<&str>, Option<Topic>, &str) {
     match text.split_once(": ") {
+        Some(("note", rest)) => (None, None, rest),
         Some((code, rest)) => match topic_of(code) {
             Some(topic) => (Some(code), Some(topic), rest),
             None => (None, None, text),
@@ -94,20 +122,36 @@ fn code_of(text: &str) -> (Option<&str>, Option<Topic>, &str) {
     }
 }
 
+/// The number of a record, and what stands after it: ` record 2 at byte 20: ..`.
+fn record_of(text: &str) -> Option<(&str, &str)> {
+    let (number, rest) = text.strip_prefix(" record ")?.split_once(' ')?;
+    is_number(number).then_some((number, rest))
+}
+
+/// The line, or the record, and the column that a text begins with, and what stands after them.
+fn place_of(text: &str) -> (Option<&str>, Option<&str>, &str) {
+    if let Some((record, rest)) = record_of(text) {
+        return (Some(record), None, rest);
+    }
+    match number_of(text) {
+        (None, rest) => (None, None, rest),
+        (line, rest) => {
+            let (column, rest) = number_of(rest);
+            (line, column, rest)
+        }
+    }
+}
+
 /// What is said of a file, from a place in it on, or of the file as a whole.
-fn placed<'f, 't>(file: &'f str, rest: &'t str) -> Diagnostic<'f, 't> {
-    let (line, rest) = number_of(rest);
-    let (column, rest) = match line {
-        Some(_) => number_of(rest),
-        None => (None, rest),
-    };
+fn placed<'f, 't>(file: &'f str, rest: &'t str, uncoded: Severity) -> Diagnostic<'f, 't> {
+    let (line, column, rest) = place_of(rest);
     let (code, topic, message) = code_of(rest.trim_start());
     Diagnostic {
         file: Some(file),
         line,
         column,
         code,
-        severity: Severity::of(topic),
+        severity: Severity::of(topic, message, uncoded),
         message,
         topic,
     }
@@ -132,11 +176,11 @@ fn plain<'f, 't>(
 
 /// The diagnostic that a line is. One that begins with a file and a blank says why the file failed, or what a program asks for; a line that begins
 /// with no file is a message alone.
-pub(crate) fn diagnostic_of<'f, 't>(line: &'t str, files: &[&'f str]) -> Diagnostic<'f, 't> {
-    match file_of(line, files) {
+pub(crate) fn diagnostic_of<'f, 't>(line: &'t str, known: Known<'f, '_>) -> Diagnostic<'f, 't> {
+    match file_of(line, known.files) {
         None => plain(None, Severity::Note, line),
         Some((file, rest)) => match rest.strip_prefix(':') {
-            Some(rest) => placed(file, rest),
+            Some(rest) => placed(file, rest, known.uncoded),
             None => plain(Some(file), Severity::Error, rest.trim_start()),
         },
     }

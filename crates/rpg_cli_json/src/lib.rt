@@ -7,5 +7,6 @@ mod objects;
 mod picture;
 mod string;
 
+pub use diagnostic::Severity;
 pub use listener::JsonListener;
-pub use objects::{diagnostics, source_object};
+pub use objects::source_object;

@@ -1,5 +1,6 @@
 //! A listener that makes objects of JSON of the diagnostics.
 
+use crate::diagnostic::{Known, Severity};
 use crate::objects::diagnostics;
 use rpg_cli_answers::Listener;
 use rpg_cli_files::Reason;
@@ -12,16 +13,19 @@ pub struct JsonListener<'a, L> {
     listener: &'a mut L,
     /// The files that diagnostics may be about, by their names.
     files: Vec<&'a str>,
+    /// How severe diagnostics are that have no code.
+    uncoded: Severity,
     /// A line whose end hasn't come.
     begun: String,
 }
 
 impl<'a, L: Listener> JsonListener<'a, L> {
-    pub fn new(alloc: Global, listener: &'a mut L, files: Vec<&'a str>) -> Self {
+    pub fn new(alloc: Global, listener: &'a mut L, files: Vec<&'a str>, uncoded: Severity) -> Self {
         JsonListener {
             alloc,
             listener,
             files,
+            uncoded,
             begun: String::new(alloc),
         }
     }
@@ -32,7 +36,11 @@ impl<L: Listener> Listener for JsonListener<'_, L> {
         if self.begun.push_str(text).is_err() || !text.ends_with('\n') {
             return;
         }
-        if let Ok(objects) = diagnostics(self.alloc, &self.files, self.begun.as_str()) {
+        let known = Known {
+            files: &self.files,
+            uncoded: self.uncoded,
+        };
+        if let Ok(objects) = diagnostics(self.alloc, known, self.begun.as_str()) {
             self.listener.tell(objects.as_str());
         }
         self.begun.clear();

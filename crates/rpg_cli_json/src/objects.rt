@@ -1,6 +1,6 @@
 //! Diagnostics as objects.
 
-use crate::diagnostic::{Diagnostic, diagnostic_of};
+use crate::diagnostic::{Diagnostic, Known, diagnostic_of};
 use crate::picture::{Picture, picture_of};
 use crate::string::{
     write_member, write_number_member, write_optional_member, write_paragraph, write_string,
@@ -12,7 +12,8 @@ use std::alloc::{AllocError, Global};
 #[derive(Clone, Copy)]
 struct Marked<'a> {
     card: &'a str,
-    /// The last column, if there is a mark.
+    /// The first and the last column, if there is a mark.
+    first: Option<usize>,
     last: Option<usize>,
     /// What the card has in the columns.
     name: Option<&'a str>,
@@ -22,16 +23,30 @@ impl<'a> Marked<'a> {
     fn nothing() -> Self {
         Marked {
             card: "",
+            first: None,
             last: None,
             name: None,
         }
     }
 
-    /// The text of a card above a mark.
-    fn name_in(card: &'a str, mark: &str) -> Option<&'a str> {
-        let first = mark.len().saturating_sub(mark.trim_start().len());
-        let name = card.get(first..mark.len().min(card.len()))?.trim();
+    /// The text of a card above a mark that comes after so many blanks. There is none above columns with others between them.
+    fn name_in(card: &'a str, blanks: usize, mark: &str) -> Option<&'a str> {
+        if mark.trim_start().contains(' ') {
+            return None;
+        }
+        let name = card.get(blanks..mark.len().min(card.len()))?.trim();
         (!name.is_empty()).then_some(name)
+    }
+
+    /// With the columns over a mark.
+    fn marked_by(self, mark: &str) -> Marked<'a> {
+        let blanks = mark.len().saturating_sub(mark.trim_start().len());
+        Marked {
+            first: Some(blanks.saturating_add(1)),
+            last: Some(mark.len()),
+            name: Marked::name_in(self.card, blanks, mark),
+            ..self
+        }
     }
 
     /// With one more line of the picture.
@@ -39,18 +54,19 @@ impl<'a> Marked<'a> {
         match picture {
             Picture::Ruler => self,
             Picture::Card(card) => Marked { card, ..self },
-            Picture::Mark(mark) => Marked {
-                last: Some(mark.len()),
-                name: Marked::name_in(self.card, mark),
-                ..self
-            },
+            Picture::Mark(mark) => self.marked_by(mark),
         }
     }
 }
 
-fn write_end(out: &mut TextWriter, marked: Marked<'_>) {
+/// Writes the first column, which the line has or else the mark, and the last one.
+fn write_columns(out: &mut TextWriter, column: Option<&str>, marked: Marked<'_>) {
+    write_number_member(out, "column", column);
+    if let (None, Some(first)) = (column, marked.first) {
+        out.fill(",\"column\":{}", &[first.into()]);
+    }
     if let Some(last) = marked.last {
-        write!(out, ",\"end\":{last}");
+        out.fill(",\"end\":{}", &[last.into()]);
     }
 }
 
@@ -60,8 +76,7 @@ fn write_object(out: &mut TextWriter, diagnostic: Diagnostic<'_, '_>, marked: Ma
     write!(out, "{{\"severity\":\"{severity}\"");
     write_optional_member(out, "file", diagnostic.file);
     write_number_member(out, "line", diagnostic.line);
-    write_number_member(out, "column", diagnostic.column);
-    write_end(out, marked);
+    write_columns(out, diagnostic.column, marked);
     write_optional_member(out, "code", diagnostic.code);
     write_optional_member(out, "name", marked.name);
     write_member(out, "message", diagnostic.message);
@@ -71,46 +86,74 @@ fn write_object(out: &mut TextWriter, diagnostic: Diagnostic<'_, '_>, marked: Ma
     out.write_str("}\n");
 }
 
-/// A diagnostic whose picture may follow, if there is one.
-#[derive(Clone, Copy)]
+/// Diagnostics whose picture may follow: one, or the changes of one card.
+#[derive(Drop)]
 struct Open<'f, 't> {
-    diagnostic: Option<Diagnostic<'f, 't>>,
-    marked: Marked<'t>,
+    diagnostics: Vec<Diagnostic<'f, 't>>,
+    /// None before the picture.
+    marked: Option<Marked<'t>>,
 }
 
 impl<'f, 't> Open<'f, 't> {
-    fn nothing() -> Self {
+    fn nothing(alloc: Global) -> Self {
         Open {
-            diagnostic: None,
-            marked: Marked::nothing(),
+            diagnostics: Vec::new(alloc),
+            marked: None,
         }
     }
 
-    fn write(self, out: &mut TextWriter) {
-        if let Some(diagnostic) = self.diagnostic {
-            write_object(out, diagnostic, self.marked);
+    fn marked_so_far(&self) -> Marked<'t> {
+        self.marked.unwrap_or(Marked::nothing())
+    }
+
+    /// Writes an object for each, after which nothing is left.
+    fn write(&mut self, out: &mut TextWriter) {
+        let marked = self.marked_so_far();
+        for diagnostic in &self.diagnostics {
+            write_object(out, *diagnostic, marked);
+        }
+        self.diagnostics.clear();
+        self.marked = None;
+    }
+
+    /// Whether one more diagnostic has the same picture, which hasn't come yet.
+    fn goes_on_with(&self, next: &Diagnostic<'f, 't>) -> bool {
+        match (self.diagnostics.last(), self.marked) {
+            (Some(last), None) => last.shares_picture(next),
+            _ => false,
         }
     }
 
-    /// Goes on with one more line: of its picture, or of another diagnostic, before which it is written.
-    fn go_on(&mut self, out: &mut TextWriter, line: &'t str, files: &[&'f str]) {
-        match picture_of(line) {
-            Some(picture) => self.marked = self.marked.with(picture),
-            None => {
-                self.write(out);
-                self.diagnostic = Some(diagnostic_of(line, files));
-                self.marked = Marked::nothing();
-            }
+    /// Goes on with one more line: of the picture, or of a diagnostic, before which those of another picture are written.
+    fn go_on(
+        &mut self,
+        out: &mut TextWriter,
+        line: &'t str,
+        known: Known<'f, '_>,
+    ) -> Result<(), AllocError> {
+        if let Some(picture) = picture_of(line) {
+            self.marked = Some(self.marked_so_far().with(picture));
+            return Ok(());
         }
+        let next = diagnostic_of(line, known);
+        if !self.goes_on_with(&next) {
+            self.write(out);
+        }
+        Ok(self.diagnostics.push(next)?)
     }
 }
 
-/// The diagnostics that a text for people has about files, as objects: what a picture shows goes into the object of the line above it.
-pub fn diagnostics(alloc: Global, files: &[&str], text: &str) -> Result<String, AllocError> {
+/// The diagnostics that a text for people has about files, as objects: what a picture shows goes into the object of the line above it, or into those
+/// of all changes of its card.
+pub(crate) fn diagnostics(
+    alloc: Global,
+    known: Known<'_, '_>,
+    text: &str,
+) -> Result<String, AllocError> {
     let mut out = TextWriter::new(alloc);
-    let mut open = Open::nothing();
+    let mut open = Open::nothing(alloc);
     for line in text.lines() {
-        open.go_on(&mut out, line, files);
+        open.go_on(&mut out, line, known)?;
     }
     open.write(&mut out);
     out.finish()

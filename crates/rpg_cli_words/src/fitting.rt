@@ -1,5 +1,6 @@
 //! The words of the command that rewrites an old deck.
 
+use crate::format::{Format, format_of};
 use crate::request::{FileWord, Request, is_standard};
 use clap::ArgMatches;
 use std::alloc::{AllocError, Global};
@@ -22,9 +23,15 @@ pub struct FitWords<'a> {
     pub switches: Option<&'a str>,
     /// Whether no form gets more lines than its L card has.
     pub keeps_forms: bool,
+    pub format: Format,
 }
 
 impl<'a> FitWords<'a> {
+    /// How diagnostics call the new deck: by its file, or NEW where it isn't written.
+    pub fn new_name(&self) -> &'a str {
+        self.new_deck.unwrap_or("NEW")
+    }
+
     /// Whether the new deck goes to standard output.
     pub fn writes_standard_output(&self) -> bool {
         match self.new_deck {
@@ -94,5 +101,6 @@ pub(crate) fn fit_words<'a>(
         tables: tables_of(alloc, given)?,
         switches: given.get_str("switches"),
         keeps_forms: given.get_flag("forms"),
+        format: format_of(given),
     })))
 }

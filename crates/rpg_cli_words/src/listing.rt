@@ -1,5 +1,6 @@
 //! The words of the commands that show a source.
 
+use crate::format::{Format, format_of};
 use crate::request::Request;
 use clap::ArgMatches;
 
@@ -7,6 +8,7 @@ use clap::ArgMatches;
 #[derive(Clone, Copy)]
 pub struct ListWords<'a> {
     pub source: &'a str,
+    pub format: Format,
 }
 
 /// The words of `cards`.
@@ -29,6 +31,7 @@ pub enum CardsWanted {
 pub(crate) fn list_words<'a>(given: &ArgMatches<'a>) -> Option<Request<'a>> {
     Some(Request::List(ListWords {
         source: given.get_str("SRC")?,
+        format: format_of(given),
     }))
 }
 

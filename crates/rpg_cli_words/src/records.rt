@@ -1,5 +1,6 @@
 //! The words of the command that makes lines of records.
 
+use crate::format::{Format, format_of};
 use crate::request::{FileWord, Request, may_be_standard};
 use clap::ArgMatches;
 
@@ -43,6 +44,7 @@ pub struct RecordsWords<'a> {
     pub dropped: Option<u8>,
     /// Where the deck goes that reads the lines, if the words tell it.
     pub new_deck: Option<&'a str>,
+    pub format: Format,
 }
 
 impl<'a> RecordsWords<'a> {
@@ -126,5 +128,6 @@ pub(crate) fn records_words<'a>(given: &ArgMatches<'a>) -> Option<Request<'a>> {
         low_blank: given.get_flag("low-blank"),
         dropped,
         new_deck: given.get_str("deck"),
+        format: format_of(given),
     }))
 }

@@ -71,6 +71,7 @@ pub struct VerifyWords<'a> {
     pub object: &'a str,
     /// Whether no line is printed if the exit status is 0.
     pub is_quiet: bool,
+    pub format: Format,
 }
 
 /// The words of `show`.
@@ -81,6 +82,7 @@ pub struct ShowWords<'a> {
     pub source: Option<&'a str>,
     /// Whether all rows are wanted: where the words ask for them, or name the source, whose names stand in them.
     pub rows: bool,
+    pub format: Format,
 }
 
 /// The words of `run`.
@@ -253,9 +255,14 @@ impl<'a> Request<'a> {
         match self {
             Request::Compile(words) => words.format,
             Request::Check(words) => words.format,
+            Request::List(words) => words.format,
+            Request::Records(words) => words.format,
+            Request::Fit(words) => words.format,
+            Request::Verify(words) => words.format,
+            Request::Show(words) => words.format,
             Request::Run(words) => words.format,
             Request::Go(words) => words.run.format,
-            _ => Format::Text,
+            Request::Cards(_) | Request::Explain(_) => Format::Text,
         }
     }
 
@@ -438,6 +445,7 @@ fn verify_words<'a>(given: &ArgMatches<'a>) -> Option<Request<'a>> {
     Some(Request::Verify(VerifyWords {
         object: given.get_str("OBJ")?,
         is_quiet: given.get_flag("quiet"),
+        format: format_of(given),
     }))
 }
 
@@ -446,6 +454,7 @@ fn show_words<'a>(given: &ArgMatches<'a>) -> Option<Request<'a>> {
         object: given.get_str("OBJ")?,
         source: given.get_str("source"),
         rows: given.get_flag("rows") || given.get_str("source").is_some(),
+        format: format_of(given),
     }))
 }
 
