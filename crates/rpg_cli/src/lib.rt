@@ -6,13 +6,11 @@ mod dates;
 mod decks;
 mod explaining;
 mod files;
-mod fitting;
 mod listing;
 mod naming;
 mod outlet;
 mod program;
 mod reading;
-mod records;
 mod telling;
 mod told;
 

@@ -238,7 +238,7 @@ fn conclude<R: Files>(
 /// Makes lines of the records of a file, or records of its lines.
 ///
 /// OUT, and then NEW, are written once all records are: where one is refused both are as they were.
-pub(crate) fn records_file<R: Files + Input + Print + AllocGlobal, L: Listener>(
+pub fn records_file<R: Files + Input + Print + AllocGlobal, L: Listener>(
     rt: &R,
     words: &RecordsWords,
     listener: &mut L,

@@ -175,7 +175,7 @@ fn answer_of(fit: &FittedDeck) -> Answer {
 }
 
 /// Rewrites an old deck. The new one is written once it is whole, also where it has faults; where a rule refuses the old one nothing is.
-pub(crate) fn fit_file<R: Files + Print + AllocGlobal, L: Listener>(
+pub fn fit_file<R: Files + Print + AllocGlobal, L: Listener>(
     rt: &R,
     words: &FitWords,
     listener: &mut L,
