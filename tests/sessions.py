@@ -1,6 +1,7 @@
 """Sessions: commands that are run one after another in one folder, and what each prints."""
 
 import os
+import pty
 import re
 import select
 import shutil
@@ -133,6 +134,20 @@ class Session:
             answer = self.program.run(list(words[1:]), self.folder, self.given, out=out)
         return answer.text + f"status {answer.status}\n".encode()
 
+    def do_terminal(self, no_color: str, *words: str) -> bytes:
+        """Runs rpg2 where standard error is a terminal, and NO_COLOR has a value; `-` for none. What comes there is shown, an escape as `\\e`."""
+        ours, its = pty.openpty()
+        others = {name: value for name, value in os.environ.items() if name != "NO_COLOR"}
+        environment = others if no_color == "-" else {**others, "NO_COLOR": no_color}
+        with open(os.devnull, "wb") as nothing, os.fdopen(ours, "rb", buffering=0) as screen:
+            command = subprocess.Popen(
+                words, executable=self.program.path, cwd=self.folder, stdin=self.given, stdout=nothing, stderr=its, env=environment
+            )
+            os.close(its)
+            status = command.wait(SECONDS)
+            text = drained(screen)
+        return text.replace(b"\r\n", b"\n").replace(b"\x1b", b"\\e") + f"status {status}\n".encode()
+
     def do_closed(self, *words: str) -> bytes:
         """Runs rpg2 where nobody reads standard output any more."""
         left, out = os.pipe()
@@ -219,6 +234,16 @@ class Session:
 def piece_of(pipe: IO[bytes]) -> bytes:
     """What comes out of a pipe next."""
     return os.read(pipe.fileno(), 1 << 16) if select.select([pipe], [], [], PATIENCE)[0] else b""
+
+
+def drained(screen: IO[bytes]) -> bytes:
+    """All that came to a terminal which nothing writes to any more: the read after it fails."""
+    seen = b""
+    while True:
+        try:
+            seen += screen.read(1 << 16)
+        except OSError:
+            return seen
 
 
 def growth_of(file: IO[bytes]) -> bytes:

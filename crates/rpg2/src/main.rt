@@ -1,8 +1,10 @@
 //! The program `rpg2`.
 #![tactic(auto)]
 
+use std::io::IsTerminal;
 use std::process::ExitCode;
 
 fn main(rt: HostRuntime) -> ExitCode {
-    rpg_cli::main_with(&rt)
+    let is_terminal = rt.stderr().is_terminal();
+    rpg_cli::main_with(&rt, is_terminal)
 }

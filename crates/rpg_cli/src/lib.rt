@@ -2,6 +2,7 @@
 #![tactic(auto)]
 
 mod checking;
+mod colours;
 mod dates;
 mod decks;
 mod explaining;

@@ -252,9 +252,10 @@ fn words<R: Env + AllocGlobal>(rt: &R) -> io::Result<Vec<String>> {
 fn run_on_streams<R: Clock + Env + Files + Input + Print + Eprint + AllocGlobal>(
     rt: &R,
     words: &[String],
+    has_colours: bool,
 ) -> u8 {
     let mut out = io::writer(rt);
-    let mut listener = StandardStreams::new(rt);
+    let mut listener = StandardStreams::new(rt, has_colours);
     match request_of(rt.alloc(), words) {
         Err(refusal) => refuse(rt, &refusal, &mut out, &mut listener),
         Ok(request) if request.writes_standard_output() => {
@@ -267,7 +268,7 @@ fn run_on_streams<R: Clock + Env + Files + Input + Print + Eprint + AllocGlobal>
 /// Rejects arguments that can't be read: one isn't UTF-8, or memory ran out.
 fn refuse_words<R: Print + Eprint + AllocGlobal>(rt: &R, error: &Error) -> u8 {
     let mut out = io::writer(rt);
-    let mut listener = StandardStreams::new(rt);
+    let mut listener = StandardStreams::new(rt, false);
     if error.kind() == ErrorKind::OutOfMemory {
         say(
             &mut out,
@@ -281,12 +282,23 @@ fn refuse_words<R: Print + Eprint + AllocGlobal>(rt: &R, error: &Error) -> u8 {
     }
 }
 
-/// The whole program. Words that aren't UTF-8 are a fault of the command line.
+/// Whether the environment asks for no colours.
+fn refuses_colours<R: Env + AllocGlobal>(rt: &R) -> bool {
+    match env::var(rt, "NO_COLOR") {
+        Ok(value) => !value.is_empty(),
+        Err(_) => false,
+    }
+}
+
+/// The whole program. Words that aren't UTF-8 are a fault of the command line. If standard error is a terminal, marks are in colour, unless the
+/// variable NO_COLOR is set.
 pub fn main_with<R: Clock + Env + Files + Input + Print + Eprint + AllocGlobal>(
     rt: &R,
+    is_terminal: bool,
 ) -> ExitCode {
+    let has_colours = is_terminal && !refuses_colours(rt);
     let status = match words(rt) {
-        Ok(words) => run_on_streams(rt, words.as_slice()),
+        Ok(words) => run_on_streams(rt, words.as_slice(), has_colours),
         Err(error) => refuse_words(rt, &error),
     };
     ExitCode::from(status)

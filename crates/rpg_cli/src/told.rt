@@ -1,5 +1,6 @@
 //! The standard streams, for diagnostics and for texts before the line of an answer.
 
+use crate::colours::{coloured, has_marks};
 use rpg_cli_answers::Listener;
 use rpg_cli_files::{Reason, send_text};
 use std::io::{self, Error, ErrorKind, Write};
@@ -9,16 +10,24 @@ use std::str;
 #[derive(Drop)]
 pub(crate) struct StandardStreams<'a, R> {
     rt: &'a R,
+    /// Whether marks on standard error are in colour.
+    has_colours: bool,
 }
 
 impl<'a, R: Print + Eprint> StandardStreams<'a, R> {
-    pub fn new(rt: &'a R) -> Self {
-        StandardStreams { rt }
+    pub fn new(rt: &'a R, has_colours: bool) -> Self {
+        StandardStreams { rt, has_colours }
     }
 }
 
-impl<R: Print + Eprint> Listener for StandardStreams<'_, R> {
+impl<R: Print + Eprint + AllocGlobal> Listener for StandardStreams<'_, R> {
     fn tell(&mut self, text: &str) {
+        if self.has_colours && has_marks(text) {
+            if let Ok(text) = coloured(self.rt.alloc(), text) {
+                let _told = self.rt.eprint(text.as_str());
+                return;
+            }
+        }
         let _told = self.rt.eprint(text);
     }
 

@@ -1,0 +1,39 @@
+//! Marks in colour, for a terminal.
+
+use rpg_cli_text::TextWriter;
+use std::alloc::{AllocError, Global};
+
+/// What stands before a mark.
+const MARGIN: &str = "      | ";
+
+/// What turns bold red on, and all colours off.
+const BOLD_RED: &str = "\x1b[1;31m";
+
+const PLAIN: &str = "\x1b[0m";
+
+/// Whether a text has marks, and whole lines alone.
+pub(crate) fn has_marks(text: &str) -> bool {
+    text.ends_with('\n') && text.contains("^\n")
+}
+
+fn write_line(out: &mut TextWriter, line: &str) {
+    match line.strip_prefix(MARGIN) {
+        Some(mark) if mark.ends_with('^') => {
+            out.write_str(MARGIN);
+            out.write_str(BOLD_RED);
+            out.write_str(mark);
+            out.write_str(PLAIN);
+        }
+        _ => out.write_str(line),
+    }
+    out.write_char('\n');
+}
+
+/// Lines with their marks in colour.
+pub(crate) fn coloured(alloc: Global, text: &str) -> Result<String, AllocError> {
+    let mut out = TextWriter::new(alloc);
+    for line in text.lines() {
+        write_line(&mut out, line);
+    }
+    out.finish()
+}
