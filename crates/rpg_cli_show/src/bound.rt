@@ -8,7 +8,7 @@ ghost use Rattle.rpg_object_program.specs.declared.section.Section.TheVariants a
 
 use rpg_cli_text::TextWriter;
 use rpg_effect::line::Time;
-use rpg_object_program::row::{Line, RecordType, Rows, Version};
+use rpg_object_program::row::{Rows, Version};
 use rpg_object_program::section::{Place, Section};
 use rpg_verify::Verified;
 use std::alloc::{AllocError, Global};
@@ -141,35 +141,25 @@ impl Costs {
     }
 }
 
-/// The weight of a record type: its codes, control fields, input fields and match fields.
-fn type_weight(record_type: &RecordType) -> u64 {
-    let codes = record_type.codes.len() as u64;
-    codes
-        .saturating_add(record_type.levels.len() as u64)
-        .saturating_add(record_type.inputs.len() as u64)
-        .saturating_add(record_type.matches.len() as u64)
-}
-
+/// The codes, control fields, input fields and match fields of all record types.
 fn types_weight(rows: &Rows) -> u64 {
     let mut sum: u64 = 0;
     for record_type in &rows.types {
-        sum = sum.saturating_add(type_weight(record_type));
+        sum = sum
+            .saturating_add(record_type.codes.len() as u64)
+            .saturating_add(record_type.levels.len() as u64)
+            .saturating_add(record_type.inputs.len() as u64)
+            .saturating_add(record_type.matches.len() as u64);
     }
     sum
 }
 
-/// The weight of a line that isn't an exception line: one, and one for each of its fields.
-fn line_weight(line: &Line) -> u64 {
-    match line.time {
-        Time::Exception => 0,
-        Time::Heading | Time::Detail | Time::Total => (line.fields.len() as u64).saturating_add(1),
-    }
-}
-
+/// What all lines weigh but exception lines.
 fn lines_weight(rows: &Rows) -> u64 {
     let mut sum: u64 = 0;
     for line in &rows.lines {
-        sum = sum.saturating_add(line_weight(line));
+        let is_meant = !matches!(&line.time, Time::Exception);
+        sum = sum.saturating_add(line.weight_where(is_meant));
     }
     sum
 }

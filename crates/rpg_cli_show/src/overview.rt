@@ -1,13 +1,13 @@
 //! What an object program reads, writes and asks for, in words.
 
 use crate::header::VERSION;
-use crate::refusal::write_rule;
+use crate::refusal::{broken_by, write_refusal};
 use rpg_cli_show_fields::{Indicator, Layout};
 use rpg_cli_text::TextWriter;
 use rpg_date_use::uses_date;
 use rpg_object_program::Program;
 use rpg_object_program::row::{RecordType, Rows};
-use rpg_verify::{BrokenRule, Verified, VerifyFault, verify};
+use rpg_verify::{BrokenRule, Verified, verify};
 use std::alloc::{AllocError, Global};
 
 /// The most bytes that a step puts out.
@@ -135,24 +135,8 @@ fn refused_overview(
 ) -> Result<String, AllocError> {
     let mut out = TextWriter::new(alloc);
     write_rows(&mut out, program);
-    let row = broken.row;
-    out.fill("  refused  row {} by ", &[row.into()]);
-    write_rule(&mut out, broken);
+    write_refusal(&mut out, broken);
     out.finish()
-}
-
-/// What a program that isn't accepted reads and writes, and the rule that it breaks.
-fn unaccepted_overview(
-    alloc: Global,
-    program: &Program,
-    fault: VerifyFault,
-) -> Result<String, AllocError> {
-    match fault {
-        VerifyFault::Refused { rule, row } => {
-            refused_overview(alloc, program, BrokenRule { rule, row })
-        }
-        VerifyFault::NoMemory => Err(AllocError),
-    }
 }
 
 /// What a program reads, writes and asks for: its files with their lengths, the date, control levels, the most steps and bytes of a cycle, and the
@@ -160,6 +144,6 @@ fn unaccepted_overview(
 pub fn program_overview(alloc: Global, program: Program) -> Result<String, AllocError> {
     match verify(alloc, program) {
         Ok(verified) => accepted_overview(alloc, &verified),
-        Err((program, fault)) => unaccepted_overview(alloc, &program, fault),
+        Err((program, fault)) => refused_overview(alloc, &program, broken_by(fault)?),
     }
 }

@@ -4,12 +4,12 @@ use crate::bound::{Costs, write_bound};
 use crate::header::write_header;
 use crate::instructions::write_sections;
 use crate::lines::write_lines;
-use crate::refusal::write_rule;
+use crate::refusal::{broken_by, write_refusal};
 use crate::types::write_types;
 use rpg_cli_show_fields::{Layout, NamedRows, SourceRows, write_fields, write_first_values};
 use rpg_cli_text::TextWriter;
 use rpg_object_program::Program;
-use rpg_verify::{BrokenRule, Verified, VerifyFault, verify};
+use rpg_verify::{BrokenRule, Verified, verify};
 use std::alloc::{AllocError, Global};
 
 /// Writes the tables of a program.
@@ -52,28 +52,11 @@ fn refused_text(
 ) -> Result<String, AllocError> {
     let rows = program.rows();
     let named = NamedRows { rows, source };
-    let row = broken.row;
     let mut out = TextWriter::new(alloc);
     write_header(&mut out, rows, Layout::of(rows), Some(broken));
-    out.fill("  refused  row {} by ", &[row.into()]);
-    write_rule(&mut out, broken);
+    write_refusal(&mut out, broken);
     write_tables(alloc, &mut out, named, &Costs::none(alloc), Some(broken))?;
     out.finish()
-}
-
-/// The text of a program that isn't accepted.
-fn unaccepted_text(
-    alloc: Global,
-    program: &Program,
-    source: Option<&SourceRows>,
-    fault: VerifyFault,
-) -> Result<String, AllocError> {
-    match fault {
-        VerifyFault::Refused { rule, row } => {
-            refused_text(alloc, program, source, BrokenRule { rule, row })
-        }
-        VerifyFault::NoMemory => Err(AllocError),
-    }
 }
 
 /// The whole text about a program: its header, its fields with their first values and their uses, its record types and lines,
@@ -86,6 +69,6 @@ pub fn program_text(
 ) -> Result<String, AllocError> {
     match verify(alloc, program) {
         Ok(verified) => accepted_text(alloc, &verified, source),
-        Err((program, fault)) => unaccepted_text(alloc, &program, source, fault),
+        Err((program, fault)) => refused_text(alloc, &program, source, broken_by(fault)?),
     }
 }

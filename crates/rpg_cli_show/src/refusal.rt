@@ -1,7 +1,16 @@
 //! The rule that a rejected program breaks, printed after the row that breaks it.
 
 use rpg_cli_text::TextWriter;
-use rpg_verify::{BrokenRule, Rule};
+use rpg_verify::{BrokenRule, Rule, VerifyFault};
+use std::alloc::AllocError;
+
+/// The rule that a program breaks which isn't accepted.
+pub(crate) fn broken_by(fault: VerifyFault) -> Result<BrokenRule, AllocError> {
+    match fault {
+        VerifyFault::Refused { rule, row } => Ok(BrokenRule { rule, row }),
+        VerifyFault::NoMemory => Err(AllocError),
+    }
+}
 
 /// A table of which a rule speaks.
 #[derive(Clone, Copy)]
@@ -23,8 +32,13 @@ fn speaks_of(rule: Rule, table: Table) -> bool {
     }
 }
 
-/// Writes the rule and what is wrong.
-pub(crate) fn write_rule(out: &mut TextWriter, broken: BrokenRule) {
+/// Writes the row of a rule that is broken, the rule, and what is wrong.
+pub(crate) fn write_refusal(out: &mut TextWriter, broken: BrokenRule) {
+    out.fill("  refused  row {} by ", &[broken.row.into()]);
+    write_rule(out, broken);
+}
+
+fn write_rule(out: &mut TextWriter, broken: BrokenRule) {
     let rule = broken.rule;
     out.fill("V{}: {}\n", &[rule.number().into(), rule.sentence().into()]);
 }
