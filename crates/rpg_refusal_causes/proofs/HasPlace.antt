@@ -1,0 +1,138 @@
+-- An instruction that breaks a rule has a cause.
+use Rattle.std.proofs.Common.{◌≡◌, ℕ, ◌+◌, Bool, true, false, not, ◌&&◌, List, [], ◌∷◌, ◌++◌, map, cond, Option, Some, None, refl, sym, ap, ◌∙◌}
+use Rattle.std.proofs.lemmas.Bool.{false≢true}
+use Rattle.std.proofs.lemmas.List.{map-append}
+use Rattle.std.specs.Option.{is_some}
+use Rattle.rpg_effect.specs.Forms.{form_at}
+use Rattle.rpg_effect.specs.Rows.{all_of, all_used, is_good_operand, is_writable_use}
+use Rattle.rpg_effect.specs.declared.operation.Instruction.{Instruction}
+use Rattle.rpg_effect.specs.declared.operation.Instruction.TheVariants.{Act, Except, Branch, Call, Return}
+use Rattle.rpg_effect.specs.declared.operation.Operand.{Operand}
+use Rattle.rpg_effect.specs.declared.row.Row.{Row}
+use Rattle.rpg_effect.specs.declared.row.Use.{Use}
+use Rattle.rpg_object_program.specs.Instructions.{columns}
+use Rattle.rpg_object_program.specs.Object.{Object, SubroutineRow}
+use Rattle.rpg_object_program.specs.declared.section.Section.{Section}
+use Rattle.rpg_object_program.specs.declared.section.Section.TheVariants.{Detail, Total, Subroutine}
+use Rattle.rpg_object_program.specs.declared.spans.Span.{Span}
+use Rattle.rpg_refusal_causes.proofs.First.{some_front, some_if, some_later, some_unless}
+use Rattle.rpg_refusal_causes.specs.First.{cause_if, or_next}
+use Rattle.rpg_refusal_causes.specs.PlaceCauses.{all_placed, call_cause, column_cause, marks_cause, operand_cause, place_cause, placed_after_detail, placed_in, placed_in_subroutines, target_cause}
+use Rattle.rpg_refusal_causes.specs.declared.cause.Column.{Column}
+use Rattle.rpg_refusal_causes.specs.declared.cause.Column.TheVariants as column_names
+use Rattle.rpg_refusal_causes.specs.declared.cause.Placed.{Placed}
+use Rattle.rpg_refusal_causes.specs.declared.cause.RefusalCause.TheVariants as causes
+use Rattle.rpg_verify_rules.specs.PlaceRules.{calls_higher, has_known_kind, judged_behind_detail, passing, place_breaks, places_judged, stays_inside, subroutines_judged, those_passing}
+use Rattle.rpg_verify_rules.specs.declared.rule.PlaceRule.{PlaceRule}
+use Rattle.rpg_verify_rules.specs.declared.rule.PlaceRule.TheVariants.{V16, V17, V18, V19, V20, V21, V22}
+
+-- ---- operands
+
+-- one of three columns doesn't pass
+one_of_three : {C : Type 0} (a b c : Bool) (x y z : Option C) → (a ≡ false → is_some x ≡ true) → (b ≡ false → is_some y ≡ true) → (c ≡ false → is_some z ≡ true) →
+    not (a && (b && c)) ≡ true → is_some (or_next x (or_next y z)) ≡ true
+one_of_three false b c x y z f g h e = some_front x (or_next y z) (f refl)
+one_of_three true false c x y z f g h e = some_later x (or_next y z) (some_front y z (g refl))
+one_of_three true true false x y z f g h e = some_later x (or_next y z) (some_later y z (h refl))
+one_of_three true true true x y z f g h e = absurd (false≢true e)
+
+module _ (test : Use (Operand ℕ) → Bool) where
+  column_has : (c : Column) (o : Option (Use (Operand ℕ))) → all_used test o ≡ false → is_some (column_cause (λ u. not (test u)) c o) ≡ true
+  column_has c None h = absurd (false≢true (sym h))
+  column_has c (Some u) h = some_unless (test u) (causes.Operand c u) h
+
+  operand_has : (r : Row (Operand ℕ)) → not (all_of test r) ≡ true → is_some (operand_cause (λ u. not (test u)) r) ≡ true
+  operand_has r h =
+      one_of_three (all_used test r.factor1) (all_used test r.factor2) (all_used test r.result)
+      (column_cause (λ u. not (test u)) column_names.Factor1 r.factor1) (column_cause (λ u. not (test u)) column_names.Factor2 r.factor2) (column_cause (λ u. not (test u)) column_names.Result r.result)
+      (column_has column_names.Factor1 r.factor1) (column_has column_names.Factor2 r.factor2) (column_has column_names.Result r.result) h
+
+module _ (good known : Use (Operand ℕ) → Bool) where
+  kind_has : (c : Column) (o : Option (Use (Operand ℕ))) → all_used known (passing good o) ≡ false → is_some (column_cause (λ u. good u && not (known u)) c o) ≡ true
+  kind_has c None h = absurd (false≢true (sym h))
+  kind_has c (Some u) h = by_good (good u) h
+    where
+      by_good : (b : Bool) → all_used known (cond b (Some u) None) ≡ false → is_some (cause_if (b && not (known u)) (causes.Operand c u)) ≡ true
+      by_good true e = some_unless (known u) (causes.Operand c u) e
+      by_good false e = absurd (false≢true (sym e))
+
+  kinds_have : (r : Row (Operand ℕ)) → not (all_of known (those_passing good r)) ≡ true → is_some (operand_cause (λ u. good u && not (known u)) r) ≡ true
+  kinds_have r h =
+      one_of_three (all_used known (passing good r.factor1)) (all_used known (passing good r.factor2)) (all_used known (passing good r.result))
+      (column_cause (λ u. good u && not (known u)) column_names.Factor1 r.factor1) (column_cause (λ u. good u && not (known u)) column_names.Factor2 r.factor2) (column_cause (λ u. good u && not (known u)) column_names.Result r.result)
+      (kind_has column_names.Factor1 r.factor1) (kind_has column_names.Factor2 r.factor2) (kind_has column_names.Result r.result) h
+
+  written_has : (writable : Use (Operand ℕ) → Bool) (c : Column) (o : Option (Use (Operand ℕ))) → not (all_used writable (passing known (passing good o))) ≡ true →
+      is_some (column_cause (λ u. not (writable u)) c o) ≡ true
+  written_has writable c None h = absurd (false≢true h)
+  written_has writable c (Some u) h = by_good (good u) h
+    where
+      by_known : (b : Bool) → not (all_used writable (cond b (Some u) None)) ≡ true → is_some (cause_if (not (writable u)) (causes.Operand c u)) ≡ true
+      by_known true e = some_if (not (writable u)) (causes.Operand c u) e
+      by_known false e = absurd (false≢true e)
+
+      by_good : (b : Bool) → not (all_used writable (passing known (cond b (Some u) None))) ≡ true → is_some (cause_if (not (writable u)) (causes.Operand c u)) ≡ true
+      by_good true e = by_known (known u) e
+      by_good false e = absurd (false≢true e)
+
+-- ---- indicators, and where control goes
+
+marks_has : (p : Object) (i : Instruction ℕ) → is_some (marks_cause p i) ≡ true
+marks_has p (Act a) = refl
+marks_has p Except = refl
+marks_has p (Branch is_taken_where cs target) = refl
+marks_has p (Call n) = refl
+marks_has p (Return n) = refl
+
+target_has : (p : Object) (x : Span) (s : Section) (i : Instruction ℕ) → not (stays_inside p s i) ≡ true → is_some (target_cause x i) ≡ true
+target_has p x s (Act a) h = absurd (false≢true h)
+target_has p x s Except h = absurd (false≢true h)
+target_has p x s (Branch is_taken_where cs target) h = refl
+target_has p x s (Call n) h = absurd (false≢true h)
+target_has p x s (Return n) h = absurd (false≢true h)
+
+call_has : (p : Object) (s : Section) (i : Instruction ℕ) → not (calls_higher p s i) ≡ true → is_some (call_cause p i) ≡ true
+call_has p s (Act a) h = absurd (false≢true h)
+call_has p s Except h = absurd (false≢true h)
+call_has p s (Branch is_taken_where cs target) h = absurd (false≢true h)
+call_has p s (Call n) h = refl
+call_has p s (Return n) h = absurd (false≢true h)
+
+pub place_has : (r : PlaceRule) (p : Object) (x : Placed) → place_breaks r p x.span.section x.instruction ≡ true → is_some (place_cause r p x) ≡ true
+unfolding place_breaks place_cause
+place_has V16 p x h = operand_has (is_good_operand (form_at p.fields)) (columns p x.instruction) h
+place_has V17 p x h = kinds_have (is_good_operand (form_at p.fields)) (has_known_kind p x.instruction) (columns p x.instruction) h
+place_has V18 p x h = written_has (is_good_operand (form_at p.fields)) (has_known_kind p x.instruction) (is_writable_use (form_at p.fields)) column_names.Result (columns p x.instruction).result h
+place_has V19 p x h = marks_has p x.instruction
+place_has V20 p x h = refl
+place_has V21 p x h = target_has p x.span x.span.section x.instruction h
+place_has V22 p x h = call_has p x.span.section x.instruction h
+
+-- ---- places
+
+abbrev pub judged : PlaceRule → Object → Placed → Bool
+judged r p x = place_breaks r p x.span.section x.instruction
+
+section_is : (r : PlaceRule) (p : Object) (s : Section) (xs : List (Instruction ℕ)) → map (place_breaks r p s) xs ≡ map (judged r p) (map (placed_in p s) xs)
+section_is r p s [] = refl
+section_is r p s (i ∷ is) = ap (λ bs. place_breaks r p s i ∷ bs) (section_is r p s is)
+
+subroutines_are : (r : PlaceRule) (p : Object) (n : ℕ) (ss : List SubroutineRow) → subroutines_judged r p n ss ≡ map (judged r p) (placed_in_subroutines p n ss)
+subroutines_are r p n [] = refl
+subroutines_are r p n (s ∷ ss) =
+    ap (λ bs. bs ++ subroutines_judged r p (n + 1) ss) (section_is r p (Subroutine n) s.instructions)
+    ∙ ap (λ bs. map (judged r p) (map (placed_in p (Subroutine n)) s.instructions) ++ bs) (subroutines_are r p (n + 1) ss)
+    ∙ sym (map-append (judged r p) (map (placed_in p (Subroutine n)) s.instructions) (placed_in_subroutines p (n + 1) ss))
+
+after_detail_are : (r : PlaceRule) (p : Object) → judged_behind_detail r p ≡ map (judged r p) (placed_after_detail p)
+after_detail_are r p =
+    ap (λ bs. bs ++ subroutines_judged r p 0 p.subroutines) (section_is r p Total p.total)
+    ∙ ap (λ bs. map (judged r p) (map (placed_in p Total) p.total) ++ bs) (subroutines_are r p 0 p.subroutines)
+    ∙ sym (map-append (judged r p) (map (placed_in p Total) p.total) (placed_in_subroutines p 0 p.subroutines))
+
+-- the rules judge the instructions place by place
+pub places_are : (r : PlaceRule) (p : Object) → places_judged r p ≡ map (judged r p) (all_placed p)
+places_are r p =
+    ap (λ bs. bs ++ judged_behind_detail r p) (section_is r p Detail p.detail)
+    ∙ ap (λ bs. map (judged r p) (map (placed_in p Detail) p.detail) ++ bs) (after_detail_are r p)
+    ∙ sym (map-append (judged r p) (map (placed_in p Detail) p.detail) (placed_after_detail p))

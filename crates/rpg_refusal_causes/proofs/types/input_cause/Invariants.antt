@@ -1,0 +1,8 @@
+use Rattle.std.proofs.Common.{◌≡◌, drop}
+use Rattle.rpg_object_program.specs.Object.{seen}
+use Rattle.rpg_refusal_causes.specs.First.{first_cause}
+use Rattle.rpg_refusal_causes.specs.TypeCauses.{input_cause}
+use Rattle.rpg_refusal_causes.proofs.types.input_cause.Given as goal
+
+abbrev pub invariant-loop-at : goal.invariant-loop-at
+invariant-loop-at l = first_cause (input_cause (seen l.rows) l.length) l.at (drop l.at l.inputs) ≡ first_cause (input_cause (seen l.rows) l.length) 0 l.inputs

@@ -1,0 +1,99 @@
+-- What in an instruction breaks V16 to V22.
+use Rattle.std.specs.Prelude.{ℕ, ◌+◌, Bool, false, not, ◌&&◌, List, [], ◌∷◌, ◌++◌, map, Option, None, Some, slice_get}
+use Rattle.std.specs.Option.{option_map}
+use Rattle.rpg_effect.specs.Forms.{form_at}
+use Rattle.rpg_effect.specs.Rows.{is_good_operand, is_writable_use}
+use Rattle.rpg_effect.specs.declared.operation.Instruction.{Instruction}
+use Rattle.rpg_effect.specs.declared.operation.Instruction.TheVariants.{Branch, Call}
+use Rattle.rpg_effect.specs.declared.operation.Operand.{Operand}
+use Rattle.rpg_effect.specs.declared.row.Row.{Row}
+use Rattle.rpg_effect.specs.declared.row.Use.{Use}
+use Rattle.rpg_object_program.specs.Instructions.{columns}
+use Rattle.rpg_object_program.specs.Object.{Object, SubroutineRow}
+use Rattle.rpg_object_program.specs.Sections.{first_place, level_of, place_behind}
+use Rattle.rpg_object_program.specs.declared.section.Section.{Section}
+use Rattle.rpg_object_program.specs.declared.section.Section.TheVariants.{Detail, Total, Subroutine}
+use Rattle.rpg_object_program.specs.declared.spans.Span.{Span}
+use Rattle.rpg_refusal_causes.specs.First.{cause_if, or_next}
+use Rattle.rpg_refusal_causes.specs.declared.cause.Column.{Column}
+use Rattle.rpg_refusal_causes.specs.declared.cause.Column.TheVariants as column_names
+use Rattle.rpg_refusal_causes.specs.declared.cause.Placed.{Placed}
+use Rattle.rpg_refusal_causes.specs.declared.cause.RefusalCause.{RefusalCause}
+use Rattle.rpg_refusal_causes.specs.declared.cause.RefusalCause.TheVariants as causes
+use Rattle.rpg_verify_rules.specs.PlaceRules.{has_known_kind}
+use Rattle.rpg_verify_rules.specs.declared.rule.PlaceRule.{PlaceRule}
+use Rattle.rpg_verify_rules.specs.declared.rule.PlaceRule.TheVariants.{V16, V17, V18, V19, V20, V21, V22}
+
+-- ---- which instruction stands at a place
+
+-- a section with its level, its first place and its end
+abbrev pub span_of : Object → Section → Span
+span_of p s = record { section = s; level = level_of p s; first = first_place p s; end = place_behind p s }
+
+-- an instruction of a section
+abbrev pub placed_in : Object → Section → Instruction ℕ → Placed
+placed_in p s i = record { span = span_of p s; instruction = i }
+
+-- the instructions of the subroutines from a number on
+abbrev pub placed_in_subroutines : Object → ℕ → List SubroutineRow → List Placed
+placed_in_subroutines p n [] = []
+placed_in_subroutines p n (s ∷ ss) = map (placed_in p (Subroutine n)) s.instructions ++ placed_in_subroutines p (n + 1) ss
+
+-- those after detail calculations
+abbrev pub placed_after_detail : Object → List Placed
+placed_after_detail p = map (placed_in p Total) p.total ++ placed_in_subroutines p 0 p.subroutines
+
+-- all instructions of a program in the order of their places
+abbrev pub all_placed : Object → List Placed
+all_placed p = map (placed_in p Detail) p.detail ++ placed_after_detail p
+
+-- the instruction at a place, with its section
+unfoldable pub placed_at : Object → ℕ → Option Placed
+placed_at p place = slice_get (all_placed p) place
+
+-- ---- which operand breaks a rule
+
+-- it isn't there as it has to be; it is, and is of another kind; it may not be written
+abbrev pub operand_breaks : PlaceRule → Object → Instruction ℕ → Use (Operand ℕ) → Bool
+operand_breaks V16 p i u = not (is_good_operand (form_at p.fields) u)
+operand_breaks V17 p i u = is_good_operand (form_at p.fields) u && not (has_known_kind p i u)
+operand_breaks V18 p i u = not (is_writable_use (form_at p.fields) u)
+operand_breaks r p i u = false
+
+-- the operand of a column, if it breaks the rule
+abbrev pub column_cause : (Use (Operand ℕ) → Bool) → Column → Option (Use (Operand ℕ)) → Option RefusalCause
+column_cause breaks column None = None
+column_cause breaks column (Some u) = cause_if (breaks u) (causes.Operand column u)
+
+-- the first of an instruction's operands that breaks the rule
+abbrev pub operand_cause : (Use (Operand ℕ) → Bool) → Row (Operand ℕ) → Option RefusalCause
+operand_cause breaks r =
+    or_next (column_cause breaks column_names.Factor1 r.factor1)
+    (or_next (column_cause breaks column_names.Factor2 r.factor2) (column_cause breaks column_names.Result r.result))
+
+-- ---- indicators, and where control goes
+
+-- the indicators that an instruction names: a branch asks them, an operation is marked by them
+abbrev pub marks_cause : Object → Instruction ℕ → Option RefusalCause
+marks_cause p (Branch is_taken_where cs target) = Some (causes.Asked cs)
+marks_cause p i = Some (causes.Marked (columns p i).marks (columns p i).factor2)
+
+-- where a branch leads
+abbrev pub target_cause : Span → Instruction ℕ → Option RefusalCause
+target_cause s (Branch is_taken_where cs target) = Some (causes.Target target s.first s.end)
+target_cause s i = None
+
+-- what a call calls
+abbrev pub call_cause : Object → Instruction ℕ → Option RefusalCause
+call_cause p (Call n) = Some (causes.Called n (option_map (λ (s : SubroutineRow). s.level) (slice_get p.subroutines n)))
+call_cause p i = None
+
+-- what in an instruction that breaks a rule breaks it
+unfoldable pub place_cause : PlaceRule → Object → Placed → Option RefusalCause
+place_cause V16 p x = operand_cause (operand_breaks V16 p x.instruction) (columns p x.instruction)
+place_cause V17 p x = operand_cause (operand_breaks V17 p x.instruction) (columns p x.instruction)
+place_cause V18 p x = column_cause (operand_breaks V18 p x.instruction) column_names.Result (columns p x.instruction).result
+place_cause V19 p x = marks_cause p x.instruction
+place_cause V20 p x = Some (causes.Search (columns p x.instruction).factor2 (columns p x.instruction).result)
+place_cause V21 p x = target_cause x.span x.instruction
+place_cause V22 p x = call_cause p x.instruction

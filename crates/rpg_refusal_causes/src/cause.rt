@@ -1,0 +1,158 @@
+//! What in a row breaks a rule, as a value.
+
+ghost use Rattle.std.specs.Prelude.{◌≡◌};
+ghost use Rattle.rpg_refusal_causes.specs.First as words;
+
+use rpg_effect::condition::Conditions;
+use rpg_effect::input::{ControlField, InputField};
+use rpg_effect::line::{LineField, Spacing};
+use rpg_effect::operation::{Instruction, Operand};
+use rpg_effect::row::{Marks, Use};
+use rpg_object_program::spans::Span;
+use rpg_verify_rules::BrokenRule;
+
+/// A column of an instruction.
+#[derive(Clone, Copy)]
+pub enum Column {
+    Factor1,
+    Factor2,
+    Result,
+}
+
+/// What in a row breaks a rule. Rows, and what a row has of one kind, are counted from 0.
+#[derive(Clone, Copy)]
+pub enum RefusalCause {
+    /// V1: the overflow indicator of a program without a printer.
+    Overflow {
+        indicator: u8,
+    },
+    /// V2: the line's file, which the program doesn't have.
+    NoFile,
+    /// V3: the first code at a position outside the record, which has so many columns.
+    Code {
+        at: usize,
+        position: u16,
+        columns: u16,
+    },
+    /// V4: the indicator that the type turns on.
+    TurnedOn {
+        indicator: u8,
+    },
+    /// V5: the first control field that isn't columns of the record.
+    Control {
+        at: usize,
+        field: ControlField,
+        columns: u16,
+    },
+    /// V26: the first match field that isn't columns of the record.
+    Match {
+        at: usize,
+        field: ControlField,
+        columns: u16,
+    },
+    /// V26: the first match field of a level that one before it has.
+    Twice {
+        at: usize,
+        level: u8,
+    },
+    /// V5 and V26: the joined lengths of control or match fields that are all columns of the record.
+    Joined,
+    /// V6: the first input field that isn't columns of the record, or not as many as its field is long.
+    Input {
+        at: usize,
+        input: InputField<u16>,
+        columns: u16,
+    },
+    /// V7: the first input field with an indicator that it can't have.
+    Shown {
+        at: usize,
+        input: InputField<u16>,
+    },
+    /// V25: the secondary file, which the program doesn't have.
+    NoSecondary,
+    /// V8: the line's spaces and skips.
+    Movements {
+        spacing: Spacing,
+    },
+    /// V9: the first alternative that asks an indicator that it may not.
+    Alternative {
+        at: usize,
+    },
+    /// V10 to V15: the line's first field that breaks the rule.
+    Field {
+        at: usize,
+        field: LineField<u16>,
+    },
+    /// V16 to V18: the first operand that breaks the rule.
+    Operand {
+        column: Column,
+        used: Use<Operand<u16>>,
+    },
+    /// V19: the conditions of a branch.
+    Asked {
+        conditions: Conditions,
+    },
+    /// V19: the indicators of an operation, and the operand that is searched by them.
+    Marked {
+        marks: Marks,
+        factor2: Option<Use<Operand<u16>>>,
+    },
+    /// V20: the index that can't hold the number of entries, or the result that is no table of so many.
+    Search {
+        factor2: Option<Use<Operand<u16>>>,
+        to: Option<Use<Operand<u16>>>,
+    },
+    /// V21: where the branch leads, with the first place of its section and its end.
+    Target {
+        target: u16,
+        first: usize,
+        end: usize,
+    },
+    /// V22: the subroutine that is called, with its level if it is there.
+    Called {
+        subroutine: u16,
+        level: Option<u16>,
+    },
+    /// V23: the first RET in detail or total calculations, by its place.
+    StrayReturn {
+        place: usize,
+    },
+    /// V23: the subroutine's first RET of another subroutine.
+    ForeignReturn {
+        at: usize,
+        subroutine: u16,
+    },
+    /// V23: the subroutine's last instruction, which is no RET.
+    Unended,
+    /// V24: the subroutine's level.
+    Level {
+        level: u16,
+    },
+}
+
+/// The least rule that a program breaks, its first row that breaks it, and what in that row does.
+#[derive(Clone, Copy)]
+pub struct Refusal {
+    pub broken: BrokenRule,
+    pub cause: RefusalCause,
+}
+
+/// An instruction with its section.
+#[derive(Clone, Copy)]
+pub struct Placed {
+    pub span: Span,
+    pub instruction: Instruction<u16>,
+}
+
+/// A cause, or the one of what comes later.
+pub(crate) fn or_next(
+    cause: Option<RefusalCause>,
+    later: Option<RefusalCause>,
+) -> Option<RefusalCause>
+    ensures { result ≡ words.or_next cause later }
+{
+    match cause {
+        None => later,
+        Some(cause) => Some(cause),
+    }
+}

@@ -1,0 +1,64 @@
+//! Which indicators are allowed where.
+
+ghost use Rattle.std.specs.Prelude.{◌≡◌};
+ghost use Rattle.rpg_verify_rules.specs.Indicators as marks;
+
+use rpg_effect::condition::{Condition, Conditions};
+use rpg_effect::operation::Shows;
+use rpg_object_program::row::Version;
+
+fn is_settable(n: u8) -> bool
+    ensures { result ≡ marks.is_settable n }
+{
+    (1 <= n && n <= 99) || ((101 <= n && n <= 110) || (112 <= n && n <= 128))
+}
+
+fn is_settable_if_any(indicator: Option<u8>) -> bool
+    ensures { result ≡ marks.if_any marks.is_settable indicator }
+{
+    match indicator {
+        None => true,
+        Some(n) => is_settable(n),
+    }
+}
+
+/// All but L0, 1P and MR.
+pub(crate) fn are_settable(shows: Shows) -> bool
+    ensures { result ≡ marks.are_settable shows }
+{
+    is_settable_if_any(shows.plus)
+        && (is_settable_if_any(shows.minus) && is_settable_if_any(shows.zero))
+}
+
+/// Conditions may name MR only in version 2.
+const fn most_asked(version: Version) -> u8
+    ensures { result ≡ marks.most_asked version }
+{
+    match version {
+        Version::One => 128,
+        Version::Two => 129,
+    }
+}
+
+pub(crate) fn may_be_asked(version: Version, condition: &Condition) -> bool
+    ensures { result ≡ marks.may_be_asked version condition.now }
+{
+    condition.indicator <= most_asked(version)
+}
+
+fn is_asked_if_any(version: Version, condition: Option<Condition>) -> bool
+    ensures { result ≡ marks.if_any (marks.may_be_asked version) condition }
+{
+    match condition {
+        None => true,
+        Some(condition) => may_be_asked(version, &condition),
+    }
+}
+
+pub(crate) fn all_asked(version: Version, conditions: Conditions) -> bool
+    ensures { result ≡ marks.all_asked version conditions }
+{
+    is_asked_if_any(version, conditions.first)
+        && (is_asked_if_any(version, conditions.second)
+            && is_asked_if_any(version, conditions.third))
+}

@@ -1,0 +1,16 @@
+//! What in an object program's row breaks a rule of the verifier, as a value.
+#![tactic(auto)]
+
+mod cause;
+mod indicators;
+pub mod laws;
+mod lines;
+mod places;
+mod refusals;
+mod subroutines;
+mod types;
+mod widths;
+
+pub use cause::{Column, Placed, Refusal, RefusalCause};
+pub use places::placed_at;
+pub use refusals::refusal;
