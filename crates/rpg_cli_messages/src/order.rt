@@ -2,6 +2,8 @@
 
 use rpg_cli_columns::character_at;
 use rpg_cli_text::TextWriter;
+use rpg_sheet::sheet_place;
+use rpg_sheet_values::form_type_of;
 use rpg_text::first_line;
 
 /// A card before another, and its form type.
@@ -11,44 +13,32 @@ pub(crate) struct LaterCard {
     form: u8,
 }
 
-/// The place of the sheet that a line is on.
-fn sheet_place(line: &[u8]) -> Option<u8> {
-    match character_at(line, 6) {
-        _ if character_at(line, 7) == b'*' => None,
-        b'H' => Some(0),
-        b'F' => Some(1),
-        b'E' => Some(2),
-        b'I' => Some(3),
-        b'C' => Some(4),
-        b'O' => Some(5),
-        _ => None,
+/// The place of the sheet that a line is on; a comment is on none.
+fn place_of(line: &[u8]) -> Option<u8> {
+    if character_at(line, 7) == b'*' {
+        return None;
     }
-}
-
-/// Whether a line is of a sheet after the one at a place.
-fn is_later(line: &[u8], own: u8) -> bool {
-    match sheet_place(line) {
-        Some(place) => place > own,
-        None => false,
-    }
+    Some(sheet_place(form_type_of(&[character_at(line, 6)])?))
 }
 
 /// The first card before one that is of a later sheet.
 pub(crate) fn later_card(text: &[u8], number: u16, line: &[u8]) -> Option<LaterCard> {
-    let own = sheet_place(line)?;
+    let own = place_of(line)?;
     let mut rest = text;
     for card in 1..number {
         if rest.is_empty() {
             return None;
         }
         let (other, behind) = first_line(rest);
-        if is_later(other, own) {
-            return Some(LaterCard {
-                card,
-                form: character_at(other, 6),
-            });
+        match place_of(other) {
+            Some(place) if place > own => {
+                return Some(LaterCard {
+                    card,
+                    form: character_at(other, 6),
+                });
+            }
+            _ => rest = behind,
         }
-        rest = behind;
     }
     None
 }
