@@ -138,13 +138,12 @@ impl<'a> Found<'a> {
 
 /// Which instruction halted; where none did, what was wrong with the record or which output fields it may have been.
 fn write_place(out: &mut TextWriter, program: &Verified, halted: HaltedCycle, found: Found<'_>) {
-    let rows = program.program().rows();
     match (halted.place, halted.halt, found) {
         (Some(place), _, _) => {
             out.write_str(": ");
-            write_instruction_at(out, rows, usize::from(place.number));
+            write_instruction_at(out, program.program(), usize::from(place.number));
         }
-        (None, Halt::BadIndex, _) => write_indexed_fields(out, rows),
+        (None, Halt::BadIndex, _) => write_indexed_fields(out, program.program().rows()),
         (None, _, Found::Input(bad, text)) => write_columns(out, bad.columns, text),
         (None, _, Found::Record(_, _) | Found::Nothing) => {}
     }

@@ -8,9 +8,10 @@ use rpg_cli_text::TextWriter;
 use rpg_effect::condition::has_conditions;
 use rpg_effect::halt::Halt;
 use rpg_effect::operation::{Action, Index, Instruction, Operand};
+use rpg_object_program::Program;
 use rpg_object_program::columns::row_of;
 use rpg_object_program::row::{Line, Rows};
-use rpg_object_program::section::Place;
+use rpg_refusal_causes::placed_at;
 use rpg_text::trimmed;
 use rpg_verify::Verified;
 
@@ -90,38 +91,18 @@ fn write_made_of(
     }
 }
 
-/// The instruction at a place, which is counted through the detail and total calculations and the subroutines.
-fn instruction_at(rows: &Rows, place: Place) -> Option<Instruction<u16>> {
-    let number = usize::from(place.number);
-    if let Some(instruction) = rows.detail.get(number) {
-        return Some(*instruction);
-    }
-    let number = number.checked_sub(rows.detail.len())?;
-    if let Some(instruction) = rows.total.get(number) {
-        return Some(*instruction);
-    }
-    in_subroutines(rows, number.checked_sub(rows.total.len())?)
-}
-
-/// The instruction with this number among those of all subroutines.
-fn in_subroutines(rows: &Rows, number: usize) -> Option<Instruction<u16>> {
-    let mut number = number;
-    for subroutine in &rows.subroutines {
-        if let Some(instruction) = subroutine.instructions.get(number) {
-            return Some(*instruction);
-        }
-        number = number.checked_sub(subroutine.instructions.len())?;
-    }
-    None
-}
-
 /// The card of the instruction that halted.
-fn write_instruction(out: &mut TextWriter, rows: &Rows, place: Place, source: HaltedSource<'_>) {
-    let card = source.rows.place_card(usize::from(place.number));
-    if let (Some(instruction), Some(card)) = (instruction_at(rows, place), card) {
+fn write_instruction(
+    out: &mut TextWriter,
+    program: &Program,
+    place: usize,
+    source: HaltedSource<'_>,
+) {
+    let card = source.rows.place_card(place);
+    if let (Some(placed), Some(card)) = (placed_at(program, place), card) {
         source.write_card(out, card);
         let line = CardLines::of(source.text).line_of(card);
-        write_made_of(out, rows, source.rows, line, instruction);
+        write_made_of(out, program.rows(), source.rows, line, placed.instruction);
         source.show_card(out, card);
     }
 }
@@ -171,9 +152,12 @@ pub(crate) fn write_source(
     bad: Option<BadInput>,
     source: HaltedSource<'_>,
 ) {
-    let rows = program.program().rows();
+    let program = program.program();
+    let rows = program.rows();
     match (halted.place, halted.halt, bad) {
-        (Some(place), _, _) => write_instruction(out, rows, place, source),
+        (Some(place), _, _) => {
+            write_instruction(out, program, usize::from(place.number), source);
+        }
         (None, Halt::BadIndex, _) => write_lines(out, rows, source),
         (None, _, Some(bad)) => write_input(out, bad, source),
         (None, _, None) => {}

@@ -2,17 +2,13 @@
 #![tactic(auto)]
 
 mod bytes;
+mod causes;
 mod fields;
-mod instructions;
-mod line_fields;
-mod lines;
 mod parts;
-mod places;
+mod rows;
 mod rules;
 mod spot;
-mod subroutines;
-mod types;
 
 pub use bytes::bytes_message;
-pub use places::write_instruction_at;
+pub use rows::write_instruction_at;
 pub use rules::rule_message;

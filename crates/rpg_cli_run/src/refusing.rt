@@ -76,8 +76,8 @@ fn object_message(
         ObjectFault::NotAnObject { offset, code } => {
             bytes_message(alloc, path, object, offset, code)
         }
-        ObjectFault::Refused(broken) => match decode_object(alloc, object) {
-            Ok(program) => rule_message(alloc, path, &program, broken),
+        ObjectFault::Refused(_) => match decode_object(alloc, object) {
+            Ok(program) => rule_message(alloc, path, &program),
             Err(_) => Ok(String::new(alloc)),
         },
         ObjectFault::NoMemory => Ok(String::new(alloc)),
