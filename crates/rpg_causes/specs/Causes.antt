@@ -3,29 +3,30 @@ use Rattle.std.specs.Prelude.{ℕ, ◌==◌, List, [], ◌∷◌, ◌++◌, Bool
 use Rattle.std.specs.Option.{option_map, option_or}
 use Rattle.rpg_cards.specs.Cards.{output_record_on}
 use Rattle.rpg_cards.specs.declared.spec_card.SpecCard.{SpecCard}
-use Rattle.rpg_causes.specs.Columns as columns
 use Rattle.rpg_causes.specs.Files.{file_cause}
-use Rattle.rpg_causes.specs.Indexes.{index_cause}
-use Rattle.rpg_causes.specs.Indicators as indicators
-use Rattle.rpg_causes.specs.Labels.{nowhere, target, twice}
 use Rattle.rpg_causes.specs.Movements.{moved_disk}
-use Rattle.rpg_causes.specs.Names.{redefined, undefined_name}
-use Rattle.rpg_causes.specs.Operands.{operand_cause}
 use Rattle.rpg_causes.specs.Places.{is_outside, outside}
-use Rattle.rpg_causes.specs.Rounding.{rounding_cause}
-use Rattle.rpg_causes.specs.Sizes.{size_cause}
 use Rattle.rpg_causes.specs.declared.cause.Cause.{Cause}
 use Rattle.rpg_causes.specs.declared.cause.Cause.TheVariants as cause
+use Rattle.rpg_causes_flow.specs.Columns.{on_calculation}
+use Rattle.rpg_causes_flow.specs.Labels.{nowhere, target, twice}
+use Rattle.rpg_causes_flow.specs.Rounding.{rounding_cause}
+use Rattle.rpg_causes_operands.specs.Fields.{field_cause}
+use Rattle.rpg_causes_operands.specs.Indexes.{index_cause}
+use Rattle.rpg_causes_operands.specs.Indicators as indicators
+use Rattle.rpg_causes_operands.specs.Names.{redefined, undefined_name}
+use Rattle.rpg_causes_operands.specs.Operands.{operand_cause}
+use Rattle.rpg_causes_operands.specs.Sizes.{size_cause}
 use Rattle.rpg_faults.specs.Rules.{rule}
 use Rattle.rpg_faults_flow.specs.Kept.{Rule}
 use Rattle.rpg_faults.specs.declared.code.FaultCode.{FaultCode}
 use Rattle.rpg_faults.specs.declared.code.FaultCode.TheVariants.{F1, F2, F3, F4, F5, F6, F7, F8, F9, F10, F11, F12, F13, F14, F15, F16, F17, F18}
 
--- F9: of a calculation, of operands and output fields, or of a line
+-- F9: of a calculation, of what is searched and output fields, or of a line
 abbrev pub missing : List SpecCard → SpecCard → List SpecCard → Option Cause
 missing before c after =
-    option_or (option_map cause.Column (columns.on_calculation before c after))
-    (option_or (option_map cause.Column (columns.on_operands (before ++ c ∷ after) c after))
+    option_or (option_map cause.Column (on_calculation before c after))
+    (option_or (option_map cause.Field (field_cause (before ++ c ∷ after) c after))
     (option_map cause.Movement (option_and_then (moved_disk (before ++ c ∷ after) before) (output_record_on c.spec))))
 
 -- ---- each code

@@ -1,12 +1,4 @@
 pub mod Causes
-pub mod Columns
 pub mod Files
-pub mod Indexes
-pub mod Indicators
-pub mod Labels
 pub mod Movements
-pub mod Names
-pub mod Operands
 pub mod Places
-pub mod Rounding
-pub mod Sizes

@@ -1,5 +1,5 @@
 -- F16: columns outside the record, an end outside the line, and fields that are wider than the places up to their end.
-use Rattle.std.specs.Prelude.{ℕ, ◌==◌, nat_lt, List, Bool, false, ◌||◌, Option, None, Some, option_and_then, if◌then◌else◌}
+use Rattle.std.specs.Prelude.{◌≡◌, ℕ, ◌==◌, nat_lt, List, Bool, false, ◌||◌, Option, None, Some, option_and_then, if◌then◌else◌}
 use Rattle.std.specs.Option.{option_map, option_map_or, option_or}
 use Rattle.rpg_cards.specs.Cards.{input_on, output_field_on}
 use Rattle.rpg_cards.specs.Files.{file_by}
@@ -13,12 +13,17 @@ use Rattle.rpg_faults.specs.Places.{outside_line, outside_on_input, own_file}
 use Rattle.rpg_faults_operands.specs.Editing.{width}
 use Rattle.rpg_sheet_specs.specs.declared.column_range.ColumnRange.{ColumnRange}
 use Rattle.rpg_sheet_specs.specs.declared.column_range.ColumnRange.TheVariants as range
+use Rattle.rpg_sheet_specs.specs.declared.file.FileSpec.{FileSpec}
 use Rattle.rpg_sheet_specs.specs.declared.indicator.Three.{Three}
 use Rattle.rpg_sheet_specs.specs.declared.input.InputField.{InputField}
 use Rattle.rpg_sheet_specs.specs.declared.input.InputSpec.{InputSpec}
 use Rattle.rpg_sheet_specs.specs.declared.input.InputSpec.TheVariants as input
 use Rattle.rpg_sheet_specs.specs.declared.input.RecordCode.{RecordCode}
 use Rattle.rpg_sheet_specs.specs.declared.output.OutputField.{OutputField}
+
+-- the file is that one, as far as its length goes
+abbrev pub SameLength : Option FileOnCard → Option FileSpec → Type 0
+SameLength file known = option_map (λ (f : FileOnCard). f.record_length) file ≡ option_map (λ (f : FileSpec). f.record_length) known
 
 -- ---- of a record type, and of an input field
 

@@ -6,17 +6,18 @@ ghost use Rattle.rpg_causes.specs.Causes as causes;
 ghost use Rattle.rpg_faults.specs.Rules as rules;
 ghost use Rattle.rpg_faults.specs.declared.code.FaultCode.TheVariants.{F9};
 
-use crate::columns::{ColumnCause, on_calculation, on_operands};
 use crate::files::{FileCause, FileOnCard, file_cause, moved_disk};
-use crate::indexes::{IndexCause, index_cause};
-use crate::indicators::{IndicatorCause, indicator_cause};
-use crate::kinds::{OperandCause, operand_cause};
-use crate::labels::{NowhereCause, Target, TwiceCause, nowhere_cause, target_on, twice_cause};
-use crate::names::{Redefined, redefined_name, undefined_name, with_card};
 use crate::places::{PlaceCause, outside_cause};
-use crate::rounding::{RoundingCause, rounding_cause};
-use crate::sizes::{SizeCause, size_cause};
 use rpg_cards::{IndexedCards, Sheets, SpecCard};
+use rpg_causes_flow::{
+    ColumnCause, NowhereCause, RoundingCause, Target, TwiceCause, nowhere_cause, on_calculation,
+    rounding_cause, target_on, twice_cause,
+};
+use rpg_causes_operands::{
+    FieldCause, IndexCause, IndicatorCause, OperandCause, Redefined, SizeCause, field_cause,
+    index_cause, indicator_cause, operand_cause, redefined_name, size_cause, undefined_name,
+    with_card,
+};
 use rpg_faults::FaultCode;
 use rpg_symbols::Name;
 
@@ -37,8 +38,10 @@ pub enum Cause {
     File(FileCause),
     /// F8
     Indicator(IndicatorCause),
-    /// F9
+    /// F9 of a calculation.
     Column(ColumnCause),
+    /// F9 of what LOKUP searches, and of an output field.
+    Field(FieldCause),
     /// F9: spaces and skips for that file, the disk file.
     Movement(FileOnCard),
     /// F10
@@ -115,7 +118,7 @@ fn cause_of(
     }
 }
 
-/// F9: of a calculation, of its operands, or of a line.
+/// F9: of a calculation, of fields, or of a line.
 #[tactic(auto, unfolding(rpg_faults::specs::Rules::rule))]
 fn missing(
     source: &IndexedCards,
@@ -130,8 +133,8 @@ fn missing(
     if let Some(cause) = on_calculation(before, card, after) {
         return Some(Cause::Column(cause));
     }
-    if let Some(cause) = on_operands(source, card, after) {
-        return Some(Cause::Column(cause));
+    if let Some(cause) = field_cause(source, card, after) {
+        return Some(Cause::Field(cause));
     }
     Some(Cause::Movement(moved_disk(source, before, card)?))
 }

@@ -51,7 +51,7 @@ pub enum FileCause {
 }
 
 /// F7: which file it is, and what is wrong with it.
-pub fn file_cause(
+pub(crate) fn file_cause(
     source: &IndexedCards,
     sheets: &Sheets,
     before: &[SpecCard],

@@ -2,26 +2,13 @@
 #![tactic(auto)]
 
 mod cause;
-mod columns;
 mod files;
-mod indexes;
-mod indicators;
-mod kinds;
-mod labels;
-mod names;
-mod operands;
 mod places;
-mod rounding;
-mod sizes;
 
 pub use cause::{Cause, fault_cause};
-pub use columns::ColumnCause;
 pub use files::{FileCause, FileOnCard, FileUser};
-pub use indexes::IndexCause;
-pub use indicators::IndicatorCause;
-pub use kinds::{OperandCause, TextField};
-pub use labels::{Giver, NowhereCause, Target, TwiceCause};
-pub use names::Redefined;
 pub use places::PlaceCause;
-pub use rounding::RoundingCause;
-pub use sizes::SizeCause;
+pub use rpg_causes_flow::{ColumnCause, Giver, NowhereCause, RoundingCause, Target, TwiceCause};
+pub use rpg_causes_operands::{
+    FieldCause, IndexCause, IndicatorCause, OperandCause, Redefined, SizeCause, TextField,
+};

@@ -1,11 +1,11 @@
 //! F16: columns outside the record, ends outside the line, and fields that are too wide.
 
 ghost use Rattle.std.specs.Prelude.{◌≡◌, Option, is_some, option_copied, option_and_then, Some};
-ghost use Rattle.std.specs.Option.{option_map};
 ghost use Rattle.rpg_cards.specs.Files.{file_by};
 ghost use Rattle.rpg_cards.specs.Groups.{input_role, open_file, output_role};
 ghost use Rattle.rpg_causes.specs.Files as files;
 ghost use Rattle.rpg_causes.specs.Places as causes;
+ghost use Rattle.rpg_causes.specs.Places.{SameLength};
 ghost use Rattle.rpg_faults.specs.Places as rules;
 ghost use Rattle.rpg_sheet_specs.specs.declared.file.FileSpec.{FileSpec};
 
@@ -109,7 +109,7 @@ fn own_file<'a>(before: &'a [SpecCard], input: &'a InputSpec) -> Option<&'a Word
 
 fn file_known(source: &IndexedCards, name: Option<&Word<8>>) -> Option<FileOnCard>
     ensures file { result ≡ causes.file_known source.now (option_copied name.entry) }
-    ensures known { option_map (λ f. f.record_length) result ≡ option_map (λ f. f.record_length) (file_by (option_copied name.entry) source.now) }
+    ensures known { SameLength result (file_by (option_copied name.entry) source.now) }
 {
     file_of_name(name?, source.as_slice())
 }
@@ -128,7 +128,7 @@ fn copied(file: &FileOnCard) -> FileOnCard
 /// The file, if a column is past its records.
 fn if_past(file: &Option<FileOnCard>, column: u16) -> Option<FileOnCard>
     ensures file { result ≡ causes.past column file.now }
-    ensures rule { (known : Option FileSpec) → option_map (λ f. f.record_length) file.now ≡ option_map (λ f. f.record_length) known → is_some result ≡ rules.is_past known column }
+    ensures rule { (known : Option FileSpec) → SameLength file.now known → is_some result ≡ rules.is_past known column }
 {
     let file = file.as_ref()?;
     if file.record_length < column {
@@ -141,7 +141,7 @@ fn if_past(file: &Option<FileOnCard>, column: u16) -> Option<FileOnCard>
 
 fn of_input(file: &Option<FileOnCard>, input: &InputSpec) -> Option<PlaceCause>
     ensures cause { result ≡ causes.of_input file.now input.now }
-    ensures rule { (known : Option FileSpec) → option_map (λ f. f.record_length) file.now ≡ option_map (λ f. f.record_length) known → is_some result ≡ rules.outside_on_input known input.now }
+    ensures rule { (known : Option FileSpec) → SameLength file.now known → is_some result ≡ rules.outside_on_input known input.now }
 {
     match input {
         InputSpec::Type(record_type) => of_codes(file, &record_type.codes),
@@ -152,7 +152,7 @@ fn of_input(file: &Option<FileOnCard>, input: &InputSpec) -> Option<PlaceCause>
 
 fn of_codes(file: &Option<FileOnCard>, codes: &Three<Option<RecordCode>>) -> Option<PlaceCause>
     ensures cause { result ≡ causes.of_codes file.now codes.now }
-    ensures rule { (known : Option FileSpec) → option_map (λ f. f.record_length) file.now ≡ option_map (λ f. f.record_length) known → is_some result ≡ rules.bad_codes known codes.now }
+    ensures rule { (known : Option FileSpec) → SameLength file.now known → is_some result ≡ rules.bad_codes known codes.now }
 {
     let first = of_code(file, ColumnRange::FirstCode, codes.first);
     if first.is_some() {
@@ -171,7 +171,7 @@ fn of_code(
     code: Option<RecordCode>,
 ) -> Option<PlaceCause>
     ensures cause { result ≡ option_and_then (causes.of_code file.now at) code }
-    ensures rule { (known : Option FileSpec) → option_map (λ f. f.record_length) file.now ≡ option_map (λ f. f.record_length) known → is_some result ≡ rules.is_code_outside known code }
+    ensures rule { (known : Option FileSpec) → SameLength file.now known → is_some result ≡ rules.is_code_outside known code }
 {
     let position = code?.position;
     if position == 0 {
@@ -183,7 +183,7 @@ fn of_code(
 
 fn of_field(file: &Option<FileOnCard>, field: &InputField) -> Option<PlaceCause>
     ensures cause { result ≡ causes.of_field file.now field.now }
-    ensures rule { (known : Option FileSpec) → option_map (λ f. f.record_length) file.now ≡ option_map (λ f. f.record_length) known → is_some result ≡ rules.outside_record known field.now }
+    ensures rule { (known : Option FileSpec) → SameLength file.now known → is_some result ≡ rules.outside_record known field.now }
 {
     let from = field.from;
     let to = field.to;
@@ -205,7 +205,7 @@ fn of_output(
     field: &OutputField,
 ) -> Option<PlaceCause>
     ensures cause { result ≡ causes.of_output source.now file.now field.now }
-    ensures rule { (known : Option FileSpec) → option_map (λ f. f.record_length) file.now ≡ option_map (λ f. f.record_length) known → is_some result ≡ rules.outside_line source.now known field.now }
+    ensures rule { (known : Option FileSpec) → SameLength file.now known → is_some result ≡ rules.outside_line source.now known field.now }
 {
     let end = field.end;
     if end == 0 {

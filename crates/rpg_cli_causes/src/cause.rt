@@ -4,7 +4,7 @@ use crate::calculations::{write_order, write_rounding};
 use crate::files::{write_file, write_movement};
 use crate::indicators::write_bad_indicator;
 use crate::labels::{write_apart, write_nowhere, write_recursion, write_twice};
-use crate::missing::write_column;
+use crate::missing::{write_column, write_field};
 use crate::names::{write_redefined, write_undefined};
 use crate::operands::{write_index, write_operand};
 use crate::places::{write_joined, write_outside};
@@ -26,6 +26,7 @@ fn write_told(out: &mut TextWriter, spot: Spot<'_>, cause: &Cause) {
         Cause::File(file) => write_file(out, spot, file),
         Cause::Indicator(indicator) => write_bad_indicator(out, indicator),
         Cause::Column(column) => write_column(out, spot, column),
+        Cause::Field(field) => write_field(out, spot, field),
         Cause::Movement(file) => write_movement(out, spot, file),
         Cause::Nowhere(nowhere) => write_nowhere(out, spot, nowhere),
         Cause::Twice(twice) => write_twice(out, twice),

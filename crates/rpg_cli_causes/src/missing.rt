@@ -2,7 +2,7 @@
 
 use crate::filled::{Piece, write_filled};
 use crate::spot::Spot;
-use rpg_causes::ColumnCause;
+use rpg_causes::{ColumnCause, FieldCause};
 use rpg_cli_text::TextWriter;
 use rpg_sheet::{ColumnRange, Word};
 
@@ -28,9 +28,6 @@ const fn sentence(cause: &ColumnCause) -> &'static str {
             "of a calculation with AN and OR cards each card has conditions (9-17)",
         ColumnCause::Unconditioned => "TAG, BEGSR and ENDSR have no conditions: blank 9-17",
         ColumnCause::LengthAlone => "a length (49-51) without a result field (43-48)",
-        ColumnCause::CodeAlone => "an edit code (38) without a field (32-37)",
-        ColumnCause::BlankAfterAlone => "blank after (39) without a field (32-37)",
-        ColumnCause::NoField => "an output field needs a name (32-37) or a constant (45-70)",
         ColumnCause::NoIndicators => "{} has no resulting indicators: blank 54-59",
         ColumnCause::IndicatorNeeded => "{} needs a resulting indicator (54-59)",
         ColumnCause::HighAndLow => "{} searches for high (54-55) or low (56-57), not for both",
@@ -39,7 +36,6 @@ const fn sentence(cause: &ColumnCause) -> &'static str {
         ColumnCause::NotPlain(_) => "{} has a name in {}, without an index",
         ColumnCause::LastCardAlone(_) =>
             "the calculation goes on with AN or OR, and its last card alone has {}",
-        ColumnCause::Unordered { .. } => "{} for high or low needs a sequence",
     }
 }
 
@@ -51,7 +47,23 @@ fn write_searched(out: &mut TextWriter, name: &Option<Word<6>>, definer: Option<
     }
 }
 
-/// F9: what is missing, or not allowed.
+/// F9 of what LOKUP searches, or of an output field.
+pub(crate) fn write_field(out: &mut TextWriter, spot: Spot<'_>, cause: &FieldCause) {
+    match cause {
+        FieldCause::Unordered { name, definer } => {
+            let operation = Piece::Shown(spot.operation());
+            write_filled(out, "{} for high or low needs a sequence", &[operation]);
+            write_searched(out, name, *definer);
+        }
+        FieldCause::CodeAlone => out.write_str("an edit code (38) without a field (32-37)"),
+        FieldCause::BlankAfterAlone => out.write_str("blank after (39) without a field (32-37)"),
+        FieldCause::NoField => {
+            out.write_str("an output field needs a name (32-37) or a constant (45-70)");
+        }
+    }
+}
+
+/// F9 of a calculation: what is missing, or not allowed.
 pub(crate) fn write_column(out: &mut TextWriter, spot: Spot<'_>, cause: &ColumnCause) {
     let operation = Piece::Shown(spot.operation());
     match cause {
@@ -64,10 +76,6 @@ pub(crate) fn write_column(out: &mut TextWriter, spot: Spot<'_>, cause: &ColumnC
         }
         ColumnCause::LastCardAlone(at) => {
             write_filled(out, sentence(cause), &[Piece::Word(name_of(*at))]);
-        }
-        ColumnCause::Unordered { name, definer } => {
-            write_filled(out, sentence(cause), &[operation]);
-            write_searched(out, name, *definer);
         }
         _ => write_filled(out, sentence(cause), &[operation]),
     }

@@ -1,0 +1,43 @@
+-- F15: H where nothing is rounded, and MVR without a division.
+use Rattle.std.specs.Prelude.{List, Bool, true, false, Option, None, Some, option_and_then, if◌then◌else◌}
+use Rattle.std.specs.Option.{option_map_or, option_or}
+use Rattle.rpg_cards.specs.Calculations.{card_ending}
+use Rattle.rpg_cards.specs.Cards.{calculation_on}
+use Rattle.rpg_cards.specs.Groups.{joins}
+use Rattle.rpg_cards.specs.declared.spec_card.SpecCard.{SpecCard}
+use Rattle.rpg_causes_flow.specs.declared.rounding.RoundingCause.{RoundingCause}
+use Rattle.rpg_causes_flow.specs.declared.rounding.RoundingCause.TheVariants.{LastCardAlone, NoDivision, NoOperation, NotRounded, SeveralCards}
+use Rattle.rpg_faults_flow.specs.Rounding.{is_behind_division, is_remainder, may_half_adjust, operation_passes}
+use Rattle.rpg_sheet_specs.specs.declared.calculation.CalculationSpec.{CalculationSpec}
+use Rattle.rpg_sheet_specs.specs.declared.calculation.Operation.{Operation}
+
+-- H with an operation that isn't rounded, or with none
+abbrev pub of_operation : Option Operation → Option RoundingCause
+of_operation None = Some NoOperation
+of_operation (Some o) = if may_half_adjust o then None else Some NotRounded
+
+-- H on the last card of a group, or on a card before it
+abbrev pub of_last : Option CalculationSpec → Option RoundingCause
+of_last None = Some LastCardAlone
+of_last (Some last) = of_operation last.operation
+
+-- H where nothing is rounded
+abbrev pub of_half_adjust : CalculationSpec → Option CalculationSpec → Option RoundingCause
+of_half_adjust k last = if k.half_adjust then of_last last else None
+
+-- MVR in a group of several cards, or where no division without H comes right before
+abbrev pub unless_behind : Bool → Bool → Option RoundingCause
+unless_behind true behind = Some SeveralCards
+unless_behind false behind = if behind then None else Some NoDivision
+
+-- MVR that has no remainder
+abbrev pub of_remainder : List SpecCard → CalculationSpec → Option CalculationSpec → Option RoundingCause
+of_remainder before k last = if option_map_or (operation_passes is_remainder) last false then unless_behind (joins k.control_level) (is_behind_division before) else None
+
+-- F15 of a calculation card
+abbrev pub of_calculation : List SpecCard → CalculationSpec → Option CalculationSpec → Option RoundingCause
+of_calculation before k last = option_or (of_half_adjust k last) (of_remainder before k last)
+
+-- F15 of a card
+abbrev pub rounding_cause : List SpecCard → SpecCard → List SpecCard → Option RoundingCause
+rounding_cause before c after = option_and_then (λ k. of_calculation before k (card_ending c after)) (calculation_on c.spec)

@@ -1,0 +1,271 @@
+//! F9 of calculations: columns that are missing or not allowed.
+
+ghost use Rattle.std.specs.Prelude.{◌≡◌, Option, is_some};
+ghost use Rattle.std.specs.Option.{option_map};
+ghost use Rattle.rpg_cards.specs.Calculations.{CalculationGroup, open_calculation_group};
+ghost use Rattle.rpg_cards.specs.Cards.{calculation_on};
+ghost use Rattle.rpg_causes_flow.specs.Columns as causes;
+ghost use Rattle.rpg_faults_flow.specs.Columns as rules;
+ghost use Rattle.rpg_faults_flow.specs.Marks as marks;
+ghost use Rattle.rpg_sheet_specs.specs.declared.column_range.ColumnRange.TheVariants as range;
+ghost use Rattle.rpg_sheet_specs.specs.declared.literal.Factor.TheVariants as factor;
+
+use rpg_cards::{
+    Column, Content, Shown, SpecCard, columns, depends, goes_on, group_end, joins, plain_name,
+};
+use rpg_sheet_specs::{CalculationSpec, ColumnRange, Entry, Factor, Indicator, Operation, Three};
+
+/// Why columns of a calculation are missing or not allowed.
+#[derive(Clone, Copy)]
+pub enum ColumnCause {
+    /// The operation has nothing there.
+    NotAllowed(ColumnRange),
+    /// The operation needs something there.
+    Needed(ColumnRange),
+    /// The operation has a name there, without an index.
+    NotPlain(ColumnRange),
+    /// The operation has no resulting indicators.
+    NoIndicators,
+    /// The operation needs a resulting indicator.
+    IndicatorNeeded,
+    /// LOKUP searches for high or for low.
+    HighAndLow,
+    /// The last card of a group has no operation.
+    NoOperation,
+    /// Of a group the last card alone has something there.
+    LastCardAlone(ColumnRange),
+    /// Of a group each card has conditions.
+    ConditionsNeeded,
+    /// The operation has no conditions.
+    Unconditioned,
+    /// A length without a result field.
+    LengthAlone,
+}
+
+/// F9 of a calculation card: which columns are missing or not allowed.
+pub fn on_calculation(
+    before: &[SpecCard],
+    card: &SpecCard,
+    after: &[SpecCard],
+) -> Option<ColumnCause>
+    ensures cause { result ≡ causes.on_calculation before.now card.now after.now }
+    ensures rule { is_some result ≡ rules.bad_calculation_columns before.now card.now after.now }
+{
+    match card.calculation() {
+        None => None,
+        Some(calculation) => of_calculation(is_in_group(before), calculation, after),
+    }
+}
+
+/// Whether a C card stands right before.
+#[tactic(auto, using(crate::proofs::Groups::is_open_behind))]
+fn is_in_group(before: &[SpecCard]) -> bool
+    ensures { result ≡ is_some (open_calculation_group before.now) }
+{
+    match before.split_last() {
+        None => false,
+        Some((card, _)) => is_calculation(card),
+    }
+}
+
+fn is_calculation(card: &SpecCard) -> bool
+    ensures { result ≡ is_some (calculation_on card.now.spec) }
+{
+    card.calculation().is_some()
+}
+
+fn of_calculation(
+    is_in_group: bool,
+    calculation: &CalculationSpec,
+    after: &[SpecCard],
+) -> Option<ColumnCause>
+    ensures cause { (group : Option CalculationGroup) → is_in_group ≡ is_some group → result ≡ causes.of_calculation group calculation.now after.now }
+    ensures rule { (group : Option CalculationGroup) → is_in_group ≡ is_some group → is_some result ≡ causes.is_bad group calculation.now after.now }
+{
+    if calculation.length.is_some() && calculation.result_field.is_none() {
+        return Some(ColumnCause::LengthAlone);
+    }
+    match of_end(goes_on(after), calculation) {
+        Some(cause) => Some(cause),
+        None => of_conditions(is_in_group, calculation, after),
+    }
+}
+
+fn of_conditions(
+    is_in_group: bool,
+    calculation: &CalculationSpec,
+    after: &[SpecCard],
+) -> Option<ColumnCause>
+    ensures cause { (group : Option CalculationGroup) → is_in_group ≡ is_some group → result ≡ causes.of_conditions group calculation.now after.now }
+    ensures rule { (group : Option CalculationGroup) → is_in_group ≡ is_some group → is_some result ≡ rules.bad_conditions group calculation.now after.now }
+{
+    if depends(calculation) {
+        if may_depend(group_end(calculation, after)) {
+            None
+        } else {
+            Some(ColumnCause::Unconditioned)
+        }
+    } else if goes_on(after) || (joins(calculation) && is_in_group) {
+        Some(ColumnCause::ConditionsNeeded)
+    } else {
+        None
+    }
+}
+
+/// Whether the group of this last card may have conditions.
+fn may_depend(last: &CalculationSpec) -> bool
+    ensures { result ≡ rules.may_depend last.now }
+{
+    match last.operation {
+        None => true,
+        Some(operation) => columns(operation).may_depend,
+    }
+}
+
+fn of_end(goes_on: bool, calculation: &CalculationSpec) -> Option<ColumnCause>
+    ensures cause { result ≡ causes.of_end goes_on calculation.now }
+    ensures rule { is_some result ≡ rules.bad_by_end goes_on calculation.now }
+{
+    if !goes_on {
+        return match calculation.operation {
+            None => Some(ColumnCause::NoOperation),
+            Some(operation) => of_operation(calculation, operation),
+        };
+    }
+    if has_more(calculation) {
+        return Some(ColumnCause::LastCardAlone(further_range(calculation)));
+    }
+    None
+}
+
+/// Whether a card has more than conditions.
+fn has_more(calculation: &CalculationSpec) -> bool
+    ensures { result ≡ rules.has_more calculation.now }
+{
+    calculation.operation.is_some()
+        || calculation.factor_1.is_some()
+        || calculation.factor_2.is_some()
+        || calculation.result_field.is_some()
+        || calculation.length.is_some()
+        || calculation.resulting_indicators.filled() > 0
+}
+
+/// What a card before the last has besides its conditions.
+fn further_range(calculation: &CalculationSpec) -> ColumnRange
+    ensures { result ≡ marks.further_range calculation.now }
+{
+    if calculation.factor_1.is_some() {
+        ColumnRange::FirstFactor
+    } else if calculation.operation.is_some() {
+        ColumnRange::Operation
+    } else if calculation.factor_2.is_some() {
+        ColumnRange::SecondFactor
+    } else if calculation.result_field.is_some() {
+        ColumnRange::ResultName
+    } else {
+        shown_range(calculation.resulting_indicators)
+    }
+}
+
+fn shown_range(indicators: Three<Option<Indicator>>) -> ColumnRange
+    ensures { result ≡ marks.shown_range indicators }
+{
+    if indicators.first.is_some() {
+        ColumnRange::ResultPlus
+    } else if indicators.second.is_some() {
+        ColumnRange::ResultMinus
+    } else if indicators.third.is_some() {
+        ColumnRange::ResultZero
+    } else {
+        ColumnRange::ResultingIndicators
+    }
+}
+
+fn of_operation(calculation: &CalculationSpec, operation: Operation) -> Option<ColumnCause>
+    ensures cause { result ≡ causes.of_operation calculation.now operation }
+    ensures rule { is_some result ≡ rules.bad_operation calculation.now operation }
+{
+    let columns = columns(operation);
+    let first = of_factor(
+        ColumnRange::FirstFactor,
+        columns.factor_1,
+        &calculation.factor_1,
+    );
+    if first.is_some() {
+        return first;
+    }
+    let second = of_factor(
+        ColumnRange::SecondFactor,
+        columns.factor_2,
+        &calculation.factor_2,
+    );
+    if second.is_some() {
+        return second;
+    }
+    match of_result(columns.result_field, &calculation.result_field) {
+        Some(cause) => Some(cause),
+        None => of_shown(columns.indicators, calculation.resulting_indicators),
+    }
+}
+
+fn of_factor(at: ColumnRange, column: Column, factor: &Option<Factor>) -> Option<ColumnCause>
+    ensures cause { result ≡ causes.of_column at column factor.now }
+    ensures rule { is_some result ≡ rules.misses column factor.now }
+{
+    match (column, factor) {
+        (Column::Blank, None) | (Column::May(_), None) => None,
+        (Column::Blank, Some(_)) => Some(ColumnCause::NotAllowed(at)),
+        (Column::Must(_), None) => Some(ColumnCause::Needed(at)),
+        (Column::May(content), Some(factor)) | (Column::Must(content), Some(factor)) => {
+            if is_for_name(content) && plain_name(factor).is_none() {
+                Some(ColumnCause::NotPlain(at))
+            } else {
+                None
+            }
+        }
+    }
+}
+
+fn of_result(column: Column, entry: &Option<Entry>) -> Option<ColumnCause>
+    ensures cause { result ≡ causes.of_column range.ResultName column (option_map factor.Entry entry.now) }
+    ensures rule { is_some result ≡ rules.misses column (option_map factor.Entry entry.now) }
+{
+    let at = ColumnRange::ResultName;
+    match (column, entry) {
+        (Column::Blank, None) | (Column::May(_), None) => None,
+        (Column::Blank, Some(_)) => Some(ColumnCause::NotAllowed(at)),
+        (Column::Must(_), None) => Some(ColumnCause::Needed(at)),
+        (Column::May(content), Some(entry)) | (Column::Must(content), Some(entry)) => {
+            if is_for_name(content) && entry.index.is_some() {
+                Some(ColumnCause::NotPlain(at))
+            } else {
+                None
+            }
+        }
+    }
+}
+
+/// Whether a column has a label or the name of a subroutine.
+fn is_for_name(content: Content) -> bool
+    ensures { result ≡ rules.is_for_name content }
+{
+    match content {
+        Content::Label | Content::Subroutine => true,
+        Content::Value | Content::WholeArray | Content::Searched | Content::Table => false,
+    }
+}
+
+fn of_shown(shown: Shown, indicators: Three<Option<Indicator>>) -> Option<ColumnCause>
+    ensures cause { result ≡ causes.of_shown shown indicators }
+    ensures rule { is_some result ≡ rules.bad_shown shown indicators }
+{
+    let has_none = indicators.filled() == 0;
+    match shown {
+        Shown::Unused if !has_none => Some(ColumnCause::NoIndicators),
+        Shown::Some | Shown::Search if has_none => Some(ColumnCause::IndicatorNeeded),
+        Shown::Search if indicators.first.is_some() && indicators.second.is_some() => {
+            Some(ColumnCause::HighAndLow)
+        }
+        Shown::Unused | Shown::Any | Shown::Some | Shown::Search => None,
+    }
+}

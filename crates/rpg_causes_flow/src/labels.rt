@@ -1,0 +1,275 @@
+//! F10 and F11: labels and subroutines that aren't there, and names that are given twice.
+
+ghost use Rattle.std.specs.Prelude.{◌≡◌, List, [], ◌∷◌, ◌++◌, is_some, false, option_and_then};
+ghost use Rattle.std.specs.Option.{option_map_or};
+ghost use Rattle.rpg_cards.specs.Calculations.{calculation_ending, calculations_before};
+ghost use Rattle.rpg_cards.specs.Labels as known;
+ghost use Rattle.rpg_cards.specs.Names as names;
+ghost use Rattle.rpg_cards.specs.declared.spec_card.SpecCard.{SpecCard};
+ghost use Rattle.rpg_causes_flow.specs.Labels as causes;
+ghost use Rattle.rpg_causes_operands.specs.Names as defined;
+ghost use Rattle.rpg_faults_flow.specs.Flow as rules;
+
+use rpg_cards::{Definition, IndexedCards, Named, SpecCard, gives, last_card, wants};
+use rpg_causes_operands::{first_defining, with_card};
+use rpg_sheet_specs::{CalculationSpec, Word};
+use rpg_symbols::Name;
+
+/// The card that gives a name to a label or a subroutine.
+#[derive(Clone, Copy)]
+pub struct Giver {
+    pub card: u16,
+    pub is_subroutine: bool,
+}
+
+/// Why GOTO or EXSR leads nowhere.
+#[derive(Drop)]
+pub enum NowhereCause {
+    /// No card gives that name.
+    Absent(Named),
+    /// The name is the other of label and subroutine.
+    Other { name: Name, giver: Giver },
+}
+
+/// What a name was before.
+#[derive(Drop)]
+pub enum TwiceCause {
+    /// That of a label or a subroutine.
+    Given { name: Name, giver: Giver },
+    /// That of a field of this card.
+    Field { name: Name, card: u16 },
+    /// That of a field that every program has.
+    EveryProgram(Name),
+}
+
+/// A label or a subroutine that a card names, with the card that gives it.
+#[derive(Drop)]
+pub struct Target {
+    pub name: Name,
+    pub card: u16,
+}
+
+// ---- the card that gives a name
+
+/// The name that the calculation that ends on a card gives.
+fn given_on(card: &SpecCard, after: &[SpecCard]) -> Option<Named>
+    ensures { result ≡ causes.given_on card.now after.now }
+{
+    gives(last_card(card, after)?)
+}
+
+fn giver_on(name: &Name, card: &SpecCard, after: &[SpecCard]) -> Option<Giver>
+    ensures { result ≡ option_and_then (causes.giver_if name.now card.now.number) (causes.given_on card.now after.now) }
+{
+    let named = given_on(card, after)?;
+    if *name == named.name {
+        return Some(Giver {
+            card: card.number,
+            is_subroutine: named.is_subroutine,
+        });
+    }
+    None
+}
+
+/// The first of the cards at the front of these that gives a name.
+fn first_giver(name: &Name, front: &[SpecCard], cards: &[SpecCard]) -> Option<Giver>
+    ensures { (after : List SpecCard) → cards.now ≡ front.now ++ after → result ≡ causes.giver name.now front.now after }
+{
+    let mut front = front;
+    let mut cards = cards;
+    while let Some((card, left)) = front.split_first() {
+        let (_, behind) = cards.split_first()?;
+        let found = giver_on(name, card, behind);
+        if found.is_some() {
+            return found;
+        }
+        front = left;
+        cards = behind;
+    }
+    None
+}
+
+// ---- F10
+
+/// F10: the label or the subroutine that isn't there, or is the other of the two.
+pub fn nowhere_cause(
+    source: &IndexedCards,
+    before: &[SpecCard],
+    card: &SpecCard,
+    after: &[SpecCard],
+) -> Option<NowhereCause>
+    ensures cause { result ≡ causes.nowhere source.now card.now after.now }
+    ensures rule { is_some result ≡ rules.goes_nowhere source.now before.now card.now after.now }
+{
+    of_ending(source, card, after)
+}
+
+fn of_ending(source: &IndexedCards, card: &SpecCard, after: &[SpecCard]) -> Option<NowhereCause>
+    ensures { result ≡ causes.nowhere source.now card.now after.now }
+{
+    of_target(source, last_card(card, after)?)
+}
+
+fn of_target(source: &IndexedCards, calculation: &CalculationSpec) -> Option<NowhereCause>
+    ensures { result ≡ causes.of_target source.now calculation.now }
+{
+    of_wanted(source, wants(calculation)?)
+}
+
+fn of_wanted(source: &IndexedCards, wanted: Named) -> Option<NowhereCause>
+    ensures { result ≡ causes.of_wanted source.now wanted }
+{
+    let cards = source.as_slice();
+    match first_giver(&wanted.name, cards, cards) {
+        None => Some(NowhereCause::Absent(wanted)),
+        Some(giver) if giver.is_subroutine == wanted.is_subroutine => None,
+        Some(giver) => Some(NowhereCause::Other {
+            name: Word::new(wanted.name.as_slice()),
+            giver,
+        }),
+    }
+}
+
+// ---- F11
+
+/// F11: what a name was before.
+pub fn twice_cause(
+    source: &IndexedCards,
+    before: &[SpecCard],
+    card: &SpecCard,
+    after: &[SpecCard],
+) -> Option<TwiceCause>
+    requires { source.now ≡ before.now ++ card.now ∷ after.now }
+    ensures cause { result ≡ causes.twice before.now card.now after.now }
+    ensures rule { is_some result ≡ rules.names_twice before.now card.now after.now }
+{
+    match of_given_on(source, before, card, after) {
+        Some(cause) => Some(cause),
+        None => of_definitions(source, before, card, after),
+    }
+}
+
+#[tactic(auto, using(crate::proofs::LabelLemmas::again_is))]
+fn of_given_on(
+    source: &IndexedCards,
+    before: &[SpecCard],
+    card: &SpecCard,
+    after: &[SpecCard],
+) -> Option<TwiceCause>
+    requires { source.now ≡ before.now ++ card.now ∷ after.now }
+    ensures cause { result ≡ option_and_then (causes.of_given before.now card.now after.now) (causes.given_on card.now after.now) }
+    ensures rule { is_some result ≡ option_map_or (rules.gives_again before.now card.now after.now) (calculation_ending before.now card.now after.now) false }
+{
+    let named = given_on(card, after)?;
+    match if_given(source, before, card, after, &named.name) {
+        Some(cause) => Some(cause),
+        None => if_field(source, before, card, after, &named.name),
+    }
+}
+
+/// A name that is a label's or a subroutine's before a card.
+#[tactic(auto, using(crate::proofs::LabelLemmas::is_given_is))]
+fn if_given(
+    source: &IndexedCards,
+    before: &[SpecCard],
+    card: &SpecCard,
+    after: &[SpecCard],
+    name: &Name,
+) -> Option<TwiceCause>
+    requires { source.now ≡ before.now ++ card.now ∷ after.now }
+    ensures cause { result ≡ causes.if_given before.now card.now after.now name.now }
+    ensures rule { is_some result ≡ is_some (known.label_named name.now (known.labels (calculations_before before.now (card.now ∷ after.now)))) }
+{
+    let giver = first_giver(name, before, source.as_slice())?;
+    Some(TwiceCause::Given {
+        name: Word::new(name.as_slice()),
+        giver,
+    })
+}
+
+/// A name that is a field's, on a card at the latest.
+fn if_field(
+    source: &IndexedCards,
+    before: &[SpecCard],
+    card: &SpecCard,
+    after: &[SpecCard],
+    name: &Name,
+) -> Option<TwiceCause>
+    requires { source.now ≡ before.now ++ card.now ∷ after.now }
+    ensures cause { result ≡ causes.if_field (before.now ++ card.now ∷ []) name.now }
+    ensures rule { is_some result ≡ rules.is_defined name.now (names.definitions (before.now ++ card.now ∷ [])) }
+{
+    of_field(source, with_card(source, before, card, after), name)
+}
+
+fn of_field(source: &IndexedCards, cards: &[SpecCard], name: &Name) -> Option<TwiceCause>
+    ensures { result ≡ causes.if_field cards.now name.now }
+{
+    let own = Word::new(name.as_slice());
+    if !source.is_new_name(0, name) {
+        return Some(TwiceCause::EveryProgram(own));
+    }
+    let card = first_defining(cards, name)?;
+    Some(TwiceCause::Field { name: own, card })
+}
+
+fn of_definitions(
+    source: &IndexedCards,
+    before: &[SpecCard],
+    card: &SpecCard,
+    after: &[SpecCard],
+) -> Option<TwiceCause>
+    requires { source.now ≡ before.now ++ card.now ∷ after.now }
+    ensures cause { result ≡ defined.first_some (causes.of_definition before.now card.now after.now) (names.definitions_on card.now.spec) }
+    ensures rule { is_some result ≡ rules.defines_label (known.labels (calculations_before before.now (card.now ∷ after.now))) card.now }
+{
+    let definitions = card.definitions();
+    of_definitions_among(source, before, card, after, definitions.as_slice())
+}
+
+/// The first of these whose name is given before the card.
+fn of_definitions_among(
+    source: &IndexedCards,
+    before: &[SpecCard],
+    card: &SpecCard,
+    after: &[SpecCard],
+    items: &[Definition],
+) -> Option<TwiceCause>
+    requires { source.now ≡ before.now ++ card.now ∷ after.now }
+    ensures cause { result ≡ defined.first_some (causes.of_definition before.now card.now after.now) items.now }
+    ensures rule { is_some result ≡ causes.any_given before.now card.now after.now items.now }
+{
+    for definition in items {
+        let cause = if_given(source, before, card, after, &definition.name);
+        if cause.is_some() {
+            return cause;
+        }
+    }
+    None
+}
+
+// ---- F13, F14
+
+/// The label or the subroutine that a card names.
+pub fn target_on(source: &IndexedCards, card: &SpecCard, after: &[SpecCard]) -> Option<Target>
+    ensures { result ≡ causes.target source.now card.now after.now }
+{
+    target_of(source, last_card(card, after)?)
+}
+
+fn target_of(source: &IndexedCards, calculation: &CalculationSpec) -> Option<Target>
+    ensures { result ≡ causes.target_of source.now calculation.now }
+{
+    target_by(source, wants(calculation)?)
+}
+
+fn target_by(source: &IndexedCards, wanted: Named) -> Option<Target>
+    ensures { result ≡ causes.target_by source.now wanted }
+{
+    let cards = source.as_slice();
+    let giver = first_giver(&wanted.name, cards, cards)?;
+    Some(Target {
+        name: Word::new(wanted.name.as_slice()),
+        card: giver.card,
+    })
+}

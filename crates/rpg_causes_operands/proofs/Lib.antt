@@ -1,0 +1,4 @@
+pub mod Listed
+pub mod NameLemmas
+pub mod Options
+pub mod Tests

@@ -1,0 +1,6 @@
+pub mod Fields
+pub mod Indexes
+pub mod Indicators
+pub mod Names
+pub mod Operands
+pub mod Sizes

@@ -1,0 +1,46 @@
+-- F3: why a length, or decimals, are past their limits.
+use Rattle.std.specs.Prelude.{ℕ, ◌+◌, ◌-◌, nat_le, Option, None, Some, is_none, option_and_then, if◌then◌else◌}
+use Rattle.std.specs.Option.{option_map, option_or}
+use Rattle.rpg_cards.specs.Cards.{calculation_on, extension_on, input_field_on}
+use Rattle.rpg_cards.specs.Names.{sized_form}
+use Rattle.rpg_cards.specs.declared.spec_card.SpecCard.{SpecCard}
+use Rattle.rpg_causes_operands.specs.declared.sizes.SizeCause.{SizeCause}
+use Rattle.rpg_causes_operands.specs.declared.sizes.SizeCause.TheVariants.{Decimals, Digits, Length, NoLength}
+use Rattle.rpg_sheet_specs.specs.declared.calculation.CalculationSpec.{CalculationSpec}
+use Rattle.rpg_sheet_specs.specs.declared.extension.ExtensionSpec.{ExtensionSpec}
+use Rattle.rpg_sheet_specs.specs.declared.extension.TableSpec.{TableSpec}
+use Rattle.rpg_sheet_specs.specs.declared.input.InputField.{InputField}
+use Rattle.rpg_text.specs.Texts.{is_between}
+
+-- of a size that is past a limit: a text's length, a number's digits, or else its decimals
+abbrev pub size_past : ℕ → Option ℕ → SizeCause
+size_past len None = Length len
+size_past len (Some decimals) = if is_between 1 15 len then Decimals decimals len else Digits len
+
+-- a size that no field has
+abbrev pub size_by : ℕ → Option ℕ → Option SizeCause
+size_by len decimals = if is_none (sized_form len decimals) then Some (size_past len decimals) else None
+
+-- that of a table
+abbrev pub of_table : TableSpec → Option SizeCause
+of_table t = size_by t.length t.decimals
+
+-- that of an E card's table, else of its alternating one
+abbrev pub of_tables : ExtensionSpec → Option SizeCause
+of_tables e = option_or (of_table e.table) (option_and_then of_table e.alternating)
+
+-- that of an input field whose columns aren't turned round
+abbrev pub of_field : InputField → Option SizeCause
+of_field f = if nat_le f.from f.to then size_by (f.to + 1 - f.from) f.decimals else None
+
+-- that of a result field: decimals need a length
+abbrev pub of_result : Option ℕ → Option ℕ → Option SizeCause
+of_result None decimals = option_map (λ n. NoLength) decimals
+of_result (Some len) decimals = size_by len decimals
+
+-- F3 of a card
+abbrev pub size_cause : SpecCard → Option SizeCause
+size_cause c =
+    option_or (option_and_then of_tables (extension_on c.spec))
+    (option_or (option_and_then of_field (input_field_on c.spec))
+    (option_and_then (λ (k : CalculationSpec). of_result k.length k.decimals) (calculation_on c.spec)))

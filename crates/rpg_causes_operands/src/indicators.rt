@@ -1,0 +1,159 @@
+//! F8: indicators that aren't allowed.
+
+ghost use Rattle.std.specs.Prelude.{◌≡◌, is_some, false, option_and_then};
+ghost use Rattle.std.specs.Option.{option_map_or};
+ghost use Rattle.rpg_causes_operands.specs.Indicators as causes;
+ghost use Rattle.rpg_faults_limits.specs.Indicators as rules;
+
+use rpg_cards::{IndexedCards, SpecCard};
+use rpg_sheet_specs::{
+    CalculationSpec, Condition, Indicator, InputField, InputSpec, OutputSpec, Spec, Three, Word,
+};
+
+/// Why an indicator isn't allowed.
+#[derive(Drop)]
+pub enum IndicatorCause {
+    /// Record types don't turn it on.
+    NotOfType(Indicator),
+    /// Results and fields don't set it.
+    NeverSet(Indicator),
+    /// This input field is a text, and only its blanks are tested.
+    TextField(Word<6>),
+    /// A calculation asks for 1P.
+    FirstPage,
+    /// A condition asks for MR, and no field has a match level.
+    NoMatchFields,
+}
+
+/// F8: which indicator isn't allowed, and why.
+pub fn indicator_cause(source: &IndexedCards, card: &SpecCard) -> Option<IndicatorCause>
+    ensures cause { result ≡ causes.on_card source.now card.now.spec }
+    ensures rule { is_some result ≡ rules.bad_indicator source.now card.now }
+{
+    match &card.spec {
+        Spec::Input(input) => on_input(input),
+        Spec::Calculation(calculation) => on_calculation(source, calculation),
+        Spec::Output(output) => on_output(source, output),
+        Spec::Header(_) | Spec::File(_) | Spec::Extension(_) | Spec::Data(_) => None,
+    }
+}
+
+fn on_input(input: &InputSpec) -> Option<IndicatorCause>
+    ensures cause { result ≡ causes.on_input input.now }
+    ensures rule { is_some result ≡ rules.bad_on_input input.now }
+{
+    match input {
+        InputSpec::Type(record_type) => of_type(record_type.indicator?),
+        InputSpec::And(_) => None,
+        InputSpec::Field(field) => match first_never_set(&field.indicators) {
+            Some(cause) => Some(cause),
+            None => of_text(field),
+        },
+    }
+}
+
+fn on_calculation(source: &IndexedCards, calculation: &CalculationSpec) -> Option<IndicatorCause>
+    ensures cause { result ≡ causes.on_calculation source.now calculation.now }
+    ensures rule { is_some result ≡ rules.bad_on_calculation source.now calculation.now }
+{
+    match first_condition(source, &calculation.conditions) {
+        Some(cause) => Some(cause),
+        None => first_never_set(&calculation.resulting_indicators),
+    }
+}
+
+fn on_output(source: &IndexedCards, output: &OutputSpec) -> Option<IndicatorCause>
+    ensures cause { result ≡ causes.on_output source.now output.now }
+    ensures rule { is_some result ≡ rules.bad_on_output source.now output.now }
+{
+    match output {
+        OutputSpec::Record(line) => first_of_line(source, &line.conditions),
+        OutputSpec::And(conditions) => first_of_line(source, conditions),
+        OutputSpec::Or(conditions) => first_of_line(source, conditions),
+        OutputSpec::Field(field) => first_of_line(source, &field.conditions),
+    }
+}
+
+/// Record types turn on 01 to 99, L1 to L9, LR and H1 to H9.
+fn of_type(indicator: Indicator) -> Option<IndicatorCause>
+    ensures cause { result ≡ causes.of_type indicator }
+    ensures rule { is_some result ≡ rules.cannot_mark_type indicator }
+{
+    match indicator.number() {
+        1..=99 | 101..=110 | 120..=128 => None,
+        _ => Some(IndicatorCause::NotOfType(indicator)),
+    }
+}
+
+/// A text is only blank or not.
+fn of_text(field: &InputField) -> Option<IndicatorCause>
+    ensures { result ≡ causes.of_text field.now }
+{
+    let indicators = field.indicators;
+    if field.decimals.is_none() && (indicators.first.is_some() || indicators.second.is_some()) {
+        return Some(IndicatorCause::TextField(Word::new(field.name.as_slice())));
+    }
+    None
+}
+
+/// Results and fields set all but L0, 1P and MR.
+fn of_setting(indicator: Option<Indicator>) -> Option<IndicatorCause>
+    ensures cause { result ≡ option_and_then causes.of_setting indicator }
+    ensures rule { is_some result ≡ option_map_or rules.cannot_be_set indicator false }
+{
+    let indicator = indicator?;
+    match indicator.number() {
+        100 | 111 | 129 => Some(IndicatorCause::NeverSet(indicator)),
+        _ => None,
+    }
+}
+
+fn first_never_set(three: &Three<Option<Indicator>>) -> Option<IndicatorCause>
+    ensures cause { result ≡ causes.first_cause causes.of_setting three.now }
+    ensures rule { is_some result ≡ rules.any_of rules.cannot_be_set three.now }
+{
+    of_setting(three.first)
+        .or(of_setting(three.second))
+        .or(of_setting(three.third))
+}
+
+fn of_line(source: &IndexedCards, condition: Option<Condition>) -> Option<IndicatorCause>
+    ensures cause { result ≡ option_and_then (causes.of_line source.now) condition }
+    ensures rule { is_some result ≡ option_map_or (rules.bad_in_output source.now) condition false }
+{
+    if condition?.indicator.number() == 129 && !source.has_match_field() {
+        return Some(IndicatorCause::NoMatchFields);
+    }
+    None
+}
+
+fn first_of_line(source: &IndexedCards, three: &Three<Option<Condition>>) -> Option<IndicatorCause>
+    ensures cause { result ≡ causes.first_cause (causes.of_line source.now) three.now }
+    ensures rule { is_some result ≡ rules.any_of (rules.bad_in_output source.now) three.now }
+{
+    of_line(source, three.first)
+        .or(of_line(source, three.second))
+        .or(of_line(source, three.third))
+}
+
+fn of_condition(source: &IndexedCards, condition: Option<Condition>) -> Option<IndicatorCause>
+    ensures cause { result ≡ option_and_then (causes.of_condition source.now) condition }
+    ensures rule { is_some result ≡ option_map_or (rules.bad_in_calculation source.now) condition false }
+{
+    if condition?.indicator.number() == 111 {
+        return Some(IndicatorCause::FirstPage);
+    }
+    of_line(source, condition)
+}
+
+fn first_condition(
+    source: &IndexedCards,
+    three: &Three<Option<Condition>>,
+) -> Option<IndicatorCause>
+    ensures cause { result ≡ causes.first_cause (causes.of_condition source.now) three.now }
+    ensures rule { is_some result ≡ rules.any_of (rules.bad_in_calculation source.now) three.now }
+{
+    of_condition(source, three.first)
+        .or(of_condition(source, three.second))
+        .or(of_condition(source, three.third))
+}

@@ -1,0 +1,17 @@
+//! Why a card's names, sizes, operands, indexes and indicators are faults: causes as values, as the rules have them.
+#![tactic(auto)]
+
+mod fields;
+mod indexes;
+mod indicators;
+mod kinds;
+mod names;
+mod operands;
+mod sizes;
+
+pub use fields::{FieldCause, field_cause};
+pub use indexes::{IndexCause, index_cause};
+pub use indicators::{IndicatorCause, indicator_cause};
+pub use kinds::{OperandCause, TextField, operand_cause};
+pub use names::{Redefined, first_defining, redefined_name, undefined_name, with_card};
+pub use sizes::{SizeCause, size_cause};

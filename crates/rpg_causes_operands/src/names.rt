@@ -1,0 +1,189 @@
+//! F1 and F2: names that no card defines, names that are defined again, and the cards that define names.
+
+ghost use Rattle.std.specs.Prelude.{◌≡◌, List, [], ◌∷◌, ◌++◌, ◌≤◌, length, take, false, is_some, option_and_then, option_copied};
+ghost use Rattle.std.specs.Option.{option_map_or};
+ghost use Rattle.rpg_cards.specs.Names.{definitions};
+ghost use Rattle.rpg_cards.specs.declared.names.Definition.{Definition};
+ghost use Rattle.rpg_causes_operands.specs.Names as causes;
+ghost use Rattle.rpg_causes_operands.specs.Names.{StandAt};
+ghost use Rattle.rpg_faults_limits.specs.Names as redefinitions;
+ghost use Rattle.rpg_faults_operands.specs.Names as rules;
+
+use crate::operands::{Operand, operands_ending, output_operand};
+use rpg_cards::{Defined, Definition, IndexedCards, SpecCard};
+use rpg_effect::form::FieldForm;
+use rpg_sheet_specs::{Entry, EntryIndex, Word};
+use rpg_symbols::{Name, is_same_form};
+
+/// A name that is defined again in another form.
+#[derive(Drop)]
+pub struct Redefined {
+    pub name: Name,
+    /// Its form on this card.
+    pub here: FieldForm,
+    /// Its first form.
+    pub first: FieldForm,
+    /// The card that defines it first: none of UDATE and PAGE.
+    pub definer: Option<u16>,
+}
+
+/// The cards up to a card.
+pub fn with_card<'a>(
+    source: &IndexedCards<'a>,
+    before: &[SpecCard],
+    card: &SpecCard,
+    after: &[SpecCard],
+) -> &'a [SpecCard]
+    requires { source.now ≡ before.now ++ card.now ∷ after.now }
+    ensures { result.now ≡ before.now ++ card.now ∷ [] }
+{
+    &source.as_slice()[..before.len() + 1]
+}
+
+// ---- the card that defines a name
+
+fn defines(card: &SpecCard, name: &Name) -> bool
+    ensures { result ≡ causes.defines name.now card.now }
+{
+    let definitions = card.definitions();
+    for definition in definitions.as_slice() {
+        if *name == definition.name {
+            return true;
+        }
+    }
+    false
+}
+
+/// The first of these cards that defines a name.
+pub fn first_defining(cards: &[SpecCard], name: &Name) -> Option<u16>
+    ensures { result ≡ causes.first_defining name.now cards.now }
+{
+    for card in cards {
+        if defines(card, name) {
+            return Some(card.number);
+        }
+    }
+    None
+}
+
+/// The card that defines a name: none of UDATE and PAGE.
+pub(crate) fn definer(source: &IndexedCards, name: &Name) -> Option<u16>
+    ensures { result ≡ causes.definer name.now source.now }
+{
+    if source.is_new_name(0, name) {
+        first_defining(source.as_slice(), name)
+    } else {
+        None
+    }
+}
+
+// ---- F1
+
+/// F1: the name that no card defines.
+#[tactic(auto, using(crate::proofs::Listed::first_listed, rpg_faults_operands::proofs::Listed::any_listed))]
+pub fn undefined_name(source: &IndexedCards, card: &SpecCard, after: &[SpecCard]) -> Option<Name>
+    ensures cause { result ≡ causes.undefined_name source.now card.now after.now }
+    ensures rule { is_some result ≡ rules.lacks_name source.now card.now after.now }
+{
+    let operands = operands_ending(card, after);
+    undefined_in(source, &operands.first)
+        .or(undefined_in(source, &operands.second))
+        .or(undefined_in(source, &operands.third))
+        .or(undefined_in(source, &output_operand(card)))
+}
+
+fn undefined_in(source: &IndexedCards, operand: &Option<Operand>) -> Option<Name>
+    ensures cause { result ≡ option_and_then (causes.undefined_in source.now) operand.now }
+    ensures rule { is_some result ≡ option_map_or (rules.names_nothing source.now) operand.now false }
+{
+    let field = operand.as_ref()?.field;
+    match if_undefined(source, &field.name) {
+        Some(name) => Some(name),
+        None => if_undefined(source, index_name(field)?),
+    }
+}
+
+fn if_undefined(source: &IndexedCards, name: &Name) -> Option<Name>
+    ensures cause { result ≡ causes.if_undefined source.now name.now }
+    ensures rule { is_some result ≡ rules.is_undefined source.now name.now }
+{
+    match source.form_of_name(name) {
+        Defined::Missing => Some(Word::new(name.as_slice())),
+        Defined::Bad | Defined::Good(_) => None,
+    }
+}
+
+/// A literal index names no field.
+pub(crate) fn index_name(entry: &Entry) -> Option<&Name>
+    ensures { option_copied result ≡ rules.index_name entry.now }
+{
+    match &entry.index {
+        None => None,
+        Some(EntryIndex::Literal(_)) => None,
+        Some(EntryIndex::Name(name)) => Some(name),
+    }
+}
+
+// ---- F2
+
+/// F2: the name that is defined again, with both its forms and the card of the first.
+pub fn redefined_name(
+    source: &IndexedCards,
+    before: &[SpecCard],
+    card: &SpecCard,
+    after: &[SpecCard],
+) -> Option<Redefined>
+    requires split { source.now ≡ before.now ++ card.now ∷ after.now }
+    requires few { length source.now ≤ 2000 }
+    ensures cause { result ≡ causes.redefined source.now before.now card.now }
+    ensures rule { is_some result ≡ redefinitions.redefines before.now card.now }
+{
+    redefined_among(
+        source,
+        count_definitions(before),
+        card.definitions().as_slice(),
+    )
+}
+
+fn count_definitions(cards: &[SpecCard]) -> usize
+    requires { length cards.now ≤ 2000 }
+    ensures { result ≡ length (definitions cards.now) }
+{
+    let mut count = 0;
+    for card in cards {
+        count += card.definitions().len();
+    }
+    count
+}
+
+/// The first of these, which come after so many definitions, that has another form by those before it.
+fn redefined_among(source: &IndexedCards, place: usize, items: &[Definition]) -> Option<Redefined>
+    requires few { place ≤ 4000 }
+    requires stand { StandAt place items.now (definitions source.now) }
+    ensures cause { result ≡ causes.redefined_among source.now (take place (definitions source.now)) items.now }
+    ensures rule { is_some result ≡ redefinitions.redefine (take place (definitions source.now)) items.now }
+{
+    for (i, definition) in items.iter().enumerate() {
+        let found = redefined_by(source, place + i, definition);
+        if found.is_some() {
+            return found;
+        }
+    }
+    None
+}
+
+fn redefined_by(source: &IndexedCards, place: usize, definition: &Definition) -> Option<Redefined>
+    ensures cause { result ≡ causes.redefined_by source.now (take place (definitions source.now)) definition.now }
+    ensures rule { is_some result ≡ redefinitions.redefines_as (take place (definitions source.now)) definition.now }
+{
+    let here = definition.form?;
+    match source.form_before(&definition.name, place) {
+        Defined::Good(first) if !is_same_form(&first, &here) => Some(Redefined {
+            name: Word::new(definition.name.as_slice()),
+            here,
+            first,
+            definer: definer(source, &definition.name),
+        }),
+        Defined::Good(_) | Defined::Missing | Defined::Bad => None,
+    }
+}

@@ -1,0 +1,103 @@
+//! F3: lengths and decimals past their limits.
+
+ghost use Rattle.std.specs.Prelude.{◌≡◌, is_some, is_none};
+ghost use Rattle.rpg_cards.specs.Names.{sized_form};
+ghost use Rattle.rpg_causes_operands.specs.Sizes as causes;
+ghost use Rattle.rpg_faults_limits.specs.Names as rules;
+
+use rpg_cards::{SpecCard, field_form, sized_form};
+use rpg_sheet_specs::{ExtensionSpec, InputField, TableSpec};
+
+/// What is wrong with a length and decimals.
+#[derive(Clone, Copy)]
+pub enum SizeCause {
+    /// A length that no text has, and no number.
+    Length(u32),
+    /// So many digits, of a number.
+    Digits(u32),
+    /// Too many decimals, of so many digits.
+    Decimals { decimals: u8, length: u32 },
+    /// Decimals without a length.
+    NoLength,
+}
+
+/// F3: which length, or which decimals, are past their limits.
+pub fn size_cause(card: &SpecCard) -> Option<SizeCause>
+    ensures cause { result ≡ causes.size_cause card.now }
+    ensures rule { is_some result ≡ rules.bad_size card.now }
+{
+    if let Some(extension) = card.extension() {
+        return of_tables(extension);
+    }
+    if let Some(field) = card.input_field() {
+        return of_field(field);
+    }
+    let calculation = card.calculation()?;
+    of_result(calculation.length, calculation.decimals)
+}
+
+const fn size_past(length: u32, decimals: Option<u8>) -> SizeCause
+    ensures { result ≡ causes.size_past length decimals }
+{
+    match decimals {
+        None => SizeCause::Length(length),
+        Some(decimals) => {
+            if 1 <= length && length <= 15 {
+                SizeCause::Decimals { decimals, length }
+            } else {
+                SizeCause::Digits(length)
+            }
+        }
+    }
+}
+
+fn size_by(length: u16, decimals: Option<u8>) -> Option<SizeCause>
+    ensures cause { result ≡ causes.size_by length decimals }
+    ensures rule { is_some result ≡ is_none (sized_form length decimals) }
+{
+    match sized_form(length, decimals) {
+        None => Some(size_past(u32::from(length), decimals)),
+        Some(_) => None,
+    }
+}
+
+fn of_table(table: &TableSpec) -> Option<SizeCause>
+    ensures cause { result ≡ causes.of_table table.now }
+    ensures rule { is_some result ≡ rules.bad_size_of_table table.now }
+{
+    size_by(table.length, table.decimals)
+}
+
+fn of_tables(extension: &ExtensionSpec) -> Option<SizeCause>
+    ensures cause { result ≡ causes.of_tables extension.now }
+    ensures rule { is_some result ≡ rules.bad_size_of_tables extension.now }
+{
+    match of_table(&extension.table) {
+        Some(cause) => Some(cause),
+        None => of_table(extension.alternating.as_ref()?),
+    }
+}
+
+fn of_field(field: &InputField) -> Option<SizeCause>
+    ensures cause { result ≡ causes.of_field field.now }
+    ensures rule { is_some result ≡ rules.bad_size_of_field field.now }
+{
+    if field.to < field.from || field_form(field).is_some() {
+        return None;
+    }
+    let length = u32::from(field.to) + 1 - u32::from(field.from);
+    Some(size_past(length, field.decimals))
+}
+
+fn of_result(length: Option<u16>, decimals: Option<u8>) -> Option<SizeCause>
+    ensures cause { result ≡ causes.of_result length decimals }
+    ensures rule { is_some result ≡ rules.bad_size_by length decimals }
+{
+    match length {
+        None => {
+            decimals?;
+            Some(SizeCause::NoLength)
+        }
+        Some(length) => size_by(length, decimals),
+    }
+}
