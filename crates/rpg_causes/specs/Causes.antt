@@ -10,7 +10,10 @@ use Rattle.rpg_causes.specs.declared.cause.Cause.{Cause}
 use Rattle.rpg_causes.specs.declared.cause.Cause.TheVariants as cause
 use Rattle.rpg_causes_flow.specs.Columns.{on_calculation}
 use Rattle.rpg_causes_flow.specs.Labels.{nowhere, target, twice}
+use Rattle.rpg_causes_flow.specs.Order.{order_cause}
 use Rattle.rpg_causes_flow.specs.Rounding.{rounding_cause}
+use Rattle.rpg_causes_flow.specs.Sections.{apart}
+use Rattle.rpg_causes_flow.specs.Strays.{stray_cause}
 use Rattle.rpg_causes_operands.specs.Fields.{field_cause}
 use Rattle.rpg_causes_operands.specs.Indexes.{index_cause}
 use Rattle.rpg_causes_operands.specs.Indicators as indicators
@@ -29,9 +32,13 @@ missing before c after =
     (option_or (option_map cause.Field (field_cause (before ++ c ∷ after) c after))
     (option_map cause.Movement (option_and_then (moved_disk (before ++ c ∷ after) before) (output_record_on c.spec))))
 
+-- F12: of a calculation card, or of an I or O card
+abbrev pub misordered : List SpecCard → SpecCard → List SpecCard → Option Cause
+misordered before c after = option_or (option_map cause.Order (order_cause before c after)) (option_map cause.Stray (stray_cause before c))
+
 -- ---- each code
 
--- what gives a cause: the rule of the code; of F13 and F14 that the card names what is given, and of F16 the rule of the card's own columns
+-- what gives a cause: the rule of the code; of F14 that the card names what is given, and of F16 the rule of the card's own columns
 unfoldable pub explained_rule : FaultCode → Rule
 explained_rule F1 before c after = rule F1 before c after
 explained_rule F2 before c after = rule F2 before c after
@@ -44,8 +51,8 @@ explained_rule F8 before c after = rule F8 before c after
 explained_rule F9 before c after = rule F9 before c after
 explained_rule F10 before c after = rule F10 before c after
 explained_rule F11 before c after = rule F11 before c after
-explained_rule F12 before c after = false
-explained_rule F13 before c after = is_some (target (before ++ c ∷ after) c after)
+explained_rule F12 before c after = rule F12 before c after
+explained_rule F13 before c after = rule F13 before c after
 explained_rule F14 before c after = is_some (target (before ++ c ∷ after) c after)
 explained_rule F15 before c after = rule F15 before c after
 explained_rule F16 before c after = is_outside (before ++ c ∷ after) before c
@@ -65,8 +72,8 @@ cause_of F8 before c after = option_map cause.Indicator (indicators.on_card (bef
 cause_of F9 before c after = missing before c after
 cause_of F10 before c after = option_map cause.Nowhere (nowhere (before ++ c ∷ after) c after)
 cause_of F11 before c after = option_map cause.Twice (twice before c after)
-cause_of F12 before c after = None
-cause_of F13 before c after = option_map cause.Apart (target (before ++ c ∷ after) c after)
+cause_of F12 before c after = misordered before c after
+cause_of F13 before c after = option_map cause.Apart (apart (before ++ c ∷ after) before c after)
 cause_of F14 before c after = option_map cause.Recursion (target (before ++ c ∷ after) c after)
 cause_of F15 before c after = option_map cause.Rounding (rounding_cause before c after)
 cause_of F16 before c after = option_map cause.Outside (outside (before ++ c ∷ after) before c)

@@ -4,14 +4,15 @@ ghost use Rattle.std.specs.Prelude.{◌≡◌, ◌≤◌, [], ◌∷◌, ◌++�
 ghost use Rattle.rpg_cards.specs.Sheets.{AreSheets};
 ghost use Rattle.rpg_causes.specs.Causes as causes;
 ghost use Rattle.rpg_faults.specs.Rules as rules;
-ghost use Rattle.rpg_faults.specs.declared.code.FaultCode.TheVariants.{F9};
+ghost use Rattle.rpg_faults.specs.declared.code.FaultCode.TheVariants.{F9, F12};
 
 use crate::files::{FileCause, FileOnCard, file_cause, moved_disk};
 use crate::places::{PlaceCause, outside_cause};
 use rpg_cards::{IndexedCards, Sheets, SpecCard};
 use rpg_causes_flow::{
-    ColumnCause, NowhereCause, RoundingCause, Target, TwiceCause, nowhere_cause, on_calculation,
-    rounding_cause, target_on, twice_cause,
+    ColumnCause, NowhereCause, OrderCause, RoundingCause, StrayCause, Target, TwiceCause,
+    apart_cause, nowhere_cause, on_calculation, order_cause, rounding_cause, stray_cause,
+    target_on, twice_cause,
 };
 use rpg_causes_operands::{
     FieldCause, IndexCause, IndicatorCause, OperandCause, Redefined, SizeCause, field_cause,
@@ -48,7 +49,11 @@ pub enum Cause {
     Nowhere(NowhereCause),
     /// F11
     Twice(TwiceCause),
-    /// F13: the label.
+    /// F12 of a calculation card.
+    Order(OrderCause),
+    /// F12 of an I or O card.
+    Stray(StrayCause),
+    /// F13: the label, which is of another section.
     Apart(Target),
     /// F14: the subroutine.
     Recursion(Target),
@@ -110,7 +115,8 @@ fn cause_of(
         FaultCode::F9 => missing(source, before, card, after),
         FaultCode::F10 => Some(Cause::Nowhere(nowhere_cause(source, before, card, after)?)),
         FaultCode::F11 => Some(Cause::Twice(twice_cause(source, before, card, after)?)),
-        FaultCode::F13 => Some(Cause::Apart(target_on(source, card, after)?)),
+        FaultCode::F12 => misordered(source, sheets, before, card, after),
+        FaultCode::F13 => Some(Cause::Apart(apart_cause(source, before, card, after)?)),
         FaultCode::F14 => Some(Cause::Recursion(target_on(source, card, after)?)),
         FaultCode::F15 => Some(Cause::Rounding(rounding_cause(before, card, after)?)),
         FaultCode::F16 => Some(Cause::Outside(outside_cause(source, before, card)?)),
@@ -137,4 +143,24 @@ fn missing(
         return Some(Cause::Field(cause));
     }
     Some(Cause::Movement(moved_disk(source, before, card)?))
+}
+
+/// F12: of a calculation card, or of an I or O card.
+#[tactic(auto, unfolding(rpg_faults::specs::Rules::rule))]
+fn misordered(
+    source: &IndexedCards,
+    sheets: &Sheets,
+    before: &[SpecCard],
+    card: &SpecCard,
+    after: &[SpecCard],
+) -> Option<Cause>
+    requires split { source.now ≡ before.now ++ card.now ∷ after.now }
+    requires sheets { AreSheets source.now before.now sheets.now }
+    ensures cause { result ≡ causes.misordered before.now card.now after.now }
+    ensures rule { is_some result ≡ rules.rule F12 before.now card.now after.now }
+{
+    if let Some(cause) = order_cause(source.as_slice(), before, card, after) {
+        return Some(Cause::Order(cause));
+    }
+    Some(Cause::Stray(stray_cause(source, sheets, before, card)?))
 }

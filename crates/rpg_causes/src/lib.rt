@@ -8,7 +8,9 @@ mod places;
 pub use cause::{Cause, fault_cause};
 pub use files::{FileCause, FileOnCard, FileUser};
 pub use places::PlaceCause;
-pub use rpg_causes_flow::{ColumnCause, Giver, NowhereCause, RoundingCause, Target, TwiceCause};
+pub use rpg_causes_flow::{
+    ColumnCause, Giver, NowhereCause, OrderCause, RoundingCause, StrayCause, Target, TwiceCause,
+};
 pub use rpg_causes_operands::{
     FieldCause, IndexCause, IndicatorCause, OperandCause, Redefined, SizeCause, TextField,
 };

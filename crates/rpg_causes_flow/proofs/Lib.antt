@@ -1,3 +1,7 @@
 pub mod Groups
 pub mod LabelLemmas
+pub mod Options
+pub mod OrderLemmas
+pub mod SectionLemmas
+pub mod StrayLemmas
 pub mod Tests

@@ -1,13 +1,14 @@
 //! The cause of a fault in words.
 
-use crate::calculations::{write_order, write_rounding};
 use crate::files::{write_file, write_movement};
 use crate::indicators::write_bad_indicator;
 use crate::labels::{write_apart, write_nowhere, write_recursion, write_twice};
 use crate::missing::{write_column, write_field};
 use crate::names::{write_redefined, write_undefined};
 use crate::operands::{write_index, write_operand};
+use crate::order::{write_order, write_stray};
 use crate::places::{write_joined, write_outside};
+use crate::rounding::write_rounding;
 use crate::sizes::{write_limit, write_size};
 use crate::spot::{SourceCards, Spot};
 use rpg_causes::Cause;
@@ -30,6 +31,8 @@ fn write_told(out: &mut TextWriter, spot: Spot<'_>, cause: &Cause) {
         Cause::Movement(file) => write_movement(out, spot, file),
         Cause::Nowhere(nowhere) => write_nowhere(out, spot, nowhere),
         Cause::Twice(twice) => write_twice(out, twice),
+        Cause::Order(order) => write_order(out, spot, order),
+        Cause::Stray(stray) => write_stray(out, *stray),
         Cause::Apart(target) => write_apart(out, target),
         Cause::Recursion(target) => write_recursion(out, target),
         Cause::Rounding(rounding) => write_rounding(out, spot, *rounding),
@@ -41,7 +44,6 @@ fn write_told(out: &mut TextWriter, spot: Spot<'_>, cause: &Cause) {
 fn write_by_columns(out: &mut TextWriter, spot: Spot<'_>, code: FaultCode) -> Option<()> {
     match code {
         FaultCode::F6 => write_limit(out, spot),
-        FaultCode::F12 => write_order(out, spot),
         FaultCode::F16 => write_joined(out, spot),
         _ => None,
     }

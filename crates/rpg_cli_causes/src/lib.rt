@@ -1,7 +1,6 @@
 //! Why a card has a fault of F1 to F16, in words: the name, the other card, the limit and the number.
 #![tactic(auto)]
 
-mod calculations;
 mod cause;
 mod counted;
 mod files;
@@ -12,8 +11,10 @@ mod missing;
 mod names;
 mod near;
 mod operands;
+mod order;
 mod places;
 mod root;
+mod rounding;
 mod sizes;
 mod spot;
 

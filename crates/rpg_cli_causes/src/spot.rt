@@ -33,7 +33,6 @@ pub(crate) struct Spot<'a> {
     pub source: SourceCards<'a>,
     pub line: &'a [u8],
     pub card: &'a SpecCard,
-    pub before: &'a [SpecCard],
     /// The columns that the fault is about; none where it is about the card as a whole.
     pub columns: Option<ColumnFault>,
 }
@@ -65,7 +64,6 @@ impl<'a> Spot<'a> {
             source,
             line,
             card,
-            before: cards.get(..place)?,
             columns,
         })
     }

@@ -1,0 +1,40 @@
+-- F12 of I and O cards: what a card needs before it.
+use Rattle.std.specs.Prelude.{ℕ, List, Bool, Option, None, Some, is_some, option_and_then, if◌then◌else◌}
+use Rattle.std.specs.Option.{option_map, option_or}
+use Rattle.rpg_cards.specs.Cards.{input_on, output_on}
+use Rattle.rpg_cards.specs.Groups.{input_role, open_group, output_role}
+use Rattle.rpg_cards.specs.declared.spec_card.SpecCard.{SpecCard}
+use Rattle.rpg_causes_flow.specs.declared.strays.StrayCause.{StrayCause}
+use Rattle.rpg_causes_flow.specs.declared.strays.StrayCause.TheVariants.{NoLine, NoType, OtherThanLine, OtherThanType}
+use Rattle.rpg_faults_limits.specs.Order.{card_right_before, is_behind_codes, is_behind_conditions}
+use Rattle.rpg_sheet_specs.specs.declared.input.InputSpec.{InputSpec}
+use Rattle.rpg_sheet_specs.specs.declared.input.InputSpec.TheVariants as input
+use Rattle.rpg_sheet_specs.specs.declared.output.OutputSpec.{OutputSpec}
+use Rattle.rpg_sheet_specs.specs.declared.output.OutputSpec.TheVariants as output
+
+-- the number of the card right before, if there is one
+abbrev pub number_before : List SpecCard → Option ℕ
+number_before before = option_map (λ (c : SpecCard). c.number) (card_right_before before)
+
+-- an AND card that continues no type, or a field where none is open
+abbrev pub on_input : Bool → List SpecCard → InputSpec → Option StrayCause
+on_input is_open before (input.Type t) = None
+on_input is_open before (input.And codes) = if is_behind_codes before then None else Some (OtherThanType (number_before before))
+on_input is_open before (input.Field f) = if is_open then None else Some NoType
+
+-- an AND or OR card that continues no line
+abbrev pub unless_behind : List SpecCard → Option StrayCause
+unless_behind before = if is_behind_conditions before then None else Some (OtherThanLine (number_before before))
+
+-- such a card, or a field where no line is open
+abbrev pub on_output : Bool → List SpecCard → OutputSpec → Option StrayCause
+on_output is_open before (output.Record r) = None
+on_output is_open before (output.And t) = unless_behind before
+on_output is_open before (output.Or t) = unless_behind before
+on_output is_open before (output.Field f) = if is_open then None else Some NoLine
+
+-- F12 of a card
+abbrev pub stray_cause : List SpecCard → SpecCard → Option StrayCause
+stray_cause before c =
+    option_or (option_and_then (on_input (is_some (open_group input_role before)) before) (input_on c.spec))
+    (option_and_then (on_output (is_some (open_group output_role before)) before) (output_on c.spec))

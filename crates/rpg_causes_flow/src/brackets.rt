@@ -1,0 +1,171 @@
+//! BEGSR and ENDSR of SR groups, by their cards.
+
+ghost use Rattle.std.specs.Prelude.{◌≡◌, ◌∷◌, ◌++◌, ◌≤◌, List, None, Some, false, length, if◌then◌else◌};
+ghost use Rattle.std.specs.Option.{option_map_or};
+ghost use Rattle.rpg_cards.specs.Calculations.{calculation_ending, calculations_before, open_calculation_group};
+ghost use Rattle.rpg_cards.specs.Deeds as deeds;
+ghost use Rattle.rpg_cards.specs.Labels.{begins_subroutine, begun_count};
+ghost use Rattle.rpg_cards.specs.declared.spec_card.SpecCard.{SpecCard};
+ghost use Rattle.rpg_causes_flow.specs.Order as causes;
+ghost use Rattle.rpg_faults_flow.specs.ByCard as by_card;
+ghost use Rattle.rpg_faults_flow.specs.Order as rules;
+ghost use Rattle.rpg_faults_flow.specs.Seen.{level_of_group};
+
+use rpg_cards::{SpecCard, begins_subroutine, ends_subroutine, is_subroutine, joins, last_card};
+use rpg_sheet_specs::{CalculationSpec, ControlLevel};
+
+/// A BEGSR or an ENDSR, and the card on which its group ends.
+#[derive(Clone, Copy)]
+pub(crate) struct Bracket {
+    pub(crate) card: u16,
+    pub(crate) is_end: bool,
+}
+
+// ---- the section of a group
+
+/// Columns 7 and 8 of the first card of a card's group.
+pub(crate) fn level_in(group: &Option<ControlLevel>, calculation: &CalculationSpec) -> ControlLevel
+    ensures { result ≡ by_card.calculation_level group.now calculation.now }
+{
+    match group {
+        None => calculation.control_level,
+        Some(level) => {
+            if joins(calculation) {
+                *level
+            } else {
+                calculation.control_level
+            }
+        }
+    }
+}
+
+/// The same of the group that a card opens or continues.
+fn level_with(group: &Option<ControlLevel>, card: &SpecCard) -> Option<ControlLevel>
+    ensures { result ≡ by_card.level_with group.now card.now }
+{
+    Some(level_in(group, card.calculation()?))
+}
+
+/// The same of the group that the card right before a card belongs to.
+pub(crate) fn open_level(before: &[SpecCard]) -> Option<ControlLevel>
+    ensures { result ≡ level_of_group (open_calculation_group before.now) }
+{
+    let mut group = None;
+    for card in before {
+        group = level_with(&group, card);
+    }
+    group
+}
+
+// ---- BEGSR and ENDSR
+
+pub(crate) fn is_bracket(calculation: &CalculationSpec) -> bool
+    ensures { result ≡ rules.is_bracket (deeds.deed_of calculation.now) }
+{
+    begins_subroutine(calculation) || ends_subroutine(calculation)
+}
+
+/// The one that ends on a card.
+fn bracket_on(group: &Option<ControlLevel>, card: &SpecCard, after: &[SpecCard]) -> Option<Bracket>
+    ensures { result ≡ causes.bracket_on group.now card.now after.now }
+{
+    let calculation = last_card(card, after)?;
+    if is_subroutine(level_in(group, calculation)) && is_bracket(calculation) {
+        Some(Bracket {
+            card: card.number,
+            is_end: ends_subroutine(calculation),
+        })
+    } else {
+        None
+    }
+}
+
+/// The cards behind the first.
+fn behind_first(cards: &[SpecCard]) -> &[SpecCard]
+    ensures { (c : SpecCard) (cs : List SpecCard) → cards.now ≡ c ∷ cs → result.now ≡ cs }
+{
+    match cards.split_first() {
+        None => cards,
+        Some((_, behind)) => behind,
+    }
+}
+
+/// The last one on the cards at the front of these.
+pub(crate) fn last_bracket(front: &[SpecCard], cards: &[SpecCard]) -> Option<Bracket>
+    ensures { (after : List SpecCard) → cards.now ≡ front.now ++ after → result ≡ causes.last_bracket None front.now after }
+{
+    let mut group = None;
+    let mut found = None;
+    let mut front = front;
+    let mut cards = cards;
+    while let Some((card, left)) = front.split_first() {
+        let behind = behind_first(cards);
+        found = bracket_on(&group, card, behind).or(found);
+        group = level_with(&group, card);
+        front = left;
+        cards = behind;
+    }
+    found
+}
+
+/// The first one on the cards behind a group of that section.
+pub(crate) fn next_bracket(level: &ControlLevel, after: &[SpecCard]) -> Option<Bracket>
+    ensures { result ≡ causes.next_bracket (Some level.now) after.now }
+{
+    let mut group = Some(*level);
+    let mut rest = after;
+    while let Some((card, behind)) = rest.split_first() {
+        let found = bracket_on(&group, card, behind);
+        if found.is_some() {
+            return found;
+        }
+        group = level_with(&group, card);
+        rest = behind;
+    }
+    None
+}
+
+// ---- subroutines
+
+/// How many BEGSRs end on the cards at the front of these.
+pub fn count_begun(front: &[SpecCard], cards: &[SpecCard]) -> u16
+    requires { length front.now ≤ 2000 }
+    ensures { (after : List SpecCard) → cards.now ≡ front.now ++ after → result ≡ begun_count (calculations_before front.now after) }
+{
+    let mut count = 0;
+    let mut group = None;
+    let mut front = front;
+    let mut cards = cards;
+    while let Some((card, left)) = front.split_first() {
+        let behind = behind_first(cards);
+        count += one_if(opens(bracket_on(&group, card, behind)));
+        group = level_with(&group, card);
+        front = left;
+        cards = behind;
+    }
+    count
+}
+
+fn one_if(is_there: bool) -> u16
+    ensures { result ≡ (if is_there then 1 else 0) }
+{
+    u16::from(is_there)
+}
+
+/// Whether the calculation that ends on a card is a BEGSR of SR cards.
+pub fn begins_on(before: &[SpecCard], card: &SpecCard, after: &[SpecCard]) -> bool
+    ensures { result ≡ option_map_or begins_subroutine (calculation_ending before.now card.now after.now) false }
+{
+    let group = open_level(before);
+    opens(bracket_on(&group, card, after))
+}
+
+/// Whether a subroutine is open behind one.
+pub(crate) fn opens(bracket: Option<Bracket>) -> bool
+    ensures { result ≡ causes.opens bracket }
+{
+    match bracket {
+        None => false,
+        Some(bracket) => !bracket.is_end,
+    }
+}

@@ -1,0 +1,104 @@
+//! F12 of I and O cards: cards that need one before them.
+
+ghost use Rattle.std.specs.Prelude.{◌≡◌, is_some};
+ghost use Rattle.rpg_cards.specs.Sheets.{AreSheets};
+ghost use Rattle.rpg_causes_flow.specs.Strays as causes;
+ghost use Rattle.rpg_faults_limits.specs.Order as rules;
+
+use rpg_cards::{IndexedCards, Sheets, SpecCard};
+use rpg_sheet_specs::{InputSpec, OutputSpec};
+
+/// What an I or O card lacks before it.
+#[derive(Clone, Copy)]
+pub enum StrayCause {
+    /// A field without a record type.
+    NoType,
+    /// AND of I: the card right before, if there is one, is no record type and no AND card.
+    OtherThanType(Option<u16>),
+    /// A field without a line.
+    NoLine,
+    /// AND or OR of O: the card right before, if there is one, is no line, and no AND or OR card.
+    OtherThanLine(Option<u16>),
+}
+
+/// F12 of I and O cards: what the card lacks before it.
+pub fn stray_cause(
+    source: &IndexedCards,
+    sheets: &Sheets,
+    before: &[SpecCard],
+    card: &SpecCard,
+) -> Option<StrayCause>
+    requires { AreSheets source.now before.now sheets.now }
+    ensures cause { result ≡ causes.stray_cause before.now card.now }
+    ensures rule { is_some result ≡ rules.strays before.now card.now }
+{
+    on_card(source, sheets, before, card)
+}
+
+fn on_card(
+    source: &IndexedCards,
+    sheets: &Sheets,
+    before: &[SpecCard],
+    card: &SpecCard,
+) -> Option<StrayCause>
+    requires { AreSheets source.now before.now sheets.now }
+    ensures { result ≡ causes.stray_cause before.now card.now }
+{
+    if let Some(input) = card.input() {
+        return on_input(sheets.types.is_open, before, input);
+    }
+    on_output(sheets.lines.is_open, before, card.output()?)
+}
+
+fn on_input(is_open: bool, before: &[SpecCard], input: &InputSpec) -> Option<StrayCause>
+    ensures { result ≡ causes.on_input is_open before.now input.now }
+{
+    match input {
+        InputSpec::Type(_) => None,
+        InputSpec::And(_) if is_behind_codes(before) => None,
+        InputSpec::And(_) => Some(StrayCause::OtherThanType(number_before(before))),
+        InputSpec::Field(_) if is_open => None,
+        InputSpec::Field(_) => Some(StrayCause::NoType),
+    }
+}
+
+fn on_output(is_open: bool, before: &[SpecCard], output: &OutputSpec) -> Option<StrayCause>
+    ensures { result ≡ causes.on_output is_open before.now output.now }
+{
+    match output {
+        OutputSpec::Record(_) => None,
+        OutputSpec::And(_) | OutputSpec::Or(_) if is_behind_conditions(before) => None,
+        OutputSpec::And(_) | OutputSpec::Or(_) => {
+            Some(StrayCause::OtherThanLine(number_before(before)))
+        }
+        OutputSpec::Field(_) if is_open => None,
+        OutputSpec::Field(_) => Some(StrayCause::NoLine),
+    }
+}
+
+fn number_before(before: &[SpecCard]) -> Option<u16>
+    ensures { result ≡ causes.number_before before.now }
+{
+    Some(before.last()?.number)
+}
+
+fn is_behind_codes(before: &[SpecCard]) -> bool
+    ensures { result ≡ rules.is_behind_codes before.now }
+{
+    let Some(card) = before.last() else {
+        return false;
+    };
+    matches!(card.input(), Some(InputSpec::Type(_) | InputSpec::And(_)))
+}
+
+fn is_behind_conditions(before: &[SpecCard]) -> bool
+    ensures { result ≡ rules.is_behind_conditions before.now }
+{
+    let Some(card) = before.last() else {
+        return false;
+    };
+    matches!(
+        card.output(),
+        Some(OutputSpec::Record(_) | OutputSpec::And(_) | OutputSpec::Or(_))
+    )
+}

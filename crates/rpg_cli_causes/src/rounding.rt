@@ -1,0 +1,19 @@
+//! F15: H, and MVR.
+
+use crate::filled::{Piece, write_filled};
+use crate::spot::Spot;
+use rpg_causes::RoundingCause;
+use rpg_cli_text::TextWriter;
+
+/// F15: why H, or MVR, isn't allowed.
+pub(crate) fn write_rounding(out: &mut TextWriter, spot: Spot<'_>, cause: RoundingCause) {
+    let sentence = match cause {
+        RoundingCause::LastCardAlone =>
+            "the calculation goes on with AN or OR, and its last card alone has H",
+        RoundingCause::NoOperation => "H (53) without an operation (28-32)",
+        RoundingCause::NotRounded => "{} isn't half adjusted: blank column 53",
+        RoundingCause::SeveralCards => "MVR has no AN or OR cards",
+        RoundingCause::NoDivision => "MVR follows a DIV without H on the card right before it",
+    };
+    write_filled(out, sentence, &[Piece::Shown(spot.operation())]);
+}
