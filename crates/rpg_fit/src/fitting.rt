@@ -1,15 +1,20 @@
 //! A deck that is rewritten, with the faults of what it has become.
 
-ghost use Rattle.std.specs.Prelude.{IfOk};
+ghost use Rattle.std.specs.Prelude.{◌≡◌, true, IfErr, IfOk};
 ghost use Rattle.rpg_faults.specs.EverySource.{AreSourceFaults};
+ghost use Rattle.rpg_fit_deck.specs.declared.editor.Editor.{Editor};
 ghost use Rattle.rpg_fit_deck.specs.Laws.{IsFitted};
+ghost use Rattle.rpg_fit_deck.specs.Stopping.{IsOf, goes_on};
+ghost use Rattle.rpg_fit.specs.Applied.{AsRulesLeave};
+ghost use Rattle.rpg_fit.specs.Faults.{IsReason};
 
+use crate::fault::FitFault;
 use crate::note::{Note, notes};
-use crate::rules::apply_all;
-use rpg_faults::{CardFault, SourceFault, source_faults};
+use crate::rules::{OldDeckRules, RULES, Rules, apply_all};
+use rpg_faults::{CardFault, source_faults};
 use rpg_fit_cards::Settings;
-use rpg_fit_deck::{Editor, Fitted, Refusal, RenderError};
-use std::alloc::{AllocError, Global};
+use rpg_fit_deck::{Editor, Fitted};
+use std::alloc::Global;
 
 /// A deck that is rewritten.
 #[derive(Drop)]
@@ -21,50 +26,12 @@ pub struct FittedDeck {
     pub faults: Vec<CardFault>,
 }
 
-/// Why a deck isn't rewritten.
-#[derive(Clone, Copy)]
-pub enum FitFault {
-    /// A rule rejects a card of it.
-    Refused(Refusal),
-    /// It has more than 2,000 cards, or would have.
-    TooMany,
-    NoMemory,
-}
-
-impl From<AllocError> for FitFault {
-    fn from(_: AllocError) -> Self {
-        FitFault::NoMemory
-    }
-}
-
-impl From<RenderError> for FitFault {
-    fn from(error: RenderError) -> Self {
-        match error {
-            RenderError::TooMany => FitFault::TooMany,
-            RenderError::NoMemory => FitFault::NoMemory,
-        }
-    }
-}
-
-impl From<SourceFault> for FitFault {
-    fn from(_: SourceFault) -> Self {
-        FitFault::NoMemory
-    }
-}
-
 /// How many cards a deck has at most.
 const MOST_CARDS: usize = 2000;
 
-/// A deck that all rules have seen, and its notes.
-#[derive(Drop)]
-struct NotedDeck {
-    fitted: Fitted,
-    notes: Vec<Note>,
-}
-
 /// An old deck as cards that are read, as far as the rules go.
 ///
-/// The faults are those of the new deck: it has none exactly where it can be compiled.
+/// The faults are those of the new deck: it has none exactly if it can be compiled.
 ///
 /// # Errors
 ///
@@ -73,7 +40,28 @@ pub fn fit(alloc: Global, source: &[u8], settings: &Settings) -> Result<FittedDe
     ensures laws { IfOk result (λ fit. IsFitted source.now fit.fitted) }
     ensures faults { IfOk result (λ fit. AreSourceFaults fit.fitted.new.items fit.faults.items) }
 {
-    let NotedDeck { fitted, notes } = rewritten(alloc, source, settings)?;
+    fit_by(alloc, source, &OldDeckRules { settings })
+}
+
+/// An old deck as rules make it, whatever each of them does: each rule is applied in its turn, to what the ones before it left. No deck
+/// that one of them rejects is returned.
+///
+/// # Errors
+///
+/// A rule rejects the deck, it has too many cards, or memory is refused.
+pub fn fit_by<R: Rules>(alloc: Global, source: &[u8], rules: &R) -> Result<FittedDeck, FitFault>
+    ensures laws { IfOk result (λ fit. IsFitted source.now fit.fitted) }
+    ensures faults { IfOk result (λ fit. AreSourceFaults fit.fitted.new.items fit.faults.items) }
+    ensures accepted { IfOk result (λ fit. (last : Editor) × AsRulesLeave (R.leaves rules.now) RULES source.now last × (goes_on last ≡ true) × IsOf last fit.fitted) }
+    ensures rejected { IfErr result (λ fault. IsReason (R.leaves rules.now) RULES source.now fault) }
+{
+    if line_feeds(source) > MOST_CARDS {
+        return Err(FitFault::TooMany);
+    }
+    let mut editor = Editor::new(alloc, source)?;
+    let notes = notes(alloc, &editor.view(alloc)?)?;
+    apply_all(alloc, &mut editor, rules);
+    let fitted = editor.finish(alloc, source)?;
     let faults = source_faults(alloc, fitted.new.as_slice())?;
     Ok(FittedDeck {
         fitted,
@@ -82,36 +70,7 @@ pub fn fit(alloc: Global, source: &[u8], settings: &Settings) -> Result<FittedDe
     })
 }
 
-/// Applies all rules to a deck.
-fn rewritten(alloc: Global, source: &[u8], settings: &Settings) -> Result<NotedDeck, FitFault>
-    ensures { IfOk result (λ done. IsFitted source.now done.fitted) }
-{
-    if line_feeds(source) > MOST_CARDS {
-        return Err(FitFault::TooMany);
-    }
-    let mut editor = Editor::new(alloc, source)?;
-    let noted = notes(alloc, &editor.view(alloc)?)?;
-    apply_all(alloc, &mut editor, settings);
-    check(&editor)?;
-    let fitted = editor.finish(alloc, source)?;
-    Ok(NotedDeck {
-        fitted,
-        notes: noted,
-    })
-}
-
 /// How many line feeds a text has. A deck of too many cards takes no memory for each of them.
 fn line_feeds(text: &[u8]) -> usize {
     text.iter().filter(|byte| **byte == b'\n').count()
-}
-
-/// Why the rules stopped, if they did.
-fn check(editor: &Editor) -> Result<(), FitFault> {
-    if let Some(refusal) = editor.refusal() {
-        Err(FitFault::Refused(refusal))
-    } else if editor.ran_out() {
-        Err(FitFault::NoMemory)
-    } else {
-        Ok(())
-    }
 }

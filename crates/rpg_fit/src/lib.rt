@@ -1,11 +1,14 @@
 //! An old deck as cards that are read: the rules one after the other, and the faults of the new deck.
 #![tactic(auto)]
 
+mod fault;
 mod fitting;
 mod note;
 mod rules;
 
-pub use fitting::{FitFault, FittedDeck, fit};
+pub use fault::FitFault;
+pub use fitting::{FittedDeck, fit, fit_by};
 pub use note::Note;
 pub use rpg_fit_cards::{Settings, Switches, TableFile};
 pub use rpg_fit_deck::{Card, Fitted, Refusal, Rule, Sentence, Told, What};
+pub use rules::{RULES, Rules};

@@ -4,7 +4,7 @@ use rpg_fit_deck::{Card, Seen, View};
 use rpg_fit_terms::is_card;
 use std::alloc::{AllocError, Global};
 
-/// What is noted of a card.
+/// A note on a card.
 #[derive(Clone, Copy)]
 pub struct Note {
     /// The card of the source, counted from 1.
@@ -12,7 +12,7 @@ pub struct Note {
     pub text: &'static str,
 }
 
-/// What is noted of the cards of a source: halt indicators that calculations turn on, and the printer where it has no overflow indicator.
+/// The notes on the cards of a source: halt indicators that calculations turn on, and the printer if it has no overflow indicator.
 pub(crate) fn notes(alloc: Global, view: &View) -> Result<Vec<Note>, AllocError> {
     let mut notes = Vec::new(alloc);
     let mut printer = None;

@@ -1,5 +1,7 @@
 //! The rules, in their order.
 
+ghost use Rattle.rpg_fit.specs.Applied.{Applied, AppliedInTurn};
+
 use rpg_fit_calculations::{dates, figures, moves, whole_calculations};
 use rpg_fit_cards::{Settings, columns, comments, disks, forms, numbered_pages, switches, tables};
 use rpg_fit_deck::{Editor, Rule};
@@ -10,7 +12,7 @@ use rpg_fit_types::{input_arrays, or_types, sequence};
 use std::alloc::Global;
 
 /// The rules in their order, since rules stand on one another.
-const RULES: [Rule; 21] = [
+pub const RULES: [Rule; 21] = [
     Rule::Comments,
     Rule::Columns,
     Rule::Switches,
@@ -80,14 +82,50 @@ fn apply_to_cycle(alloc: Global, editor: &mut Editor, rule: Rule) {
     }
 }
 
+/// What applies rules to a deck.
+pub trait Rules {
+    ghost use Rattle.rpg_fit_deck.specs.declared.editor.Editor.{Editor};
+    ghost use Rattle.rpg_fit_deck.specs.declared.sentence.Rule.{Rule};
+
+    /// How a rule may leave a deck.
+    ghost leaves: { Self → Rule → Editor → Editor → Type 0 };
+
+    /// Applies a rule to a deck.
+    fn apply(&self, alloc: Global, editor: &mut Editor, rule: Rule)
+        ensures { leaves self.now rule editor.old editor.new };
+}
+
+/// The rules A1 to A21 with the settings of the command.
+#[derive(Clone, Copy)]
+pub(crate) struct OldDeckRules<'a> {
+    pub settings: &'a Settings<'a>,
+}
+
+impl Rules for OldDeckRules<'_> {
+    ghost leaves = { λ _ _ _ _. Unit {0} };
+
+    fn apply(&self, alloc: Global, editor: &mut Editor, rule: Rule) {
+        editor.begin(rule);
+        apply_to_cards(alloc, editor, self.settings, rule);
+        apply_to_calculations(alloc, editor, rule);
+        apply_to_cycle(alloc, editor, rule);
+    }
+}
+
+/// Applies a rule if none before it rejected the deck and memory sufficed.
+fn apply_in_turn<R: Rules>(alloc: Global, editor: &mut Editor, rules: &R, rule: Rule)
+    ensures { AppliedInTurn (R.leaves rules.now) rule editor.old editor.new }
+{
+    if editor.goes_on() {
+        rules.apply(alloc, editor, rule);
+    }
+}
+
 /// Applies all rules, until one of them rejects the deck or memory runs out.
-pub(crate) fn apply_all(alloc: Global, editor: &mut Editor, settings: &Settings) {
+pub(crate) fn apply_all<R: Rules>(alloc: Global, editor: &mut Editor, rules: &R)
+    ensures { Applied (R.leaves rules.now) RULES editor.old editor.new }
+{
     for rule in RULES {
-        if editor.goes_on() {
-            editor.begin(rule);
-            apply_to_cards(alloc, editor, settings, rule);
-            apply_to_calculations(alloc, editor, rule);
-            apply_to_cycle(alloc, editor, rule);
-        }
+        apply_in_turn(alloc, editor, rules, rule);
     }
 }

@@ -1,10 +1,9 @@
 -- The untold cards are a part of NEW's.
 use Rattle.std.proofs.lemmas.Bool.{eqb-true}
 use Rattle.std.proofs.Common.{◌≡◌, ℕ, Bool, true, false, List, [], ◌∷◌, ◌++◌, refl, sym, subst, append_assoc, inl, inr}
-use Rattle.std.specs.Prelude.{vec_len, ◌==◌}
+use Rattle.std.specs.Prelude.{vec_len}
 use Rattle.rpg_fit_deck.specs.declared.here.Here.{Here}
 use Rattle.rpg_fit_deck.specs.declared.here.Here.TheVariants.{Kept, Changed, Gone}
-use Rattle.rpg_fit_deck.specs.declared.slot.Slot.{Slot}
 use Rattle.rpg_fit_deck.specs.Kept.{is_kept}
 use Rattle.rpg_fit_deck.specs.New.{made_lines, lines_here, new_cards, is_untold, untold, IsPart, KeepsUntold}
 

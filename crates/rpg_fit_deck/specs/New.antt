@@ -1,7 +1,6 @@
 -- The cards of NEW, by those of the source and what becomes of each. A source's cards are its lines.
-use Rattle.std.specs.Prelude.{◌≡◌, ℕ, Bool, true, ◌==◌, ◌⊎◌, List, [], ◌∷◌, ◌++◌, map, vec_len, if◌then◌else◌}
-use Rattle.std.specs.List.{flat_map, list_all}
-use Rattle.rpg_text.specs.Lines.{with_line_feed}
+use Rattle.std.specs.Prelude.{◌≡◌, ℕ, Bool, ◌==◌, ◌⊎◌, List, [], ◌∷◌, ◌++◌, map, vec_len, if◌then◌else◌}
+use Rattle.std.specs.List.{list_all}
 use Rattle.rpg_text.specs.Texts.{trimmed}
 use Rattle.rpg_fit_deck.specs.declared.here.Here.{Here}
 use Rattle.rpg_fit_deck.specs.declared.here.Here.TheVariants.{Kept, Changed, Gone}

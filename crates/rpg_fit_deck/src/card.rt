@@ -1,7 +1,8 @@
 //! Cards: 80 columns, counted from 1.
 
 ghost use Rattle.std.specs.Prelude.{◌≡◌};
-ghost use Rattle.rpg_text.specs.Texts.{trimmed};
+ghost use Rattle.rpg_text.specs.Texts.{all_blank, trimmed};
+ghost use Rattle.rpg_fit_deck.specs.Columns.{column_of, columns_of, form_of, is_comment, value_of, without_blanks};
 
 use rpg_text::{is_blank, trimmed};
 
@@ -15,7 +16,7 @@ pub struct Card {
 }
 
 impl Card {
-    /// The first 80 characters of a line, and blanks behind it.
+    /// The first 80 characters of a line, and blanks after it.
     pub fn of(line: &[u8]) -> Card {
         let mut card = Card {
             columns: [b' '; COLUMNS],
@@ -31,8 +32,11 @@ impl Card {
         card
     }
 
-    /// The character in a column; a blank where there is no such column.
-    pub fn column(&self, column: usize) -> u8 {
+    /// The character in a column; a blank if there is no such column.
+    #[tactic(auto, unfolding(crate::specs::Columns::column_of))]
+    pub fn column(&self, column: usize) -> u8
+        ensures { result ≡ column_of self.now column }
+    {
         match self.columns.get(column.saturating_sub(1)) {
             Some(character) => *character,
             None => b' ',
@@ -40,34 +44,51 @@ impl Card {
     }
 
     /// The columns from the first to the last.
-    pub fn columns(&self, first: usize, last: usize) -> &[u8] {
-        self.columns
-            .get(first.saturating_sub(1)..last)
-            .unwrap_or(&[])
+    #[tactic(auto, unfolding(crate::specs::Columns::columns_of))]
+    pub fn columns(&self, first: usize, last: usize) -> &[u8]
+        ensures { result.now ≡ columns_of self.now first last }
+    {
+        let before = first.saturating_sub(1);
+        if before <= last && last <= COLUMNS {
+            &self.columns[before..last]
+        } else {
+            &[]
+        }
     }
 
     /// What stands in columns, without the blanks on both sides.
-    pub fn value(&self, first: usize, last: usize) -> &[u8] {
+    #[tactic(auto, unfolding(crate::specs::Columns::value_of))]
+    pub fn value(&self, first: usize, last: usize) -> &[u8]
+        ensures { result.now ≡ value_of self.now first last }
+    {
         without_blanks(trimmed(self.columns(first, last)))
     }
 
     /// Whether columns are blank.
-    pub fn is_blank(&self, first: usize, last: usize) -> bool {
+    pub fn is_blank(&self, first: usize, last: usize) -> bool
+        ensures { result ≡ all_blank (columns_of self.now first last) }
+    {
         is_blank(self.columns(first, last))
     }
 
-    /// The number in columns; none where they aren't digits behind blanks.
+    /// The number in columns; none if they aren't digits after blanks.
     pub fn number(&self, first: usize, last: usize) -> Option<usize> {
         number(self.value(first, last))
     }
 
     /// Its form: column 6.
-    pub fn form(&self) -> u8 {
+    #[tactic(auto, unfolding(crate::specs::Columns::form_of))]
+    pub fn form(&self) -> u8
+        ensures { result ≡ form_of self.now }
+    {
         self.column(6)
     }
 
     /// Whether it is a comment, or has nothing at all.
-    pub fn is_comment(&self) -> bool {
+    #[tactic(auto, unfolding(crate::specs::Columns::is_comment))]
+    pub fn is_comment(&self) -> bool
+        ensures { result ≡ is_comment self.now }
+    {
         self.column(7) == b'*' || is_blank(&self.columns)
     }
 
@@ -78,7 +99,7 @@ impl Card {
         }
     }
 
-    /// Puts a text in columns, from the first on, and blanks behind it.
+    /// Puts a text in columns, from the first on, and blanks after it.
     pub fn put(&mut self, first: usize, last: usize, text: &[u8]) {
         for place in 0..last.saturating_add(1).saturating_sub(first) {
             let character = match text.get(place) {
@@ -89,7 +110,7 @@ impl Card {
         }
     }
 
-    /// This card with a text in columns, from the first on, and blanks behind it.
+    /// This card with a text in columns, from the first on, and blanks after it.
     pub fn with(mut self, first: usize, last: usize, text: &[u8]) -> Card {
         self.put(first, last, text);
         self
@@ -120,12 +141,14 @@ impl Card {
 }
 
 /// A text without the blanks in front of it.
-fn without_blanks(text: &[u8]) -> &[u8] {
-    let blanks = text
-        .iter()
-        .take_while(|character| **character == b' ')
-        .count();
-    text.get(blanks..).unwrap_or(&[])
+fn without_blanks(text: &[u8]) -> &[u8]
+    ensures { result.now ≡ without_blanks text.now }
+{
+    let mut rest = text;
+    while let [b' ', more @ ..] = rest {
+        rest = more;
+    }
+    rest
 }
 
 /// The number that a text of digits is.

@@ -1,7 +1,9 @@
 //! The one way to change a deck.
 
-ghost use Rattle.std.specs.Prelude.{IfOk};
+ghost use Rattle.std.specs.Prelude.{◌≡◌, true, Some, None, IfErr, IfOk, OnOk, unwrap_or};
+ghost use Rattle.rpg_fit_deck.specs.New.{nothing_told};
 ghost use Rattle.rpg_fit_deck.specs.Laws.{IsFitted};
+ghost use Rattle.rpg_fit_deck.specs.Stopping.{IsOf, IsSource, StaysStopped, StopsFor, goes_on, has_run_out, refusal_for, refusal_of};
 
 use crate::card::Card;
 use crate::fitted::Fitted;
@@ -10,15 +12,16 @@ use crate::marks::{begins_data, ends_source};
 use crate::render::{RenderError, cards_that_are_not_told_are_kept, lines_of, render};
 use crate::sentence::{Refusal, Rule, Sentence, Told, What};
 use crate::slot::{Made, Slot, insert_made, set_made};
+use crate::stopped::Stopped;
 use crate::view::{Address, Seen, View};
 use std::alloc::{AllocError, Global};
 
-/// A deck under change. Where memory is refused, or a rule refuses, it stops: what is changed then is of no use.
+/// A deck while it is rewritten. It stops if memory runs out or a rule rejects the deck, and there is no new deck then.
 #[derive(Drop)]
 pub struct Editor<'a> {
     lines: Vec<&'a [u8]>,
     slots: Vec<Slot>,
-    /// Cards made behind all.
+    /// Cards made after all others.
     end: Vec<Made>,
     /// How many cards were made.
     made: usize,
@@ -33,12 +36,11 @@ impl<'a> Editor<'a> {
     /// # Errors
     ///
     /// Memory is refused.
-    pub fn new(alloc: Global, source: &'a [u8]) -> Result<Editor<'a>, AllocError> {
+    pub fn new(alloc: Global, source: &'a [u8]) -> Result<Editor<'a>, AllocError>
+        ensures { IfOk result (λ editor. IsSource source.now editor) }
+    {
         let lines = lines_of(alloc, source)?;
-        let mut slots = Vec::with_capacity(alloc, lines.len())?;
-        for _ in 0..lines.len() {
-            slots.push(Slot::new(alloc))?;
-        }
+        let slots = slots_as_they_are(alloc, lines.len())?;
         Ok(Editor {
             lines,
             slots,
@@ -50,24 +52,18 @@ impl<'a> Editor<'a> {
         })
     }
 
-    /// Begins a rule: what follows is told by its code.
-    pub fn begin(&mut self, rule: Rule) {
+    /// Begins a rule: what follows has its code.
+    pub fn begin(&mut self, rule: Rule)
+        ensures { StaysStopped self.old self.new }
+    {
         self.rule = rule;
     }
 
-    /// Whether memory was refused.
-    pub fn ran_out(&self) -> bool {
-        self.ran_out
-    }
-
-    /// Why a rule refused the deck.
-    pub fn refusal(&self) -> Option<Refusal> {
-        self.refusal
-    }
-
-    /// Whether to go on: memory sufficed so far, and no rule refused.
-    pub fn goes_on(&self) -> bool {
-        !self.ran_out && self.refusal.is_none()
+    /// Whether to go on: memory sufficed so far, and no rule rejected the deck.
+    pub fn goes_on(&self) -> bool
+        ensures { result ≡ goes_on self.now }
+    {
+        self.refusal.is_none() && !self.ran_out
     }
 
     /// How many cards the source has.
@@ -75,14 +71,19 @@ impl<'a> Editor<'a> {
         self.lines.len()
     }
 
-    fn keep(&mut self, outcome: Result<(), AllocError>) {
+    fn keep(&mut self, outcome: Result<(), AllocError>)
+        ensures { StaysStopped self.old self.new }
+    {
         if outcome.is_err() {
             self.ran_out = true;
         }
     }
 
-    /// Refuses the deck for a card. The first refusal stays.
-    pub fn refuse(&mut self, card: usize, why: Sentence) {
+    /// Rejects the deck for a card. The first refusal stays.
+    pub fn refuse(&mut self, card: usize, why: Sentence)
+        ensures first { refusal_of self.new ≡ Some (unwrap_or (refusal_of self.old) (refusal_for self.old card why)) }
+        ensures memory { has_run_out self.new ≡ has_run_out self.old }
+    {
         if self.refusal.is_none() {
             self.refusal = Some(Refusal {
                 card,
@@ -92,8 +93,10 @@ impl<'a> Editor<'a> {
         }
     }
 
-    /// Tells a change of a card of the source.
-    pub fn tell(&mut self, card: usize, sentence: Sentence) {
+    /// Adds the sentence about a change of a card of the source.
+    pub fn tell(&mut self, card: usize, sentence: Sentence)
+        ensures { StaysStopped self.old self.new }
+    {
         let told = Told {
             rule: self.rule,
             what: What::Change(sentence),
@@ -105,7 +108,9 @@ impl<'a> Editor<'a> {
         self.keep(outcome);
     }
 
-    fn put(&mut self, at: Address, here: Here, with: usize) {
+    fn put(&mut self, at: Address, here: Here, with: usize)
+        ensures { StaysStopped self.old self.new }
+    {
         let rule = self.rule;
         let outcome = match self.slots.get_mut(at.slot) {
             Some(slot) if at.made == 0 => slot.set(here, rule, with),
@@ -115,29 +120,31 @@ impl<'a> Editor<'a> {
         self.keep(outcome);
     }
 
-    /// Puts another card in a card's place, along with the change that is told of the card `with`.
-    pub fn change(&mut self, at: Address, card: Card, with: usize) {
+    /// Puts another card in a card's place, as part of the change of the card `with`.
+    pub fn change(&mut self, at: Address, card: Card, with: usize)
+        ensures { StaysStopped self.old self.new }
+    {
         self.put(at, Here::Changed(card), with);
     }
 
-    /// Takes a card out, along with the change that is told of the card `with`.
-    pub fn remove(&mut self, at: Address, with: usize) {
+    /// Takes a card out, as part of the change of the card `with`.
+    pub fn remove(&mut self, at: Address, with: usize)
+        ensures { StaysStopped self.old self.new }
+    {
         self.put(at, Here::Gone, with);
     }
 
-    /// Puts a card before another one, along with the change that is told of the card `with`, and answers where it is.
-    pub fn insert(&mut self, before: Address, card: Card, with: usize) -> Address {
+    /// Puts a card before another one, as part of the change of the card `with`, and returns where it is.
+    pub fn insert(&mut self, before: Address, card: Card, with: usize) -> Address
+        ensures { StaysStopped self.old self.new }
+    {
         self.insert_copy(before, card, with, with)
     }
 
-    /// Puts a card that is made of the card `from` before another one, and answers where it is.
-    pub fn insert_copy(
-        &mut self,
-        before: Address,
-        card: Card,
-        from: usize,
-        with: usize,
-    ) -> Address {
+    /// Puts a card that is made of the card `from` before another one, and returns where it is.
+    pub fn insert_copy(&mut self, before: Address, card: Card, from: usize, with: usize) -> Address
+        ensures { StaysStopped self.old self.new }
+    {
         self.made = self.made.saturating_add(1);
         let made = Made {
             id: self.made,
@@ -177,15 +184,24 @@ impl<'a> Editor<'a> {
         Ok(view)
     }
 
-    /// The deck rewritten, and NEW: `source`, which the editor was made of, as it was where nothing is told of any card. Else each card of NEW with a line
-    /// feed: for each card of the source, in their order, those made before it, and what stands at its place.
+    /// The deck as it was rewritten, and the new deck: `source`, from which the editor was made, as it is if no sentence names a card. Otherwise
+    /// each card of the new deck with a line feed: for each card of the source, in their order, those made before it, and what replaces it.
     ///
     /// # Errors
     ///
-    /// The source has more than 2,000 lines, or NEW would have more cards; or memory is refused.
-    pub fn finish(self, alloc: Global, source: &[u8]) -> Result<Fitted, RenderError>
-        ensures { IfOk result (λ fitted. IsFitted source.now fitted) }
+    /// A rule rejected the deck; or the source has more than 2,000 lines, or the new deck would have more cards; or memory ran out.
+    pub fn finish(self, alloc: Global, source: &[u8]) -> Result<Fitted, Stopped>
+        ensures laws { IfOk result (λ fitted. IsFitted source.now fitted) }
+        ensures its_own { IfOk result (λ fitted. IsOf self.entry fitted) }
+        ensures went_on { OnOk result (goes_on self.entry ≡ true) }
+        ensures stopped { IfErr result (λ why. StopsFor (refusal_of self.entry) why) }
     {
+        if let Some(refusal) = self.refusal {
+            return Err(Stopped::Refused(refusal));
+        }
+        if self.ran_out {
+            return Err(Stopped::NoMemory);
+        }
         let Editor {
             lines: _,
             slots,
@@ -195,18 +211,49 @@ impl<'a> Editor<'a> {
             refusal: _,
             ran_out: _,
         } = self;
-        cards_that_are_not_told_are_kept();
-        let done = render(alloc, source, slots.as_slice(), end.as_slice())?;
-        Ok(Fitted {
+        finished(alloc, source, slots, end)
+    }
+
+    /// Stops: memory was refused to a rule.
+    pub fn run_out(&mut self)
+        ensures stops { has_run_out self.new ≡ true }
+        ensures refusal { refusal_of self.new ≡ refusal_of self.old }
+    {
+        self.ran_out = true;
+    }
+}
+
+/// The new deck of what became of a source's cards.
+fn finished(
+    alloc: Global,
+    source: &[u8],
+    slots: Vec<Slot>,
+    end: Vec<Made>,
+) -> Result<Fitted, Stopped>
+    ensures laws { IfOk result (λ fitted. IsFitted source.now fitted) }
+    ensures its_own { IfOk result (λ fitted. (fitted.slots ≡ slots) × (fitted.end ≡ end)) }
+    ensures stopped { IfErr result (λ why. StopsFor None why) }
+{
+    cards_that_are_not_told_are_kept();
+    match render(alloc, source, slots.as_slice(), end.as_slice()) {
+        Ok(done) => Ok(Fitted {
             slots,
             end,
             cards: done.cards,
             new: done.new,
-        })
+        }),
+        Err(RenderError::TooMany) => Err(Stopped::TooMany),
+        Err(RenderError::NoMemory) => Err(Stopped::NoMemory),
     }
+}
 
-    /// Stops: memory was refused to a rule.
-    pub fn run_out(&mut self) {
-        self.ran_out = true;
+/// The places of so many cards, each as it is.
+fn slots_as_they_are(alloc: Global, count: usize) -> Result<Vec<Slot>, AllocError>
+    ensures { IfOk result (λ slots. nothing_told slots.items ≡ true) }
+{
+    let mut slots = Vec::with_capacity(alloc, count)?;
+    'slots: for _ in 0..count {
+        slots.push(Slot::new(alloc))?;
     }
+    Ok(slots)
 }

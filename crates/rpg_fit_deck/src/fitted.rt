@@ -7,11 +7,11 @@ use crate::here::Here;
 use crate::sentence::Told;
 use crate::slot::{Made, Slot};
 
-/// A deck that is rewritten: NEW, and what is told of the source's cards.
+/// A deck that is rewritten: the new deck, and the sentences about the source's cards.
 #[derive(Drop)]
 pub struct Fitted {
     pub(crate) slots: Vec<Slot>,
-    /// Cards made behind all.
+    /// Cards made after all others.
     pub(crate) end: Vec<Made>,
     /// How many cards the source has.
     pub cards: usize,
@@ -20,7 +20,7 @@ pub struct Fitted {
 }
 
 impl Fitted {
-    /// What is told of a card of the source, which is counted from 1.
+    /// The sentences about a card of the source, which is counted from 1.
     pub fn told(&self, card: usize) -> &[Told]
         ensures { 0 < length result.now → (0 < card) × (card ≤ self.now.cards) }
     {
@@ -32,7 +32,7 @@ impl Fitted {
             None => &[],
         }
     }
-    /// How many changes are told of all cards.
+    /// How many changes of cards have a sentence.
     pub fn changes(&self) -> usize {
         let mut count: usize = 0;
         for slot in &self.slots {

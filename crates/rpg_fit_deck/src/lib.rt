@@ -1,4 +1,4 @@
-//! A deck under change: its cards, what is told of them, and the one way to change them.
+//! A deck while it is rewritten: its cards, the sentences about them, and the only calls that change them.
 #![tactic(auto)]
 
 mod card;
@@ -9,13 +9,14 @@ mod marks;
 mod render;
 mod sentence;
 mod slot;
+mod stopped;
 mod view;
 mod word;
 
 pub use card::Card;
 pub use editor::Editor;
 pub use fitted::Fitted;
-pub use render::RenderError;
 pub use sentence::{Refusal, Rule, Sentence, Told, What};
+pub use stopped::Stopped;
 pub use view::{Address, Seen, View};
 pub use word::Word;

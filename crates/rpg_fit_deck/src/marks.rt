@@ -1,6 +1,6 @@
 //! The lines that begin data and end a source.
 
-/// A character of a line, or another one behind its end.
+/// A character of a line, or another one past its end.
 fn character_at(line: &[u8], place: usize, behind: u8) -> u8 {
     match line.get(place) {
         Some(character) => *character,
@@ -15,7 +15,7 @@ pub(crate) fn ends_source(line: &[u8]) -> bool {
         && character_at(line, 2, b' ') == b' '
 }
 
-/// Whether a line is a card `**`, behind which data begin.
+/// Whether a line is a card `**`, after which data begin.
 pub(crate) fn begins_data(line: &[u8]) -> bool {
     character_at(line, 0, b' ') == b'*'
         && character_at(line, 1, b' ') == b'*'

@@ -16,7 +16,7 @@ pub(crate) const MOST_CARDS: usize = 2000;
 
 /// Why there is no NEW.
 #[derive(Clone, Copy, PartialEq, Eq)]
-pub enum RenderError {
+pub(crate) enum RenderError {
     /// The source has more than 2,000 cards, or NEW would have.
     TooMany,
     NoMemory,
@@ -42,7 +42,7 @@ pub(crate) fn lines_of<'a>(alloc: Global, source: &'a [u8]) -> Result<Vec<&'a [u
     Ok(found)
 }
 
-/// Whether nothing is told of any card.
+/// Whether no sentence names a card.
 fn is_nothing_told(slots: &[Slot]) -> bool
     ensures { result ≡ nothing_told slots.now }
 {
@@ -115,7 +115,7 @@ pub(crate) struct Rendered {
     pub cards: usize,
 }
 
-/// NEW: the source as it is where nothing is told of any card.
+/// NEW: the source as it is if no sentence names a card.
 pub(crate) fn render<'b>(
     alloc: Global,
     source: &'b [u8],
@@ -159,7 +159,7 @@ fn new_text<'b>(
     Ok(text(alloc, cards.as_slice())?)
 }
 
-/// A law of the definition: cards that aren't told keep their bytes and their order. It does nothing.
+/// A law of the definition: cards that no sentence names keep their bytes and their order. It does nothing.
 pub(crate) fn cards_that_are_not_told_are_kept()
     ensures { KeepsUntold }
 {}

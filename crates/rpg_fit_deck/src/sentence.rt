@@ -1,4 +1,4 @@
-//! What is told of cards.
+//! Sentences about cards.
 
 use crate::word::Word;
 
@@ -76,18 +76,18 @@ impl Sentence {
     }
 }
 
-/// What is told of a card: a change, or that the card is changed along with another one's.
+/// A sentence about a card: its change, or that it is part of another one's.
 #[derive(Clone, Copy)]
 pub struct Told {
     pub rule: Rule,
     pub what: What,
 }
 
-/// A change, or that a card goes along with one.
+/// A change, or that a card is part of one.
 #[derive(Clone, Copy)]
 pub enum What {
     Change(Sentence),
-    /// With the change that is told of the card of this number.
+    /// It is part of the change of the card of this number.
     With(usize),
 }
 

@@ -1,4 +1,4 @@
-//! The place of a card: the cards made before it, what becomes of it, and what is told of it.
+//! The place of a card: the cards made before it, what becomes of it, and the sentences about it.
 
 ghost use Rattle.std.specs.Prelude.{◌≡◌, ◌<◌, true, vec_len, length, IfSome};
 ghost use Rattle.rpg_fit_deck.specs.Kept.{is_kept};
@@ -29,7 +29,9 @@ pub(crate) struct Slot {
 
 impl Slot {
     /// A card as it is.
-    pub fn new(alloc: Global) -> Slot {
+    pub fn new(alloc: Global) -> Slot
+        ensures { vec_len result.told ≡ 0 }
+    {
         Slot {
             before: Vec::new(alloc),
             here: Here::Kept,
@@ -37,13 +39,13 @@ impl Slot {
         }
     }
 
-    /// Tells something of the card.
+    /// Adds a sentence about the card.
     pub fn tell(&mut self, told: Told) -> Result<(), AllocError> {
         self.told.push(told)?;
         Ok(())
     }
 
-    /// How many changes are told of the card.
+    /// How many changes of the card have a sentence.
     pub fn changes(&self) -> usize {
         self.told
             .iter()
@@ -56,12 +58,12 @@ impl Slot {
         matches!(self.here, Here::Gone)
     }
 
-    /// Whether a rule has told something of the card.
+    /// Whether a rule has a sentence about the card.
     fn is_told_by(&self, rule: Rule) -> bool {
         self.told.iter().any(|told| told.rule == rule)
     }
 
-    /// Tells that the card goes along with another one's change, unless the rule has told something of it.
+    /// Notes that the card is part of another one's change, unless the rule has a sentence about it.
     pub fn tell_with(&mut self, rule: Rule, with: usize) -> Result<(), AllocError> {
         if !self.is_told_by(rule) || self.told.is_empty() {
             self.told.push(Told {
@@ -120,7 +122,7 @@ pub(crate) fn set_made(cards: &mut Vec<Made>, id: usize, here: Here) -> Result<(
     Ok(())
 }
 
-/// Puts a made card before another one, or behind all.
+/// Puts a made card before another one, or after all others.
 pub(crate) fn insert_made(cards: &mut Vec<Made>, id: usize, made: Made) -> Result<(), AllocError> {
     match place_of(cards.as_slice(), id) {
         Some(place) => cards.insert(place, made)?,

@@ -30,9 +30,9 @@ pub struct View {
     pub cards: Vec<Seen>,
     /// The data, cards `**` among them.
     pub data: Vec<Seen>,
-    /// Behind the cards.
+    /// The place after the cards.
     pub cards_end: Address,
-    /// Behind all.
+    /// The place after all cards and data.
     pub end: Address,
     in_data: bool,
 }

@@ -1,6 +1,7 @@
 //! Short texts: names, operands, conditions and numbers.
 
-ghost use Rattle.std.specs.Prelude.{◌≤◌};
+ghost use Rattle.std.specs.Prelude.{◌≡◌, ◌≤◌, ◌-◌, [], ◌∷◌, length};
+ghost use Rattle.rpg_fit_deck.specs.Words.{cut, followed_by, room_of, text_of};
 
 /// The longest word: an operand of a calculation.
 const LONGEST: usize = 10;
@@ -14,14 +15,21 @@ pub struct Word {
 
 impl Word {
     /// The first 10 characters of a text.
-    pub fn of(text: &[u8]) -> Word {
+    pub fn of(text: &[u8]) -> Word
+        ensures text { text_of result ≡ cut text.now }
+        ensures room { room_of result ≡ 10 - length text.now }
+    {
         let mut word = Word::empty();
         word.push_all(text);
         word
     }
 
     /// No character.
-    pub fn empty() -> Word {
+    #[tactic(auto, unfolding(crate::specs::Words::text_of))]
+    pub fn empty() -> Word
+        ensures text { text_of result ≡ [] }
+        ensures room { room_of result ≡ 10 }
+    {
         Word {
             characters: [b' '; LONGEST],
             length: 0,
@@ -41,30 +49,42 @@ impl Word {
         word
     }
 
-    /// Appends a character where there is room.
-    pub fn push(&mut self, character: u8) {
-        if let Some(there) = self.characters.get_mut(self.length) {
-            *there = character;
-            self.length = self.length.saturating_add(1);
+    /// Appends a character if there is room.
+    #[tactic(auto, unfolding(crate::specs::Words::text_of))]
+    pub fn push(&mut self, character: u8)
+        ensures text { text_of self.new ≡ followed_by self.old (character ∷ []) }
+        ensures room { room_of self.new ≡ room_of self.old - 1 }
+    {
+        if self.length < LONGEST {
+            self.characters[self.length] = character;
+            self.length += 1;
         }
     }
 
-    /// Appends a text as far as there is room.
-    pub fn push_all(&mut self, text: &[u8]) {
+    /// Appends as much of a text as there is room for.
+    pub fn push_all(&mut self, text: &[u8])
+        ensures text { text_of self.new ≡ followed_by self.old text.now }
+        ensures room { room_of self.new ≡ room_of self.old - length text.now }
+    {
         for character in text {
             self.push(*character);
         }
     }
 
-    /// This word with a text behind it.
-    pub fn and(mut self, text: &[u8]) -> Word {
+    /// This word and then a text.
+    pub fn and(mut self, text: &[u8]) -> Word
+        ensures { text_of result ≡ followed_by self text.now }
+    {
         self.push_all(text);
         self
     }
 
     /// Its characters.
-    pub fn text(&self) -> &[u8] {
-        self.characters.get(..self.length).unwrap_or(&[])
+    #[tactic(auto, unfolding(crate::specs::Words::text_of))]
+    pub fn text(&self) -> &[u8]
+        ensures { result.now ≡ text_of self.now }
+    {
+        &self.characters[..self.length.min(LONGEST)]
     }
 
     /// How many characters it has.

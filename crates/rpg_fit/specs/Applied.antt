@@ -1,0 +1,18 @@
+-- What rules make of a deck, whatever each of them does. `leaves` says how a rule may leave a deck.
+use Rattle.std.specs.Prelude.{◌≡◌, ℕ, List, [], ◌∷◌, MatchBool}
+use Rattle.rpg_fit_deck.specs.declared.editor.Editor.{Editor}
+use Rattle.rpg_fit_deck.specs.declared.sentence.Rule.{Rule}
+use Rattle.rpg_fit_deck.specs.Stopping.{IsSource, goes_on}
+
+-- a rule is applied if no rule before it rejected the deck and memory sufficed; otherwise the deck stays as it is
+abbrev pub AppliedInTurn : (Rule → Editor → Editor → Type 0) → Rule → Editor → Editor → Type 0
+AppliedInTurn leaves rule old new = MatchBool (goes_on old) (leaves rule old new) (new ≡ old)
+
+-- rules one after the other
+abbrev pub Applied : (Rule → Editor → Editor → Type 0) → List Rule → Editor → Editor → Type 0
+Applied leaves [] old new = new ≡ old
+Applied leaves (rule ∷ rules) old new = (next : Editor) × AppliedInTurn leaves rule old next × Applied leaves rules next new
+
+-- a source as rules leave it
+abbrev pub AsRulesLeave : (Rule → Editor → Editor → Type 0) → List Rule → List ℕ → Editor → Type 0
+AsRulesLeave leaves rules source last = (first : Editor) × IsSource source first × Applied leaves rules first last

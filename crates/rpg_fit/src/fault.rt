@@ -1,0 +1,47 @@
+//! Why a deck isn't rewritten.
+
+ghost use Rattle.std.specs.Prelude.{◌≡◌};
+ghost use Rattle.rpg_fit.specs.declared.fault.FitFault.TheVariants.{NoMemory};
+ghost use Rattle.rpg_fit.specs.Faults.{fault_of};
+
+use rpg_faults::SourceFault;
+use rpg_fit_deck::{Refusal, Stopped};
+use std::alloc::AllocError;
+
+/// Why a deck isn't rewritten.
+#[derive(Clone, Copy)]
+pub enum FitFault {
+    /// A rule rejects a card of it.
+    Refused(Refusal),
+    /// It has more than 2,000 cards, or would have.
+    TooMany,
+    NoMemory,
+}
+
+impl From<AllocError> for FitFault {
+    ghost from_gives = { λ _ fault. fault ≡ NoMemory };
+
+    fn from(_: AllocError) -> Self {
+        FitFault::NoMemory
+    }
+}
+
+impl From<Stopped> for FitFault {
+    ghost from_gives = { λ stopped fault. fault ≡ fault_of stopped };
+
+    fn from(stopped: Stopped) -> Self {
+        match stopped {
+            Stopped::Refused(refusal) => FitFault::Refused(refusal),
+            Stopped::TooMany => FitFault::TooMany,
+            Stopped::NoMemory => FitFault::NoMemory,
+        }
+    }
+}
+
+impl From<SourceFault> for FitFault {
+    ghost from_gives = { λ _ fault. fault ≡ NoMemory };
+
+    fn from(_: SourceFault) -> Self {
+        FitFault::NoMemory
+    }
+}

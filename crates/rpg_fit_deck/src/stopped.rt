@@ -1,0 +1,13 @@
+//! Why there is no new deck.
+
+use crate::sentence::Refusal;
+
+/// Why a deck isn't rewritten.
+#[derive(Clone, Copy)]
+pub enum Stopped {
+    /// A rule rejects it: the first refusal.
+    Refused(Refusal),
+    /// It has more than 2,000 cards, or would have.
+    TooMany,
+    NoMemory,
+}
