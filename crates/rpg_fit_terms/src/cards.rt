@@ -37,14 +37,14 @@ pub fn is_card(seen: &Seen, form: u8) -> bool {
     seen.card.form() == form && !seen.card.is_comment()
 }
 
-/// Puts cards before another one, along with the change that is told of the card `with`.
+/// Puts cards before another one, as part of the change of the card `with`.
 pub fn put_cards(editor: &mut Editor, before: Address, cards: &[NewCard], with: usize) {
     for new in cards {
         editor.insert_copy(before, new.card, new.number, with);
     }
 }
 
-/// Where the card behind a card is; the end of the cards where there is none.
+/// Where the card after a card is; the end of the cards if there is none.
 pub fn address_after(view: &View, at: Address) -> Address {
     let mut is_behind = false;
     for seen in view.cards.iter() {

@@ -103,7 +103,7 @@ impl Condition {
         self.length == 0
     }
 
-    /// Refuses more than 60 terms, for a card.
+    /// Rejects more than 60 terms, for a card.
     ///
     /// # Errors
     ///
@@ -125,13 +125,13 @@ impl Condition {
         }
     }
 
-    /// This condition and a term behind it.
+    /// This condition and then a term.
     pub fn and(mut self, term: Term) -> Condition {
         self.push(term);
         self
     }
 
-    /// This condition and another one behind it.
+    /// This condition and then another one.
     pub fn and_all(mut self, other: &Condition) -> Condition {
         for term in other.terms() {
             self.push(*term);

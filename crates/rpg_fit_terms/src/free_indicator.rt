@@ -1,12 +1,17 @@
 //! Indicators that no card has.
 
-use crate::condition::Condition;
+ghost use Rattle.std.specs.Prelude.{◌≡◌, ◌+◌, ◌<◌, ◌≤◌, ℕ, true, false, IfNone, IfOk, IfSome, OnErr};
+ghost use Rattle.rpg_fit_terms.specs.Indicators.{AreUsed, halt, indicator_columns, is_indicator_on, is_indicator_used, left_of, numbered, stands_in};
+
 use crate::indicator::Indicator;
 use crate::stop::Stop;
 use rpg_fit_deck::{Card, Sentence, View};
 
 /// The greatest number of an indicator.
 const GREATEST: u8 = 99;
+
+/// How many halt indicators there are.
+const HALTS: u8 = 9;
 
 /// Indicators that no card has, one after the other, from 99 down.
 #[derive(Clone, Copy)]
@@ -15,43 +20,74 @@ pub struct FreeIndicators {
     left: u8,
 }
 
-/// Whether three pairs of columns, from a column on, have an indicator.
-fn is_in_three(card: &Card, column: usize, indicator: Indicator) -> bool {
-    Indicator::at(card, column) == indicator
-        || Indicator::at(card, column.saturating_add(2)) == indicator
-        || Indicator::at(card, column.saturating_add(4)) == indicator
+/// The first column of each indicator on an I card.
+const INPUT: &[u8] = &[19, 63, 65, 67, 69];
+
+/// The first column of each indicator on a C card.
+const CALCULATION: &[u8] = &[10, 13, 16, 54, 56, 58];
+
+/// The first column of each indicator on an O card.
+const OUTPUT: &[u8] = &[24, 27, 30];
+
+/// The first column of the indicator on an F card.
+const FILE: &[u8] = &[33];
+
+/// The first column of each indicator on cards of a form.
+fn indicator_columns(form: u8) -> &'static [u8]
+    ensures { result.now ≡ indicator_columns form }
+{
+    match form {
+        b'I' => INPUT,
+        b'C' => CALCULATION,
+        b'O' => OUTPUT,
+        b'F' => FILE,
+        _ => &[],
+    }
 }
 
-/// Whether an I card has an indicator.
-fn is_on_input(card: &Card, indicator: Indicator) -> bool {
-    if !card.is_blank(7, 20) {
-        return Indicator::at(card, 19) == indicator;
-    }
-    Indicator::at(card, 63) == indicator || is_in_three(card, 65, indicator)
+/// Whether some of a card's columns have an indicator.
+fn stands_in(card: &Card, columns: &[u8], indicator: Indicator) -> bool
+    ensures { result ≡ stands_in indicator card.now columns.now }
+{
+    columns
+        .iter()
+        .any(|column| indicator.stands_at(card, *column))
 }
 
 /// Whether a card has an indicator.
-fn is_on(card: &Card, indicator: Indicator) -> bool {
-    if card.is_comment() {
-        return false;
-    }
-    match card.form() {
-        b'I' => is_on_input(card, indicator),
-        b'C' => Condition::at(card, 9).asks(indicator) || is_in_three(card, 54, indicator),
-        b'O' => Condition::at(card, 23).asks(indicator),
-        b'F' => Indicator::at(card, 33) == indicator,
-        _ => false,
-    }
+#[tactic(auto, unfolding(crate::specs::Indicators::is_indicator_on))]
+fn is_on(card: &Card, indicator: Indicator) -> bool
+    ensures { result ≡ is_indicator_on indicator card.now }
+{
+    !card.is_comment() && stands_in(card, indicator_columns(card.form()), indicator)
 }
 
 /// Whether some card has an indicator.
-fn is_indicator_used(view: &View, indicator: Indicator) -> bool {
+#[tactic(auto, unfolding(crate::specs::Indicators::is_indicator_used))]
+fn is_indicator_used(view: &View, indicator: Indicator) -> bool
+    ensures { result ≡ is_indicator_used view.now indicator }
+{
     view.cards.iter().any(|seen| is_on(&seen.card, indicator))
+}
+
+/// An indicator, if no card has it.
+fn if_free(view: &View, indicator: Indicator) -> Option<Indicator>
+    ensures same { IfSome result (λ found. found ≡ indicator) }
+    ensures free { IfSome result (λ found. is_indicator_used view.now found ≡ false) }
+    ensures used { IfNone result (is_indicator_used view.now indicator ≡ true) }
+{
+    if is_indicator_used(view, indicator) {
+        None
+    } else {
+        Some(indicator)
+    }
 }
 
 impl FreeIndicators {
     /// All that no card has.
-    pub fn new() -> FreeIndicators {
+    pub fn new() -> FreeIndicators
+        ensures { left_of result ≡ 99 }
+    {
         FreeIndicators { left: GREATEST }
     }
 
@@ -59,15 +95,22 @@ impl FreeIndicators {
     ///
     /// # Errors
     ///
-    /// All are in use: refused for a card.
-    pub fn take(&mut self, view: &View, card: usize) -> Result<Indicator, Stop> {
+    /// All are in use: the deck is rejected for a card.
+    pub fn take(&mut self, view: &View, card: usize) -> Result<Indicator, Stop>
+        ensures unused { IfOk result (λ indicator. is_indicator_used view.now indicator ≡ false) }
+        ensures of_number { IfOk result (λ indicator. indicator ≡ numbered (left_of self.new + 1)) }
+        ensures below { IfOk result (λ _. left_of self.new < left_of self.old) }
+        ensures greatest { IfOk result (λ _. AreUsed view.now (left_of self.new + 1) (left_of self.old)) }
+        ensures all_used { OnErr result (AreUsed view.now 0 (left_of self.old)) }
+    {
         let left = self.left;
         for down in 0..left {
-            let number = left - down;
-            let indicator = Indicator::of_number(number);
-            if !is_indicator_used(view, indicator) {
-                self.left = number - 1;
-                return Ok(indicator);
+            match if_free(view, Indicator::of_number(left - down)) {
+                Some(indicator) => {
+                    self.left = left - down - 1;
+                    return Ok(indicator);
+                }
+                None => {}
             }
         }
         Err(Stop::refused(card, Sentence::of("no indicator is free")))
@@ -78,12 +121,15 @@ impl FreeIndicators {
 ///
 /// # Errors
 ///
-/// All are in use: refused for a card.
-pub fn free_halt(view: &View, card: usize) -> Result<Indicator, Stop> {
-    for down in 0..9 {
-        let indicator = Indicator::halt(9 - down);
-        if !is_indicator_used(view, indicator) {
-            return Ok(indicator);
+/// All are in use: the deck is rejected for a card.
+pub fn free_halt(view: &View, card: usize) -> Result<Indicator, Stop>
+    ensures unused { IfOk result (λ indicator. is_indicator_used view.now indicator ≡ false) }
+    ensures all_used { OnErr result ((n : ℕ) → 0 < n → n ≤ 9 → is_indicator_used view.now (halt n) ≡ true) }
+{
+    for down in 0..HALTS {
+        match if_free(view, Indicator::halt(HALTS - down)) {
+            Some(indicator) => return Ok(indicator),
+            None => {}
         }
     }
     Err(Stop::refused(card, Sentence::of("no halt indicator is free")))

@@ -1,33 +1,87 @@
 //! Names that no card has.
 
-use crate::name::{is_name_used, is_prefix_used};
+ghost use Rattle.std.specs.Prelude.{◌≡◌, ◌<◌, false, [], ◌∷◌, ◌++◌, true, All, IfNone, IfOk, IfSome, OnErr, is_some, nat_lt, length, take};
+ghost use Rattle.rpg_fit_deck.specs.Words.{cut, text_of};
+ghost use Rattle.rpg_fit_terms.specs.Fresh.{AllTaken, AreNew, AreTaken, IsTaken, candidate, digit, digits_of, is_taken};
+ghost use Rattle.rpg_fit_terms.specs.Names.{is_prefix_used};
+
+use crate::name::{is_name_used, is_prefix_used, is_reserved};
 use crate::stop::Stop;
 use rpg_fit_deck::{Sentence, View, Word};
 
 /// How many names are tried at most: the stem, and the stem with 1 to 9,999.
 const MOST_NAMES: usize = 10_000;
 
-/// Names that no card has, one after the other: a stem, then the stem with 1, 2 and so on behind it.
+/// How many characters a field's name has at most.
+const ROOM: usize = 6;
+
+/// Names that no card has, one after the other: a stem, and then the stem before 1, 2 and so on.
 #[derive(Clone, Copy)]
 pub struct FreshNames {
     stem: Word,
     /// How many characters a name has at most.
     room: usize,
-    /// The number of the next one, 0 where it is the stem alone.
+    /// The number of the next one, 0 if it is the stem alone.
     next: usize,
 }
 
-/// Names that stand for something in every deck.
-const RESERVED: [&str; 5] = ["UDATE", "PAGE", "UDAY", "UMONTH", "UYEAR"];
+/// A name that no card has, and the number of the next one to be tried.
+#[derive(Clone, Copy)]
+struct FreeName {
+    name: Word,
+    next: usize,
+}
 
-/// Whether a name stands for something in every deck.
-fn is_reserved(name: &[u8]) -> bool {
-    RESERVED.iter().any(|word| word.as_bytes() == name)
+/// The last digit of a number.
+fn digit(number: usize) -> u8
+    ensures { result ≡ digit number }
+{
+    b'0' + (number % 10) as u8
+}
+
+/// The digits of a number below 10,000, without zeros in front; none for 0.
+fn digits_of(number: usize) -> Word
+    ensures { text_of result ≡ digits_of number }
+{
+    let last = digit(number);
+    let tens = digit(number / 10);
+    let hundreds = digit(number / 100);
+    if number == 0 {
+        Word::empty()
+    } else if number < 10 {
+        Word::of(&[last])
+    } else if number < 100 {
+        Word::of(&[tens, last])
+    } else if number < 1000 {
+        Word::of(&[hundreds, tens, last])
+    } else {
+        Word::of(&[digit(number / 1000), hundreds, tens, last])
+    }
+}
+
+/// The first characters of a text, so many.
+fn front(text: &[u8], count: usize) -> &[u8]
+    ensures { result.now ≡ take count text.now }
+{
+    if count < text.len() {
+        &text[..count]
+    } else {
+        text
+    }
+}
+
+/// Whether a card has a name, or it stands for something in every deck.
+fn is_taken(view: &View, name: &[u8]) -> bool
+    ensures { result ≡ is_taken view.now name.now }
+{
+    is_reserved(name) || is_name_used(view, name)
 }
 
 impl FreshNames {
     /// Names of a stem, of at most so many characters.
-    pub fn of(stem: &[u8], room: usize) -> FreshNames {
+    pub fn of(stem: &[u8], room: usize) -> FreshNames
+        ensures { AreNew stem.now room result }
+    {
         FreshNames {
             stem: Word::of(stem),
             room,
@@ -35,40 +89,71 @@ impl FreshNames {
         }
     }
 
-    /// The name of a number; none where no character of the stem has room beside its digits.
-    fn name(&self, number: usize) -> Option<Word> {
-        let digits = if number == 0 {
-            Word::empty()
-        } else {
-            Word::of_number(number)
-        };
-        if digits.len() >= self.room {
+    /// The name of a number; none if no character of the stem has room before its digits.
+    #[tactic(auto, using(rpg_fit_deck::proofs::Texts::cut_two))]
+    fn name(&self, number: usize) -> Option<Word>
+        ensures room { is_some result ≡ nat_lt (length (digits_of number)) self.now.room }
+        ensures name { IfSome result (λ name. text_of name ≡ candidate (text_of self.now.stem) self.now.room number) }
+    {
+        let digits = digits_of(number);
+        let length = digits.text().len();
+        if length >= self.room {
             return None;
         }
-        let stem = self.stem.text();
-        let length = self.room.saturating_sub(digits.len()).min(stem.len());
-        let name = Word::of(stem.get(..length).unwrap_or(&[]));
-        Some(name.and(digits.text()))
+        let front = front(self.stem.text(), self.room - length);
+        Some(Word::of(front).and(digits.text()))
     }
 
-    /// The next name that no card of the deck has, which is not given again; none where all are in use.
-    pub fn find(&mut self, view: &View) -> Option<Word> {
+    /// The name of a number, if it has room and isn't taken.
+    fn free_name(&self, view: &View, number: usize) -> Option<Word>
+        ensures free { IfSome result (λ name. is_taken view.now (text_of name) ≡ false) }
+        ensures taken { IfNone result (IsTaken view.now self.now number) }
+    {
+        let name = self.name(number)?;
+        if is_taken(view, name.text()) {
+            return None;
+        }
+        Some(name)
+    }
+
+    /// The next name that no card of the deck has; none if all are in use.
+    fn next_free(&self, view: &View) -> Option<FreeName>
+        ensures free { IfSome result (λ found. is_taken view.now (text_of found.name) ≡ false) }
+        ensures none_free { IfNone result (AreTaken view.now self.now) }
+    {
         for number in self.next..MOST_NAMES {
-            let name = self.name(number)?;
-            if !is_reserved(name.text()) && !is_name_used(view, name.text()) {
-                self.next = number.saturating_add(1);
-                return Some(name);
+            match self.free_name(view, number) {
+                Some(name) => {
+                    return Some(FreeName {
+                        name,
+                        next: number + 1,
+                    });
+                }
+                None => {}
             }
         }
         None
+    }
+
+    /// The next name that no card of the deck has, which is not given again; none if all are in use.
+    pub fn find(&mut self, view: &View) -> Option<Word>
+        ensures free { IfSome result (λ name. is_taken view.now (text_of name) ≡ false) }
+        ensures none_free { IfNone result (AreTaken view.now self.old) }
+    {
+        let found = self.next_free(view)?;
+        self.next = found.next;
+        Some(found.name)
     }
 
     /// The next name that no card of the deck has, which is not given again.
     ///
     /// # Errors
     ///
-    /// All names are in use: refused for a card.
-    pub fn take(&mut self, view: &View, card: usize) -> Result<Word, Stop> {
+    /// All names are in use: the deck is rejected for a card.
+    pub fn take(&mut self, view: &View, card: usize) -> Result<Word, Stop>
+        ensures free { IfOk result (λ name. is_taken view.now (text_of name) ≡ false) }
+        ensures none_free { OnErr result (AreTaken view.now self.old) }
+    {
         match self.find(view) {
             Some(name) => Ok(name),
             None => Err(Stop::refused(card, Sentence::of("no name is free"))),
@@ -80,17 +165,36 @@ impl FreshNames {
 ///
 /// # Errors
 ///
-/// All names are in use: refused for a card.
-pub fn fresh_name(view: &View, stem: &[u8], card: usize) -> Result<Word, Stop> {
-    FreshNames::of(stem, 6).take(view, card)
+/// All names are in use: the deck is rejected for a card.
+pub fn fresh_name(view: &View, stem: &[u8], card: usize) -> Result<Word, Stop>
+    ensures free { IfOk result (λ name. is_taken view.now (text_of name) ≡ false) }
+    ensures none_free { OnErr result (AllTaken view.now (cut stem.now) 6 0) }
+{
+    FreshNames::of(stem, ROOM).take(view, card)
+}
+
+/// A stem with a character after it, if no name of a card begins with that.
+#[tactic(auto, using(rpg_fit_deck::proofs::Texts::cut_two))]
+fn prefix_if_unused(view: &View, stem: &[u8], character: u8) -> Option<Word>
+    ensures unused { IfSome result (λ prefix. is_prefix_used view.now (text_of prefix) ≡ false) }
+    ensures used { IfNone result (is_prefix_used view.now (cut (stem.now ++ character ∷ [])) ≡ true) }
+{
+    let prefix = Word::of(stem).and(&[character]);
+    if is_prefix_used(view, prefix.text()) {
+        return None;
+    }
+    Some(prefix)
 }
 
 /// The first text of a stem and one of some characters with which no name of a card begins.
-pub fn unused_prefix(view: &View, stem: &[u8], characters: &[u8]) -> Option<Word> {
+pub fn unused_prefix(view: &View, stem: &[u8], characters: &[u8]) -> Option<Word>
+    ensures unused { IfSome result (λ prefix. is_prefix_used view.now (text_of prefix) ≡ false) }
+    ensures all_used { IfNone result (All (λ c. is_prefix_used view.now (cut (stem.now ++ c ∷ [])) ≡ true) characters.now) }
+{
     for character in characters {
-        let prefix = Word::of(stem).and(&[*character]);
-        if !is_prefix_used(view, prefix.text()) {
-            return Some(prefix);
+        match prefix_if_unused(view, stem, *character) {
+            Some(prefix) => return Some(prefix),
+            None => {}
         }
     }
     None

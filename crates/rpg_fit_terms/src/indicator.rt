@@ -1,5 +1,8 @@
 //! Indicators.
 
+ghost use Rattle.std.specs.Prelude.{◌≡◌, ◌<◌};
+ghost use Rattle.rpg_fit_terms.specs.Indicators.{halt, numbered, stands_at};
+
 use rpg_fit_deck::{Card, Word};
 
 /// An indicator: two characters of a card, perhaps blank.
@@ -34,7 +37,7 @@ impl Indicator {
         second: b'R',
     };
 
-    /// What stands in a column and the one behind it.
+    /// What stands in a column and the next one.
     pub fn at(card: &Card, column: usize) -> Indicator {
         Indicator {
             first: card.column(column),
@@ -42,8 +45,18 @@ impl Indicator {
         }
     }
 
+    /// Whether a card has it in a column and the next one.
+    pub(crate) fn stands_at(self, card: &Card, column: u8) -> bool
+        ensures { result ≡ stands_at self card.now column }
+    {
+        let first = usize::from(column);
+        card.column(first) == self.first && card.column(first + 1) == self.second
+    }
+
     /// The indicator of a number below 100.
-    pub fn of_number(number: u8) -> Indicator {
+    pub fn of_number(number: u8) -> Indicator
+        ensures { result ≡ numbered number }
+    {
         Indicator {
             first: b'0' + number / 10 % 10,
             second: b'0' + number % 10,
@@ -51,7 +64,9 @@ impl Indicator {
     }
 
     /// The halt indicator of a number below 10.
-    pub fn halt(number: u8) -> Indicator {
+    pub fn halt(number: u8) -> Indicator
+        ensures { result ≡ halt number }
+    {
         Indicator {
             first: b'H',
             second: b'0' + number % 10,
@@ -73,7 +88,7 @@ impl Indicator {
         Word::of(&[self.first, self.second])
     }
 
-    /// A card with it in a column and the one behind it.
+    /// A card with it in a column and the next one.
     pub fn on(self, card: Card, column: usize) -> Card {
         card.with(column, column.saturating_add(1), self.word().text())
     }

@@ -1,7 +1,10 @@
 //! The names that cards have.
 
+ghost use Rattle.std.specs.Prelude.{◌≡◌};
+ghost use Rattle.rpg_fit_terms.specs.Names.{has_operand, has_operand_in, is_date_part, is_name_in, is_name_used, is_prefix_in, is_prefix_used, is_reserved, name_columns};
+
 use crate::operand::Operand;
-use rpg_fit_deck::{Card, Seen, View};
+use rpg_fit_deck::{Card, View};
 
 /// Columns of a card.
 #[derive(Clone, Copy)]
@@ -51,7 +54,9 @@ const OUTPUT_NAMES: &[Columns] = &[Columns {
 }];
 
 /// Where cards of a form have names.
-pub(crate) fn name_columns(form: u8) -> &'static [Columns] {
+pub(crate) fn name_columns(form: u8) -> &'static [Columns]
+    ensures { result.now ≡ name_columns form }
+{
     match form {
         b'E' => TABLE_NAMES,
         b'I' => INPUT_NAMES,
@@ -61,40 +66,79 @@ pub(crate) fn name_columns(form: u8) -> &'static [Columns] {
     }
 }
 
-/// Whether columns of a card have a name, or an index of that name.
-fn is_name_in(card: &Card, columns: &Columns, name: &[u8]) -> bool {
-    let found = Operand::of(card.value(columns.first, columns.last));
+/// Whether an operand has a name, as its name or its index.
+fn is_name_in(operand: &[u8], name: &[u8]) -> bool
+    ensures { result ≡ is_name_in name.now operand.now }
+{
+    let found = Operand::of(operand);
     found.name == name || found.index == name
 }
 
+/// Whether some of a card's columns have a name.
+fn has_name_in(card: &Card, places: &[Columns], name: &[u8]) -> bool
+    ensures { result ≡ has_operand_in (is_name_in name.now) card.now places.now }
+{
+    places.iter().any(|columns| is_name_in(card.value(columns.first, columns.last), name))
+}
+
 /// Whether a card has a name.
-fn is_name_on(seen: &Seen, name: &[u8]) -> bool {
-    !seen.card.is_comment()
-        && name_columns(seen.card.form())
-            .iter()
-            .any(|columns| is_name_in(&seen.card, columns, name))
+fn is_name_on(card: &Card, name: &[u8]) -> bool
+    ensures { result ≡ has_operand (is_name_in name.now) card.now }
+{
+    !card.is_comment() && has_name_in(card, name_columns(card.form()), name)
 }
 
 /// Whether some card has a name.
-pub fn is_name_used(view: &View, name: &[u8]) -> bool {
-    view.cards.iter().any(|seen| is_name_on(seen, name))
+#[tactic(auto, unfolding(crate::specs::Names::is_name_used))]
+pub fn is_name_used(view: &View, name: &[u8]) -> bool
+    ensures { result ≡ is_name_used view.now name.now }
+{
+    view.cards.iter().any(|seen| is_name_on(&seen.card, name))
 }
 
-/// Whether columns of a card have a name, or an index, that begins with a text.
-fn is_prefix_in(card: &Card, columns: &Columns, prefix: &[u8]) -> bool {
-    let found = Operand::of(card.value(columns.first, columns.last));
+/// Whether the name or the index of an operand begins with a text.
+fn is_prefix_in(operand: &[u8], prefix: &[u8]) -> bool
+    ensures { result ≡ is_prefix_in prefix.now operand.now }
+{
+    let found = Operand::of(operand);
     found.name.starts_with(prefix) || found.index.starts_with(prefix)
 }
 
+/// Whether some of a card's columns have a name that begins with a text.
+fn has_prefix_in(card: &Card, places: &[Columns], prefix: &[u8]) -> bool
+    ensures { result ≡ has_operand_in (is_prefix_in prefix.now) card.now places.now }
+{
+    places.iter().any(|columns| is_prefix_in(card.value(columns.first, columns.last), prefix))
+}
+
 /// Whether a card has a name that begins with a text.
-fn is_prefix_on(seen: &Seen, prefix: &[u8]) -> bool {
-    !seen.card.is_comment()
-        && name_columns(seen.card.form())
-            .iter()
-            .any(|columns| is_prefix_in(&seen.card, columns, prefix))
+fn is_prefix_on(card: &Card, prefix: &[u8]) -> bool
+    ensures { result ≡ has_operand (is_prefix_in prefix.now) card.now }
+{
+    !card.is_comment() && has_prefix_in(card, name_columns(card.form()), prefix)
 }
 
 /// Whether some card has a name that begins with a text.
-pub(crate) fn is_prefix_used(view: &View, prefix: &[u8]) -> bool {
-    view.cards.iter().any(|seen| is_prefix_on(seen, prefix))
+#[tactic(auto, unfolding(crate::specs::Names::is_prefix_used))]
+pub(crate) fn is_prefix_used(view: &View, prefix: &[u8]) -> bool
+    ensures { result ≡ is_prefix_used view.now prefix.now }
+{
+    view.cards
+        .iter()
+        .any(|seen| is_prefix_on(&seen.card, prefix))
+}
+
+/// Whether a name is that of a part of the date.
+fn is_date_part(name: &[u8]) -> bool
+    ensures { result ≡ is_date_part name.now }
+{
+    name == b"UDAY".as_slice() || name == b"UMONTH".as_slice() || name == b"UYEAR".as_slice()
+}
+
+/// Whether a name stands for something in every deck.
+#[tactic(auto, unfolding(crate::specs::Names::is_reserved))]
+pub(crate) fn is_reserved(name: &[u8]) -> bool
+    ensures { result ≡ is_reserved name.now }
+{
+    name == b"UDATE".as_slice() || name == b"PAGE".as_slice() || is_date_part(name)
 }

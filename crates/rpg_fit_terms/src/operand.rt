@@ -1,6 +1,9 @@
 //! Operands: names with an index.
 
-/// A name, and the index behind its comma; both may be empty.
+ghost use Rattle.std.specs.Prelude.{◌≡◌, ◌<◌, length, position, IfSome};
+ghost use Rattle.rpg_fit_terms.specs.Names.{index_in, is_comma, name_in};
+
+/// A name, and the index after its comma; both may be empty.
 #[derive(Clone, Copy)]
 pub struct Operand<'a> {
     pub name: &'a [u8],
@@ -9,11 +12,14 @@ pub struct Operand<'a> {
 
 impl<'a> Operand<'a> {
     /// The parts of an operand.
-    pub fn of(text: &'a [u8]) -> Operand<'a> {
-        match text.iter().position(|character| *character == b',') {
-            Some(comma) => Operand {
-                name: text.get(..comma).unwrap_or(&[]),
-                index: text.get(comma.saturating_add(1)..).unwrap_or(&[]),
+    pub fn of(text: &'a [u8]) -> Operand<'a>
+        ensures name { result.name.now ≡ name_in text.now }
+        ensures index { result.index.now ≡ index_in text.now }
+    {
+        match comma(text) {
+            Some(end) => Operand {
+                name: &text[..end],
+                index: &text[end + 1..],
             },
             None => Operand {
                 name: text,
@@ -34,4 +40,12 @@ impl<'a> Operand<'a> {
             .iter()
             .all(|character| character.is_ascii_digit())
     }
+}
+
+/// The place of the first comma.
+fn comma(text: &[u8]) -> Option<usize>
+    ensures place { result ≡ position is_comma text.now }
+    ensures within { IfSome result (λ comma. comma < length text.now) }
+{
+    text.iter().position(|character| *character == b',')
 }

@@ -20,7 +20,7 @@ fn names_labels(card: &Card) -> bool {
     LABELLED.iter().any(|word| word.as_bytes() == operation)
 }
 
-/// A card with another name in columns that have the old one; the card as it is where they have another one.
+/// A card with another name in columns that have the old one; none if they have another one.
 fn renamed_in(card: Card, columns: &Columns, old: &[u8], new: &[u8]) -> Option<Card> {
     let text = card.value(columns.first, columns.last);
     if Operand::of(text).name != old {
@@ -31,7 +31,7 @@ fn renamed_in(card: Card, columns: &Columns, old: &[u8], new: &[u8]) -> Option<C
     Some(card.with(columns.first, columns.last, renamed.text()))
 }
 
-/// A card with another name wherever it has the old one; none where it hasn't.
+/// A card with another name wherever it has the old one; none if it doesn't have it.
 fn renamed(card: &Card, old: &[u8], new: &[u8]) -> Option<Card> {
     if card.is_comment() || card.form() == b'C' && names_labels(card) {
         return None;
@@ -47,8 +47,7 @@ fn renamed(card: &Card, old: &[u8], new: &[u8]) -> Option<Card> {
     found
 }
 
-/// Gives a field or an array another name on all cards, along with the change that is told of the card `with`. Labels and subroutines
-/// keep theirs.
+/// Gives a field or an array another name on all cards, as part of the change of the card `with`. Labels and subroutines keep theirs.
 pub fn rename(editor: &mut Editor, view: &View, old: &[u8], new: &[u8], with: usize) {
     for seen in view.cards.iter() {
         if let Some(card) = renamed(&seen.card, old, new) {
@@ -69,8 +68,8 @@ fn card_of(view: &View, name: &[u8]) -> usize {
     0
 }
 
-/// An array's name with room for a tail of some characters in a result. Where its own has none, all cards have a shorter one from now
-/// on, and it is told.
+/// An array's name with room for a tail of some characters in a result. If its own has none, all cards have a shorter one from now
+/// on, and its card gets a sentence about that.
 ///
 /// # Errors
 ///

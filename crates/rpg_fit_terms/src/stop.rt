@@ -1,9 +1,12 @@
 //! Why a rule stops.
 
+ghost use Rattle.std.specs.Prelude.{◌≡◌, MatchResult};
+ghost use Rattle.rpg_fit_terms.specs.Stops.{IsStoppedBy};
+
 use rpg_fit_deck::{Editor, Sentence};
 use std::alloc::{AllocError, AllocFailed};
 
-/// Why a deck is refused, and for which card of the source.
+/// Why a deck is rejected, and for which card of the source.
 #[derive(Clone, Copy)]
 pub struct Reason {
     pub card: usize,
@@ -18,7 +21,7 @@ pub enum Stop {
 }
 
 impl Stop {
-    /// The deck is refused for a card.
+    /// The deck is rejected for a card.
     pub fn refused(card: usize, why: Sentence) -> Stop {
         Stop::Refused(Reason { card, why })
     }
@@ -37,7 +40,9 @@ impl<T: Drop> From<AllocFailed<T>> for Stop {
 }
 
 /// Passes on to the editor how a rule ended.
-pub fn settle(editor: &mut Editor, outcome: Result<(), Stop>) {
+pub fn settle(editor: &mut Editor, outcome: Result<(), Stop>)
+    ensures { MatchResult outcome (λ _. editor.new ≡ editor.old) (λ stop. IsStoppedBy stop editor.old editor.new) }
+{
     match outcome {
         Ok(()) => {}
         Err(Stop::NoMemory) => editor.run_out(),

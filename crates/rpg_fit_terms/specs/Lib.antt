@@ -1,0 +1,4 @@
+pub mod Fresh
+pub mod Indicators
+pub mod Names
+pub mod Stops
