@@ -5,7 +5,7 @@ use rpg_fit_terms::{Form, FreeIndicators, FreshNames, Indicator, NewCard, Stop};
 use rpg_fit_words::Calculation;
 use std::alloc::Global;
 
-/// An entry of an array: the array's name, and what stands behind the comma.
+/// An entry of an array: the array's name, and what stands after the comma.
 #[derive(Clone, Copy)]
 pub(crate) struct Entry {
     pub name: Word,

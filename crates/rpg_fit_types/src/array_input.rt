@@ -196,7 +196,7 @@ fn is_filled_from(kind: &RecordType, field: &Seen, name: &[u8]) -> bool {
     false
 }
 
-/// Refuses a field that is packed, or whose index a card behind it fills.
+/// Rejects a field that is packed, or whose index a later card fills.
 fn check_field(kind: &RecordType, field: &Seen) -> Result<(), Stop> {
     if field.card.column(43) != b' ' {
         return Err(Stop::refused(
@@ -252,7 +252,7 @@ fn fill_field(
     }
 }
 
-/// Tells how many calculations fill an array or an entry.
+/// Adds the sentence that says how many calculations fill an array or an entry.
 fn tell_filled(editor: &mut Editor, reading: &Reading, name: &Word, count: usize) {
     editor.tell(
         reading.seen.number,

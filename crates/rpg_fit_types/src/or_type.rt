@@ -121,7 +121,7 @@ fn blank_relations(editor: &mut Editor, kind: &RecordType) {
     }
 }
 
-/// Puts a type for each further alternative behind the first one.
+/// Puts a type for each further alternative after the first one.
 fn separate(
     alloc: Global,
     editor: &mut Editor,
@@ -142,7 +142,7 @@ fn separate(
     Ok(())
 }
 
-/// Takes the OR cards out, and the AND cards behind them.
+/// Takes the OR cards out, and the AND cards after them.
 fn remove_others(editor: &mut Editor, kind: &RecordType) {
     let mut is_other = false;
     for seen in kind.more.iter() {

@@ -22,7 +22,7 @@ pub(crate) struct Step {
     pub is_optional: bool,
 }
 
-/// A number that no step has: behind all.
+/// A number that no step has: after all.
 const BEHIND_ALL: usize = 100;
 
 /// The steps of numbered types, in the order of their first cards.
@@ -50,7 +50,7 @@ fn are_optional(steps: &[Step], low: usize, high: usize) -> bool {
     steps.iter().all(|step| step.number <= low || step.number >= high || step.is_optional)
 }
 
-/// Whether a record of a step may come behind the last one of a number, 0 where there was none: within a group, or as the first of the
+/// Whether a record of a step may come after the last one of a number, 0 if there was none: within a group, or as the first of the
 /// next one.
 fn may_follow(steps: &[Step], last: usize, step: &Step) -> bool {
     last == step.number && step.is_many
@@ -58,7 +58,7 @@ fn may_follow(steps: &[Step], last: usize, step: &Step) -> bool {
         || are_optional(steps, last, BEHIND_ALL) && are_optional(steps, 0, step.number)
 }
 
-/// The numbers behind which a record of a step may come, 0 first.
+/// The numbers after which a record of a step may come, 0 first.
 pub(crate) fn numbers_before(
     alloc: Global,
     steps: &[Step],
@@ -76,7 +76,7 @@ pub(crate) fn numbers_before(
     Ok(numbers)
 }
 
-/// Letters for columns 15 to 16 in place of a number, by their place: NA to NZ, then XA and so on; none behind ZZ.
+/// Letters for columns 15 to 16 in place of a number, by their place: NA to NZ, then XA and so on; none after ZZ.
 pub(crate) fn letters(place: usize) -> Option<Word> {
     let first = match place / 26 {
         0 => b'N',

@@ -34,7 +34,7 @@ fn indicators_of(
     Ok(found)
 }
 
-/// Appends the comparison with a number behind which the record may come.
+/// Appends the comparison with a number after which the record may come.
 fn push_comparison(
     cards: &mut Vec<NewCard>,
     marks: &Marks,
@@ -78,7 +78,7 @@ fn push_test(
     Ok(())
 }
 
-/// Appends the tests of a step, unless its records may come behind every number.
+/// Appends the tests of a step, unless its records may come after every number.
 fn push_step(
     alloc: Global,
     cards: &mut Vec<NewCard>,

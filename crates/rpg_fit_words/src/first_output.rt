@@ -38,7 +38,7 @@ fn spaces(card: &Card) -> usize {
         .saturating_add(card.number(18, 18).unwrap_or(0))
 }
 
-/// The line of the page that printing is at behind a line's card, at most: `at` before it.
+/// The line of the page that printing is at after a line's card, at most: `at` before it.
 fn line_behind(at: usize, card: &Card) -> usize {
     let spaces = spaces(card);
     let moved = if card.is_blank(17, 22) { 1 } else { spaces };

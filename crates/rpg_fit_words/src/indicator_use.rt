@@ -28,7 +28,7 @@ pub struct IndicatorUse {
     pub indicator: Indicator,
 }
 
-/// Appends the indicator in a column and the one behind it, where there is one.
+/// Appends the indicator in a column and the next one, if there is one.
 fn push_use(
     found: &mut Vec<IndicatorUse>,
     seen: &Seen,

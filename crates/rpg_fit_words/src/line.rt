@@ -107,7 +107,7 @@ impl Line {
         Ok(())
     }
 
-    /// Takes all cards of the line out, along with the change that is told of the card `with`.
+    /// Takes all cards of the line out, as part of the change of the card `with`.
     pub fn remove(&self, editor: &mut Editor, with: usize) {
         editor.remove(self.head.at, with);
         remove_cards(editor, self.more.as_slice(), with);
@@ -151,7 +151,7 @@ fn condition_card(word: &[u8], condition: &Condition, part: usize, number: usize
     }
 }
 
-/// Appends the AND cards that an alternative needs behind its first card.
+/// Appends the AND cards that an alternative needs after its first card.
 fn push_and_cards(
     more: &mut Vec<NewCard>,
     condition: &Condition,
@@ -231,7 +231,7 @@ pub fn lines(alloc: Global, view: &View) -> Result<Vec<Line>, Stop> {
     Ok(found)
 }
 
-/// Puts the name of its file on each line's card, so that lines may be moved, along with the change that is told of the card `with`.
+/// Puts the name of its file on each line's card, so that lines may be moved, as part of the change of the card `with`.
 pub fn name_files(editor: &mut Editor, lines: &[Line], with: usize) {
     for line in lines {
         if line.head.card.value(7, 14) != line.file.text() {

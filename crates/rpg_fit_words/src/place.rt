@@ -8,7 +8,7 @@ use std::alloc::Global;
 /// A place for calculations in the cycle.
 #[derive(Clone, Copy, PartialEq, Eq)]
 pub enum Place {
-    /// Behind the moves of the input fields.
+    /// After the moves of the input fields.
     DetailFront,
     /// Before the heading and detail lines.
     DetailEnd,
@@ -28,7 +28,7 @@ fn before_output(view: &View) -> Address {
     view.cards_end
 }
 
-/// Where the first calculation is that is no detail calculation; `behind` where there is none.
+/// Where the first calculation is that is no detail calculation; `behind` if there is none.
 fn first_total(groups: &[Group], behind: Address) -> Address {
     for group in groups {
         if group.section() != Section::Detail {
@@ -38,7 +38,7 @@ fn first_total(groups: &[Group], behind: Address) -> Address {
     behind
 }
 
-/// Where the first calculation of a subroutine is; `behind` where there is none.
+/// Where the first calculation of a subroutine is; `behind` if there is none.
 fn first_subroutine(groups: &[Group], behind: Address) -> Address {
     for group in groups {
         if group.section() == Section::Subroutine {
@@ -63,7 +63,7 @@ fn address_of(view: &View, groups: &[Group], place: Place) -> Address {
     }
 }
 
-/// Puts calculations in a place of the deck as it is now, along with the change that is told of the card `with`.
+/// Puts calculations in a place of the deck as it is now, as part of the change of the card `with`.
 ///
 /// # Errors
 ///
