@@ -17,6 +17,7 @@ TOP = (
     "rpg_source_run",
     "rpg_record_lines",
     "rpg_fit_deck",
+    "rpg_fit_terms",
     "rpg_fit",
     "rpg_cli_files",
     "rpg_cli_warnings",
