@@ -1,8 +1,9 @@
 -- What rules make of a deck, whatever each of them does. `leaves` says how a rule may leave a deck.
-use Rattle.std.specs.Prelude.{◌≡◌, ℕ, List, [], ◌∷◌, MatchBool}
+use Rattle.std.specs.Prelude.{◌≡◌, ℕ, true, List, [], ◌∷◌, MatchBool}
 use Rattle.rpg_fit_deck.specs.declared.editor.Editor.{Editor}
 use Rattle.rpg_fit_deck.specs.declared.sentence.Rule.{Rule}
-use Rattle.rpg_fit_deck.specs.Stopping.{IsSource, goes_on}
+use Rattle.rpg_fit_deck.specs.declared.fitted.Fitted.{Fitted}
+use Rattle.rpg_fit_deck.specs.Stopping.{IsOf, IsSource, goes_on}
 
 -- a rule is applied if no rule before it rejected the deck and memory sufficed; otherwise the deck stays as it is
 abbrev pub AppliedInTurn : (Rule → Editor → Editor → Type 0) → Rule → Editor → Editor → Type 0
@@ -16,3 +17,7 @@ Applied leaves (rule ∷ rules) old new = (next : Editor) × AppliedInTurn leave
 -- a source as rules leave it
 abbrev pub AsRulesLeave : (Rule → Editor → Editor → Type 0) → List Rule → List ℕ → Editor → Type 0
 AsRulesLeave leaves rules source last = (first : Editor) × IsSource source first × Applied leaves rules first last
+
+-- what rules made of a source that none of them rejected
+abbrev pub IsRewritten : (Rule → Editor → Editor → Type 0) → List Rule → List ℕ → Fitted → Type 0
+IsRewritten leaves rules source fitted = (last : Editor) × AsRulesLeave leaves rules source last × (goes_on last ≡ true) × IsOf last fitted

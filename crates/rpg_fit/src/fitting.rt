@@ -1,11 +1,9 @@
 //! A deck that is rewritten, with the faults of what it has become.
 
-ghost use Rattle.std.specs.Prelude.{◌≡◌, true, IfErr, IfOk};
+ghost use Rattle.std.specs.Prelude.{IfErr, IfOk};
 ghost use Rattle.rpg_faults.specs.EverySource.{AreSourceFaults};
-ghost use Rattle.rpg_fit_deck.specs.declared.editor.Editor.{Editor};
 ghost use Rattle.rpg_fit_deck.specs.Laws.{IsFitted};
-ghost use Rattle.rpg_fit_deck.specs.Stopping.{IsOf, goes_on};
-ghost use Rattle.rpg_fit.specs.Applied.{AsRulesLeave};
+ghost use Rattle.rpg_fit.specs.Applied.{IsRewritten};
 ghost use Rattle.rpg_fit.specs.Faults.{IsReason};
 
 use crate::fault::FitFault;
@@ -52,7 +50,7 @@ pub fn fit(alloc: Global, source: &[u8], settings: &Settings) -> Result<FittedDe
 pub fn fit_by<R: Rules>(alloc: Global, source: &[u8], rules: &R) -> Result<FittedDeck, FitFault>
     ensures laws { IfOk result (λ fit. IsFitted source.now fit.fitted) }
     ensures faults { IfOk result (λ fit. AreSourceFaults fit.fitted.new.items fit.faults.items) }
-    ensures accepted { IfOk result (λ fit. (last : Editor) × AsRulesLeave (R.leaves rules.now) RULES source.now last × (goes_on last ≡ true) × IsOf last fit.fitted) }
+    ensures accepted { IfOk result (λ fit. IsRewritten (R.leaves rules.now) RULES source.now fit.fitted) }
     ensures rejected { IfErr result (λ fault. IsReason (R.leaves rules.now) RULES source.now fault) }
 {
     if line_feeds(source) > MOST_CARDS {

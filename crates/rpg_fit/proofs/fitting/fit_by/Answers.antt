@@ -12,4 +12,4 @@ returns-in_err-fitted-clause-rejected g c =
     let e = err_from_is_err_and c.from_residual-in_err-fitted.result c.from_residual-in_err-fitted.ensures.1 in
     rw (e.1, e.2)
     (reason (g.R.Rules.leaves c.args.rules.now) RULES c.args.source.now c.apply_all.new.editor c.in_err-fitted.field-0.0
-      (c.in_ok-editor.editor, c.in_ok-editor.ensures, c.apply_all.ensures) c.in_err-fitted.ensures.stopped)
+    (c.in_ok-editor.editor, c.in_ok-editor.ensures, c.apply_all.ensures) c.in_err-fitted.ensures.stopped)
