@@ -1,8 +1,8 @@
 //! The command that makes cards of shorthand, and shorthand of cards.
 
-use crate::reading::source_bytes;
 use rpg_cli_answers::{Answer, Listener, Stop, named};
 use rpg_cli_cards::{RULER, ShorthandFault, deck_of, line_message, shorthand_of};
+use rpg_cli_run::source_bytes;
 use rpg_cli_words::{CardsWanted, CardsWords, FileWord};
 use std::alloc::Global;
 use std::rt::Files;

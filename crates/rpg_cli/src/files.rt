@@ -1,11 +1,10 @@
 //! The commands that read one file, and the object that one of them writes.
 
-use crate::reading::{source_bytes, system_path};
 use rpg_cli_answers::{Answer, Listener, Stop, named};
 use rpg_cli_files::{file_bytes, write_bytes};
 use rpg_cli_run::{
-    NamedFile, compiled, judge_warnings, own_source, refuse_same_file, tell_faults, tell_object,
-    verified,
+    NamedFile, compiled, judge_warnings, own_source, refuse_same_file, source_bytes, system_path,
+    tell_faults, tell_object, verified,
 };
 use rpg_cli_show::{program_overview, program_text};
 use rpg_cli_words::{CompileWords, FileWord, Format, ShowWords, VerifyWords};

@@ -11,7 +11,6 @@ mod listing;
 mod naming;
 mod outlet;
 mod program;
-mod reading;
 mod telling;
 mod told;
 

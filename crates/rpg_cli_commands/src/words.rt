@@ -56,13 +56,6 @@ pub(crate) struct CommandWords {
     pub words: &'static [Word],
 }
 
-const SOURCE: Word = Word {
-    name: "SRC",
-    kind: Kind::Placed,
-    is_required: true,
-    help: "The source, a card a line",
-};
-
 const OBJECT: Word = Word {
     name: "OBJ",
     kind: Kind::Placed,
@@ -376,7 +369,7 @@ const RUN: [Word; 11] = [
 ];
 
 const GO: [Word; 14] = [
-    SOURCE,
+    SOURCE_OR_INPUT,
     INPUT,
     Word {
         name: "PRINT",

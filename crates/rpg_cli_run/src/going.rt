@@ -1,11 +1,11 @@
 //! The command that compiles a source and runs it.
 
 use crate::jobs::run_own;
+use crate::reading::source_bytes;
 use crate::refusing::tell_wanted;
 use crate::sources::{OwnSource, tell_faults};
 use crate::warned::judge_warnings;
 use rpg_cli_answers::{Answer, Listener, Stop, named};
-use rpg_cli_files::file_bytes;
 use rpg_cli_words::{FileWord, GoWords};
 use rpg_engine::Report;
 use rpg_source_run::CompiledSource;
@@ -52,7 +52,7 @@ pub fn go_files<R: Files + Input + Print + AllocGlobal, L: Listener>(
     if let Some(same) = words.run.shared_stream() {
         return Err(same.into());
     }
-    let text = named(FileWord::Source, file_bytes(rt, words.run.object))?;
+    let text = named(FileWord::Source, source_bytes(rt, words.run.object))?;
     match CompiledSource::new(rt.alloc(), text, words.allowance) {
         Ok(compiled) => {
             deny_warned(rt.alloc(), words, compiled.text(), listener)?;

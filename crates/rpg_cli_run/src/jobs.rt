@@ -9,6 +9,7 @@ ghost use Rattle.rpg_files.specs.Counting.{faults_of};
 use crate::dating::has_date;
 use crate::halting::tell_halt;
 use crate::keeping::Kept;
+use crate::reading::system_path;
 use crate::refusing::tell_refused;
 use crate::running::{run_over, run_source_over};
 use crate::sharing::{NamedFile, refuse_same_file};
@@ -183,7 +184,7 @@ fn keep_files<R: Files + AllocGlobal>(
     kept: &Kept<'_>,
 ) -> Result<(), Stop> {
     let (input, output) = ("/dev/stdin", "/dev/stdout");
-    let object = NamedFile::at(rt, words.program, words.object);
+    let object = NamedFile::at(rt, words.program, system_path(words.object));
     let source = NamedFile::named(rt, FileWord::OwnSource, words.source);
     let primary = NamedFile::opened(rt, FileWord::Input, &files.input, input);
     let secondary = NamedFile::opened(rt, FileWord::Secondary, &files.secondary, input);

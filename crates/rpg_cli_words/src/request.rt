@@ -323,22 +323,45 @@ impl<'a> RunWords<'a> {
         is_standard(self.print) || may_be_standard(self.disk)
     }
 
+    /// The first word that names standard input before the records of a secondary file.
+    fn earlier_input(&self) -> Option<FileWord> {
+        if is_standard(self.object) {
+            Some(self.program)
+        } else {
+            is_standard(self.input).then_some(FileWord::Input)
+        }
+    }
+
+    /// Two words that name standard input.
+    fn shared_input(&self) -> Option<SameFile> {
+        let written = if is_standard(self.object) && is_standard(self.input) {
+            FileWord::Input
+        } else if may_be_standard(self.secondary) {
+            FileWord::Secondary
+        } else {
+            return None;
+        };
+        Some(SameFile {
+            earlier: self.earlier_input()?,
+            written,
+            shared: Shared::StandardInput,
+        })
+    }
+
+    /// Two words that name standard output.
+    fn shared_output(&self) -> Option<SameFile> {
+        (is_standard(self.print) && may_be_standard(self.disk)).then_some(SameFile {
+            earlier: FileWord::Print,
+            written: FileWord::Disk,
+            shared: Shared::StandardOutput,
+        })
+    }
+
     /// Two words that name standard input, or standard output: what one of them reads or writes would be mixed with the other's.
     pub fn shared_stream(&self) -> Option<SameFile> {
-        if is_standard(self.input) && may_be_standard(self.secondary) {
-            Some(SameFile {
-                earlier: FileWord::Input,
-                written: FileWord::Secondary,
-                shared: Shared::StandardInput,
-            })
-        } else if is_standard(self.print) && may_be_standard(self.disk) {
-            Some(SameFile {
-                earlier: FileWord::Print,
-                written: FileWord::Disk,
-                shared: Shared::StandardOutput,
-            })
-        } else {
-            None
+        match self.shared_input() {
+            Some(same) => Some(same),
+            None => self.shared_output(),
         }
     }
 
@@ -502,14 +525,8 @@ const PROGRAM_FILES: [(&str, &str); 4] = [
     ),
 ];
 
-/// What is said where the source that is compiled and run is a standard stream.
-const RUN_SOURCE: &str = "'<SRC>' can't be '-', a standard stream; a file of that name is './-'";
-
 /// What is wrong with the words for a source and an object program, if one is a standard stream.
-fn fault_of_program(command: &str, given: &ArgMatches) -> Option<&'static str> {
-    if command == "go" && may_be_standard(given.get_str("SRC")) {
-        return Some(RUN_SOURCE);
-    }
+fn fault_of_program(given: &ArgMatches) -> Option<&'static str> {
     for (name, fault) in PROGRAM_FILES {
         if may_be_standard(given.get_str(name)) {
             return Some(fault);
@@ -521,7 +538,7 @@ fn fault_of_program(command: &str, given: &ArgMatches) -> Option<&'static str> {
 /// What is wrong with the values of a command that clap takes.
 fn bad_value(matches: &ArgMatches) -> Option<&'static str> {
     let (command, given) = matches.subcommand()?;
-    match fault_of_program(command, given) {
+    match fault_of_program(given) {
         None if command == "records" => fault_of(given),
         None if command == "fit" => fitting::fault_of(given),
         fault => fault,

@@ -30,7 +30,7 @@ fn input_bytes<R: Input + AllocGlobal>(rt: &R) -> Result<Vec<u8>, FileFault> {
 }
 
 /// The bytes of a source: those of a file, or of standard input.
-pub(crate) fn source_bytes<R: Files + Input + AllocGlobal>(
+pub fn source_bytes<R: Files + Input + AllocGlobal>(
     rt: &R,
     path: &str,
 ) -> Result<Vec<u8>, FileFault> {
@@ -42,7 +42,7 @@ pub(crate) fn source_bytes<R: Files + Input + AllocGlobal>(
 }
 
 /// The path by which the system has a source.
-pub(crate) fn system_path(path: &str) -> &str {
+pub fn system_path(path: &str) -> &str {
     if is_standard(path) {
         "/dev/stdin"
     } else {
