@@ -11,6 +11,7 @@ use crate::dates::{JobDate, tell_odd_date};
 use crate::decks::cards_file;
 use crate::explaining::explain;
 use crate::files::{compile_files, show_file, verify_file};
+use crate::formed::FormedListener;
 use crate::listing::list_file;
 use crate::naming::{files_of, uncoded_severity};
 use crate::outlet::Outlet;
@@ -199,11 +200,15 @@ fn obey<R: Clock + Env + Files + Input + Print + Eprint + AllocGlobal, W: Write,
     ensures { PrintsALine (W.contents out.old) (W.contents out.new) result }
 {
     match request.format() {
-        Format::Text => obey_as_asked(rt, request, out, listener),
+        Format::Text => {
+            let mut listener = FormedListener::Text(listener);
+            obey_as_asked(rt, request, out, &mut listener)
+        }
         Format::Json => match files_of(rt.alloc(), request) {
             Ok(files) => {
                 let uncoded = uncoded_severity(request);
-                let mut listener = JsonListener::new(rt.alloc(), listener, files, uncoded);
+                let objects = JsonListener::new(rt.alloc(), listener, files, uncoded);
+                let mut listener = FormedListener::Json(objects);
                 obey_as_asked(rt, request, out, &mut listener)
             }
             Err(_) => conclude(

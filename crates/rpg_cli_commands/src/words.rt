@@ -349,7 +349,21 @@ const KEEP: Word = Word {
     help: "Keeps the old PRINT and disk file until the job has ended well",
 };
 
-const RUN: [Word; 11] = [
+const TRACE: Word = Word {
+    name: "trace",
+    kind: Kind::Most,
+    is_required: false,
+    help: "Reports the first N cycles one by one: records, indicators, lines and fields",
+};
+
+const WATCH: Word = Word {
+    name: "watch",
+    kind: Kind::Flag,
+    is_required: false,
+    help: "Reports control fields that go down, and counts records and lines",
+};
+
+const RUN: [Word; 13] = [
     OBJECT,
     INPUT,
     Word {
@@ -364,11 +378,13 @@ const RUN: [Word; 11] = [
     MOST,
     KEEP,
     OWN_SOURCE,
+    TRACE,
+    WATCH,
     FORMAT,
     QUIET,
 ];
 
-const GO: [Word; 14] = [
+const GO: [Word; 16] = [
     SOURCE_OR_INPUT,
     INPUT,
     Word {
@@ -382,6 +398,8 @@ const GO: [Word; 14] = [
     DISK,
     MOST,
     KEEP,
+    TRACE,
+    WATCH,
     ALLOWANCE,
     FAULTS,
     DENY,

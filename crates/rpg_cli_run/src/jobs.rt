@@ -9,6 +9,7 @@ ghost use Rattle.rpg_files.specs.Counting.{faults_of};
 use crate::dating::has_date;
 use crate::halting::tell_halt;
 use crate::keeping::Kept;
+use crate::looking::run_as_asked;
 use crate::reading::system_path;
 use crate::refusing::tell_refused;
 use crate::running::{run_over, run_source_over};
@@ -20,10 +21,11 @@ use rpg_cli_files::{
     output_file, records,
 };
 use rpg_cli_halts::HaltedSource;
+use rpg_cli_show_fields::SourceRows;
 use rpg_cli_words::{FileWord, RunWords, is_standard};
 use rpg_engine::{
-    ObjectFault, Program, Report, RunFault, Verified, accept, decode_object, has_disk_file,
-    has_secondary_file,
+    ObjectFault, Program, Report, RunFault, Verified, Watcher, accept, decode_object,
+    has_disk_file, has_secondary_file,
 };
 use rpg_files::Counted;
 use rpg_source_run::CompiledSource;
@@ -197,7 +199,7 @@ fn keep_files<R: Files + AllocGlobal>(
 
 /// What a run reads and writes, the files that are written emptied.
 #[derive(Drop)]
-struct Devices<F: Drop, S: Drop, P: Drop> {
+pub(crate) struct Devices<F: Drop, S: Drop, P: Drop> {
     input: RecordSource<F, S>,
     secondary: RecordSource<F, S>,
     print: LineTarget<F, P>,
@@ -221,7 +223,7 @@ fn emptied_devices<R: Files + Input + Print>(
 
 /// What a run runs.
 #[derive(Clone, Copy)]
-enum Runnable<'a> {
+pub(crate) enum Runnable<'a> {
     /// The program of an object file.
     Object(&'a Verified),
     /// A source, by the program that it compiles to.
@@ -229,10 +231,18 @@ enum Runnable<'a> {
 }
 
 impl<'a> Runnable<'a> {
-    fn program(self) -> &'a Verified {
+    pub fn program(self) -> &'a Verified {
         match self {
             Runnable::Object(program) => program,
             Runnable::Source(source) => source.compiled.program(),
+        }
+    }
+
+    /// What the cards of the source say.
+    pub fn rows(self) -> Option<&'a SourceRows> {
+        match self {
+            Runnable::Object(_) => None,
+            Runnable::Source(source) => Some(&source.rows),
         }
     }
 
@@ -246,7 +256,7 @@ impl<'a> Runnable<'a> {
 }
 
 /// Runs a program, or a source, over counted devices.
-fn run_counted<I: Read, S: Read, P: Write, D: Write>(
+fn run_counted<I: Read, S: Read, P: Write, D: Write, W: Watcher>(
     alloc: Global,
     runnable: Runnable<'_>,
     date: &[u8],
@@ -254,6 +264,7 @@ fn run_counted<I: Read, S: Read, P: Write, D: Write>(
     secondary: &mut Counted<S>,
     print: &mut Counted<P>,
     disk: &mut Counted<D>,
+    watcher: &mut W,
 ) -> Result<Report, Answer>
     requires input { faults_of input.old < 2 ^ 64 - 1 }
     requires secondary { faults_of secondary.old < 2 ^ 64 - 1 }
@@ -261,7 +272,9 @@ fn run_counted<I: Read, S: Read, P: Write, D: Write>(
     requires disk { faults_of disk.old < 2 ^ 64 - 1 }
 {
     match runnable {
-        Runnable::Object(program) => run_over(alloc, program, date, input, secondary, print, disk),
+        Runnable::Object(program) => run_over(
+            alloc, program, date, input, secondary, print, disk, watcher,
+        ),
         Runnable::Source(source) => run_source_over(
             alloc,
             &source.compiled,
@@ -270,16 +283,23 @@ fn run_counted<I: Read, S: Read, P: Write, D: Write>(
             secondary,
             print,
             disk,
+            watcher,
         ),
     }
 }
 
 /// Runs a program, or a source, over its devices. Where one of them failed, the reason comes with the answer.
-fn run_devices<F: Read + Write + OpenFile + Drop, S: Read + Drop, P: Write + Drop>(
+pub(crate) fn run_devices<
+    F: Read + Write + OpenFile + Drop,
+    S: Read + Drop,
+    P: Write + Drop,
+    W: Watcher,
+>(
     alloc: Global,
     runnable: Runnable<'_>,
     date: &[u8],
     devices: Devices<F, S, P>,
+    watcher: &mut W,
 ) -> Result<Report, Stop> {
     let Devices {
         input,
@@ -299,6 +319,7 @@ fn run_devices<F: Read + Write + OpenFile + Drop, S: Read + Drop, P: Write + Dro
         &mut secondary,
         &mut print,
         &mut disk,
+        watcher,
     );
     match ran {
         Ok(report) => Ok(report),
@@ -315,18 +336,19 @@ fn run_devices<F: Read + Write + OpenFile + Drop, S: Read + Drop, P: Write + Dro
 }
 
 /// Opens the files of a run, empties those that are written, and runs what was accepted over them.
-fn run_opened<'a, R: Files + Input + Print + AllocGlobal>(
+fn run_opened<'a, R: Files + Input + Print + AllocGlobal, L: Listener>(
     rt: &R,
     words: &RunWords<'a>,
     accepted: Result<Runnable<'_>, ObjectFault>,
     wanted: WantedFiles<'a>,
     kept: &mut Kept<'a>,
+    listener: &mut L,
 ) -> Result<Report, Stop> {
     let files = open_files(rt, words, wanted, kept)?;
     keep_files(rt, words, &files, kept)?;
     let devices = emptied_devices(rt, files)?;
     match accepted {
-        Ok(runnable) => run_devices(rt.alloc(), runnable, words.date_text().as_bytes(), devices),
+        Ok(runnable) => run_as_asked(rt.alloc(), words, runnable, devices, listener),
         Err(fault) => Err(Answer::Object(fault).into()),
     }
 }
@@ -340,7 +362,7 @@ fn run_accepted<R: Files + Input + Print + AllocGlobal, L: Listener>(
     listener: &mut L,
 ) -> Result<Report, Stop> {
     let mut kept = Kept::new();
-    let ran = run_opened(rt, words, accepted, wanted, &mut kept);
+    let ran = run_opened(rt, words, accepted, wanted, &mut kept, listener);
     if let (Ok(report), Ok(runnable)) = (ran, accepted) {
         let program = runnable.program();
         tell_halt(rt, words, program, report, runnable.halted(), listener);

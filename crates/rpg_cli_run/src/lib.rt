@@ -7,6 +7,7 @@ mod halting;
 mod jobs;
 mod judging;
 mod keeping;
+mod looking;
 mod reading;
 mod refusing;
 mod running;

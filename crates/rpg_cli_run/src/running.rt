@@ -13,14 +13,14 @@ ghost use Rattle.rpg_source_run.specs.Running.{HasNoSecondary, IsFaultless, Prin
 use rpg_cli_answers::{Answer, named};
 use rpg_cli_files::flush_device;
 use rpg_cli_words::FileWord;
-use rpg_engine::{Report, Verified, execute_program};
+use rpg_engine::{Report, Verified, Watcher, watch_program};
 use rpg_files::Counted;
 use rpg_source_run::{CompiledSource, run_source};
 use std::alloc::Global;
 use std::io::{Read, Write};
 
-/// Runs an accepted program over its inputs, and writes out what the writers still hold.
-pub(crate) fn run_over<I: Read, S: Read, P: Write, D: Write>(
+/// Runs an accepted program over its inputs, and writes out what the writers still hold. A watcher looks at the job between its cycles.
+pub(crate) fn run_over<I: Read, S: Read, P: Write, D: Write, W: Watcher>(
     alloc: Global,
     program: &Verified,
     date: &[u8],
@@ -28,6 +28,7 @@ pub(crate) fn run_over<I: Read, S: Read, P: Write, D: Write>(
     secondary: &mut Counted<S>,
     print: &mut Counted<P>,
     disk: &mut Counted<D>,
+    watcher: &mut W,
 ) -> Result<Report, Answer>
     requires input { faults_of input.old < 2 ^ 64 - 1 }
     requires secondary { faults_of secondary.old < 2 ^ 64 - 1 }
@@ -53,14 +54,14 @@ pub(crate) fn run_over<I: Read, S: Read, P: Write, D: Write>(
         (S.remaining (device_of secondary.old)) (S.remaining (device_of secondary.new))
         (device_counts input.old secondary.old print.old disk.old) (device_counts input.new secondary.new print.new disk.new) }
 {
-    let report = execute_program(alloc, program, date, input, secondary, print, disk)?;
+    let report = watch_program(alloc, program, date, input, secondary, print, disk, watcher)?;
     named(FileWord::Print, flush_device(print))?;
     named(FileWord::Disk, flush_device(disk))?;
     Ok(report)
 }
 
-/// Runs a compiled source over its inputs, and writes out what the writers still hold.
-pub(crate) fn run_source_over<I: Read, S: Read, P: Write, D: Write>(
+/// Runs a compiled source over its inputs, and writes out what the writers still hold. A watcher looks at the job between its cycles.
+pub(crate) fn run_source_over<I: Read, S: Read, P: Write, D: Write, W: Watcher>(
     alloc: Global,
     source: &CompiledSource,
     date: &[u8],
@@ -68,6 +69,7 @@ pub(crate) fn run_source_over<I: Read, S: Read, P: Write, D: Write>(
     secondary: &mut Counted<S>,
     print: &mut Counted<P>,
     disk: &mut Counted<D>,
+    watcher: &mut W,
 ) -> Result<Report, Answer>
     requires input { faults_of input.old < 2 ^ 64 - 1 }
     requires secondary { faults_of secondary.old < 2 ^ 64 - 1 }
@@ -95,7 +97,7 @@ pub(crate) fn run_source_over<I: Read, S: Read, P: Write, D: Write>(
     ensures report { TellsRun (λ ran. IfOk ran (ReportsOn I.remaining S.remaining P.contents D.contents source.now.program date.now input secondary print disk)) result }
     ensures early { TellsRun (λ ran. IfErr ran (SendsPartsOn I.remaining S.remaining P.contents D.contents source.now.program date.now input secondary print disk)) result }
 {
-    let report = run_source(alloc, source, date, input, secondary, print, disk)?;
+    let report = run_source(alloc, source, date, input, secondary, print, disk, watcher)?;
     named(FileWord::Print, flush_device(print))?;
     named(FileWord::Disk, flush_device(disk))?;
     Ok(report)

@@ -4,6 +4,7 @@ ghost use Rattle.std.specs.Prelude.{◌<◌};
 
 use crate::dates::DateWord;
 use crate::format::format_of;
+use crate::looks::look_words;
 use crate::request::{FileWord, Request, RunWords, STANDARD};
 use crate::warned::{WarningWords, warning_words};
 use clap::ArgMatches;
@@ -43,6 +44,7 @@ fn run_words<'a>(given: &ArgMatches<'a>) -> Option<RunWords<'a>> {
         most: given.get_one::<u64>("most"),
         keeps: given.get_flag("keep"),
         source: None,
+        looks: look_words(given),
         is_quiet: given.get_flag("quiet"),
         format: format_of(given),
     })

@@ -6,6 +6,7 @@ mod fitting;
 mod format;
 mod going;
 mod listing;
+mod looks;
 mod records;
 mod request;
 mod warned;
@@ -15,6 +16,7 @@ pub use fitting::{FitWords, TableWord};
 pub use format::Format;
 pub use going::GoWords;
 pub use listing::{CardsWanted, CardsWords, ListWords};
+pub use looks::LookWords;
 pub use records::{RecordFraming, RecordsWay, RecordsWords};
 pub use request::{
     CheckWords, CompileWords, ExplainWords, FileWord, Refusal, Request, RunWords, SameFile, Shared,

@@ -7,6 +7,7 @@ use crate::fitting::{self, FitWords, fit_words};
 use crate::format::{Format, format_of};
 use crate::going::{GoWords, go_words};
 use crate::listing::{CardsWords, ListWords, cards_words, list_words};
+use crate::looks::{LookWords, look_words};
 use crate::records::{RecordsWords, fault_of, records_words};
 use crate::warned::{WarningWords, texts, warning_words};
 use clap::error::ErrorKind;
@@ -108,6 +109,7 @@ pub struct RunWords<'a> {
     pub keeps: bool,
     /// The source of the object program, if the words name it.
     pub source: Option<&'a str>,
+    pub looks: LookWords,
     /// Whether no line is printed if the exit status is 0.
     pub is_quiet: bool,
     pub format: Format,
@@ -493,6 +495,7 @@ fn run_words<'a>(given: &ArgMatches<'a>) -> Option<Request<'a>> {
         most: given.get_one::<u64>("most"),
         keeps: given.get_flag("keep"),
         source: given.get_str("source"),
+        looks: look_words(given),
         is_quiet: given.get_flag("quiet"),
         format: format_of(given),
     }))

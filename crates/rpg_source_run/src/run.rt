@@ -10,16 +10,16 @@ ghost use Rattle.rpg_source_run.specs.Running.{HasNoSecondary, IsAsBefore, IsFau
 
 use crate::law::source_to_print;
 use crate::source::CompiledSource;
-use rpg_engine::{Report, RunFault, execute_program};
+use rpg_engine::{Report, RunFault, Watcher, watch_program};
 use rpg_files::Counted;
 use std::alloc::Global;
 use std::io::{Read, Write};
 
 /// Runs a compiled source over the records of a primary and of a secondary input, on a date of six digits, and sends what it prints and what
-/// it writes to the disk file.
+/// it writes to the disk file. A watcher looks at the job between its cycles; whatever it does, the run is the same.
 ///
-/// The date is read before anything else is. Then the program runs as `execute_program` of rpg_engine describes.
-pub fn run_source<R1: Read, R2: Read, W1: Write, W2: Write>(
+/// The date is read before anything else is. Then the program runs as `watch_program` of rpg_engine describes.
+pub fn run_source<R1: Read, R2: Read, W1: Write, W2: Write, W: Watcher>(
     alloc: Global,
     source: &CompiledSource,
     date: &[u8],
@@ -27,6 +27,7 @@ pub fn run_source<R1: Read, R2: Read, W1: Write, W2: Write>(
     secondary: &mut Counted<R2>,
     print: &mut Counted<W1>,
     disk: &mut Counted<W2>,
+    watcher: &mut W,
 ) -> Result<Report, RunFault>
     requires input { faults_of input.old < 2 ^ 64 - 1 }
     requires secondary { faults_of secondary.old < 2 ^ 64 - 1 }
@@ -47,11 +48,20 @@ pub fn run_source<R1: Read, R2: Read, W1: Write, W2: Write>(
     // The error says whose fault that was.
     ensures faults { TellsWhoseFault R1.remaining R2.remaining input secondary print disk result }
 
-    // As a run of its program it is what `execute_program` promises: the bound and the place of the report, and how much was sent before it stopped.
+    // As a run of its program it is what `watch_program` promises: the bound and the place of the report, and how much was sent before it stopped.
     ensures headline { IfOk result (EndsWellOn R1.remaining R2.remaining source.now.program date.now input secondary) }
     ensures report { IfOk result (ReportsOn R1.remaining R2.remaining W1.contents W2.contents source.now.program date.now input secondary print disk) }
     ensures early { IfErr result (SendsPartsOn R1.remaining R2.remaining W1.contents W2.contents source.now.program date.now input secondary print disk) }
 {
     source_to_print();
-    execute_program(alloc, source.program(), date, input, secondary, print, disk)
+    watch_program(
+        alloc,
+        source.program(),
+        date,
+        input,
+        secondary,
+        print,
+        disk,
+        watcher,
+    )
 }

@@ -1,0 +1,36 @@
+//! Runs a job, and looks at it between its cycles where the words ask for that.
+
+use crate::jobs::{Devices, Runnable, run_devices};
+use rpg_cli_answers::{Listener, Stop};
+use rpg_cli_trace::{JobNames, Looking};
+use rpg_cli_words::RunWords;
+use rpg_engine::Report;
+use std::alloc::Global;
+use std::fs::OpenFile;
+use std::io::{Read, Write};
+
+/// Runs a program, or a source, over its devices. What the words want to know of its cycles is reported while it runs, and after it.
+pub(crate) fn run_as_asked<
+    F: Read + Write + OpenFile + Drop,
+    S: Read + Drop,
+    P: Write + Drop,
+    L: Listener,
+>(
+    alloc: Global,
+    words: &RunWords,
+    runnable: Runnable<'_>,
+    devices: Devices<F, S, P>,
+    listener: &mut L,
+) -> Result<Report, Stop> {
+    let date = words.date_text().as_bytes();
+    let names = JobNames {
+        program: runnable.program(),
+        primary: words.input,
+        secondary: words.secondary,
+        source: runnable.rows(),
+    };
+    let mut looking = Looking::new(alloc, words.looks, names, listener);
+    let ran = run_devices(alloc, runnable, date, devices, &mut looking);
+    looking.finish();
+    ran
+}

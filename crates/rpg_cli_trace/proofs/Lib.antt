@@ -1,0 +1,2 @@
+-- Lemmas on the entries of fields.
+pub mod Entries

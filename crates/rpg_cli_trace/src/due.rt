@@ -1,0 +1,65 @@
+//! The lines that detail output puts out, by the indicators that are on before it.
+
+use rpg_effect::condition::Condition;
+use rpg_effect::line::Time;
+use rpg_memory::condition::all_hold;
+use rpg_memory::indicators::Indicators;
+use rpg_object_program::row::{Line, Rows};
+
+/// How many heading lines and detail lines are due.
+#[derive(Clone, Copy)]
+pub(crate) struct Due {
+    pub heading: u64,
+    pub detail: u64,
+}
+
+impl Due {
+    pub const NOTHING: Due = Due {
+        heading: 0,
+        detail: 0,
+    };
+
+    /// The lines of a program that are due.
+    pub fn of(rows: &Rows, on: &Indicators) -> Due {
+        let mut due = Due::NOTHING;
+        for line in &rows.lines {
+            if is_due(rows.overflow, line, on) {
+                due.count(line.time);
+            }
+        }
+        due
+    }
+
+    fn count(&mut self, time: Time) {
+        match time {
+            Time::Heading => self.heading = self.heading.saturating_add(1),
+            Time::Detail => self.detail = self.detail.saturating_add(1),
+            Time::Total | Time::Exception => {}
+        }
+    }
+
+    pub fn add(&mut self, other: Due) {
+        self.heading = self.heading.saturating_add(other.heading);
+        self.detail = self.detail.saturating_add(other.detail);
+    }
+}
+
+/// Whether conditions ask for the overflow indicator to be on. A line with such conditions is put out at overflow.
+fn asks_overflow(overflow: Option<u8>, conditions: &[Condition]) -> bool {
+    for condition in conditions {
+        if overflow == Some(condition.indicator) && !condition.is_negated {
+            return true;
+        }
+    }
+    false
+}
+
+/// Whether one of a line's alternatives holds at detail output.
+fn is_due(overflow: Option<u8>, line: &Line, on: &Indicators) -> bool {
+    for conditions in &line.alternatives {
+        if !asks_overflow(overflow, conditions) && all_hold(on, conditions) {
+            return true;
+        }
+    }
+    false
+}

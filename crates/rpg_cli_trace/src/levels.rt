@@ -1,0 +1,152 @@
+//! Control fields that go down.
+
+use crate::names::JobNames;
+use crate::records::Selected;
+use rpg_cli_text::TextWriter;
+use rpg_cycle_records::LastBytes;
+use std::alloc::{AllocError, Global};
+
+/// The bytes that the control fields of a level have together, at most.
+const LONGEST_LEVEL: usize = 256;
+
+/// Where a control level went down first.
+#[derive(Drop)]
+struct Fall {
+    record: Option<Selected>,
+    before: Vec<u8>,
+    after: Vec<u8>,
+}
+
+/// A control level after the last cycle, and how often it went down.
+#[derive(Drop)]
+struct Level {
+    last: LastBytes,
+    first: Fall,
+    falls: u64,
+}
+
+fn keep(place: &mut Vec<u8>, bytes: &[u8]) {
+    place.clear();
+    let _ = place.extend_from_slice(bytes);
+}
+
+impl Level {
+    fn new(alloc: Global) -> Result<Level, AllocError> {
+        Ok(Level {
+            last: LastBytes {
+                is_known: false,
+                bytes: Vec::with_capacity(alloc, LONGEST_LEVEL)?,
+            },
+            first: Fall {
+                record: None,
+                before: Vec::with_capacity(alloc, LONGEST_LEVEL)?,
+                after: Vec::with_capacity(alloc, LONGEST_LEVEL)?,
+            },
+            falls: 0,
+        })
+    }
+
+    fn differs(&self, now: &LastBytes) -> bool {
+        self.last.is_known != now.is_known || self.last.bytes.as_slice() != now.bytes.as_slice()
+    }
+
+    /// Counts a record at which the level goes down.
+    fn compare(&mut self, now: &LastBytes, record: Selected) {
+        if !self.last.is_known || self.last.bytes.as_slice() <= now.bytes.as_slice() {
+            return;
+        }
+        if self.falls == 0 {
+            self.first.record = Some(record);
+            keep(&mut self.first.before, &self.last.bytes);
+            keep(&mut self.first.after, &now.bytes);
+        }
+        self.falls = self.falls.saturating_add(1);
+    }
+
+    fn renew(&mut self, now: &LastBytes) {
+        self.last.is_known = now.is_known;
+        keep(&mut self.last.bytes, &now.bytes);
+    }
+
+    /// Writes where the level went down, if it did.
+    fn write(&self, out: &mut TextWriter, names: &JobNames<'_, '_, '_>, level: usize) {
+        let Some(record) = self.first.record else {
+            return;
+        };
+        names.write_record(out, record);
+        out.fill(
+            "control field L{} goes down: \"{}\" after \"{}\"",
+            &[
+                level.into(),
+                self.first.after.as_slice().into(),
+                self.first.before.as_slice().into(),
+            ],
+        );
+        if self.falls > 1 {
+            out.fill(" ({} more)", &[(self.falls - 1).into()]);
+        }
+        out.write_char('\n');
+    }
+}
+
+/// L1 to L9 after the last cycle.
+#[derive(Drop)]
+pub(crate) struct Levels {
+    levels: Vec<Level>,
+}
+
+impl Levels {
+    pub fn new(alloc: Global) -> Result<Levels, AllocError> {
+        let mut levels = Vec::new(alloc);
+        for _ in 0..9u8 {
+            levels.push(Level::new(alloc)?)?;
+        }
+        Ok(Levels { levels })
+    }
+
+    /// The place of the highest level that a cycle changed.
+    fn highest_changed(&self, now: &[LastBytes]) -> Option<usize> {
+        let mut highest = None;
+        for (place, level) in self.levels.iter().enumerate() {
+            if let Some(last) = now.get(place) {
+                if level.differs(last) {
+                    highest = Some(place);
+                }
+            }
+        }
+        highest
+    }
+
+    fn renew(&mut self, now: &[LastBytes]) {
+        let mut place = 0usize;
+        for level in self.levels.iter_mut() {
+            if let Some(last) = now.get(place) {
+                level.renew(last);
+            }
+            place = place.saturating_add(1);
+        }
+    }
+
+    /// Goes on by a cycle that selected a record and left the levels so. A level goes down where it changes to lower bytes and no higher
+    /// level changes.
+    pub fn go_on(&mut self, now: &[LastBytes], record: Selected) {
+        let Some(place) = self.highest_changed(now) else {
+            return;
+        };
+        if let Some(last) = now.get(place) {
+            if let Some(level) = self.levels.get_mut(place) {
+                level.compare(last, record);
+            }
+        }
+        self.renew(now);
+    }
+
+    /// Writes a line for each level that went down, the highest last.
+    pub fn write(&self, out: &mut TextWriter, names: &JobNames<'_, '_, '_>) {
+        let mut number = 0usize;
+        for level in &self.levels {
+            number = number.saturating_add(1);
+            level.write(out, names, number);
+        }
+    }
+}

@@ -1,0 +1,103 @@
+//! Which record a cycle selected, as its files show it between cycles.
+
+use rpg_cycle_records::{Kept, KeptFile, identify, input_length};
+use rpg_effect::input::InputFile;
+use rpg_engine::JobEnd;
+use rpg_memory::indicators::Indicators;
+use rpg_verify::Verified;
+
+const LAST_RECORD: u8 = 110;
+
+/// A record that a cycle selected: its number in its file, the first being 1, and the row of its type.
+#[derive(Clone, Copy)]
+pub(crate) struct Selected {
+    pub file: InputFile,
+    pub number: u64,
+    pub row: Option<usize>,
+}
+
+/// A file between two cycles.
+#[derive(Clone, Copy)]
+struct FileState {
+    /// Whether a record waits.
+    waits: bool,
+    /// How many records were taken in.
+    taken: u64,
+}
+
+impl FileState {
+    const UNREAD: FileState = FileState {
+        waits: false,
+        taken: 0,
+    };
+
+    /// Goes on by a cycle that left the file so, and returns whether it selected the file's record: one waited or was taken in, and none
+    /// waits now.
+    fn go_on(&mut self, is_there: bool, file: &KeptFile) -> bool {
+        let takes_in = is_there && !self.waits && !file.is_over;
+        if takes_in {
+            self.taken = self.taken.saturating_add(1);
+        }
+        let had = self.waits || takes_in;
+        self.waits = file.waiting.is_some();
+        had && !self.waits
+    }
+}
+
+/// The files of a job between two cycles.
+#[derive(Clone, Copy)]
+pub(crate) struct Records {
+    primary: FileState,
+    secondary: FileState,
+    /// Whether LR is on: then the next cycle takes no record in.
+    is_last: bool,
+}
+
+/// The row of a record's type, the first being 0.
+fn row_of(program: &Verified, file: InputFile, text: &[u8]) -> Option<usize> {
+    if text.len() != input_length(program, file) {
+        return None;
+    }
+    identify(program, file, text).row
+}
+
+impl Records {
+    pub const UNREAD: Records = Records {
+        primary: FileState::UNREAD,
+        secondary: FileState::UNREAD,
+        is_last: false,
+    };
+
+    /// Goes on by a cycle that left the files so, and returns the record that it selected. Of a cycle that halted it isn't known.
+    pub fn go_on(
+        &mut self,
+        program: &Verified,
+        kept: &Kept,
+        on: &Indicators,
+        ended: Option<JobEnd>,
+    ) -> Option<Selected> {
+        let took_none = self.is_last || matches!(ended, Some(JobEnd::Halt(_)));
+        self.is_last = on.is_on(LAST_RECORD);
+        if took_none {
+            return None;
+        }
+        let has_two = input_length(program, InputFile::Secondary) != 0;
+        let from_primary = self.primary.go_on(true, &kept.primary);
+        let from_secondary = self.secondary.go_on(has_two, &kept.secondary);
+        if from_primary {
+            Some(Selected {
+                file: InputFile::Primary,
+                number: self.primary.taken,
+                row: row_of(program, InputFile::Primary, &kept.primary.record),
+            })
+        } else if from_secondary {
+            Some(Selected {
+                file: InputFile::Secondary,
+                number: self.secondary.taken,
+                row: row_of(program, InputFile::Secondary, &kept.secondary.record),
+            })
+        } else {
+            None
+        }
+    }
+}
