@@ -15,6 +15,7 @@ TOP = (
     "rpg_compile",
     "rpg_causes",
     "rpg_source_run",
+    "rpg_record_decks",
     "rpg_record_lines",
     "rpg_fit_deck",
     "rpg_fit_terms",

@@ -1,15 +1,9 @@
-//! The deck that leads `rpg2 records`: the layout of its records, the deck that reads the lines, and the diagnostics for a deck or a record that is refused.
+//! The diagnostics of `rpg2 records`, and what its output is.
 #![tactic(auto)]
 
-mod columns;
-mod deck;
-mod fault;
-mod file;
-mod fitted;
+mod law;
 mod message;
-mod types;
 
-pub use deck::{DeckWords, layout_of};
-pub use fault::{CardFault, DeckFault};
-pub use fitted::fitted_deck;
+pub use law::cards_say_the_output;
 pub use message::{deck_message, record_message};
+pub use rpg_record_decks::{CardFault, DeckFault, DeckWords, fitted_deck, layout_of};

@@ -1,7 +1,7 @@
 //! The diagnostics for a deck or a record that is refused.
 
-use crate::fault::{CardFault, DeckFault};
 use rpg_cli_text::TextWriter;
+use rpg_record_decks::{CardFault, DeckFault};
 use rpg_record_lines::{NumberFault, RecordFault};
 use std::alloc::{AllocError, Global};
 

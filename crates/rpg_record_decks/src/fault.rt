@@ -1,5 +1,10 @@
 //! Why a deck has no layout.
 
+ghost use Rattle.std.specs.Prelude.{◌≡◌};
+ghost use Rattle.rpg_record_decks.specs.declared.fault.CardFault.TheVariants.{Columns};
+ghost use Rattle.rpg_record_decks.specs.declared.fault.DeckFault.TheVariants.{Card};
+
+use rpg_sheet::ColumnFault;
 use std::alloc::{AllocError, AllocFailed};
 
 /// What is wrong with a card.
@@ -42,19 +47,39 @@ pub enum DeckFault {
 }
 
 impl DeckFault {
-    pub(crate) fn at(number: u16, fault: CardFault) -> Self {
+    pub(crate) fn at(number: u16, fault: CardFault) -> Self
+        ensures { result ≡ Card number fault }
+    {
         DeckFault::Card { number, fault }
     }
 }
 
 impl From<AllocError> for DeckFault {
+    ghost use Rattle.std.specs.Prelude.{◌≡◌};
+    ghost use Rattle.rpg_record_decks.specs.declared.fault.DeckFault.TheVariants.{NoMemory};
+
+    ghost from_gives = { λ _ e. e ≡ NoMemory };
+
     fn from(_: AllocError) -> Self {
         DeckFault::NoMemory
     }
 }
 
 impl<T: Drop> From<AllocFailed<T>> for DeckFault {
+    ghost use Rattle.std.specs.Prelude.{◌≡◌};
+    ghost use Rattle.rpg_record_decks.specs.declared.fault.DeckFault.TheVariants.{NoMemory};
+
+    ghost from_gives = { λ _ e. e ≡ NoMemory };
+
     fn from(_: AllocFailed<T>) -> Self {
         DeckFault::NoMemory
     }
+}
+
+/// Columns of the card of this number that rpg2 refuses.
+pub(crate) fn bad_columns(number: u16, fault: ColumnFault) -> DeckFault
+    ensures { result ≡ Card number (Columns fault.column fault.last) }
+{
+    let (first, last) = (fault.column, fault.last);
+    DeckFault::at(number, CardFault::Columns { first, last })
 }

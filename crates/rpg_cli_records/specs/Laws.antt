@@ -1,0 +1,18 @@
+-- OUT is the function of IN and the cards.
+use Rattle.std.specs.Prelude.{◌≡◌, ℕ, List, Ok}
+use Rattle.rpg_record_decks.specs.Layouts.{layout_by}
+use Rattle.rpg_record_decks.specs.declared.deck.DeckWords.{DeckWords}
+use Rattle.rpg_record_layouts.specs.Seen.{layout_seen}
+use Rattle.rpg_record_layouts.specs.declared.layout.Layout.{Layout}
+use Rattle.rpg_record_lines.specs.Conversions.{conversion}
+use Rattle.rpg_record_lines.specs.Ways.{to_lines, to_records}
+use Rattle.rpg_record_lines.specs.declared.conversion.RecordFormat.{RecordFormat}
+
+-- it is a layout of the records by the cards of a deck
+abbrev pub IsLayoutOf : DeckWords → List ℕ → Layout → Type 0
+IsLayoutOf words deck layout = layout_by words deck ≡ Ok (layout_seen layout)
+
+-- The cards say the whole conversion, both ways: by every layout of a deck's records each input is converted alike.
+abbrev pub CardsSayTheOutput : Type 0
+CardsSayTheOutput = (words : DeckWords) (deck input : List ℕ) (format : RecordFormat) (one other : Layout) → IsLayoutOf words deck one → IsLayoutOf words deck other
+    → (conversion (to_lines one format) input ≡ conversion (to_lines other format) input) × (conversion (to_records one format) input ≡ conversion (to_records other format) input)

@@ -1,0 +1,2 @@
+-- What `rpg2 records` writes.
+pub mod Laws

@@ -1,0 +1,83 @@
+-- A deck by its lines.
+use Rattle.std.proofs.Common.{◌≡◌, ℕ, ◌+◌, ◌-◌, ◌<◌, ◌≤◌, ◌==◌, ◌++◌, ◌⊎◌, inl, inr, Bool, true, false, not, nat_lt, List, [], ◌∷◌, length, take, drop, find, position, refl, sym, ap, ◌∙◌, arith, append_assoc, length-drop, take_all, Option, Some, None}
+use Rattle.std.specs.List.{join_with_byte, position_or_len, slice_split}
+use Rattle.std.specs.Option.{option_map}
+use Rattle.std.proofs.lemmas.Bool.{cases_lt, eqb-false, eqb-true, ltb-true, not-true}
+use Rattle.std.proofs.lemmas.Grind.{common_steps}
+use Rattle.std.proofs.lemmas.List.Splits.{length-slice_split, slice_split_first, slice_split_none}
+use Rattle.std.proofs.lemmas.List.Sums.{prefix_len_passes}
+use Rattle.rpg_text.specs.Lines.{is_line_feed}
+use Rattle.rpg_record_layouts.specs.Seen.{LayoutSeen, columns_seen}
+use Rattle.rpg_record_decks.specs.Edits.{number_columns}
+use Rattle.rpg_record_decks.specs.Fitted.{Change, all_digits, change_of, changed, digits_change, fitted_from}
+use Rattle.rpg_record_decks.specs.declared.fitted.DigitColumns.{DigitColumns}
+
+first_line : (text : List ℕ) (i : ℕ) → position is_line_feed text ≡ Some i → slice_split is_line_feed text ≡ take i text ∷ slice_split is_line_feed (drop (i + 1) text)
+first_line text i h = by (cases_lt (position_or_len is_line_feed text) (length text))
+  where
+    by : (position_or_len is_line_feed text < length text) ⊎ (length text ≤ position_or_len is_line_feed text) → slice_split is_line_feed text ≡ take i text ∷ slice_split is_line_feed (drop (i + 1) text)
+    by (inl lt) =
+        let e : position is_line_feed text ≡ Some (position_or_len is_line_feed text) = grind (arith, common_steps) in
+        let k : position_or_len is_line_feed text ≡ i = cc in
+        rw (slice_split_first is_line_feed text 0 lt, k) refl
+    by (inr le) = let e : position is_line_feed text ≡ None = grind (arith, common_steps) in absurd cc
+
+last_line : (text : List ℕ) → position is_line_feed text ≡ None → slice_split is_line_feed text ≡ text ∷ []
+last_line text h = by (cases_lt (position_or_len is_line_feed text) (length text))
+  where
+    by : (position_or_len is_line_feed text < length text) ⊎ (length text ≤ position_or_len is_line_feed text) → slice_split is_line_feed text ≡ text ∷ []
+    by (inl lt) = let e : position is_line_feed text ≡ Some (position_or_len is_line_feed text) = grind (arith, common_steps) in absurd cc
+    by (inr le) = slice_split_none is_line_feed text (λ k d lt. not-true _ (prefix_len_passes (λ b. not (is_line_feed b)) text k d (omega arith)))
+
+joined : (layout : LayoutSeen) (n : ℕ) (line : List ℕ) (lines : List (List ℕ)) → 0 < length lines
+    → join_with_byte 10 (fitted_from layout n (line ∷ lines)) ≡ changed (change_of layout n) line ++ 10 ∷ join_with_byte 10 (fitted_from layout (n + 1) lines)
+joined layout n line [] h = absurd (omega arith)
+joined layout n line (next ∷ more) h = refl
+
+pub first_fitted : (layout : LayoutSeen) (n i : ℕ) (text : List ℕ) → position is_line_feed text ≡ Some i
+    → join_with_byte 10 (fitted_from layout n (slice_split is_line_feed text))
+    ≡ changed (change_of layout n) (take i text) ++ 10 ∷ join_with_byte 10 (fitted_from layout (n + 1) (slice_split is_line_feed (drop (i + 1) text)))
+first_fitted layout n i text h =
+    let rest = slice_split is_line_feed (drop (i + 1) text) in
+    ap (λ (lines : List (List ℕ)). join_with_byte 10 (fitted_from layout n lines)) (first_line text i h)
+    ∙ joined layout n (take i text) (slice_split is_line_feed (drop (i + 1) text)) (omega (arith, length-slice_split is_line_feed (drop (i + 1) text)))
+
+pub last_fitted : (layout : LayoutSeen) (n : ℕ) (text : List ℕ) → position is_line_feed text ≡ None
+    → join_with_byte 10 (fitted_from layout n (slice_split is_line_feed text)) ≡ changed (change_of layout n) text
+last_fitted layout n text h = ap (λ (lines : List (List ℕ)). join_with_byte 10 (fitted_from layout n lines)) (last_line text h)
+
+-- what follows a line feed
+pub rest_behind : (text : List ℕ) (i : ℕ) → take (length text - i) (drop i text) ≡ drop i text
+rest_behind text i = take_all (length text - i) (drop i text) (omega (arith, length-drop i text))
+
+-- one more line of the new deck, with its line feed
+pub next_fitted : (layout : LayoutSeen) (n i : ℕ) (text deck more pushed all : List ℕ) → position is_line_feed text ≡ Some i
+    → deck ++ join_with_byte 10 (fitted_from layout n (slice_split is_line_feed text)) ≡ all → more ≡ deck ++ changed (change_of layout n) (take i text) → pushed ≡ more ++ 10 ∷ []
+    → pushed ++ join_with_byte 10 (fitted_from layout (n + 1) (slice_split is_line_feed (drop (i + 1) text))) ≡ all
+next_fitted layout n i text deck more pushed all h e f g =
+    let tail = join_with_byte 10 (fitted_from layout (n + 1) (slice_split is_line_feed (drop (i + 1) text))) in
+    let line = changed (change_of layout n) (take i text) in
+    ap (λ (l : List ℕ). l ++ tail) (g ∙ ap (λ (l : List ℕ). l ++ 10 ∷ []) f) ∙ append_assoc (deck ++ line) (10 ∷ []) tail ∙ append_assoc deck line (10 ∷ tail)
+    ∙ ap (λ (l : List ℕ). deck ++ l) (sym (first_fitted layout n i text h)) ∙ e
+
+-- ---- changes
+
+abbrev change_with : ℕ → List ℕ → Option Change
+change_with first text = Some (record { first = first; text = text })
+
+pub change_is_length : (s : LayoutSeen) (n : ℕ) (text : List ℕ) → n ≤ 2000 → n ≡ s.card → text ≡ number_columns (columns_seen s) → change_of s n ≡ change_with 24 text
+change_is_length s n text few same e = by (nat_lt 2000 n) (n == s.card) refl refl
+  where
+    by : (a b : Bool) → nat_lt 2000 n ≡ a → (n == s.card) ≡ b → change_of s n ≡ change_with 24 text
+    by true b p q = absurd (omega (arith, ltb-true 2000 n p))
+    by false false p q = absurd (eqb-false n s.card q same)
+    by false true p q = rw (p, q) (ap (change_with 24) (sym e))
+
+pub change_is_digits : (s : LayoutSeen) (n : ℕ) (d : DigitColumns) (text : List ℕ) → n ≤ 2000 → (n ≡ s.card → ⊥) → Some d ≡ find (λ (d : DigitColumns). d.card == n) (all_digits s)
+    → text ≡ 32 ∷ number_columns d.first ++ number_columns d.last → change_of s n ≡ change_with 43 text
+change_is_digits s n d text few other found e = by (nat_lt 2000 n) (n == s.card) refl refl
+  where
+    by : (a b : Bool) → nat_lt 2000 n ≡ a → (n == s.card) ≡ b → change_of s n ≡ change_with 43 text
+    by true b p q = absurd (omega (arith, ltb-true 2000 n p))
+    by false true p q = absurd (other (eqb-true n s.card q))
+    by false false p q = rw (p, q) (ap (option_map digits_change) (sym found) ∙ ap (change_with 43) (sym e))

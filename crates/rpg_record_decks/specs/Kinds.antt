@@ -1,0 +1,45 @@
+-- What stands in the columns of a type's records.
+use Rattle.std.specs.Prelude.{ℕ, ◌-◌, ◌==◌, List, map, Bool, ◌&&◌, ◌||◌, not, is_some, if◌then◌else◌}
+use Rattle.std.specs.List.{list_any, range_with_len}
+use Rattle.rpg_records.specs.declared.column.Column.{Column}
+use Rattle.rpg_records.specs.declared.column.Column.TheVariants as columns
+use Rattle.rpg_record_layouts.specs.Seen.{TypeSeen}
+use Rattle.rpg_text.specs.Texts.{is_between}
+use Rattle.rpg_record_decks.specs.Types.{TypeRead}
+use Rattle.rpg_record_decks.specs.declared.fields.FieldColumns.{FieldColumns}
+
+abbrev pub covers : ℕ → FieldColumns → Bool
+covers k f = is_between f.first f.last k
+
+-- a byte of a packed or binary field
+abbrev pub hides : ℕ → FieldColumns → Bool
+hides k f = is_some f.form && covers k f
+
+-- a character of a text, or a place of a number that isn't its last
+abbrev pub shows : ℕ → FieldColumns → Bool
+shows k f = covers k f && not (f.has_decimals && k == f.last)
+
+-- a code of any type stands there: a line is of the type that its codes say
+abbrev pub is_code : List TypeRead → ℕ → Bool
+is_code types k = list_any (λ t. list_any (λ c. c.place == k - 1) t.codes) types
+
+-- what fields have in a column, where a code stands or not
+abbrev pub kind_of : Bool → List FieldColumns → ℕ → Column
+kind_of has_code fields k =
+    if list_any (hides k) fields then columns.Number
+    else if has_code || list_any (shows k) fields then columns.Text
+    else if list_any (covers k) fields then columns.LastPlace
+    else columns.Unnamed
+
+-- a type with what stands in each column of a record of so many bytes, by the columns of codes
+abbrev pub type_by : (ℕ → Bool) → ℕ → TypeRead → TypeSeen
+type_by has_code length t = record {
+  card = t.card;
+  codes = t.codes;
+  columns = map (λ k. kind_of (has_code k) t.fields k) (range_with_len 1 length);
+  numbers = t.numbers;
+}
+
+-- a type, among all types of the file
+abbrev pub type_of : ℕ → List TypeRead → TypeRead → TypeSeen
+type_of length types = type_by (is_code types) length

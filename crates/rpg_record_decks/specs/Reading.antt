@@ -1,0 +1,30 @@
+-- What is known of types while cards are read.
+use Rattle.std.specs.Prelude.{◌≡◌, ℕ, List, map, Option, Result}
+use Rattle.std.specs.Option.{option_map}
+use Rattle.rpg_record_layouts.specs.Seen.{number_seen}
+use Rattle.rpg_sheet_specs.specs.declared.input.InputSpec.{InputSpec}
+use Rattle.rpg_record_decks.specs.Outcomes.{onto}
+use Rattle.rpg_record_decks.specs.Types.{TypeRead, type_after, types_after}
+use Rattle.rpg_record_decks.specs.declared.deck.DeckCard.{DeckCard}
+use Rattle.rpg_record_decks.specs.declared.fault.DeckFault.{DeckFault}
+use Rattle.rpg_record_decks.specs.declared.types.TypeCards.{TypeCards}
+use Rattle.rpg_record_decks.specs.declared.types.Types.{Types}
+
+abbrev pub type_read : TypeCards → TypeRead
+type_read t = record { card = t.card; codes = t.codes.items; fields = t.fields.items; numbers = map number_seen t.numbers.items }
+
+-- the types that are done
+abbrev pub types_done : Types → List TypeRead
+types_done types = map type_read types.done.items
+
+-- the type that further cards go on with
+abbrev pub type_now : Types → Option TypeRead
+type_now types = option_map type_read types.now
+
+-- a card says the same after one type or none as after the other
+abbrev pub GoOnAlike : InputSpec → Option TypeRead → Option TypeRead → Type 0
+GoOnAlike spec one other = (length : ℕ) (c : DeckCard) → type_after length one c spec ≡ type_after length other c spec
+
+-- all types, where these cards follow
+abbrev pub all_types : ℕ → Types → List DeckCard → Result (List TypeRead) DeckFault
+all_types length types cs = onto (types_done types) (types_after length (type_now types) cs)

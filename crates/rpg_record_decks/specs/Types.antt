@@ -1,0 +1,166 @@
+-- The record types of a file.
+use Rattle.std.specs.Prelude.{ℕ, ◌+◌, ◌-◌, ◌==◌, List, [], ◌∷◌, ◌++◌, length, nat_le, Bool, true, false, ◌&&◌, ◌||◌, not, codes, Option, Some, None, is_some, option_and_then, Result, Ok, Err, if◌then◌else◌}
+use Rattle.std.specs.List.{list_any}
+use Rattle.std.specs.Option.{option_to_list}
+use Rattle.std.specs.Str.{bytes_eq}
+use Rattle.rpg_sheet_specs.specs.Columns.{cols}
+use Rattle.rpg_sheet_specs.specs.Tables.{input_card, is_and_card}
+use Rattle.rpg_sheet_specs.specs.Values.{one_of}
+use Rattle.rpg_sheet_specs.specs.declared.indicator.Three.{Three}
+use Rattle.rpg_sheet_specs.specs.declared.input.InputField.{InputField}
+use Rattle.rpg_sheet_specs.specs.declared.input.InputSpec.{InputSpec}
+use Rattle.rpg_sheet_specs.specs.declared.input.InputSpec.TheVariants as input
+use Rattle.rpg_sheet_specs.specs.declared.input.RecordCode.{RecordCode}
+use Rattle.rpg_text.specs.Texts.{is_between}
+use Rattle.rpg_record_layouts.specs.Fields.{is_field_size}
+use Rattle.rpg_record_layouts.specs.Seen.{NumberSeen}
+use Rattle.rpg_record_layouts.specs.declared.layout.Code.{Code}
+use Rattle.rpg_record_layouts.specs.declared.layout.NumberForm.{NumberForm}
+use Rattle.rpg_record_layouts.specs.declared.layout.NumberForm.TheVariants as forms
+use Rattle.rpg_record_decks.specs.Edits.{with_columns}
+use Rattle.rpg_record_decks.specs.Files.{file_name, or_columns}
+use Rattle.rpg_record_decks.specs.Outcomes.{and_then, at_card, onto, unless}
+use Rattle.rpg_record_decks.specs.declared.deck.DeckCard.{DeckCard}
+use Rattle.rpg_record_decks.specs.declared.fault.CardFault.{CardFault}
+use Rattle.rpg_record_decks.specs.declared.fault.CardFault.TheVariants as faults
+use Rattle.rpg_record_decks.specs.declared.fault.DeckFault.{DeckFault}
+use Rattle.rpg_record_decks.specs.declared.fields.FieldColumns.{FieldColumns}
+
+-- ---- the I cards of a file
+
+abbrev pub is_input_card : List ℕ → Bool
+is_input_card card = bytes_eq (cols 6 6 card) (codes "I")
+
+-- whether an I card is one of the file of this name: AND cards and cards without a name are where the card before them is
+abbrev pub is_of_file : List ℕ → Bool → List ℕ → Bool
+is_of_file name before card = if is_and_card card || length (file_name card) == 0 then before else bytes_eq (file_name card) name
+
+-- the I cards of the file of this name, after one that is its or not
+abbrev pub cards_of_file : List ℕ → Bool → List DeckCard → List DeckCard
+cards_of_file name before [] = []
+cards_of_file name before (c ∷ cs) =
+    if not (is_input_card c.card) then cards_of_file name before cs
+    else if is_of_file name before c.card then c ∷ cards_of_file name true cs
+    else cards_of_file name false cs
+
+-- ---- what such a card says
+
+-- P or B in 43: the bytes of the card's field are a number
+abbrev pub form_of : List ℕ → Option NumberForm
+form_of card = one_of ((codes "P", forms.Packed) ∷ (codes "B", forms.Binary) ∷ []) (cols 43 43 card)
+
+-- what an I card says: rpg2 reads it with a blank in place of P or B
+abbrev pub input_of : List ℕ → Result InputSpec CardFault
+input_of card = or_columns (input_card.reading (if is_some (form_of card) then with_columns 43 (32 ∷ []) card else card))
+
+-- ---- a record type
+
+-- its card, its codes, all its fields, and those of packed or binary bytes, each in the order of the cards
+pub record TypeRead : Type 0 where
+  pub card : ℕ
+  pub codes : List Code
+  pub fields : List FieldColumns
+  pub numbers : List NumberSeen
+
+-- as it begins
+abbrev pub new_type : ℕ → TypeRead
+new_type card = record { card = card; codes = []; fields = []; numbers = [] }
+
+-- ---- codes
+
+abbrev pub code_of : RecordCode → Code
+code_of c = record { place = c.position - 1; is_negated = c.negated; character = c.character }
+
+-- codes with one more, whose position must be in the record
+abbrev pub with_code : ℕ → List Code → Option RecordCode → Result (List Code) CardFault
+with_code length cs None = Ok cs
+with_code length cs (Some c) = if is_between 1 length c.position then Ok (cs ++ code_of c ∷ []) else Err faults.Outside
+
+-- codes with those of a card
+abbrev pub with_three : ℕ → List Code → Three (Option RecordCode) → Result (List Code) CardFault
+with_three length cs three = and_then (and_then (with_code length cs three.first) (λ ds. with_code length ds three.second)) (λ es. with_code length es three.third)
+
+abbrev pub with_codes : ℕ → TypeRead → Three (Option RecordCode) → Result TypeRead CardFault
+with_codes length t three = and_then (with_three length t.codes three) (λ cs. Ok (record { card = t.card; codes = cs; fields = t.fields; numbers = t.numbers }))
+
+-- ---- fields
+
+-- the columns of a field, and what it has there
+abbrev pub field_columns : Option NumberForm → InputField → FieldColumns
+field_columns form f = record { first = f.from; last = f.to; form = form; has_decimals = is_some f.decimals }
+
+-- its columns are in a record of so many bytes
+abbrev pub is_inside : ℕ → FieldColumns → Bool
+is_inside length f = nat_le 1 f.first && nat_le f.first f.last && nat_le f.last length
+
+-- why a field can't be packed or binary
+abbrev pub number_fault : FieldColumns → NumberForm → Option CardFault
+number_fault f form =
+    if not f.has_decimals then Some faults.NoDecimals
+    else if not (is_field_size form (f.last + 1 - f.first)) then Some faults.Size
+    else None
+
+-- two fields share a column
+abbrev pub overlaps : FieldColumns → FieldColumns → Bool
+overlaps f g = nat_le f.first g.last && nat_le g.first f.last
+
+-- the bytes of one are a number, and of the other characters
+abbrev pub differ : FieldColumns → FieldColumns → Bool
+differ f g = if is_some f.form then not (is_some g.form) else is_some g.form
+
+-- a column is one of characters and of a packed or binary field
+abbrev pub shared_fault : TypeRead → FieldColumns → Option CardFault
+shared_fault t f = if list_any (λ g. overlaps f g && differ f g) t.fields then Some (faults.Shared t.card) else None
+
+-- a type with the columns of one more field
+abbrev pub with_columns_of : TypeRead → FieldColumns → Result TypeRead CardFault
+with_columns_of t f = unless (shared_fault t f) (record { card = t.card; codes = t.codes; fields = t.fields ++ f ∷ []; numbers = t.numbers })
+
+-- a packed or binary field, by its card's number
+abbrev pub number_of : ℕ → FieldColumns → NumberForm → NumberSeen
+number_of n f form = record { card = n; first = f.first; last = f.last; form = form }
+
+-- a type with a field's number, if it is packed or binary
+abbrev pub with_number : ℕ → FieldColumns → Option NumberForm → TypeRead → TypeRead
+with_number n f None t = t
+with_number n f (Some form) t = record { card = t.card; codes = t.codes; fields = t.fields; numbers = t.numbers ++ number_of n f form ∷ [] }
+
+-- a type with one more field
+abbrev pub with_field : ℕ → TypeRead → FieldColumns → Result TypeRead CardFault
+with_field n t f = and_then (unless (option_and_then (number_fault f) f.form) t) (λ t. and_then (with_columns_of t f) (λ t. Ok (with_number n f f.form t)))
+
+-- ---- all cards
+
+-- the type that a field's card goes on with, if there is one
+abbrev pub field_type : ℕ → Option TypeRead → FieldColumns → Result TypeRead CardFault
+field_type n None f = Err (faults.Columns 7 16)
+field_type n (Some t) f = with_field n t f
+
+-- the type that an AND card goes on with, if there is one
+abbrev pub and_type : ℕ → Option TypeRead → Three (Option RecordCode) → Result TypeRead CardFault
+and_type length None three = Err (faults.Columns 14 16)
+and_type length (Some t) three = with_codes length t three
+
+-- the type that a card begins, or goes on with
+abbrev pub type_after : ℕ → Option TypeRead → DeckCard → InputSpec → Result TypeRead CardFault
+type_after length now c (input.Type t) = with_codes length (new_type c.number) t.codes
+type_after length now c (input.And three) = and_type length now three
+type_after length now c (input.Field f) =
+    if is_inside length (field_columns (form_of c.card) f) then field_type c.number now (field_columns (form_of c.card) f) else Err faults.Outside
+
+-- the type that a card ends
+abbrev pub type_before : Option TypeRead → InputSpec → List TypeRead
+type_before now (input.Type t) = option_to_list now
+type_before now (input.And three) = []
+type_before now (input.Field f) = []
+
+-- the types of cards that follow a type, if they follow one
+abbrev pub types_after : ℕ → Option TypeRead → List DeckCard → Result (List TypeRead) DeckFault
+types_after length now [] = Ok (option_to_list now)
+types_after length now (c ∷ cs) =
+    and_then (at_card c.number (input_of c.card)) (λ spec.
+    and_then (at_card c.number (type_after length now c spec)) (λ t. onto (type_before now spec) (types_after length (Some t) cs)))
+
+-- the types of a file's cards, whose records have so many bytes
+abbrev pub types_of : ℕ → List DeckCard → Result (List TypeRead) DeckFault
+types_of length cards = types_after length None cards

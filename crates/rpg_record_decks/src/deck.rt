@@ -1,0 +1,100 @@
+//! The cards of a deck.
+
+ghost use Rattle.std.specs.Prelude.{◌≡◌, ◌≤◌, IfErr, IfOk, Ok, OnOk, length, take};
+ghost use Rattle.rpg_record_decks.specs.Cards.{card_at, cards_of, ends_cards};
+ghost use Rattle.rpg_record_decks.specs.Outcomes.{IsFaultOf};
+
+use crate::fault::{CardFault, DeckFault};
+use rpg_sheet::Card;
+use rpg_text::{first_line, has_only_characters, trimmed};
+use std::alloc::Global;
+
+/// The last card that a source may have.
+pub(crate) const LAST_CARD: u16 = 2_000;
+
+/// How many columns a card has.
+const COLUMNS: usize = 80;
+
+/// Which file of the deck is meant, and what the arguments say besides its cards.
+#[derive(Clone, Copy)]
+pub struct DeckWords<'a> {
+    /// The file's name; none is the primary file.
+    pub file: Option<&'a str>,
+    /// The length of a record in place of the one on the card.
+    pub length: Option<u16>,
+    /// Each record is a line.
+    pub are_lines: bool,
+}
+
+/// A card of a deck with its number, from 1.
+#[derive(Drop)]
+pub(crate) struct DeckCard {
+    pub number: u16,
+    pub card: Card,
+}
+
+/// What a line has in the columns of a card.
+fn within_card(line: &[u8]) -> &[u8]
+    ensures value { result.now ≡ take 80 line.now }
+    ensures fits { length result.now ≤ 80 }
+{
+    if line.len() > COLUMNS {
+        &line[..COLUMNS]
+    } else {
+        line
+    }
+}
+
+/// The card of a line, by its number.
+#[tactic(auto, using(crate::proofs::CardLemmas::card_of_columns))]
+fn card_at(number: u16, line: &[u8]) -> Result<DeckCard, CardFault>
+    ensures value { result ≡ card_at number line.now }
+    ensures few { OnOk result (number ≤ 2000) }
+{
+    if number > LAST_CARD {
+        return Err(CardFault::TooMany);
+    }
+    if trimmed(line).len() > COLUMNS {
+        return Err(CardFault::TooLong);
+    }
+    let columns = within_card(line);
+    if !has_only_characters(columns) {
+        return Err(CardFault::NoCharacter);
+    }
+    let card = Card::new(columns);
+    Ok(DeckCard { number, card })
+}
+
+/// Whether no card follows this one.
+fn ends_cards(card: &Card) -> bool
+    ensures { result ≡ ends_cards card.now }
+{
+    card.ends_source() || card.begins_data()
+}
+
+/// The cards of a deck before its data and its end, without comments.
+#[tactic(auto, using(crate::proofs::CardLemmas::cards_end, crate::proofs::CardLemmas::cards_refused, crate::proofs::CardLemmas::cards_last, crate::proofs::CardLemmas::cards_skipped, crate::proofs::CardLemmas::cards_next))]
+pub(crate) fn deck_cards(alloc: Global, source: &[u8]) -> Result<Vec<DeckCard>, DeckFault>
+    ensures cards { IfOk result (λ cards. cards_of source.now ≡ Ok cards.items) }
+    ensures fault { IfErr result (IsFaultOf (cards_of source.now)) }
+{
+    let mut cards = Vec::new(alloc);
+    let mut number = 1;
+    let mut rest = source;
+    while !rest.is_empty() {
+        let (line, more) = first_line(rest);
+        let card = match card_at(number, line) {
+            Ok(card) => card,
+            Err(fault) => return Err(DeckFault::at(number, fault)),
+        };
+        if ends_cards(&card.card) {
+            return Ok(cards);
+        }
+        number += 1;
+        rest = more;
+        if !card.card.is_skipped() {
+            cards.push(card)?;
+        }
+    }
+    Ok(cards)
+}

@@ -1,0 +1,98 @@
+//! The fields of a record type, and why they are refused.
+
+ghost use Rattle.std.specs.Prelude.{◌≡◌, ◌&&◌, ◌≤◌, IfErr, IfOk, None, Some};
+ghost use Rattle.std.specs.List.{list_any};
+ghost use Rattle.rpg_record_layouts.specs.Seen.{number_seen};
+ghost use Rattle.rpg_record_decks.specs.Types.{differ, field_columns, is_inside, number_fault, number_of, overlaps};
+
+use crate::fault::CardFault;
+use rpg_record_layouts::{NumberField, NumberForm};
+use rpg_sheet::InputField;
+
+/// The columns of a field, and what stands there.
+#[derive(Clone, Copy)]
+pub(crate) struct FieldColumns {
+    /// From 1.
+    pub first: u16,
+    pub last: u16,
+    /// How the bytes of its number stand; none where they are characters.
+    pub form: Option<NumberForm>,
+    pub has_decimals: bool,
+}
+
+/// The columns of a card's field.
+pub(crate) fn field_columns(form: Option<NumberForm>, field: &InputField) -> FieldColumns
+    ensures { result ≡ field_columns form field.now }
+{
+    FieldColumns {
+        first: field.from,
+        last: field.to,
+        form,
+        has_decimals: field.decimals.is_some(),
+    }
+}
+
+impl FieldColumns {
+    /// Whether it is in a record of so many bytes.
+    pub fn is_inside(&self, length: u16) -> bool
+        ensures { result ≡ is_inside length self.now }
+    {
+        1 <= self.first && self.first <= self.last && self.last <= length
+    }
+
+    /// Whether the bytes of one are a number, and of the other characters.
+    fn differs_from(&self, other: &FieldColumns) -> bool
+        ensures { result ≡ differ self.now other.now }
+    {
+        if self.form.is_some() {
+            other.form.is_none()
+        } else {
+            other.form.is_some()
+        }
+    }
+
+    /// Whether it shares a column with another field, and the bytes of one are a number, of the other characters.
+    fn mixes_with(&self, other: &FieldColumns) -> bool
+        ensures { result ≡ (overlaps self.now other.now && differ self.now other.now) }
+    {
+        self.first <= other.last && other.first <= self.last && self.differs_from(other)
+    }
+
+    /// Whether it does so with any of these fields.
+    pub fn mixes_with_any(&self, fields: &[FieldColumns]) -> bool
+        ensures { result ≡ list_any (λ g. overlaps self.now g && differ self.now g) fields.now }
+    {
+        for field in fields {
+            if self.mixes_with(field) {
+                return true;
+            }
+        }
+        false
+    }
+}
+
+/// The packed or binary field of a card.
+pub(crate) fn number_field(
+    card: u16,
+    field: FieldColumns,
+    form: NumberForm,
+) -> Result<NumberField, CardFault>
+    requires counted { 1 ≤ field.first }
+    requires ordered { field.first ≤ field.last }
+    ensures good { IfOk result (λ number. (number_fault field form ≡ None) × (number_seen number ≡ number_of card field form)) }
+    ensures bad { IfErr result (λ fault. number_fault field form ≡ Some fault) }
+{
+    let (first, last) = (field.first, field.last);
+    if !field.has_decimals {
+        return Err(CardFault::NoDecimals);
+    }
+    if !form.allows(last - first + 1) {
+        return Err(CardFault::Size);
+    }
+    Ok(NumberField {
+        card,
+        first,
+        last,
+        form,
+    })
+}

@@ -1,0 +1,82 @@
+//! The card of the file that is meant.
+
+ghost use Rattle.std.specs.Prelude.{◌≡◌, IfErr, IfOk, Ok, find, option_copied};
+ghost use Rattle.rpg_sheet_specs.specs.Tables.{file};
+ghost use Rattle.rpg_record_decks.specs.Files.{has_name, is_meant, length_by, or_columns, record_length};
+ghost use Rattle.rpg_record_decks.specs.Outcomes.{IsFaultOf, at_card};
+
+use crate::columns::{changed_card, columns, file_name, number_columns};
+use crate::deck::DeckCard;
+use crate::fault::{CardFault, DeckFault, bad_columns};
+use rpg_sheet::Card;
+use std::alloc::Global;
+
+/// The most bytes of a record.
+const MOST_BYTES: u16 = 9_999;
+
+/// Whether an F card is that of the primary file, or of the file of this name.
+fn has_name(card: &Card, name: Option<&str>) -> bool
+    ensures { result ≡ has_name (option_copied name.entry) card.now }
+{
+    match name {
+        Some(name) => file_name(card) == name.as_bytes(),
+        None => columns(card, 16, 16) == b"P".as_slice(),
+    }
+}
+
+/// Whether a card is that of the input file that is meant.
+fn is_meant(card: &Card, name: Option<&str>) -> bool
+    ensures { result ≡ is_meant (option_copied name.entry) card.now }
+{
+    columns(card, 6, 6) == b"F".as_slice()
+        && columns(card, 15, 15) == b"I".as_slice()
+        && has_name(card, name)
+}
+
+/// The first card of the file that is meant.
+pub(crate) fn find_file<'a>(cards: &'a [DeckCard], name: Option<&str>) -> Option<&'a DeckCard>
+    ensures { option_copied result ≡ find (λ c. is_meant (option_copied name.entry) c.card) cards.now }
+{
+    for card in cards {
+        if is_meant(&card.card, name) {
+            return Some(card);
+        }
+    }
+    None
+}
+
+/// The length of the records by a file's card.
+fn record_length(number: u16, card: &Card) -> Result<u16, DeckFault>
+    ensures { result ≡ at_card number (record_length (or_columns (file.reading card.now))) }
+{
+    match card.f() {
+        Err(fault) => Err(bad_columns(number, fault)),
+        Ok(spec) => {
+            let length = spec.record_length;
+            if 1 <= length && length <= MOST_BYTES {
+                Ok(length)
+            } else {
+                Err(DeckFault::at(number, CardFault::Length))
+            }
+        }
+    }
+}
+
+/// The length of the records by the file's card, or by the arguments.
+pub(crate) fn file_length(
+    alloc: Global,
+    file: &DeckCard,
+    length: Option<u16>,
+) -> Result<u16, DeckFault>
+    ensures length { IfOk result (λ n. at_card file.now.number (length_by length file.now.card) ≡ Ok n) }
+    ensures fault { IfErr result (IsFaultOf (at_card file.now.number (length_by length file.now.card))) }
+{
+    match length {
+        None => record_length(file.number, &file.card),
+        Some(length) => {
+            let text = number_columns(usize::from(length));
+            let card = changed_card(alloc, &file.card, 24, &text)?;
+            record_length(file.number, &card)
+        }
+    }
+}

@@ -1,0 +1,136 @@
+//! The layout of a file's records, by the cards of a deck.
+
+ghost use Rattle.std.specs.Prelude.{◌≡◌, List, [], Err, IfErr, IfOk, Ok, OnOk, Some, map};
+ghost use Rattle.std.specs.List.{flat_map};
+ghost use Rattle.rpg_record_layouts.specs.Seen.{layout_seen};
+ghost use Rattle.rpg_record_decks.specs.Layouts.{framed, layout_by, layout_by_cards, layout_for, layout_of_file, layout_with, narrow, some_types, without_numbers};
+ghost use Rattle.rpg_record_decks.specs.Outcomes.{IsFaultOf, and_then};
+ghost use Rattle.rpg_record_decks.specs.Reading.{type_read};
+ghost use Rattle.rpg_record_decks.specs.Types.{TypeRead};
+
+use crate::columns::file_name;
+use crate::deck::{DeckCard, DeckWords, deck_cards};
+use crate::fault::{CardFault, DeckFault};
+use crate::file::{file_length, find_file};
+use crate::kinds::{code_columns, record_type};
+use crate::types::{TypeCards, read_types};
+use rpg_record_layouts::Layout;
+use std::alloc::{AllocError, Global};
+
+/// The most columns of a line.
+const MOST_COLUMNS: usize = 9_999;
+
+/// Tests that no field is packed or binary.
+fn refuse_numbers(types: &[TypeCards]) -> Result<(), DeckFault>
+    ensures none { OnOk result (flat_map (λ t. t.numbers) (map type_read types.now) ≡ []) }
+    ensures first { IfErr result (λ fault. (all : List TypeRead) → without_numbers all (flat_map (λ t. t.numbers) (map type_read types.now)) ≡ Err fault) }
+{
+    for kind in types {
+        if let [field, ..] = kind.numbers.as_slice() {
+            return Err(DeckFault::at(field.card, CardFault::BytesInLines));
+        }
+    }
+    Ok(())
+}
+
+/// Tests that there is a type, and that none has packed or binary fields where records are lines.
+fn refuse_types(are_lines: bool, card: u16, types: &[TypeCards]) -> Result<(), DeckFault>
+    ensures good { OnOk result (and_then (some_types card (map type_read types.now)) (framed are_lines) ≡ Ok (map type_read types.now)) }
+    ensures bad { IfErr result (λ fault. and_then (some_types card (map type_read types.now)) (framed are_lines) ≡ Err fault) }
+{
+    if types.is_empty() {
+        return Err(DeckFault::at(card, CardFault::NoType));
+    }
+    if are_lines {
+        return refuse_numbers(types);
+    }
+    Ok(())
+}
+
+/// The layout of these types.
+fn lay_out(alloc: Global, card: u16, length: u16, types: &[TypeCards]) -> Result<Layout, AllocError>
+    ensures { IfOk result (λ layout. layout_seen layout ≡ layout_with card length (map type_read types.now)) }
+{
+    let are_codes = code_columns(alloc, length, types)?;
+    let mut all = Vec::new(alloc);
+    for kind in types {
+        all.push(record_type(alloc, are_codes.as_slice(), kind)?)?;
+    }
+    Ok(Layout {
+        card,
+        length,
+        types: all,
+    })
+}
+
+/// A layout whose lines have few enough columns.
+#[tactic(auto, using(crate::proofs::SeenLemmas::columns_are_seen))]
+fn narrow(layout: Layout) -> Result<Layout, DeckFault>
+    ensures layout { IfOk result (λ same. narrow (layout_seen layout) ≡ Ok (layout_seen same)) }
+    ensures fault { IfErr result (λ fault. narrow (layout_seen layout) ≡ Err fault) }
+{
+    let columns = layout.columns();
+    if columns > MOST_COLUMNS {
+        return Err(DeckFault::at(layout.card, CardFault::Wide { columns }));
+    }
+    Ok(layout)
+}
+
+/// The layout of a file whose records have so many bytes.
+fn layout_for(
+    alloc: Global,
+    are_lines: bool,
+    file: &DeckCard,
+    cards: &[DeckCard],
+    length: u16,
+) -> Result<Layout, DeckFault>
+    ensures layout { IfOk result (λ layout. layout_for are_lines file.now cards.now length ≡ Ok (layout_seen layout)) }
+    ensures fault { IfErr result (IsFaultOf (layout_for are_lines file.now cards.now length)) }
+{
+    let types = read_types(alloc, length, file_name(&file.card), cards)?;
+    refuse_types(are_lines, file.number, types.as_slice())?;
+    let layout = lay_out(alloc, file.number, length, types.as_slice())?;
+    narrow(layout)
+}
+
+/// The layout of the records of this file.
+fn layout_of_file(
+    alloc: Global,
+    given: Option<u16>,
+    are_lines: bool,
+    cards: &[DeckCard],
+    file: &DeckCard,
+) -> Result<Layout, DeckFault>
+    ensures layout { IfOk result (λ layout. layout_of_file given are_lines cards.now (Some file.now) ≡ Ok (layout_seen layout)) }
+    ensures fault { IfErr result (IsFaultOf (layout_of_file given are_lines cards.now (Some file.now))) }
+{
+    let length = file_length(alloc, file, given)?;
+    layout_for(alloc, are_lines, file, cards, length)
+}
+
+/// The layout of the records of the file that is meant.
+#[tactic(auto, using(crate::proofs::LayoutLemmas::no_file, crate::proofs::LayoutLemmas::file_found))]
+fn layout_by_cards(alloc: Global, words: DeckWords, cards: &[DeckCard]) -> Result<Layout, DeckFault>
+    ensures layout { IfOk result (λ layout. layout_by_cards words.entry cards.now ≡ Ok (layout_seen layout)) }
+    ensures fault { IfErr result (IsFaultOf (layout_by_cards words.entry cards.now)) }
+{
+    match find_file(cards, words.file) {
+        Some(file) => layout_of_file(alloc, words.length, words.are_lines, cards, file),
+        None => Err(DeckFault::NoFile),
+    }
+}
+
+/// The layout of the records of a deck's file.
+///
+/// P and B may stand in 43 of its I cards. Else its cards must be as rpg2 reads them; other cards must only have characters.
+///
+/// # Errors
+///
+/// The first card that is refused; or there is no such file, or memory ran out.
+pub fn layout_of(alloc: Global, source: &[u8], words: DeckWords) -> Result<Layout, DeckFault>
+    ensures layout { IfOk result (λ layout. layout_by words.entry source.now ≡ Ok (layout_seen layout)) }
+    ensures fault { IfErr result (IsFaultOf (layout_by words.entry source.now)) }
+{
+    let cards = deck_cards(alloc, source)?;
+    layout_by_cards(alloc, words, cards.as_slice())
+}

@@ -1,0 +1,349 @@
+//! The record types of a file, by its I cards.
+
+ghost use Rattle.std.specs.Prelude.{◌≡◌, ◌≤◌, ◌++◌, ◌∷◌, ℕ, List, IfErr, IfOk, Ok, OnOk, Some, codes, false, map, option_map};
+ghost use Rattle.std.specs.Option.{option_to_list};
+ghost use Rattle.rpg_sheet_specs.specs.Tables.{input_card};
+ghost use Rattle.rpg_record_decks.specs.Files.{or_columns};
+ghost use Rattle.rpg_record_decks.specs.Outcomes.{IsFaultOf, at_card, onto};
+ghost use Rattle.rpg_record_decks.specs.Reading.{GoOnAlike, all_types, type_now, type_read, types_done};
+ghost use Rattle.rpg_record_decks.specs.Types.{cards_of_file, field_type, form_of, input_of, is_input_card, is_of_file, new_type, type_after, type_before, types_after, types_of, with_code, with_codes, with_columns_of, with_field, with_three};
+ghost use Rattle.rpg_sheet_specs.specs.declared.input.InputSpec.TheVariants as inputs;
+ghost use Rattle.rpg_record_decks.specs.declared.deck.DeckCard.{DeckCard};
+ghost use Rattle.rpg_record_decks.specs.declared.fault.CardFault.TheVariants as card_faults;
+ghost use Rattle.rpg_record_decks.specs.declared.fault.DeckFault.TheVariants as faults;
+
+use crate::columns::{changed_card, columns, file_name};
+use crate::deck::DeckCard;
+use crate::fault::{CardFault, DeckFault, bad_columns};
+use crate::fields::{FieldColumns, field_columns, number_field};
+use rpg_record_layouts::{Code, NumberField, NumberForm};
+use rpg_sheet::{Card, InputField, InputSpec, RecordCode, Three};
+use rpg_text::is_blank;
+use std::alloc::{AllocError, Global};
+
+// ---- I cards
+
+/// Whether a card is an I card.
+fn is_input_card(card: &Card) -> bool
+    ensures { result ≡ is_input_card card.now }
+{
+    columns(card, 6, 6) == b"I".as_slice()
+}
+
+/// Whether an I card is one of the file of this name, where the I card before is one or not.
+fn is_of_file(card: &Card, name: &[u8], before: bool) -> bool
+    ensures { result ≡ is_of_file name.now before card.now }
+{
+    let is_and = is_blank(columns(card, 7, 13)) && columns(card, 14, 16) == b"AND".as_slice();
+    let file = file_name(card);
+    if is_and || file.is_empty() {
+        before
+    } else {
+        file == name
+    }
+}
+
+/// How the bytes of a card's field stand; none where they are characters.
+fn form_of(card: &Card) -> Option<NumberForm>
+    ensures { result ≡ form_of card.now }
+{
+    let form = columns(card, 43, 43);
+    if form == b"P".as_slice() {
+        Some(NumberForm::Packed)
+    } else if form == b"B".as_slice() {
+        Some(NumberForm::Binary)
+    } else {
+        None
+    }
+}
+
+/// What an I card says, by its number.
+fn read_input(number: u16, card: &Card) -> Result<InputSpec, DeckFault>
+    ensures { result ≡ at_card number (or_columns (input_card.reading card.now)) }
+{
+    match card.i() {
+        Err(fault) => Err(bad_columns(number, fault)),
+        Ok(spec) => Ok(spec),
+    }
+}
+
+/// What an I card says, where P or B may stand in 43.
+fn input_of(alloc: Global, card: &DeckCard) -> Result<InputSpec, DeckFault>
+    ensures input { IfOk result (λ spec. at_card card.now.number (input_of card.now.card) ≡ Ok spec) }
+    ensures fault { IfErr result (IsFaultOf (at_card card.now.number (input_of card.now.card))) }
+{
+    if form_of(&card.card).is_some() {
+        let plain = changed_card(alloc, &card.card, 43, b" ")?;
+        return read_input(card.number, &plain);
+    }
+    read_input(card.number, &card.card)
+}
+
+// ---- a type
+
+/// A record type, as far as its cards are read.
+#[derive(Drop)]
+pub(crate) struct TypeCards {
+    pub card: u16,
+    pub codes: Vec<Code>,
+    pub fields: Vec<FieldColumns>,
+    pub numbers: Vec<NumberField>,
+}
+
+/// A type that begins at this card.
+fn new_type(alloc: Global, card: u16) -> TypeCards
+    ensures { type_read result ≡ new_type card }
+{
+    TypeCards {
+        card,
+        codes: Vec::new(alloc),
+        fields: Vec::new(alloc),
+        numbers: Vec::new(alloc),
+    }
+}
+
+/// Adds a code, if there is one.
+fn add_code(
+    number: u16,
+    length: u16,
+    codes: &mut Vec<Code>,
+    code: Option<RecordCode>,
+) -> Result<(), DeckFault>
+    ensures codes { OnOk result (with_code length codes.old.items code ≡ Ok codes.new.items) }
+    ensures fault { IfErr result (IsFaultOf (at_card number (with_code length codes.old.items code))) }
+{
+    let Some(code) = code else {
+        return Ok(());
+    };
+    if code.position == 0 || code.position > length {
+        return Err(DeckFault::at(number, CardFault::Outside));
+    }
+    codes.push(Code {
+        place: usize::from(code.position - 1),
+        is_negated: code.negated,
+        character: code.character.number(),
+    })?;
+    Ok(())
+}
+
+/// Adds the codes of a card.
+fn add_codes(
+    number: u16,
+    length: u16,
+    codes: &mut Vec<Code>,
+    three: &Three<Option<RecordCode>>,
+) -> Result<(), DeckFault>
+    ensures codes { OnOk result (with_three length codes.old.items three.now ≡ Ok codes.new.items) }
+    ensures fault { IfErr result (IsFaultOf (at_card number (with_three length codes.old.items three.now))) }
+{
+    add_code(number, length, codes, three.first)?;
+    add_code(number, length, codes, three.second)?;
+    add_code(number, length, codes, three.third)
+}
+
+/// A type with the codes of a card.
+fn with_codes(
+    number: u16,
+    length: u16,
+    mut kind: TypeCards,
+    three: &Three<Option<RecordCode>>,
+) -> Result<TypeCards, DeckFault>
+    ensures type_is { IfOk result (λ t. with_codes length (type_read kind) three.now ≡ Ok (type_read t)) }
+    ensures fault { IfErr result (IsFaultOf (at_card number (with_codes length (type_read kind) three.now))) }
+{
+    add_codes(number, length, &mut kind.codes, three)?;
+    Ok(kind)
+}
+
+/// A type with the columns of one more field.
+fn with_columns_of(
+    number: u16,
+    mut kind: TypeCards,
+    field: FieldColumns,
+) -> Result<TypeCards, DeckFault>
+    ensures type_is { IfOk result (λ t. with_columns_of (type_read kind) field ≡ Ok (type_read t)) }
+    ensures fault { IfErr result (IsFaultOf (at_card number (with_columns_of (type_read kind) field))) }
+{
+    if field.mixes_with_any(kind.fields.as_slice()) {
+        let card = kind.card;
+        return Err(DeckFault::at(number, CardFault::Shared { card }));
+    }
+    kind.fields.push(field)?;
+    Ok(kind)
+}
+
+/// A type with one more packed or binary field.
+#[tactic(auto, using(crate::proofs::TypeLemmas::numbers_more))]
+fn with_number(
+    number: u16,
+    kind: TypeCards,
+    field: FieldColumns,
+    form: NumberForm,
+) -> Result<TypeCards, DeckFault>
+    requires form { field.form ≡ Some form }
+    requires counted { 1 ≤ field.first }
+    requires ordered { field.first ≤ field.last }
+    ensures type_is { IfOk result (λ t. with_field number (type_read kind) field ≡ Ok (type_read t)) }
+    ensures fault { IfErr result (IsFaultOf (at_card number (with_field number (type_read kind) field))) }
+{
+    let packed = match number_field(number, field, form) {
+        Ok(packed) => packed,
+        Err(fault) => return Err(DeckFault::at(number, fault)),
+    };
+    let mut more = with_columns_of(number, kind, field)?;
+    more.numbers.push(packed)?;
+    Ok(more)
+}
+
+/// A type with one more field.
+fn with_field(number: u16, kind: TypeCards, field: FieldColumns) -> Result<TypeCards, DeckFault>
+    requires counted { 1 ≤ field.first }
+    requires ordered { field.first ≤ field.last }
+    ensures type_is { IfOk result (λ t. with_field number (type_read kind) field ≡ Ok (type_read t)) }
+    ensures fault { IfErr result (IsFaultOf (at_card number (with_field number (type_read kind) field))) }
+{
+    match field.form {
+        Some(form) => with_number(number, kind, field, form),
+        None => with_columns_of(number, kind, field),
+    }
+}
+
+// ---- all types
+
+/// The type that a field's card goes on with.
+fn field_type(
+    length: u16,
+    now: Option<TypeCards>,
+    card: &DeckCard,
+    field: &InputField,
+) -> Result<TypeCards, DeckFault>
+    ensures type_is { IfOk result (λ t. type_after length (option_map type_read now) card.now (inputs.Field field.now) ≡ Ok (type_read t)) }
+    ensures fault { IfErr result (IsFaultOf (at_card card.now.number (type_after length (option_map type_read now) card.now (inputs.Field field.now)))) }
+{
+    let columns = field_columns(form_of(&card.card), field);
+    if !columns.is_inside(length) {
+        return Err(DeckFault::at(card.number, CardFault::Outside));
+    }
+    match now {
+        Some(kind) => with_field(card.number, kind, columns),
+        None => Err(orphan(card.number, 7)),
+    }
+}
+
+/// A card that goes on with a type where there is none; the columns to 16 should say one.
+fn orphan(number: u16, first: u8) -> DeckFault
+    ensures { result ≡ faults.Card number (card_faults.Columns first 16) }
+{
+    DeckFault::at(number, CardFault::Columns { first, last: 16 })
+}
+
+/// The type that a card begins, or goes on with.
+fn type_after(
+    alloc: Global,
+    length: u16,
+    now: Option<TypeCards>,
+    card: &DeckCard,
+    spec: &InputSpec,
+) -> Result<TypeCards, DeckFault>
+    ensures type_is { IfOk result (λ t. type_after length (option_map type_read now) card.now spec.now ≡ Ok (type_read t)) }
+    ensures fault { IfErr result (IsFaultOf (at_card card.now.number (type_after length (option_map type_read now) card.now spec.now))) }
+{
+    match spec {
+        InputSpec::Type(kind) => {
+            let begun = new_type(alloc, card.number);
+            with_codes(card.number, length, begun, &kind.codes)
+        }
+        InputSpec::And(codes) => match now {
+            Some(kind) => with_codes(card.number, length, kind, codes),
+            None => Err(orphan(card.number, 14)),
+        },
+        InputSpec::Field(field) => field_type(length, now, card, field),
+    }
+}
+
+/// The types of a file's cards, as far as they are read.
+#[derive(Drop)]
+pub(crate) struct Types {
+    done: Vec<TypeCards>,
+    /// The last one, which further cards go on with.
+    now: Option<TypeCards>,
+}
+
+impl Types {
+    /// With the last type done, if this card begins another one.
+    #[tactic(auto, using(crate::proofs::TypeLemmas::types_more))]
+    fn ended(self, spec: &InputSpec) -> Result<Self, AllocError>
+        ensures done { IfOk result (λ types. types_done types ≡ types_done self ++ type_before (type_now self) spec.now) }
+        ensures now { IfOk result (λ types. GoOnAlike spec.now (type_now types) (type_now self)) }
+    {
+        let InputSpec::Type(_) = spec else {
+            return Ok(self);
+        };
+        let Types { mut done, now } = self;
+        match now {
+            Some(last) => {
+                done.push(last)?;
+                Ok(Types { done, now: None })
+            }
+            None => Ok(Types { done, now: None }),
+        }
+    }
+
+    /// With what one more card of the file says.
+    #[tactic(auto, using(crate::proofs::TypeLemmas::card_read, crate::proofs::TypeLemmas::card_refused, crate::proofs::TypeLemmas::type_refused))]
+    fn with_card(self, alloc: Global, length: u16, card: &DeckCard) -> Result<Self, DeckFault>
+        ensures types { IfOk result (λ types. (cs : List DeckCard) → all_types length types cs ≡ all_types length self (card.now ∷ cs)) }
+        ensures fault { IfErr result (λ fault. (cs : List DeckCard) → IsFaultOf (all_types length self (card.now ∷ cs)) fault) }
+    {
+        let spec = input_of(alloc, card)?;
+        let Types { done, now } = self.ended(&spec)?;
+        let now = type_after(alloc, length, now, card, &spec)?;
+        Ok(Types {
+            done,
+            now: Some(now),
+        })
+    }
+
+    /// All of them.
+    #[tactic(auto, using(crate::proofs::TypeLemmas::types_more))]
+    fn finish(self) -> Result<Vec<TypeCards>, AllocError>
+        ensures { IfOk result (λ types. map type_read types.items ≡ types_done self ++ option_to_list (type_now self)) }
+    {
+        let Types { mut done, now } = self;
+        match now {
+            Some(last) => {
+                done.push(last)?;
+                Ok(done)
+            }
+            None => Ok(done),
+        }
+    }
+}
+
+/// The types of the file of this name, whose records have so many bytes.
+#[tactic(auto, using(crate::proofs::TypeLemmas::cards_other, crate::proofs::TypeLemmas::cards_left_out, crate::proofs::TypeLemmas::cards_next))]
+pub(crate) fn read_types(
+    alloc: Global,
+    length: u16,
+    name: &[u8],
+    cards: &[DeckCard],
+) -> Result<Vec<TypeCards>, DeckFault>
+    ensures types { IfOk result (λ types. types_of length (cards_of_file name.now false cards.now) ≡ Ok (map type_read types.items)) }
+    ensures fault { IfErr result (IsFaultOf (types_of length (cards_of_file name.now false cards.now))) }
+{
+    let mut types = Types {
+        done: Vec::new(alloc),
+        now: None,
+    };
+    let mut is_meant = false;
+    for card in cards {
+        if !is_input_card(&card.card) {
+            continue;
+        }
+        is_meant = is_of_file(&card.card, name, is_meant);
+        if is_meant {
+            types = types.with_card(alloc, length, card)?;
+        }
+    }
+    Ok(types.finish()?)
+}
