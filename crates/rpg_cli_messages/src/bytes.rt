@@ -32,6 +32,11 @@ fn cause_of(text: &[u8]) -> Option<&'static str> {
     }
 }
 
+/// Whether a text begins with the first two bytes of a letter of UTF-8 that isn't ASCII.
+fn begins_letter(text: &[u8]) -> bool {
+    matches!(text, [0xc2..=0xf4, 0x80..=0xbf, ..])
+}
+
 /// Whether a byte is a blank, a letter or a digit of EBCDIC.
 fn is_ebcdic(byte: u8) -> bool {
     matches!(
@@ -62,7 +67,7 @@ pub fn write_byte_cause(out: &mut TextWriter, line: &[u8], place: usize) {
     }
     match cause_of(rest) {
         Some(cause) => out.write_str(cause),
-        None if 0xc2 <= byte && byte <= 0xf4 => write!(
+        None if begins_letter(rest) => write!(
             out,
             "byte {byte:02x} begins a letter of UTF-8 that isn't ASCII: write one from blank to ~"
         ),

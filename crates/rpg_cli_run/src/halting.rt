@@ -5,25 +5,35 @@ use rpg_cli_files::{identity_at, input_file};
 use rpg_cli_halts::{HaltedCycle, HaltedSource, InputNames, halt_message};
 use rpg_cli_words::RunWords;
 use rpg_engine::{JobEnd, Report, Verified};
+use rpg_text::first_line;
 use std::alloc::AllocError;
 use std::io::{BufRead, BufReader};
 use std::rt::Files;
 
-/// The text of a record of a regular file, the first being 1, where it can be read once more. Standard input can't.
-fn record_line<R: Files + AllocGlobal>(rt: &R, words: &RunWords, number: u64) -> Option<String> {
+/// A record of a regular file with the end of its line, the first being 1, where it can be read once more. Standard input can't.
+fn record_line<R: Files + AllocGlobal>(rt: &R, words: &RunWords, number: u64) -> Option<Vec<u8>> {
     let path = words.input_file()?;
     identity_at(rt, path)?;
     let file = input_file(rt, path).ok()?;
-    let reader = BufReader::new(rt.alloc(), file).ok()?;
-    let mut at = 0u64;
-    for line in reader.lines(rt.alloc()) {
-        let line = line.ok()?;
-        at = at.saturating_add(1);
-        if at == number {
-            return Some(line);
+    let mut reader = BufReader::new(rt.alloc(), file).ok()?;
+    let mut line = Vec::new(rt.alloc());
+    for _ in 0..number {
+        line.clear();
+        let count = reader.read_until(b'\n', &mut line).ok()?;
+        if count == 0 {
+            return None;
         }
     }
-    None
+    Some(line)
+}
+
+/// The text of a record without the end of its line.
+fn text_of(line: Option<&Vec<u8>>) -> Option<&[u8]> {
+    let line = line?;
+    if line.is_empty() {
+        return None;
+    }
+    Some(first_line(line).0)
 }
 
 fn halted_message<R: Files + AllocGlobal>(
@@ -37,12 +47,12 @@ fn halted_message<R: Files + AllocGlobal>(
         Some(record) if halted.is_of_columns() => record_line(rt, words, record),
         _ => None,
     };
-    let record = line.as_ref().map(|line| line.as_bytes());
     let names = InputNames {
         primary: words.input,
         secondary: words.secondary,
     };
-    halt_message(rt.alloc(), names, program, halted, record, source)
+    let text = text_of(line.as_ref());
+    halt_message(rt.alloc(), names, program, halted, text, source)
 }
 
 /// The halt of a report, if its job halted.
