@@ -12,6 +12,8 @@ import sys
 # The crates that no other proved crate rests on; `make edits` tries the wrong bodies of all.
 TOP = (
     "rpg_engine",
+    "rpg_refusal_causes",
+    "rpg_deck",
     "rpg_compile",
     "rpg_causes",
     "rpg_source_run",
