@@ -201,8 +201,7 @@ pub(crate) fn send_where_enough<S: Store + Drop, W1: Write, W2: Write, W: Watche
     ensures faults { WriterFaults result (faults_of print.old) (faults_of print.new) (faults_of disk.old) (faults_of disk.new) }
 {
     let waiting = waiting_in(job.output());
-    // One of the two reaches 0, or a power of two, exactly if their bits together do.
-    if ended.is_none() && (waiting.print | waiting.disk) < enough {
+    if ended.is_none() && waiting.print < enough && waiting.disk < enough {
         return Ok(());
     }
     look_and_send(job, ended, watcher, print, disk, sent)

@@ -27,3 +27,6 @@ returns-clause-early g c = rw c.program.ensures.same at c.watch_program.ensures.
 
 pub returns-clause-report : goal.returns-clause-report
 returns-clause-report g c = rw c.program.ensures.same at c.watch_program.ensures.report
+
+pub returns-clause-headline : goal.returns-clause-headline
+returns-clause-headline g c = rw c.program.ensures.same at c.watch_program.ensures.headline
