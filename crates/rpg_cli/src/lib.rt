@@ -7,7 +7,6 @@ mod dates;
 mod decks;
 mod explaining;
 mod files;
-mod formed;
 mod listing;
 mod naming;
 mod outlet;

@@ -1,7 +1,7 @@
-//! The files that a command's diagnostics may be about.
+//! The form of a command's diagnostics, and the files that they may be about.
 
-use rpg_cli_json::Severity;
-use rpg_cli_words::{FileWord, FitWords, Request};
+use rpg_cli_json::{Form, Severity};
+use rpg_cli_words::{FileWord, FitWords, Format, Request};
 use std::alloc::{AllocError, Global};
 
 const WORDS: [FileWord; 12] = [
@@ -20,10 +20,20 @@ const WORDS: [FileWord; 12] = [
 ];
 
 /// How severe diagnostics without a code are: `records` has no codes, and its diagnostics say why it stops.
-pub(crate) fn uncoded_severity(request: &Request) -> Severity {
+fn uncoded_severity(request: &Request) -> Severity {
     match request {
         Request::Records(_) => Severity::Error,
         _ => Severity::Note,
+    }
+}
+
+/// The form that the words want.
+pub(crate) fn form_of(request: &Request) -> Form {
+    match request.format() {
+        Format::Text => Form::Text,
+        Format::Json => Form::Objects {
+            uncoded: uncoded_severity(request),
+        },
     }
 }
 
@@ -36,12 +46,15 @@ fn push_fitted<'a>(files: &mut Vec<&'a str>, words: &FitWords<'a>) -> Result<(),
     Ok(())
 }
 
-/// The files that the words name.
+/// The files that the words name, if objects are to have them.
 pub(crate) fn files_of<'a>(
     alloc: Global,
     request: &'a Request<'a>,
 ) -> Result<Vec<&'a str>, AllocError> {
     let mut files = Vec::new(alloc);
+    if request.format() == Format::Text {
+        return Ok(files);
+    }
     for word in WORDS {
         if let Some(path) = request.path(word) {
             files.push(path)?;

@@ -11,16 +11,15 @@ use crate::dates::{JobDate, tell_odd_date};
 use crate::decks::cards_file;
 use crate::explaining::explain;
 use crate::files::{compile_files, show_file, verify_file};
-use crate::formed::FormedListener;
 use crate::listing::list_file;
-use crate::naming::{files_of, uncoded_severity};
+use crate::naming::{files_of, form_of};
 use crate::outlet::Outlet;
 use crate::telling::{tell_answer, tell_unwritten};
 use crate::told::{StandardError, StandardStreams};
 use rpg_cli_answers::{Answer, Listener, Reasons, Stop, json_line, line};
 use rpg_cli_conversions::{fit_file, records_file};
 use rpg_cli_files::send_line;
-use rpg_cli_json::JsonListener;
+use rpg_cli_json::FormedListener;
 use rpg_cli_run::{go_files, run_files};
 use rpg_cli_words::{Format, Refusal, Request, refuse_bytes, refuse_same_file, request_of};
 use std::alloc::Global;
@@ -199,27 +198,20 @@ fn obey<R: Clock + Env + Files + Input + Print + Eprint + AllocGlobal, W: Write,
 ) -> u8
     ensures { PrintsALine (W.contents out.old) (W.contents out.new) result }
 {
-    match request.format() {
-        Format::Text => {
-            let mut listener = FormedListener::Text(listener);
+    match files_of(rt.alloc(), request) {
+        Ok(files) => {
+            let form = form_of(request);
+            let mut listener = FormedListener::new(rt.alloc(), listener, files, form);
             obey_as_asked(rt, request, out, &mut listener)
         }
-        Format::Json => match files_of(rt.alloc(), request) {
-            Ok(files) => {
-                let uncoded = uncoded_severity(request);
-                let objects = JsonListener::new(rt.alloc(), listener, files, uncoded);
-                let mut listener = FormedListener::Json(objects);
-                obey_as_asked(rt, request, out, &mut listener)
-            }
-            Err(_) => conclude(
-                rt.alloc(),
-                request,
-                &Answer::NoMemory,
-                Reasons::NONE,
-                out,
-                listener,
-            ),
-        },
+        Err(_) => conclude(
+            rt.alloc(),
+            request,
+            &Answer::NoMemory,
+            Reasons::NONE,
+            out,
+            listener,
+        ),
     }
 }
 

@@ -8,5 +8,5 @@ mod picture;
 mod string;
 
 pub use diagnostic::Severity;
-pub use listener::JsonListener;
+pub use listener::{Form, FormedListener};
 pub use objects::source_object;

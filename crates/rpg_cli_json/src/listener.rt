@@ -1,4 +1,4 @@
-//! A listener that makes objects of JSON of the diagnostics.
+//! A listener that passes diagnostics on in the form that is wanted: as texts, or as objects of JSON.
 
 use crate::diagnostic::{Known, Severity};
 use crate::objects::diagnostics;
@@ -6,44 +6,60 @@ use rpg_cli_answers::Listener;
 use rpg_cli_files::Reason;
 use std::alloc::Global;
 
-/// Hands on each diagnostic as an object of JSON, in a line of its own. If there is no memory for one, it is left out.
+/// The form of diagnostics.
+#[derive(Clone, Copy)]
+pub enum Form {
+    Text,
+    /// Objects of JSON. Diagnostics without a code are as severe as this.
+    Objects { uncoded: Severity },
+}
+
+/// Passes on each diagnostic in one of the forms: as its text, or as an object of JSON in a line of its own. If there is no memory for an
+/// object, it is left out. It is one type for both forms, so that a command is there once.
 #[derive(Drop)]
-pub struct JsonListener<'a, L> {
+pub struct FormedListener<'a, L> {
     alloc: Global,
     listener: &'a mut L,
     /// The files that diagnostics may be about, by their names.
     files: Vec<&'a str>,
-    /// How severe diagnostics are that have no code.
-    uncoded: Severity,
+    form: Form,
     /// A line whose end hasn't come.
     begun: String,
 }
 
-impl<'a, L: Listener> JsonListener<'a, L> {
-    pub fn new(alloc: Global, listener: &'a mut L, files: Vec<&'a str>, uncoded: Severity) -> Self {
-        JsonListener {
+impl<'a, L: Listener> FormedListener<'a, L> {
+    pub fn new(alloc: Global, listener: &'a mut L, files: Vec<&'a str>, form: Form) -> Self {
+        FormedListener {
             alloc,
             listener,
             files,
-            uncoded,
+            form,
             begun: String::new(alloc),
         }
     }
-}
 
-impl<L: Listener> Listener for JsonListener<'_, L> {
-    fn tell(&mut self, text: &str) {
+    /// Takes a text, and passes on the objects of all lines that have ended.
+    fn tell_objects(&mut self, text: &str, uncoded: Severity) {
         if self.begun.push_str(text).is_err() || !text.ends_with('\n') {
             return;
         }
         let known = Known {
             files: &self.files,
-            uncoded: self.uncoded,
+            uncoded,
         };
         if let Ok(objects) = diagnostics(self.alloc, known, self.begun.as_str()) {
             self.listener.tell(objects.as_str());
         }
         self.begun.clear();
+    }
+}
+
+impl<L: Listener> Listener for FormedListener<'_, L> {
+    fn tell(&mut self, text: &str) {
+        match self.form {
+            Form::Text => self.listener.tell(text),
+            Form::Objects { uncoded } => self.tell_objects(text, uncoded),
+        }
     }
 
     fn show(&mut self, text: &str) -> Result<(), Reason> {
