@@ -53,6 +53,7 @@ pub record AreOfChains (ps : List Pair) : Type 0 where
   -- the level that is computed
   pub computed : (n s : ℕ) → IsLongestWithin n ps s (level_within ps n s)
 
+-- the subroutines of a source
 abbrev pub subroutines : List SpecCard → List (Subroutine Key)
 subroutines cards = (sections cards).subroutines
 

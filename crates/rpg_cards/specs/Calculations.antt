@@ -27,6 +27,7 @@ awaited_level control.Subroutine = None
 awaited_level control.And = None
 awaited_level control.Or = None
 
+-- a condition on a card as one of a program's rows
 abbrev pub condition_of : sheet.Condition → Condition
 condition_of c = record { indicator = c.indicator; is_negated = c.negated }
 
@@ -34,12 +35,15 @@ condition_of c = record { indicator = c.indicator; is_negated = c.negated }
 abbrev pub standing : Three (Option sheet.Condition) → List Condition
 standing t = map condition_of (filter_map (λ c. c) (t.first ∷ t.second ∷ t.third ∷ []))
 
+-- at most three conditions, in the three places of a row
 abbrev pub in_places : List Condition → Conditions
 in_places cs = record { first = slice_get cs 0; second = slice_get cs 1; third = slice_get cs 2 }
 
+-- the conditions of a card, without the blanks between them
 abbrev pub conditions_on : CalculationSpec → Conditions
 conditions_on k = in_places (standing k.conditions)
 
+-- the card has a condition
 abbrev pub depends : CalculationSpec → Bool
 depends k = has_conditions (conditions_on k)
 
@@ -47,6 +51,7 @@ depends k = has_conditions (conditions_on k)
 abbrev pub tests_on : CalculationSpec → List Conditions
 tests_on k = if depends k then conditions_on k ∷ [] else []
 
+-- an OR card
 abbrev pub is_or : ControlLevel → Bool
 is_or control.Detail = false
 is_or (control.Total n) = false
@@ -61,13 +66,16 @@ alternatives so_far (k ∷ ks) = if is_or k.control_level then so_far ∷ altern
 
 -- ---- groups of cards
 
+-- a C card with the AN and OR cards that go on with it
 pub record CalculationGroup : Type 0 where
   pub first : CalculationSpec
   pub followers : List CalculationSpec  -- its AN and OR cards
 
+-- the card that has the operation: the last one
 abbrev pub last_card : CalculationGroup → CalculationSpec
 last_card g = unwrap_or (last_or None g.followers) g.first
 
+-- what a group of cards calculates, and when
 abbrev pub calculation_of : CalculationGroup → Calculation Key
 calculation_of g = record {
   control = g.first.control_level;
@@ -76,9 +84,11 @@ calculation_of g = record {
   deed = deed_of (last_card g);
 }
 
+-- a group of one card
 abbrev pub alone : CalculationSpec → CalculationGroup
 alone k = record { first = k; followers = [] }
 
+-- the group with one card more
 abbrev pub joined_group : CalculationGroup → CalculationSpec → CalculationGroup
 joined_group g k = record { first = g.first; followers = g.followers ++ k ∷ [] }
 
@@ -89,13 +99,16 @@ group_with (Some g) k = if joins k.control_level then joined_group g k else alon
 
 -- ---- from the front: the group that the card right before belongs to
 
+-- the open group once a card has been read; only C cards change it
 abbrev pub open_with : Option CalculationGroup → Spec → Option CalculationGroup
 open_with o s = option_map (group_with o) (calculation_on s)
 
+-- the open group once all these cards have been read
 abbrev pub open_behind : Option CalculationGroup → List SpecCard → Option CalculationGroup
 open_behind o [] = o
 open_behind o (c ∷ cs) = open_behind (open_with o c.spec) cs
 
+-- the group that the last C card belongs to
 abbrev pub open_calculation_group : List SpecCard → Option CalculationGroup
 open_calculation_group before = open_behind None before
 
@@ -113,17 +126,21 @@ abbrev pub calculations_from : Option CalculationGroup → List SpecCard → Lis
 calculations_from o [] after = []
 calculations_from o (c ∷ cs) after = option_to_list (option_map calculation_of (group_at o c (cs ++ after))) ++ calculations_from (open_with o c.spec) cs after
 
+-- the calculations that end on some cards, seen with those after them
 abbrev pub calculations_before : List SpecCard → List SpecCard → List (Calculation Key)
 calculations_before before after = calculations_from None before after
 
+-- the calculations of a source, in the order of their cards
 abbrev pub calculations : List SpecCard → List (Calculation Key)
 calculations cards = calculations_before cards []
 
 -- ---- what ends on a card
 
+-- the group that ends on a card between those before and those after it
 abbrev pub group_ending : List SpecCard → SpecCard → List SpecCard → Option CalculationGroup
 group_ending before c after = group_at (open_calculation_group before) c after
 
+-- the calculation that ends on a card between those before and those after it
 abbrev pub calculation_ending : List SpecCard → SpecCard → List SpecCard → Option (Calculation Key)
 calculation_ending before c after = option_map calculation_of (group_ending before c after)
 
@@ -133,6 +150,7 @@ card_ending c after = if goes_on after then None else calculation_on c.spec
 
 -- ---- a group with the AN and OR cards behind
 
+-- the group with the AN and OR cards right after it
 abbrev pub completed : CalculationGroup → List SpecCard → CalculationGroup
 completed g [] = g
 completed g (c ∷ cs) = option_map_or (λ k. if joins k.control_level then completed (joined_group g k) cs else g) (calculation_on c.spec) g

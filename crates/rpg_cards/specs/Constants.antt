@@ -23,14 +23,17 @@ use Rattle.rpg_sheet_specs.specs.declared.output.OutputField.{OutputField}
 use Rattle.rpg_sheet_specs.specs.declared.spec.Spec.{Spec}
 use Rattle.rpg_text.specs.Texts.{is_character}
 
+-- a literal as a constant
 abbrev pub constant_of : Literal → Constant
 constant_of (literal.Number n) = Number n
 constant_of (literal.Text text) = Text text
 
+-- the constant in a factor
 abbrev pub factor_constant : Factor → Option Constant
 factor_constant (factor.Entry e) = None
 factor_constant (factor.Literal l) = Some (constant_of l)
 
+-- the form of a constant
 abbrev pub constant_form : Constant → FieldForm
 constant_form (Number n) = record { kind = kind.Number; class = class.Constant; length = n.length; decimals = n.decimals; is_ascending = false; entries = 1 }
 constant_form (Text text) = record { kind = kind.Text; class = class.Constant; length = length text; decimals = 0; is_ascending = false; entries = 1 }
@@ -49,15 +52,18 @@ is_same (Text s) (Text t) = pointwise nat_eq s t
 
 -- ---- the constants of a card: those of the factors, or the constant or edit word of an output field (the fill of a code is none)
 
+-- the constant or edit word of an output field
 abbrev pub text_constant : OutputField → Option Constant
 text_constant f = if is_none f.code then option_map Text f.text else None
 
+-- the constants on a card
 abbrev pub constants_on : Spec → List Constant
 constants_on s =
     option_to_list (option_and_then (λ k. option_and_then factor_constant k.factor_1) (calculation_on s))
     ++ option_to_list (option_and_then (λ k. option_and_then factor_constant k.factor_2) (calculation_on s))
     ++ option_to_list (option_and_then text_constant (output_field_on s))
 
+-- the constants on these cards, each as often as it stands there
 abbrev pub constants_in : List SpecCard → List Constant
 constants_in [] = []
 constants_in (c ∷ cs) = constants_on c.spec ++ constants_in cs

@@ -53,16 +53,20 @@ tests (cs ∷ rest) = length cs + tests rest
 
 -- ---- the deed of a card
 
+-- three resulting indicators: for plus, minus and zero
 abbrev pub shows_of : Three (Option ℕ) → Shows
 shows_of t = record { plus = t.first; minus = t.second; zero = t.third }
 
 module _ (k : CalculationSpec) where
+  -- the operand in factor 1
   abbrev pub first : Operand Key
   first = unwrap_or (option_map factor_operand k.factor_1) nowhere
 
+  -- the operand in factor 2
   abbrev pub second : Operand Key
   second = unwrap_or (option_map factor_operand k.factor_2) nowhere
 
+  -- the operand in the result field
   abbrev pub result : Operand Key
   result = unwrap_or (option_map entry_operand k.result_field) nowhere
 
@@ -70,18 +74,23 @@ module _ (k : CalculationSpec) where
   abbrev pub first_or_result : Operand Key
   first_or_result = unwrap_or (option_map factor_operand k.factor_1) result
 
+  -- the resulting indicators
   abbrev pub resulting_shows : Shows
   resulting_shows = shows_of k.resulting_indicators
 
+  -- the label or subroutine that factor 1 gives
   abbrev pub given_name : Option Name
   given_name = option_and_then plain_name k.factor_1
 
+  -- the label or subroutine that factor 2 names
   abbrev pub wanted_name : Option Name
   wanted_name = option_and_then plain_name k.factor_2
 
+  -- arithmetic on factor 1 and factor 2, where a blank factor 1 stands for the result field
   abbrev pub computes : Operator → Deed Key
   computes o = Acts (Compute o k.half_adjust first_or_result second result resulting_shows)
 
+  -- what the operation does with the columns of its card
   abbrev pub deed_by : Operation → Deed Key
   deed_by op.Add = computes operator.Add
   deed_by op.Subtract = computes operator.Subtract
@@ -104,9 +113,11 @@ module _ (k : CalculationSpec) where
   deed_by op.EndSubroutine = Ends given_name
   deed_by op.Except = PutsOut
 
+  -- what the card does, with its operation or without one
   abbrev pub deed_from : Option Operation → Deed Key
   deed_from None = Nothing
   deed_from (Some o) = deed_by o
 
+-- what a C card does
 abbrev pub deed_of : CalculationSpec → Deed Key
 deed_of k = deed_from k k.operation

@@ -15,15 +15,18 @@ use Rattle.rpg_sheet_specs.specs.declared.file.FileSpec.{FileSpec}
 
 -- ---- what a file serves as
 
+-- a file's use by its role and its device
 abbrev pub use_by : FileRole → Device → FileUse
 use_by role.Primary d = Primary
 use_by role.Secondary d = Secondary
 use_by role.Output device.Printer = Printer
 use_by role.Output device.Disk = Disk
 
+-- the use of the file on an F card
 abbrev pub file_use : FileSpec → FileUse
 file_use f = use_by f.role f.device
 
+-- two uses are the same
 abbrev pub same_use : FileUse → FileUse → Bool
 same_use Primary Primary = true
 same_use Secondary Secondary = true
@@ -31,17 +34,20 @@ same_use Printer Printer = true
 same_use Disk Disk = true
 same_use u v = false
 
+-- a file that is read
 abbrev pub is_input : FileUse → Bool
 is_input Primary = true
 is_input Secondary = true
 is_input Printer = false
 is_input Disk = false
 
+-- a file that is written
 abbrev pub is_output : FileUse → Bool
 is_output u = not (is_input u)
 
 -- ---- the files
 
+-- the files of a source, in the order of their F cards
 abbrev pub files : List SpecCard → List FileSpec
 files cards = filter_map (λ c. file_on c.spec) cards
 
@@ -49,6 +55,7 @@ files cards = filter_map (λ c. file_on c.spec) cards
 abbrev pub file_for : FileUse → List SpecCard → Option FileSpec
 file_for u cards = find (λ f. same_use u (file_use f)) (files cards)
 
+-- the first file of that name
 abbrev pub file_named : List ℕ → List SpecCard → Option FileSpec
 file_named name cards = find (λ f. pointwise nat_eq name f.name) (files cards)
 

@@ -30,6 +30,7 @@ pub record Group (H F : Type 0) : Type 0 where
 
 -- ---- from the front
 
+-- the followers, once one more card stands in front of them
 abbrev pub following : {H F : Type 0} → Role H F → List F → List F
 following (Heading h name) fs = []
 following (Follower f) fs = f ∷ fs
@@ -41,6 +42,7 @@ opening (Heading h name) file fs behind = record { heading = h; followers = fs; 
 opening (Follower f) file fs behind = behind file
 opening Apart file fs behind = behind file
 
+-- the file of a group: the one that its heading names, or the one named last before it
 abbrev pub file_of_group : {H F : Type 0} → Option (Group H F) → Option (List ℕ)
 file_of_group o = option_and_then (λ g. g.file) o
 
@@ -55,20 +57,25 @@ module _ {H F : Type 0} (role : Spec → Role H F) where
   groups_from file [] = []
   groups_from file (c ∷ cs) = opening (role c.spec) file (followers cs) (λ own. groups_from own cs)
 
+  -- the groups of cards on one sheet
   abbrev pub groups : List SpecCard → List (Group H F)
   groups cards = groups_from None cards
 
+  -- how many groups there are
   abbrev pub group_count : List SpecCard → ℕ
   group_count cards = length (groups cards)
 
   -- ---- the open group: the one that a further card would follow
 
+  -- the group that a follower on the next card would belong to
   abbrev pub open_group : List SpecCard → Option (Group H F)
   open_group before = last_or None (groups before)
 
+  -- the heading of the open group
   abbrev pub open_heading : List SpecCard → Option H
   open_heading before = option_map (λ g. g.heading) (open_group before)
 
+  -- the file of the open group
   abbrev pub open_file : List SpecCard → Option (List ℕ)
   open_file before = file_of_group (open_group before)
 
@@ -78,9 +85,11 @@ module _ {H F : Type 0} (role : Spec → Role H F) where
 
 -- ---- one more card: it opens a group, follows the open one, or changes nothing
 
+-- the group with more followers
 abbrev pub with_followers : {H F : Type 0} → List F → Group H F → Group H F
 with_followers fs g = record { heading = g.heading; followers = g.followers ++ fs; file = g.file }
 
+-- the open group once a card has been read: a heading begins one, and takes over the file where it names none
 abbrev pub with_card : {H F : Type 0} → Option (Group H F) → Role H F → Option (Group H F)
 with_card o (Heading h name) = Some (record { heading = h; followers = []; file = option_or name (file_of_group o) })
 with_card o (Follower f) = option_map (with_followers (f ∷ [])) o
@@ -88,6 +97,7 @@ with_card o Apart = o
 
 -- ---- the groups of the sheets
 
+-- the part of a card on its sheet; cards of other sheets have none
 abbrev pub role_on : {X H F : Type 0} → (X → Role H F) → Option X → Role H F
 role_on role None = Apart
 role_on role (Some x) = role x
@@ -98,6 +108,7 @@ input_card_role (input.Type t) = Heading t t.file
 input_card_role (input.And codes) = Follower (input.And codes)
 input_card_role (input.Field f) = Follower (input.Field f)
 
+-- the part of a card among I cards
 abbrev pub input_role : Spec → Role RecordType InputSpec
 input_role s = role_on input_card_role (input_on s)
 
@@ -116,6 +127,7 @@ output_card_role (output.And t) = Follower (output.And t)
 output_card_role (output.Or t) = Follower (output.Or t)
 output_card_role (output.Field f) = Follower (output.Field f)
 
+-- the part of a card among O cards
 abbrev pub output_role : Spec → Role OutputRecord OutputSpec
 output_role s = role_on output_card_role (output_on s)
 
@@ -124,5 +136,6 @@ abbrev pub data_card : DataSpec → Role (Unit {0}) (List ℕ)
 data_card deck.Begin = Heading tt None
 data_card (deck.Card text) = Follower text
 
+-- the part of a card among those of table data
 abbrev pub data_role : Spec → Role (Unit {0}) (List ℕ)
 data_role s = role_on data_card (data_on s)

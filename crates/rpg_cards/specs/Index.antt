@@ -17,12 +17,15 @@ abbrev pub first_at : {X Y : Type 0} → (X → Bool) → (ℕ → X → Y) → 
 first_at test made i [] = None
 first_at test made i (x ∷ xs) = if test x then Some (made i x) else first_at test made (i + 1) xs
 
+-- a definition with its place
 abbrev pub placed_definition : ℕ → Definition → FirstDefinition
 placed_definition i d = record { place = i; form = d.form }
 
+-- the place of a constant
 abbrev pub place_of_constant : ℕ → Constant → ℕ
 place_of_constant i x = i
 
+-- the form by a name's first definition
 abbrev pub defined_first : Option FirstDefinition → Defined
 defined_first None = Missing
 defined_first (Some d) = defined_as d.form
@@ -32,5 +35,6 @@ pub record IsIndex (names : List (List ℕ × FirstDefinition)) (constants : Lis
   pub defined : (name : List ℕ) → lookup (pointwise nat_eq name) names ≡ first_at (is_of name) placed_definition 0 (definitions cards)
   pub standing : (x : Constant) → lookup (is_same x) constants ≡ first_at (is_same x) place_of_constant 0 (constants_in cards)
 
+-- two sources have the same files
 abbrev pub HasSameFiles : List SpecCard → List SpecCard → Type 0
 HasSameFiles some cards = files some ≡ files cards

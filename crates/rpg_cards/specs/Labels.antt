@@ -14,6 +14,7 @@ use Rattle.rpg_sheet_specs.specs.declared.calculation.ControlLevel.TheVariants a
 
 -- ---- the section of a calculation, by those before it
 
+-- BEGSR
 abbrev pub is_begsr : Deed Key → Bool
 is_begsr (Begins n) = true
 is_begsr (Acts a) = false
@@ -24,6 +25,7 @@ is_begsr (Marks l) = false
 is_begsr (Ends l) = false
 is_begsr Nothing = false
 
+-- ENDSR
 abbrev pub is_endsr : Deed Key → Bool
 is_endsr (Ends l) = true
 is_endsr (Acts a) = false
@@ -34,12 +36,15 @@ is_endsr (Marks l) = false
 is_endsr (Begins n) = false
 is_endsr Nothing = false
 
+-- a BEGSR on an SR card
 abbrev pub begins_subroutine : Calculation Key → Bool
 begins_subroutine g = is_subroutine g.control && is_begsr g.deed
 
+-- an ENDSR on an SR card
 abbrev pub ends : Calculation Key → Bool
 ends g = is_subroutine g.control && is_endsr g.deed
 
+-- the calculations that begin or end a subroutine
 abbrev pub brackets : List (Calculation Key) → List (Calculation Key)
 brackets gs = filter (λ g. begins_subroutine g || ends g) gs
 
@@ -47,14 +52,17 @@ brackets gs = filter (λ g. begins_subroutine g || ends g) gs
 abbrev pub is_inside_subroutine : List (Calculation Key) → Bool
 is_inside_subroutine before = option_map_or begins_subroutine (last_or None (brackets before)) false
 
+-- how many subroutines have begun
 abbrev pub begun_count : List (Calculation Key) → ℕ
 begun_count [] = 0
 begun_count (g ∷ gs) = if begins_subroutine g then suc (begun_count gs) else begun_count gs
 
+-- the section of an SR card: its own subroutine at BEGSR, else the one that has begun last and not ended
 abbrev pub subroutine_at : List (Calculation Key) → Bool → Section
 subroutine_at before true = Subroutine (begun_count before)
 subroutine_at before false = if is_inside_subroutine before then Subroutine (begun_count before - 1) else Outside
 
+-- the section of a calculation by its columns 7 and 8
 abbrev pub section_by : List (Calculation Key) → Bool → ControlLevel → Section
 section_by before is_first control.Detail = Detail
 section_by before is_first (control.Total i) = Total
@@ -62,17 +70,21 @@ section_by before is_first control.Subroutine = subroutine_at before is_first
 section_by before is_first control.And = Outside
 section_by before is_first control.Or = Outside
 
+-- the section of a calculation, by those before it
 abbrev pub section_of : List (Calculation Key) → Calculation Key → Section
 section_of before g = section_by before (begins_subroutine g) g.control
 
 -- ---- labels
 
+-- a name, and whether it is a subroutine's
 abbrev pub named_by : Bool → Option Name → Option Named
 named_by is_subroutine n = option_map (λ name. record { name = name; is_subroutine = is_subroutine }) n
 
+-- a label's name
 abbrev pub as_label : Option Name → Option Named
 as_label n = named_by false n
 
+-- a subroutine's name
 abbrev pub as_subroutine : Option Name → Option Named
 as_subroutine n = named_by true n
 
@@ -98,13 +110,16 @@ wants (Begins n) = None
 wants (Ends l) = None
 wants Nothing = None
 
+-- the label or subroutine that a calculation gives, with its section
 abbrev pub label_at : List (Calculation Key) → Calculation Key → Option Label
 label_at before g = option_map (λ n. record { named = n; section = section_of before g }) (gives g.deed)
 
+-- the labels that calculations give which come after these
 abbrev pub labels_behind : List (Calculation Key) → List (Calculation Key) → List Label
 labels_behind before [] = []
 labels_behind before (g ∷ gs) = option_to_list (label_at before g) ++ labels_behind (before ++ g ∷ []) gs
 
+-- the labels and subroutines of a source, in the order of their cards
 abbrev pub labels : List (Calculation Key) → List Label
 labels gs = labels_behind [] gs
 

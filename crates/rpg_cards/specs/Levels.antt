@@ -9,18 +9,22 @@ use Rattle.rpg_sheet_specs.specs.declared.input.InputSpec.{InputSpec}
 
 -- ---- which level of a field is meant: a word of this type is a choice
 
+-- the control level of an input field
 abbrev pub control_level : InputField → Option ℕ
 control_level f = f.level
 
+-- the match level of an input field
 abbrev pub match_level : InputField → Option ℕ
 match_level f = f.match_level
 
 -- ---- the fields on cards behind a type
 
+-- the input fields among I cards
 abbrev pub input_fields : List InputSpec → List InputField
 input_fields specs = filter_map input_field_in specs
 
 module _ (level_of : InputField → Option ℕ) where
+  -- the field has that level
   abbrev pub is_at : ℕ → InputField → Bool
   is_at level f = option_map_or (λ l. l == level) (level_of f) false
 
@@ -34,9 +38,11 @@ module _ (level_of : InputField → Option ℕ) where
 
 -- ---- match fields
 
+-- the field has a match level
 abbrev pub is_match_field : InputField → Bool
 is_match_field f = is_some f.match_level
 
+-- the card has a match field
 abbrev pub is_match_card : SpecCard → Bool
 is_match_card c = option_map_or is_match_field (input_field_on c.spec) false
 

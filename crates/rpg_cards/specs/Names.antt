@@ -24,6 +24,7 @@ use Rattle.rpg_text.specs.Texts.{is_between}
 
 -- ---- forms
 
+-- the form of a field or table
 abbrev pub form_with : Class → Bool → ℕ → Kind → ℕ → ℕ → FieldForm
 form_with c ascending n k len d = record { kind = k; class = c; length = len; decimals = d; is_ascending = ascending; entries = n }
 
@@ -33,14 +34,17 @@ abbrev pub sized : (Kind → ℕ → ℕ → FieldForm) → ℕ → Option ℕ �
 sized made len None = if is_between 1 256 len then Some (made kind.Text len 0) else None
 sized made len (Some decimals) = if is_between 1 15 len && nat_le decimals 9 && nat_le decimals len then Some (made kind.Number len decimals) else None
 
+-- the form of a field without entries
 abbrev pub sized_form : ℕ → Option ℕ → Option FieldForm
 sized_form len decimals = sized (form_with class.Plain false 1) len decimals
 
 -- ---- definitions
 
+-- the form of an input field, by its columns in the record and its decimals
 abbrev pub field_form : InputField → Option FieldForm
 field_form f = if nat_le f.from f.to then sized_form (f.to + 1 - f.from) f.decimals else None
 
+-- what an input field defines
 abbrev pub definition_of : InputField → Definition
 definition_of f = record { name = f.name; form = field_form f }
 
@@ -48,12 +52,15 @@ definition_of f = record { name = f.name; form = field_form f }
 abbrev pub definition_by : CalculationSpec → Option Definition
 definition_by k = option_and_then (λ len. option_map (λ e. record { name = e.name; form = sized_form len k.decimals }) k.result_field) k.length
 
+-- a table's name begins with TAB; other names on E cards are arrays
 abbrev pub is_table_name : List ℕ → Bool
 is_table_name name = pointwise nat_eq (codes "TAB") (take 3 name)
 
+-- table or array, by its name
 abbrev pub table_class : List ℕ → Class
 table_class name = if is_table_name name then class.Table else class.Array
 
+-- the form of a table or array of so many entries
 abbrev pub table_form : ℕ → TableSpec → Option FieldForm
 table_form entries t = if is_between 1 9999 entries then sized (form_with (table_class t.name) t.ascending entries) t.length t.decimals else None
 
@@ -61,6 +68,7 @@ table_form entries t = if is_between 1 9999 entries then sized (form_with (table
 abbrev pub tables_on : ExtensionSpec → List TableSpec
 tables_on e = e.table ∷ option_to_list e.alternating
 
+-- what an E card defines by one of its names
 abbrev pub definition_in : ExtensionSpec → TableSpec → Definition
 definition_in e t = record { name = t.name; form = table_form e.entries t }
 
@@ -71,23 +79,28 @@ definitions_on s =
     ++ option_to_list (option_map definition_of (input_field_on s))
     ++ option_to_list (option_and_then definition_by (calculation_on s))
 
+-- all definitions of a source, in the order of its cards
 abbrev pub definitions : List SpecCard → List Definition
 definitions [] = []
 definitions (c ∷ cs) = definitions_on c.spec ++ definitions cs
 
 -- ---- the form of a name is that of its first definition
 
+-- a definition that has a form, or one that can have none
 abbrev pub defined_as : Option FieldForm → Defined
 defined_as None = Bad
 defined_as (Some form) = Good form
 
+-- the definition is of that name
 abbrev pub is_of : List ℕ → Definition → Bool
 is_of name d = pointwise nat_eq name d.name
 
+-- the form by the first definition of a name
 abbrev pub first_form : List ℕ → List Definition → Defined
 first_form name [] = Missing
 first_form name (d ∷ ds) = if is_of name d then defined_as d.form else first_form name ds
 
+-- a form that is given counts before all others
 abbrev pub unless_given : Option FieldForm → Defined → Defined
 unless_given (Some form) d = Good form
 unless_given None d = d
@@ -96,9 +109,11 @@ unless_given None d = d
 abbrev pub form_by : List ℕ → List Definition → Defined
 form_by name ds = unless_given (defined_form given name) (first_form name ds)
 
+-- the form of a name in a source
 abbrev pub form_of_name : List ℕ → List SpecCard → Defined
 form_of_name name cards = form_by name (definitions cards)
 
+-- no card defines the name
 abbrev pub is_missing : Defined → Bool
 is_missing Missing = true
 is_missing Bad = false
@@ -112,15 +127,19 @@ form_in (Good form) = Some form
 
 -- ---- names: the given ones, and then each with its first definition
 
+-- a given name as a definition
 abbrev pub defined_field : List ℕ × FieldForm → Definition
 defined_field f = record { name = f.0; form = Some f.1 }
 
+-- the names that no card defines: the date and the page number
 abbrev pub given_names : List Definition
 given_names = map defined_field given
 
+-- two definitions are of one name
 abbrev pub same_name : Definition → Definition → Bool
 same_name d = is_of d.name
 
+-- the names of a source: given ones first, then in the order of their first definitions
 abbrev pub names : List SpecCard → List Definition
 names cards = insert_all same_name given_names (definitions cards)
 

@@ -11,6 +11,7 @@ use Rattle.rpg_cards.specs.declared.operations.Shown.TheVariants as shown
 use Rattle.rpg_sheet_specs.specs.declared.calculation.Operation.{Operation}
 use Rattle.rpg_sheet_specs.specs.declared.calculation.Operation.TheVariants as op
 
+-- a line of the table of operations
 abbrev pub column_row : Column → Column → Column → Bool → Shown → Kinds → Bool → OperationColumns
 column_row f g r h i k d = record { factor_1 = f; factor_2 = g; result_field = r; may_half_adjust = h; indicators = i; kinds = k; may_depend = d }
 

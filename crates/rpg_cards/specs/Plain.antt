@@ -15,6 +15,7 @@ abbrev pub has_label : Option Name → List (Calculation Key) → Bool
 has_label l [] = false
 has_label l (g ∷ gs) = is_same_name l (label_on g.deed) || has_label l gs
 
+-- one of the subroutines has that name
 abbrev pub defines_subroutine : Option Name → List (Subroutine Key) → Bool
 defines_subroutine n [] = false
 defines_subroutine n (s ∷ ss) = is_same_name n s.name || defines_subroutine n ss
@@ -41,6 +42,7 @@ IsFound all (Begins n) = Unit {0}
 IsFound all (Ends l) = Unit {0}
 IsFound all Nothing = Unit {0}
 
+-- it is no ENDSR
 abbrev pub IsNoReturn : Deed Key → Type 0
 IsNoReturn (Ends l) = ⊥
 IsNoReturn (Acts a) = Unit {0}
@@ -53,9 +55,11 @@ IsNoReturn Nothing = Unit {0}
 
 -- ---- calls of subroutines by subroutines: caller and callee
 
+-- caller and callee, by their numbers
 abbrev pub Pair : Type 0
 Pair = ℕ × ℕ
 
+-- the subroutine that EXSR names
 abbrev pub call_in : Deed Key → Option (Option Name)
 call_in (Executes n) = Some n
 call_in (Acts a) = None
@@ -66,10 +70,12 @@ call_in (Begins n) = None
 call_in (Ends l) = None
 call_in Nothing = None
 
+-- the calls, with one more where there is one
 abbrev pub with_call : List (Subroutine Key) → ℕ → Option (Option Name) → List Pair → List Pair
 with_call all caller None ps = ps
 with_call all caller (Some n) ps = (caller, callee n all) ∷ ps
 
+-- the calls of one subroutine's calculations
 abbrev pub calls_in : List (Subroutine Key) → ℕ → List (Calculation Key) → List Pair
 calls_in all caller [] = []
 calls_in all caller (g ∷ gs) = with_call all caller (call_in g.deed) (calls_in all caller gs)
@@ -79,6 +85,7 @@ abbrev pub calls_from : List (Subroutine Key) → ℕ → List (Subroutine Key) 
 calls_from all caller [] = []
 calls_from all caller (s ∷ ss) = calls_in all caller s.body ++ calls_from all (suc caller) ss
 
+-- all calls of subroutines by subroutines
 abbrev pub calls_of : List (Subroutine Key) → List Pair
 calls_of all = calls_from all 0 all
 
@@ -87,6 +94,7 @@ abbrev pub IsCallAmong : ℕ → ℕ → List Pair → Type 0
 IsCallAmong a b [] = ⊥
 IsCallAmong a b (p ∷ ps) = ((p.0 ≡ a) × (p.1 ≡ b)) ⊎ IsCallAmong a b ps
 
+-- each of the chain calls the one before it
 abbrev pub IsChainAmong : List Pair → ℕ → List ℕ → Type 0
 IsChainAmong ps s [] = Unit {0}
 IsChainAmong ps s (a ∷ chain) = IsCallAmong a s ps × IsChainAmong ps a chain
@@ -97,6 +105,7 @@ NoneComesBack most ps = (s : ℕ) (chain : List ℕ) → length chain ≤ most �
 
 -- ---- sections
 
+-- a subroutine's calculations are all its own: jumps stay in it, calls go to a subroutine, and only its last one returns
 pub record IsPlainBody (all : List (Subroutine Key)) (s : Subroutine Key) : Type 0 where
   -- F12: BEGSR and ENDSR in pairs, no SR card outside a pair
   pub front : List (Calculation Key)
@@ -112,10 +121,12 @@ pub record IsPlainBody (all : List (Subroutine Key)) (s : Subroutine Key) : Type
   -- F10: an EXSR's subroutine is there
   pub found : Each (λ g. IsFound all g.deed) s.body
 
+-- all these subroutines are plain
 abbrev pub ArePlainBodies : List (Subroutine Key) → List (Subroutine Key) → Type 0
 ArePlainBodies all [] = Unit {0}
 ArePlainBodies all (s ∷ ss) = IsPlainBody all s × ArePlainBodies all ss
 
+-- sections that a program can be made of: jumps stay in their section, calls go to a subroutine and never lead back
 pub record ArePlain (s : Sections Key) : Type 0 where
   -- F12: no ENDSR outside SR cards
   pub detail_ends : Each (λ g. IsNoReturn g.deed) s.detail

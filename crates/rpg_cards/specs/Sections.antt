@@ -6,15 +6,18 @@ use Rattle.rpg_cards.specs.Keys.{Name}
 use Rattle.rpg_sheet_specs.specs.declared.calculation.ControlLevel.{ControlLevel}
 use Rattle.rpg_sheet_specs.specs.declared.calculation.ControlLevel.TheVariants as control
 
+-- a subroutine with the calculations after its BEGSR
 pub record Subroutine (K : Type 0) : Type 0 where
   pub name : Option Name
   pub body : List (Calculation K)  -- its ENDSR the last
 
+-- the calculations of a source by the section that they are in
 pub record Sections (K : Type 0) : Type 0 where
   pub detail : List (Calculation K)
   pub total : List (Calculation K)
   pub subroutines : List (Subroutine K)
 
+-- a calculation at detail time
 abbrev pub is_detail : ControlLevel → Bool
 is_detail control.Detail = true
 is_detail (control.Total n) = false
@@ -22,6 +25,7 @@ is_detail control.Subroutine = false
 is_detail control.And = false
 is_detail control.Or = false
 
+-- a calculation at total time
 abbrev pub is_total : ControlLevel → Bool
 is_total control.Detail = false
 is_total (control.Total n) = true
@@ -29,6 +33,7 @@ is_total control.Subroutine = false
 is_total control.And = false
 is_total control.Or = false
 
+-- a calculation in a subroutine
 abbrev pub is_subroutine : ControlLevel → Bool
 is_subroutine control.Detail = false
 is_subroutine (control.Total n) = false
@@ -36,6 +41,7 @@ is_subroutine control.Subroutine = true
 is_subroutine control.And = false
 is_subroutine control.Or = false
 
+-- the name is that one
 abbrev pub is_named : Name → Option Name → Bool
 is_named n None = false
 is_named n (Some m) = pointwise nat_eq m n
@@ -46,12 +52,14 @@ is_same_name m None = false
 is_same_name m (Some n) = is_named n m
 
 module _ {K : Type 0} where
+  -- the calculations whose columns 7 and 8 pass a test
   abbrev pub of_control : (ControlLevel → Bool) → List (Calculation K) → List (Calculation K)
   of_control test [] = []
   of_control test (g ∷ gs) = if test g.control then g ∷ of_control test gs else of_control test gs
 
   -- ---- subroutines: each BEGSR with what stands behind it, up to the next one
 
+  -- the name on a BEGSR, which may be blank
   abbrev pub begun_by : Deed K → Option (Option Name)
   begun_by (Begins n) = Some n
   begun_by (Acts a) = None
@@ -62,22 +70,27 @@ module _ {K : Type 0} where
   begun_by (Ends l) = None
   begun_by Nothing = None
 
+  -- none of the calculations where a subroutine begins
   abbrev pub unless_begun : Option (Option Name) → List (Calculation K) → List (Calculation K)
   unless_begun None gs = gs
   unless_begun (Some n) gs = []
 
+  -- the calculations before the next BEGSR
   abbrev pub up_to_begin : List (Calculation K) → List (Calculation K)
   up_to_begin [] = []
   up_to_begin (g ∷ gs) = unless_begun (begun_by g.deed) (g ∷ up_to_begin gs)
 
+  -- the subroutines, with one more in front where one begins
   abbrev pub with_begun : Option (Option Name) → List (Calculation K) → List (Subroutine K) → List (Subroutine K)
   with_begun None body ss = ss
   with_begun (Some n) body ss = record { name = n; body = body } ∷ ss
 
+  -- the subroutines: each from its BEGSR up to the next
   abbrev pub subroutines_of : List (Calculation K) → List (Subroutine K)
   subroutines_of [] = []
   subroutines_of (g ∷ gs) = with_begun (begun_by g.deed) (up_to_begin gs) (subroutines_of gs)
 
+  -- the calculations by section
   abbrev pub sections_of : List (Calculation K) → Sections K
   sections_of all = record {
     detail = of_control is_detail all;

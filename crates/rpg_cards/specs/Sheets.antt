@@ -14,6 +14,7 @@ use Rattle.rpg_sheet_specs.specs.declared.output.OutputRecord.{OutputRecord}
 use Rattle.rpg_sheet_specs.specs.declared.output.OutputSpec.{OutputSpec}
 use Rattle.rpg_sheet_specs.specs.declared.spec.Spec.{Spec}
 
+-- what later cards ask of the file of a group
 abbrev pub group_file : FileSpec → GroupFile
 group_file f = record { record_length = f.record_length; serves_as = file_use f }
 
@@ -22,11 +23,13 @@ pub record IsOpen (H F : Type 0) (cards : List SpecCard) (o : Option (Group H F)
   pub is_open : g.is_open ≡ is_some o
   pub file : g.file ≡ option_map group_file (file_by (file_of_group o) cards)
 
+-- what has been counted of the groups before a card: how many there are, and the open one
 pub record HasGroups (H F : Type 0) (role : Spec → Role H F) (cards before : List SpecCard) (g : Groups) : Type 0 where
   pub number : g.number ≡ group_count role before
   pub last : IsOpen H F cards (open_group role before) g
   pub few : g.number ≤ length before
 
+-- what has been counted of I and O cards before a card
 pub record AreSheets (cards before : List SpecCard) (s : Sheets) : Type 0 where
   pub types : HasGroups RecordType InputSpec input_role cards before s.types
   pub lines : HasGroups OutputRecord OutputSpec output_role cards before s.lines

@@ -9,6 +9,7 @@ use Rattle.rpg_sheet_specs.specs.declared.output.LineTime.TheVariants as time
 use Rattle.rpg_sheet_specs.specs.declared.output.OutputSpec.{OutputSpec}
 use Rattle.rpg_sheet_specs.specs.declared.output.OutputSpec.TheVariants as output
 
+-- the time of a line, as a program has it
 abbrev pub time_of : LineTime → Time
 time_of time.Heading = times.Heading
 time_of time.Detail = times.Detail

@@ -105,6 +105,7 @@ of_end before c after k = of_section (calculation_level (level_of_group (open_ca
 
 -- ---- F12 of C cards
 
+-- why a C card is out of order
 abbrev pub order_cause : List SpecCard → SpecCard → List SpecCard → Option OrderCause
 order_cause before c after =
     option_or (option_and_then (first_card before c after) (calculation_on c.spec))

@@ -18,6 +18,7 @@ use Rattle.rpg_sheet_specs.specs.declared.calculation.ControlLevel.TheVariants a
 
 -- ---- the section of a calculation, by its last card
 
+-- the section of a C card
 abbrev pub section_on : List SpecCard → SpecCard → List SpecCard → CalculationSpec → Section
 section_on front c after k = section_of (calculations_before front (c ∷ after)) (calculation_of (group_with (open_calculation_group front) k))
 
@@ -41,9 +42,11 @@ abbrev pub label_if : List ℕ → List SpecCard → SpecCard → List SpecCard 
 label_if name front c after k n =
     if pointwise nat_eq name n.name then Some (record { card = c.number; is_subroutine = n.is_subroutine; section = section_on front c after k }) else None
 
+-- the label that a C card gives, if it is that name
 abbrev pub label_by : List ℕ → List SpecCard → SpecCard → List SpecCard → CalculationSpec → Option LabelOnCard
 label_by name front c after k = option_and_then (label_if name front c after k) (gives (deed_of k))
 
+-- the same for any card
 abbrev pub label_on : List ℕ → List SpecCard → SpecCard → List SpecCard → Option LabelOnCard
 label_on name front c after = option_and_then (label_by name front c after) (card_ending c after)
 
@@ -62,6 +65,7 @@ if_apart own n l = if not l.is_subroutine && (not n.is_subroutine && are_apart o
 abbrev pub apart_by : List SpecCard → Section → Named → Option Target
 apart_by cards own n = option_and_then (if_apart own n) (first_label n.name [] cards)
 
+-- the label or subroutine that a C card leads to, if that is in another section
 abbrev pub apart_on : List SpecCard → List SpecCard → SpecCard → List SpecCard → CalculationSpec → Option Target
 apart_on cards before c after k = option_and_then (apart_by cards (section_on before c after k)) (wants (deed_of k))
 

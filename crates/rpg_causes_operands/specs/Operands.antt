@@ -103,12 +103,15 @@ of_operands cards kinds f g r = option_or (of_one cards kinds f) (option_or (of_
 abbrev pub is_wrong : Kinds → Held → Bool
 is_wrong kinds h = has_wrong_class h.content h.form || wrong_kinds kinds h.form None None
 
+-- factor 2 holds what it may not, by itself or beside factor 1
 abbrev pub is_wrong_second : Kinds → Held → Held → Bool
 is_wrong_second kinds f g = is_wrong kinds g || is_some (of_pair kinds f.form g.form)
 
+-- the result field holds what it may not, by itself or beside factor 2
 abbrev pub is_wrong_third : Kinds → Held → Held → Bool
 is_wrong_third kinds g r = is_wrong kinds r || option_map_or (λ c. wrong_result c g.form r.form) r.content false
 
+-- one of three operands holds what it may not
 abbrev pub are_wrong : Kinds → Held → Held → Held → Bool
 are_wrong kinds f g r = is_wrong kinds f || (is_wrong_second kinds f g || is_wrong_third kinds g r)
 

@@ -22,6 +22,7 @@ use Rattle.rpg_warning_codes.specs.declared.code.WarningCode.{WarningCode}
 
 -- ---- lines
 
+-- how a job has ended
 abbrev pub ending_text : JobEnd → List ℕ
 ending_text endings.EndOfJob = codes "end of job"
 ending_text (endings.Halt halt) = codes "halt " ++ decimal (halt_number halt)
@@ -30,15 +31,18 @@ ending_text (endings.Halt halt) = codes "halt " ++ decimal (halt_number halt)
 abbrev pub report_text : Report → List ℕ
 report_text report = ending_text report.ending ++ codes ", cycles " ++ decimal report.cycles ++ codes ", steps " ++ decimal report.most ++ codes " of " ++ decimal report.bound
 
+-- why a source isn't compiled
 abbrev pub source_fault_text : SourceFault → List ℕ
 source_fault_text (sources.At card code columns) = codes "card " ++ decimal card ++ codes ": " ++ source_code_text code
 source_fault_text sources.NoMemory = codes "no memory"
 
+-- why bytes aren't an accepted program
 abbrev pub object_text : ObjectFault → List ℕ
 object_text (objects.NotAnObject offset code) = codes "refused: " ++ code_text code ++ codes " at " ++ decimal offset
 object_text (objects.Refused broken) = codes "refused: V" ++ decimal (rule_number broken.rule) ++ codes " row " ++ decimal broken.row
 object_text objects.NoMemory = codes "no memory"
 
+-- why a run has stopped
 abbrev pub run_text : RunFault → List ℕ
 run_text (runs.Object fault) = object_text fault
 run_text runs.BadDate = codes "bad date"
@@ -47,6 +51,7 @@ run_text (runs.Print sent) = codes "output failed"
 run_text (runs.Disk sent) = codes "output failed"
 run_text (runs.NoMemory cycles) = codes "no memory"
 
+-- why a file can't be read or written
 abbrev pub file_text : FileFault → List ℕ
 file_text (files.Input reason) = codes "input failed"
 file_text (files.Output reason) = codes "output failed"
@@ -58,6 +63,7 @@ file_text files.NoMemory = codes "no memory"
 abbrev pub counts_text : ℕ → ℕ → ℕ → List ℕ
 counts_text records dropped columns = codes "records " ++ decimal records ++ codes ", dropped " ++ decimal dropped ++ codes ", columns " ++ decimal columns
 
+-- the card, in front of what is said about it
 abbrev pub card_text : ℕ → List ℕ
 card_text card = codes "card " ++ decimal card ++ codes ": "
 
@@ -65,9 +71,11 @@ card_text card = codes "card " ++ decimal card ++ codes ": "
 abbrev pub denied_text : ℕ → WarningCode → List ℕ
 denied_text card code = card_text card ++ warning_text code
 
+-- how many sources were checked, and how many rejected
 abbrev pub checked_text : ℕ → ℕ → List ℕ
 checked_text sources rejected = codes "sources " ++ decimal sources ++ codes ", rejected " ++ decimal rejected
 
+-- why a deck isn't rewritten
 abbrev pub refused_deck_text : Option ℕ → List ℕ
 refused_deck_text (Some card) = codes "card " ++ decimal card ++ codes ": refused"
 refused_deck_text None = codes "refused"
@@ -76,6 +84,7 @@ refused_deck_text None = codes "refused"
 abbrev pub refused_card_text : ℕ → ℕ → List ℕ
 refused_card_text card rule = codes "card " ++ decimal card ++ codes ": A" ++ decimal rule
 
+-- the line that a command prints about its result
 abbrev pub line_text : Answer → List ℕ
 line_text answer.Compiled = codes "compiled"
 line_text answer.Faultless = codes "no fault"
@@ -106,19 +115,23 @@ line_text answer.NoMemory = codes "no memory"
 
 -- ---- statuses
 
+-- the exit status of a job's end
 abbrev pub ending_status : JobEnd → ℕ
 ending_status endings.EndOfJob = 0
 ending_status (endings.Halt halt) = 5
 
+-- the exit status of a source that isn't compiled
 abbrev pub source_status : SourceFault → ℕ
 source_status (sources.At card code columns) = 3
 source_status sources.NoMemory = 1
 
+-- the exit status of bytes that aren't an accepted program
 abbrev pub object_status : ObjectFault → ℕ
 object_status (objects.NotAnObject offset code) = 4
 object_status (objects.Refused broken) = 4
 object_status objects.NoMemory = 1
 
+-- the exit status of a run that has stopped
 abbrev pub run_status : RunFault → ℕ
 run_status (runs.Object fault) = object_status fault
 run_status runs.BadDate = 2
@@ -127,6 +140,7 @@ run_status (runs.Print sent) = 1
 run_status (runs.Disk sent) = 1
 run_status (runs.NoMemory cycles) = 1
 
+-- the exit status of a command
 abbrev pub exit_status : Answer → ℕ
 exit_status answer.Compiled = 0
 exit_status answer.Faultless = 0

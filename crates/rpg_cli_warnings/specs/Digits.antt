@@ -20,6 +20,7 @@ use Rattle.rpg_cli_warnings.specs.declared.warning.Warning.{Warning}
 use Rattle.rpg_cli_warnings.specs.declared.warning.WarningKind.{WarningKind}
 use Rattle.rpg_cli_warnings.specs.declared.warning.WarningKind.TheVariants as kind
 
+-- the digits before the decimal point of a number; a text has none
 abbrev pub digits_by : Kind → FieldForm → Option ℕ
 digits_by of_field.Number f = Some (f.length - f.decimals)
 digits_by of_field.Text f = None
@@ -28,17 +29,21 @@ digits_by of_field.Text f = None
 abbrev pub whole_digits : FieldForm → Option ℕ
 whole_digits f = digits_by f.kind f
 
+-- the same for a name or constant, if it has a form
 abbrev pub digits_of : Defined → Option ℕ
 digits_of (defined.Good f) = whole_digits f
 digits_of defined.Missing = None
 digits_of defined.Bad = None
 
+-- the same for a factor
 unfoldable pub factor_digits : List SpecCard → Option Factor → Option ℕ
 factor_digits cards f = option_and_then (λ x. digits_of (form_of_factor x cards)) f
 
+-- the same for the result field
 unfoldable pub result_digits : List SpecCard → Option Entry → Option ℕ
 result_digits cards r = option_and_then (λ (e : Entry). digits_of (form_of_name e.name cards)) r
 
+-- the greater of two, or the one that is there
 abbrev pub greater_of : Option ℕ → Option ℕ → Option ℕ
 greater_of (Some a) (Some b) = Some (if nat_le a b then b else a)
 greater_of (Some a) None = Some a
@@ -48,9 +53,11 @@ greater_of None b = b
 abbrev pub is_fraction : Option ℕ → Bool
 is_fraction n = option_map_or (λ x. x == 0) n false
 
+-- the least that a product has: as many as its longer factor, unless one may be below 1
 abbrev pub product_digits : Option ℕ → Option ℕ → Option ℕ
 product_digits a b = if is_fraction a || is_fraction b then None else greater_of a b
 
+-- the digits that the result needs, by the operation
 abbrev pub wanted_by : Option Operation → Option ℕ → Option ℕ → Option ℕ
 wanted_by (Some operation.Add) a b = greater_of a b
 wanted_by (Some operation.Subtract) a b = greater_of a b
@@ -63,19 +70,24 @@ wanted_by o a b = None
 unfoldable pub wanted_digits : List SpecCard → CalculationSpec → Option ℕ
 wanted_digits cards k = wanted_by k.operation (factor_digits cards k.factor_1) (factor_digits cards k.factor_2)
 
+-- a warning where the result field has fewer digits than it needs
 abbrev pub shorter : Option ℕ → Option ℕ → Option WarningKind
 shorter (Some f) (Some r) = if nat_lt r f then Some (kind.Shorter r f) else None
 shorter (Some f) None = None
 shorter None r = None
 
+-- the columns of the result field
 abbrev pub result_columns : ColumnFault
 result_columns = record { column = 43; last = 48 }
 
+-- a warning on the result field of a card
 abbrev pub warned_of : SpecCard → WarningKind → Warning
 warned_of c k = record { card = c.number; columns = result_columns; kind = k }
 
+-- the warning on a C card about digits that may be lost
 abbrev pub shorter_by : List SpecCard → CalculationSpec → Option WarningKind
 shorter_by cards k = shorter (wanted_digits cards k) (result_digits cards k.result_field)
 
+-- the warning on a card about digits that may be lost
 unfoldable pub shorter_on : List SpecCard → SpecCard → Option Warning
 shorter_on cards c = option_map (warned_of c) (option_and_then (shorter_by cards) (calculation_on c.spec))

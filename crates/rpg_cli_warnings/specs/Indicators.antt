@@ -19,6 +19,7 @@ use Rattle.rpg_cli_warnings.specs.declared.warning.WarningKind.TheVariants as ki
 
 -- ---- asking
 
+-- the conditions of a card
 abbrev pub asked_on : Spec → Option (Three (Option Condition))
 asked_on (spec.Header h) = None
 asked_on (spec.File f) = None
@@ -33,12 +34,15 @@ abbrev pub conditions_begin : Spec → ℕ
 conditions_begin (spec.Calculation k) = 9
 conditions_begin s = 23
 
+-- the condition is on that indicator
 abbrev pub one_asks : ℕ → Option Condition → Bool
 one_asks n c = option_map_or (λ x. x.indicator == n) c false
 
+-- one of three conditions is on that indicator
 abbrev pub any_asks : ℕ → Three (Option Condition) → Bool
 any_asks n t = one_asks n t.first || one_asks n t.second || one_asks n t.third
 
+-- a condition of the card is on that indicator
 abbrev pub asks : ℕ → SpecCard → Bool
 asks n c = option_map_or (any_asks n) (asked_on c.spec) false
 
@@ -46,20 +50,25 @@ asks n c = option_map_or (any_asks n) (asked_on c.spec) false
 abbrev pub place_of : {X : Type 0} → (X → Bool) → ℕ → Three X → ℕ
 place_of test size t = if test t.first then 0 else if test t.second then size else size + size
 
+-- some columns from the first on
 abbrev pub columns_from : ℕ → ℕ → ColumnFault
 columns_from column more = record { column = column; last = column + more }
 
+-- the columns of the condition on an indicator
 abbrev pub asked_columns : ℕ → SpecCard → ColumnFault
 asked_columns n c = columns_from (conditions_begin c.spec + option_map_or (place_of (one_asks n) 3) (asked_on c.spec) 6) 2
 
 -- ---- turning on
 
+-- the indicator that stands there is that one
 abbrev pub is_number : ℕ → Option ℕ → Bool
 is_number n i = option_map_or (λ x. x == n) i false
 
+-- one of three indicators is that one
 abbrev pub any_is : ℕ → Three (Option ℕ) → Bool
 any_is n t = is_number n t.first || is_number n t.second || is_number n t.third
 
+-- the I card gives the indicator
 abbrev pub input_turns_on : ℕ → InputSpec → Bool
 input_turns_on n (input.Type t) = is_number n t.indicator
 input_turns_on n (input.And codes) = false
@@ -70,9 +79,11 @@ abbrev pub turns_off : Option Operation → Bool
 turns_off (Some operation.SetOff) = true
 turns_off o = false
 
+-- the C card turns the indicator on
 abbrev pub result_turns_on : ℕ → CalculationSpec → Bool
 result_turns_on n k = not (turns_off k.operation) && any_is n k.resulting_indicators
 
+-- the card turns the indicator on
 abbrev pub spec_turns_on : ℕ → Spec → Bool
 spec_turns_on n (spec.Header h) = false
 spec_turns_on n (spec.File f) = is_number n f.overflow
@@ -82,6 +93,7 @@ spec_turns_on n (spec.Calculation k) = result_turns_on n k
 spec_turns_on n (spec.Output o) = false
 spec_turns_on n (spec.Data d) = false
 
+-- the numbered card turns the indicator on
 abbrev pub turns_on : ℕ → SpecCard → Bool
 turns_on n c = spec_turns_on n c.spec
 
@@ -93,18 +105,22 @@ is_silent (Some operation.SetOff) = true
 is_silent (Some operation.LookUp) = true
 is_silent o = false
 
+-- the indicators that a card sets; those of SETOF and LOKUP need not be asked
 abbrev pub shown_on : Spec → Option (Three (Option ℕ))
 shown_on (spec.Input (input.Field f)) = Some f.indicators
 shown_on (spec.Calculation k) = if is_silent k.operation then None else Some k.resulting_indicators
 shown_on s = None
 
+-- a resulting indicator of the card is that one
 abbrev pub shows : ℕ → SpecCard → Bool
 shows n c = option_map_or (any_is n) (shown_on c.spec) false
 
+-- the first column of resulting indicators
 abbrev pub results_begin : Spec → ℕ
 results_begin (spec.Calculation k) = 54
 results_begin s = 65
 
+-- the columns of a resulting indicator
 abbrev pub shown_columns : ℕ → SpecCard → ColumnFault
 shown_columns n c = columns_from (results_begin c.spec + option_map_or (place_of (is_number n) 2) (shown_on c.spec) 4) 1
 
@@ -114,6 +130,7 @@ shown_columns n c = columns_from (results_begin c.spec + option_map_or (place_of
 abbrev pub is_of_cards : ℕ → Bool
 is_of_cards n = nat_le n 99 || (nat_le 112 n && nat_le n 128)
 
+-- W1 at a card
 abbrev pub never_on_at : ℕ → SpecCard → Warning
 never_on_at n c = record { card = c.number; columns = asked_columns n c; kind = kind.NeverOn n }
 
@@ -121,6 +138,7 @@ never_on_at n c = record { card = c.number; columns = asked_columns n c; kind = 
 abbrev pub never_on : ℕ → List SpecCard → Option Warning
 never_on n cards = if is_of_cards n && not (list_any (turns_on n) cards) then option_map (never_on_at n) (find (asks n) cards) else None
 
+-- W2 at a card
 abbrev pub never_asked_at : ℕ → SpecCard → Warning
 never_asked_at n c = record { card = c.number; columns = shown_columns n c; kind = kind.NeverAsked n }
 
@@ -130,17 +148,21 @@ never_asked n cards = if nat_le n 99 && not (is_some (find (asks n) cards)) then
 
 -- ---- levels
 
+-- L1 to L9
 abbrev pub is_level : ℕ → Bool
 is_level n = nat_le 101 n && nat_le n 109
 
+-- the control level's indicator is that one
 abbrev pub is_of_level : ℕ → Option ℕ → Bool
 is_of_level n l = option_map_or (λ x. 100 + x == n) l false
 
+-- the I card has a field of that control level
 abbrev pub input_has_level : ℕ → InputSpec → Bool
 input_has_level n (input.Type t) = false
 input_has_level n (input.And codes) = false
 input_has_level n (input.Field f) = is_of_level n f.level
 
+-- the card has a field of that control level
 abbrev pub spec_has_level : ℕ → Spec → Bool
 spec_has_level n (spec.Input i) = input_has_level n i
 spec_has_level n s = false
@@ -149,6 +171,7 @@ spec_has_level n s = false
 abbrev pub has_level : ℕ → SpecCard → Bool
 has_level n c = spec_has_level n c.spec
 
+-- the warning about a control level that no field has
 abbrev pub no_level_at : ℕ → SpecCard → Warning
 no_level_at n c = record { card = c.number; columns = asked_columns n c; kind = kind.NoLevel n }
 
@@ -156,6 +179,7 @@ no_level_at n c = record { card = c.number; columns = asked_columns n c; kind = 
 abbrev pub no_level : ℕ → List SpecCard → Option Warning
 no_level n cards = if is_level n && not (list_any (turns_on n) cards) && not (list_any (has_level n) cards) then option_map (no_level_at n) (find (asks n) cards) else None
 
+-- one warning, or none
 abbrev pub listed : Option Warning → List Warning
 listed w = option_to_list w
 

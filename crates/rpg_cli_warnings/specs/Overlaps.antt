@@ -14,9 +14,11 @@ use Rattle.rpg_cli_warnings.specs.declared.warning.WarningKind.TheVariants as ki
 abbrev pub is_always_out : OutputField → Bool
 is_always_out f = is_none f.conditions.first && is_none f.conditions.second && is_none f.conditions.third
 
+-- an output field with its columns in the line
 abbrev pub placed_with : SpecCard → OutputField → ℕ → Placed
 placed_with c f w = record { card = c.number; first = (f.end + 1) - w; last = f.end }
 
+-- the same, if the field is always written
 abbrev pub placed_by : List SpecCard → SpecCard → OutputField → Option Placed
 placed_by cards c f = if is_always_out f then option_map (placed_with c f) (width cards f) else None
 
@@ -24,15 +26,19 @@ placed_by cards c f = if is_always_out f then option_map (placed_with c f) (widt
 unfoldable pub placed_on : List SpecCard → SpecCard → Option Placed
 placed_on cards c = option_and_then (placed_by cards c) (output_field_on c.spec)
 
+-- two fields share a column
 unfoldable pub meet : Placed → Placed → Bool
 meet a b = nat_le a.first b.last && nat_le b.first a.last
 
+-- the columns of the end position
 abbrev pub end_columns : ColumnFault
 end_columns = record { column = 40; last = 43 }
 
+-- a field over another one
 abbrev pub warning_over : Placed → Placed → Warning
 warning_over field below = record { card = field.card; columns = end_columns; kind = kind.Overlap field.first field.last below.card }
 
+-- the warning, where there is one
 abbrev pub warned_over : Placed → Option Placed → List Warning
 warned_over field None = []
 warned_over field (Some below) = warning_over field below ∷ []
@@ -41,6 +47,7 @@ warned_over field (Some below) = warning_over field below ∷ []
 abbrev pub warned : List Placed → Placed → List Warning
 warned placed field = warned_over field (find (meet field) placed)
 
+-- a field beside those before it, unless it is over one
 abbrev pub noted_beside : List Placed → Placed → Option Placed → List Placed
 noted_beside placed field None = placed ++ field ∷ []
 noted_beside placed field (Some below) = placed
@@ -53,10 +60,12 @@ noted_field placed field = noted_beside placed field (find (meet field) placed)
 abbrev pub at_card : SpecCard → List Placed → List Placed
 at_card c placed = if is_some (output_record_on c.spec) then [] else placed
 
+-- the warning about a card's field, if it has one
 abbrev pub warned_on : List Placed → Option Placed → List Warning
 warned_on placed None = []
 warned_on placed (Some field) = warned placed field
 
+-- the fields so far, with a card's
 abbrev pub noted_on : List Placed → Option Placed → List Placed
 noted_on placed None = placed
 noted_on placed (Some field) = noted_field placed field

@@ -14,6 +14,7 @@ use Rattle.rpg_warning_codes.specs.declared.code.WarningCode.{WarningCode}
 use Rattle.rpg_warning_codes.specs.declared.code.WarningCode.TheVariants.{W1, W2, W3, W4, W5, W6}
 use Rattle.rpg_warning_codes.specs.declared.codes.WarningCodes.{WarningCodes}
 
+-- the code of a warning
 abbrev pub code : WarningKind → WarningCode
 code (kind.NeverOn n) = W1
 code (kind.NeverAsked n) = W2

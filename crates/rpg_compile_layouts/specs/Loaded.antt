@@ -9,6 +9,7 @@ use Rattle.rpg_effect.specs.Values.{Value}
 use Rattle.rpg_sheet_specs.specs.declared.extension.ExtensionSpec.{ExtensionSpec}
 use Rattle.rpg_compile_program.specs.Data.{Loaded, all_loaded, decks, tables_loaded}
 
+-- the values that have been read for a name
 abbrev pub loaded_values : List ℕ → List Loaded → Option (List Value)
 loaded_values name ls = lookup (pointwise nat_eq name) ls
 

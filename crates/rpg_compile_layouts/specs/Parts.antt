@@ -19,12 +19,15 @@ types_from source name cards = map (card_type source) (groups_from input_role na
 
 -- ---- a type by its heading and the cards behind it
 
+-- the record type that begins with a card, with the cards after it
 abbrev pub type_behind : InputFile → RecordType → List SpecCard → TypeRow Key
 type_behind file t cards = type_of_file file (record { heading = t; followers = followers input_role cards; file = None })
 
+-- the record codes on the AND cards after a type
 abbrev pub codes_behind : List SpecCard → List RecordCode
 codes_behind cards = flat_map and_card_codes (followers input_role cards)
 
+-- the fields on the cards after a type
 abbrev pub fields_behind : List SpecCard → List InputField
 fields_behind cards = input_fields_in (followers input_role cards)
 
@@ -32,5 +35,6 @@ fields_behind cards = input_fields_in (followers input_role cards)
 abbrev pub levels_behind : (InputField → Option ℕ) → List SpecCard → List ControlField
 levels_behind level_of cards = filter_map (field_at_level level_of) (fields_behind cards)
 
+-- the input fields of a program, from the cards after a type
 abbrev pub inputs_behind : List SpecCard → List (row.InputField Key)
 inputs_behind cards = map input_row (fields_behind cards)

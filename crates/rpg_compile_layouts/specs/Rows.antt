@@ -15,6 +15,7 @@ use Rattle.rpg_compile_program.specs.Lines.{card_line, line_alternatives, line_f
 use Rattle.rpg_compile_program.specs.Program.{row_of_line}
 use Rattle.rpg_compile_program.specs.Table.{Table, key_number}
 
+-- a line with its names as numbers
 abbrev pub row_in_table : Table → Line Key → LineRow
 row_in_table t l = row_of_line (renamed_line (key_number t) l)
 
@@ -22,19 +23,24 @@ row_in_table t l = row_of_line (renamed_line (key_number t) l)
 abbrev pub rows_from : Table → List SpecCard → Option (List ℕ) → List SpecCard → List LineRow
 rows_from t source name cards = map (row_in_table t) (map (card_line source) (groups_from output_role name cards))
 
+-- the lines of a source, with their names as numbers
 abbrev pub rows_of : Table → List SpecCard → List LineRow
 rows_of t source = map (row_in_table t) (lines_on source)
 
 -- ---- a line by its heading and the cards behind it
 
+-- the line that begins with a card, with the cards after it
 abbrev pub row_behind : Table → File → OutputRecord → List SpecCard → LineRow
 row_behind t file r cards = row_in_table t (line_of_file file 0 (record { heading = r; followers = followers output_role cards; file = None }))
 
+-- the conditions of a line, with those on the AND and OR cards after it
 abbrev pub alternatives_behind : List Condition → List SpecCard → List (List Condition)
 alternatives_behind so_far cards = line_alternatives so_far (followers output_role cards)
 
+-- an output field with its name as a number
 abbrev pub field_row : Table → OutputField → LineField ℕ
 field_row t f = renamed_field (key_number t) (line_field_of f)
 
+-- the output fields on the cards after a line
 abbrev pub output_rows_behind : Table → List SpecCard → List (LineField ℕ)
 output_rows_behind t cards = map (renamed_field (key_number t)) (map line_field_of (output_fields_in (followers output_role cards)))

@@ -7,6 +7,7 @@ use Rattle.rpg_compile_layouts.specs.declared.tables.TableData.{TableData}
 use Rattle.rpg_faults.specs.Data.{data_entries, entry_on}
 use Rattle.rpg_compile_program.specs.Data.{entry_value}
 
+-- the values of a table's data
 abbrev pub values_on : TableData → List Value
 values_on d = map (entry_value d.table.now) (data_entries d.entries d.per_card d.width d.from d.table.now.length (followers data_role d.deck.now))
 

@@ -4,6 +4,7 @@ use Rattle.rpg_cycle_records.specs.Earlier.{Selected}
 use Rattle.rpg_cycle.specs.Runs.{Records}
 use Rattle.rpg_cycle_records.specs.Waiting.{Inputs}
 
+-- one for a record, zero for none
 abbrev pub one_if : Option Selected → ℕ
 one_if None = 0
 one_if (Some s) = 1

@@ -58,6 +58,7 @@ selected_has_match p k t = if_selected (match_by p k (inputs_of k)) (selected_in
 abbrev pub cycle_by : Object → Kept → Option (List ℕ) → Option (List ℕ) → Phase
 cycle_by p k primary secondary = CycleOn p (left_of k) (match_by p k) primary secondary
 
+-- a cycle so far
 abbrev pub under_way : Config → Beside → UnderWay
 under_way c h = record { config = c; inputs = h.inputs; selected = h.selected }
 

@@ -29,9 +29,11 @@ level_indicators = 101 ∷ 102 ∷ 103 ∷ 104 ∷ 105 ∷ 106 ∷ 107 ∷ 108 �
 abbrev pub halt_indicators : List ℕ
 halt_indicators = 120 ∷ 121 ∷ 122 ∷ 123 ∷ 124 ∷ 125 ∷ 126 ∷ 127 ∷ 128 ∷ []
 
+-- the indicator is on
 abbrev pub is_on : Config → ℕ → Bool
 is_on c n = set.contains c.world.on n
 
+-- one of the indicators is on
 abbrev pub any_on : Config → List ℕ → Bool
 any_on c [] = false
 any_on c (n ∷ ns) = is_on c n || any_on c ns
@@ -40,9 +42,11 @@ any_on c (n ∷ ns) = is_on c n || any_on c ns
 abbrev pub indicators_turned : ℕ → Bool → set.FinSet nat_cmp → set.FinSet nat_cmp
 indicators_turned n on indicators = if on then set.insert indicators n else set.remove indicators n
 
+-- one indicator turned on or off
 abbrev pub with_one : ℕ → Bool → Config → Config
 with_one n on c = record c { world = record c.world { on = indicators_turned n on c.world.on } }
 
+-- these indicators turned on or off
 abbrev pub with_all : List ℕ → Bool → Config → Config
 with_all [] on c = c
 with_all (n ∷ ns) on c = with_all ns on (with_one n on c)
@@ -61,6 +65,7 @@ abbrev pub without_type : Option ℕ → Config → Config
 without_type None c = c
 without_type (Some n) c = if n == last_record then c else with_one n false c
 
+-- the indicators of these record types turned off
 abbrev pub without_types : List (TypeRow ℕ) → Config → Config
 without_types [] c = c
 without_types (t ∷ ts) c = without_types ts (without_type t.indicator c)

@@ -73,6 +73,7 @@ feed_at Going last = []
 feed_at (Ended e) last = feed_behind last
 feed_at Failed last = []
 
+-- the bytes with what ends the printed pages, if anything does
 abbrev pub with_feed : List ℕ → Bytes → Bytes
 with_feed feed bytes = record bytes { print = bytes.print ++ feed }
 

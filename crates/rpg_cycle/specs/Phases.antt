@@ -41,6 +41,7 @@ from_there Q (Wrong f) m put e d out = (e ≡ Wrong f) × (d ≡ m) × (out ≡ 
 
 -- the one phase and then the other
 infixr 5 ◌before◌
+-- one phase after the other; the second is left out where the first ends the cycle
 abbrev pub ◌before◌ : Phase → Phase → Phase
 (P before Q) c e d out = (f : PhaseEnd) × (m : UnderWay) × (put : Output) × P c f m put × from_there Q f m put e d out
 
@@ -71,9 +72,11 @@ pub record Done : Type 0 where
   pub end : PhaseEnd
   pub leads : UnderWay
 
+-- how a phase ends, and what it leads to
 abbrev pub done : PhaseEnd → UnderWay → Done
 done e c = record { end = e; leads = c }
 
+-- a phase without output
 abbrev pub does : (UnderWay → Done) → Phase
 does f c e d out = (e ≡ (f c).end) × (d ≡ (f c).leads) × (out ≡ no_output)
 
@@ -81,6 +84,7 @@ does f c e d out = (e ≡ (f c).end) × (d ≡ (f c).leads) × (out ≡ no_outpu
 abbrev pub passes : Phase
 passes = does (done GoesOn)
 
+-- one of two phases, by a test
 abbrev pub either : Bool → Phase → Phase → Phase
 either true P Q = P
 either false P Q = Q
@@ -91,19 +95,23 @@ unless test P c = either (test c.config) passes P c
 
 -- ---- 1 heading and detail lines of the cycle before, and at first those of the first page
 
+-- heading and detail lines
 abbrev pub detail_lines : Object → Phase
 detail_lines p = output p times.Detail
 
 -- ---- 2 halt 6 where a halt indicator is on
 
+-- halt 6 where a halt indicator is on
 abbrev pub halt_where_asked : Phase
 halt_where_asked = does (λ c. done (if any_on c.config halt_indicators then Halt 6 else GoesOn) c)
 
 -- ---- 3 1P, L1 to L9 and the indicators of record types but LR go off
 
+-- indicators of record types, control levels and 1P turned off
 abbrev pub all_off : Object → Config → Config
 all_off p c = with_one first_page false (with_all level_indicators false (without_types p.types c))
 
+-- the phase that turns them off
 abbrev pub set_off : Object → Phase
 set_off p = does (λ c. done GoesOn (with_config (all_off p) c))
 
@@ -162,6 +170,7 @@ abbrev pub select_from : Object → Left → Option InputFile → UnderWay → D
 select_from p left None c = done GoesOn (with_config (λ x. with_all level_indicators true (with_one last_record true x)) c)
 select_from p left (Some f) c = select_waiting p left f (waiting_in c.inputs f) c
 
+-- the record that the cycle is for
 abbrev pub select_one : Object → Left → Phase
 select_one p left = does (λ c. select_from p left (chosen p (waiting_in c.inputs Primary) (waiting_in c.inputs Secondary)) c)
 
@@ -182,6 +191,7 @@ has_control_fields (t ∷ ts) = is_any t.levels || has_control_fields ts
 abbrev pub is_bypassed : Object → Bool → Bool → Config → Bool
 is_bypassed p any control c = not (is_on c last_record) && (not any || (has_control_fields p.types && not control))
 
+-- total calculations and total lines
 abbrev pub totals : Object → Phase
 totals p = section p sections.Total before output p times.Total
 
@@ -189,20 +199,24 @@ totals p = section p sections.Total before output p times.Total
 abbrev pub total_time_by : Object → Bool → Bool → Phase
 total_time_by p any control = unless (is_bypassed p any control) (totals p)
 
+-- total time, unless it is bypassed
 abbrev pub total_time : Object → Left → Phase
 total_time p left = total_time_by p left.any left.control
 
 -- ---- 6 the job ends where LR is on, or where no record was selected
 
+-- the job ends where LR is on, or no record is left
 abbrev pub end_where_last : Phase
 end_where_last = does (λ c. done (if is_on c.config last_record || is_none c.selected then EndOfJob else GoesOn) c)
 
 -- ---- 7 all lines of a new page, if the overflow indicator is on
 
+-- the program has no overflow indicator, or it is off
 abbrev pub has_no_overflow : Option ℕ → Config → Bool
 has_no_overflow None c = true
 has_no_overflow (Some n) c = not (is_on c n)
 
+-- the lines for overflow, where its indicator is on
 abbrev pub overflow_lines : Object → Phase
 overflow_lines p = unless (has_no_overflow p.overflow) (output p times.Overflow)
 
@@ -213,6 +227,7 @@ abbrev pub if_selected : (Selected → Bool) → Option Selected → Bool
 if_selected test None = false
 if_selected test (Some s) = test s
 
+-- MR is on if the record has a match, and off if not
 abbrev pub show_match : (Inputs → Selected → Bool) → Phase
 show_match matches = does (λ c. done GoesOn (with_config (with_one matching_record (if_selected (matches c.inputs) c.selected)) c))
 
@@ -221,11 +236,13 @@ abbrev pub fill_from : Object → Option Selected → Phase
 fill_from p None = passes
 fill_from p (Some s) = by_machine (FillsFields p s.type s.text)
 
+-- the fields take what the record has
 abbrev pub fill_fields : Object → Phase
 fill_fields p c = fill_from p c.selected c
 
 -- ---- 9 detail calculations
 
+-- the calculations at detail time
 abbrev pub detail_calculations : Object → Phase
 detail_calculations p = section p sections.Detail
 

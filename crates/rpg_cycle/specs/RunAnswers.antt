@@ -38,6 +38,7 @@ pub record RunsRecords (old : AtWork) (records : Records) (s : Summary) (new : A
 abbrev pub summary_of : Run → Summary
 summary_of r = record { ending = r.ending; cycles = r.cycles; most = r.most }
 
+-- the bytes that a run has put out
 abbrev pub run_output : Run → Bytes
 run_output r = record { print = r.output.print.items; disk = r.output.disk.items }
 

@@ -47,10 +47,12 @@ pub record Records : Type 0 where
   pub primary : List (List ℕ)
   pub secondary : List (List ℕ)
 
+-- the first of a list
 abbrev pub first_if_any : {A : Type 0} → List A → Option A
 first_if_any [] = None
 first_if_any (x ∷ xs) = Some x
 
+-- the list without its first
 abbrev pub behind_first : {A : Type 0} → List A → List A
 behind_first [] = []
 behind_first (x ∷ xs) = xs
@@ -59,6 +61,7 @@ behind_first (x ∷ xs) = xs
 abbrev pub next_of : {A : Type 0} → Bool → List A → Option A
 next_of is_needed rs = if is_needed then first_if_any rs else None
 
+-- the records that are left, where one is needed
 abbrev pub rest_where_needed : {A : Type 0} → Bool → List A → List A
 rest_where_needed is_needed rs = if is_needed then behind_first rs else rs
 

@@ -23,6 +23,7 @@ is_going Going = true
 is_going (Ended e) = false
 is_going Failed = false
 
+-- memory ran out
 abbrev pub has_failed : Stage → Bool
 has_failed Going = false
 has_failed (Ended e) = false

@@ -21,6 +21,7 @@ pub record IsControlIn (len : ℕ) (f : ControlField) : Type 0 where
   pub order : f.from ≤ f.to
   pub high : f.to ≤ len
 
+-- a record type that fits records of that length
 pub record IsTypeIn (len : ℕ) (t : TypeRow ℕ) : Type 0 where
   pub indicator : ForSome t.indicator IsIndicator
   pub codes : All (IsCodeIn len) t.codes

@@ -18,9 +18,11 @@ use Rattle.rpg_object_program.specs.Object.{Object, has_file}
 abbrev pub record_as : ℕ → KeptFile → Selected
 record_as t k = record { type = t; text = k.record.items }
 
+-- what is known of an input file
 abbrev pub input_state_of : KeptFile → InputState
 input_state_of k = record { waiting = selected_as k.waiting k.record.items; is_over = k.is_over }
 
+-- what is known of both input files
 abbrev pub inputs_of : Kept → Inputs
 inputs_of k = record { primary = input_state_of k.primary; secondary = input_state_of k.secondary }
 
@@ -38,6 +40,7 @@ text_in p k (Some t) = record_in k (file_of (slice_get p.types t))
 abbrev pub record_of_type : Object → Kept → ℕ → Selected
 record_of_type p k t = record { type = t; text = text_in p k (Some t) }
 
+-- what is kept of a file
 abbrev pub kept_at : Kept → InputFile → KeptFile
 kept_at k Primary = k.primary
 kept_at k Secondary = k.secondary
@@ -62,6 +65,7 @@ pub record HoldsRecord (p : Object) (f : InputFile) (k : KeptFile) (t : ℕ) : T
 abbrev pub IsFileKept : Object → InputFile → KeptFile → Type 0
 IsFileKept p f k = ForSome k.waiting (λ t. HoldsRecord p f k t)
 
+-- what is kept fits the program
 pub record AreFilesKept (p : Object) (k : Kept) : Type 0 where
   pub primary : IsFileKept p Primary k.primary
   pub secondary : IsFileKept p Secondary k.secondary

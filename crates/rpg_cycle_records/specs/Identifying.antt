@@ -34,6 +34,7 @@ has_position text c = nat_le 1 c.position && nat_le c.position (length text)
 
 -- ---- types
 
+-- two files are the same
 abbrev pub same_file : InputFile → InputFile → Bool
 same_file Primary Primary = true
 same_file Primary Secondary = false

@@ -10,15 +10,19 @@ use Rattle.rpg_effect.specs.declared.input.InputFile.{InputFile}
 use Rattle.rpg_effect.specs.declared.input.InputFile.TheVariants.{Primary, Secondary}
 use Rattle.rpg_object_program.specs.Object.{Object}
 
+-- the control fields of the last record that had them
 abbrev pub seen_bytes : LastBytes → Option (List ℕ)
 seen_bytes l = if l.is_known then Some l.bytes.items else None
 
+-- the same for each level
 abbrev pub seen_levels : List LastBytes → List (Option (List ℕ))
 seen_levels ls = map seen_bytes ls
 
+-- a match value, if there is one
 abbrev pub seen_value : MatchValue → Option (List ℕ)
 seen_value v = if v.is_there then Some v.bytes.items else None
 
+-- what a job keeps of earlier records
 abbrev pub left_of : Kept → Left
 left_of k = record {
   any = k.has_any;
@@ -56,6 +60,7 @@ abbrev pub noted : Object → Option ℕ → Left → Left
 noted p None l = l
 noted p (Some t) l = record l { any = true; control = l.control || is_any (control_fields p t) }
 
+-- what a job has before its first record
 abbrev pub nothing_left : Left
 nothing_left = record {
   any = false;

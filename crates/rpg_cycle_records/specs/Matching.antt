@@ -25,6 +25,7 @@ value_in (f ∷ fs) text = Some (joined_down (f ∷ fs) text 9)
 abbrev pub value_cmp : List ℕ → List ℕ → Ordering
 value_cmp = on (map rank) (slice_cmp nat_cmp)
 
+-- one match value comes after another
 abbrev pub is_greater : List ℕ → List ℕ → Bool
 is_greater v w = is_gt (value_cmp v w)
 

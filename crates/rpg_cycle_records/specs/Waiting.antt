@@ -11,6 +11,7 @@ pub record InputState : Type 0 where
   pub waiting : Option Selected
   pub is_over : Bool
 
+-- what is known of the input files
 pub record Inputs : Type 0 where
   pub primary : InputState
   pub secondary : InputState
@@ -19,14 +20,17 @@ pub record Inputs : Type 0 where
 abbrev pub unread : Inputs
 unread = record { primary = record { waiting = None; is_over = false }; secondary = record { waiting = None; is_over = false } }
 
+-- what is known of one of them
 abbrev pub input_at : Inputs → InputFile → InputState
 input_at i Primary = i.primary
 input_at i Secondary = i.secondary
 
+-- the same with one of them replaced
 abbrev pub with_input : InputFile → InputState → Inputs → Inputs
 with_input Primary x i = record i { primary = x }
 with_input Secondary x i = record i { secondary = x }
 
+-- the record of a file that waits
 abbrev pub waiting_in : Inputs → InputFile → Option Selected
 waiting_in i f = (input_at i f).waiting
 
@@ -60,6 +64,7 @@ chosen p (Some s) (Some t) = Some (first_of (match_value p s) (match_value p t))
 
 -- ---- matching records
 
+-- the other file
 abbrev pub other_file : InputFile → InputFile
 other_file Primary = Secondary
 other_file Secondary = Primary
@@ -75,6 +80,7 @@ abbrev pub waiting_value : Object → InputFile → Option Selected → Option (
 waiting_value p f None = None
 waiting_value p f (Some s) = value_from p f s
 
+-- the record matches one of the other file: the one that waits, or the last one of that file
 abbrev pub finds_match : Object → Left → Inputs → Selected → Bool
 finds_match p left i s =
     agrees (match_value p s) (waiting_value p (other_file (file_at p s)) (waiting_in i (other_file (file_at p s))))

@@ -41,6 +41,7 @@ along P V W c x = V c x ⊎ ((m : UnderWay) × (out : Output) × P c GoesOn m ou
 
 -- where a phase leads, and what follows
 infixr 5 ◌onto◌
+-- the ways of a phase, and then those of the phases after it
 abbrev pub ◌onto◌ : Phase → Way → Way
 P onto W = along P (ways_to_end P) W
 

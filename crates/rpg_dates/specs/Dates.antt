@@ -8,12 +8,15 @@ use Rattle.rpg_dates.specs.declared.day.Day.{Day}
 abbrev pub tens : ℕ → ℕ
 tens n = 48 + n / 10
 
+-- the character of a number's last digit
 abbrev pub ones : ℕ → ℕ
 ones n = 48 + n % 10
 
+-- three numbers of two digits each
 abbrev pub six : ℕ → ℕ → ℕ → List ℕ
 six a b c = tens a ∷ ones a ∷ tens b ∷ ones b ∷ tens c ∷ ones c ∷ []
 
+-- a day in six digits
 abbrev pub six_digits : Day → DateOrder → List ℕ
 six_digits d MonthFirst = six d.month d.day d.year
 six_digits d DayFirst = six d.day d.month d.year

@@ -14,12 +14,15 @@ pub record Fraction : Type 0 where
 abbrev pub with_decimals : ℤ → ℕ → Fraction
 with_decimals n dec = record { top = n; bottom = 10 ^ dec }
 
+-- the sum of two fractions
 abbrev pub plus : Fraction → Fraction → Fraction
 plus p q = record { top = p.top *ℤ pos q.bottom +ℤ q.top *ℤ pos p.bottom; bottom = p.bottom * q.bottom }
 
+-- the difference of two fractions
 abbrev pub minus : Fraction → Fraction → Fraction
 minus p q = record { top = p.top *ℤ pos q.bottom -ℤ q.top *ℤ pos p.bottom; bottom = p.bottom * q.bottom }
 
+-- the product of two fractions
 abbrev pub times : Fraction → Fraction → Fraction
 times p q = record { top = p.top *ℤ q.top; bottom = p.bottom * q.bottom }
 
@@ -27,6 +30,7 @@ times p q = record { top = p.top *ℤ q.top; bottom = p.bottom * q.bottom }
 abbrev pub over : Fraction → Fraction → Fraction
 over p q = record { top = p.top *ℤ pos q.bottom *ℤ int_signum q.top; bottom = p.bottom * unsigned_abs q.top }
 
+-- the order of two fractions by their values
 abbrev pub fraction_cmp : Fraction → Fraction → Ordering
 fraction_cmp p q = int_cmp (p.top *ℤ pos q.bottom) (q.top *ℤ pos p.bottom)
 

@@ -12,6 +12,7 @@ collating_sequence = codes " .<(+|&!$*);-/,%_>?`:#@'=\"abcdefghijklmnopqr~stuvwx
 unfoldable pub rank : ℕ → ℕ
 rank c = unwrap_or (position (λ x. x == c) collating_sequence) (length collating_sequence + c)
 
+-- the order of two characters
 abbrev pub character_cmp : ℕ → ℕ → Ordering
 character_cmp c d = nat_cmp (rank c) (rank d)
 

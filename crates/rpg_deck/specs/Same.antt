@@ -55,11 +55,14 @@ line_file x = option_and_then (λ r. r.file) (output_record_in x)
 abbrev pub as_filed : {H F X : Type 0} → (H → X) → (F → X) → flat_groups.Group H F → Filed X
 as_filed heading follower g = record { file = g.file; first = heading g.heading; followers = map follower g.followers }
 
+-- a record type with its cards and its file
 abbrev pub type_group : flat_groups.Group RecordType InputSpec → Filed InputSpec
 type_group g = as_filed (λ t. input.Type t) (λ x. x) g
 
+-- a line with its cards and its file
 abbrev pub line_group : flat_groups.Group OutputRecord OutputSpec → Filed OutputSpec
 line_group g = as_filed (λ r. output.Record r) (λ x. x) g
 
+-- the data after a ** card
 abbrev pub data_group : flat_groups.Group (Unit {0}) (List ℕ) → Filed DataSpec
 data_group g = as_filed (λ u. text.Begin) (λ t. text.Card t) g

@@ -43,6 +43,7 @@ ends g = is_subroutine (control_of g) && is_endsr (group_deed g)
 
 -- ---- where it stands
 
+-- a calculation with the section that it is in
 pub record Step : Type 0 where
   pub section : Section
   pub group : CalculationGroup

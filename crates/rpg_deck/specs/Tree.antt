@@ -40,20 +40,25 @@ module _ {X : Type 0} (on : Spec → Option X) where
 
 -- ---- which cards begin a group
 
+-- the card begins a record type
 abbrev pub begins_type : Card InputSpec → Bool
 begins_type c = is_type c.spec
 
+-- the card begins a calculation: it is no AN or OR card
 abbrev pub begins_calculation : Card CalculationSpec → Bool
 begins_calculation c = is_calculation c.spec
 
+-- the card begins a line
 abbrev pub begins_line : Card OutputSpec → Bool
 begins_line c = is_line c.spec
 
+-- a ** card, which begins the data of a table
 abbrev pub begins_deck : Card DataSpec → Bool
 begins_deck c = is_deck c.spec
 
 -- ---- the tree
 
+-- the cards of a source by sheet, each with the cards that go on with it
 pub record Tree : Type 0 where
   pub headers : List (Card HeaderSpec)
   pub files : List (Card FileSpec)

@@ -24,6 +24,7 @@ abbrev pub decimal_marks : ℕ → List Mark
 decimal_marks zero = []
 decimal_marks (suc d) = Insert 46 ∷ replicate (suc d) Digit
 
+-- the marks after a number, by how the code shows its sign
 abbrev pub ending_marks : Ending → List Mark
 ending_marks Unsigned = []
 ending_marks Credit = Sign 67 ∷ Sign 82 ∷ []
@@ -39,6 +40,7 @@ dollar_marks Dollar = Digit ∷ []
 abbrev pub date_marks : List Mark
 date_marks = Digit ∷ Digit ∷ Insert 47 ∷ Digit ∷ Digit ∷ Insert 47 ∷ Digit ∷ Digit ∷ []
 
+-- the marks of a code, for a number of that length and decimals
 abbrev pub code_marks : EditCode → Fill → ℕ → ℕ → List Mark
 code_marks (Combination commas zeros ending) fill len dec = dollar_marks fill ++ whole_marks commas (len - dec) ++ decimal_marks dec ++ ending_marks ending
 code_marks X fill len dec = replicate len Digit
@@ -58,6 +60,7 @@ fill_of Blank = 32
 fill_of Star = 42
 fill_of Dollar = 32
 
+-- the text with its dollar sign, where the fill has one
 abbrev pub dollar_in : Fill → List ℕ → List ℕ
 dollar_in Blank text = text
 dollar_in Star text = text
@@ -82,5 +85,6 @@ table_of_codes =
     ∷ (74, Combination true true Minus) ∷ (75, Combination true false Minus) ∷ (76, Combination false true Minus) ∷ (77, Combination false false Minus)
     ∷ (88, X) ∷ (89, Y) ∷ (90, Z) ∷ []
 
+-- the code of a character
 abbrev pub code_of : ℕ → Option EditCode
 code_of c = option_map (λ row. row.1) (find (λ row. row.0 == c) table_of_codes)

@@ -33,6 +33,7 @@ character negative size kept fill (Insert c) k = if is_begun size k || nat_le k 
 character negative size kept fill (Always c) k = c
 character negative size kept fill (Sign c) k = if negative then c else 32
 
+-- the characters of these marks
 abbrev pub characters : Bool → ℕ → ℕ → ℕ → List Mark → List ℕ
 characters negative size kept fill [] = []
 characters negative size kept fill (m ∷ rest) = character negative size kept fill m (places rest) ∷ characters negative size kept fill rest

@@ -13,6 +13,7 @@ is_stop c = (c == 48) || (c == 42)
 abbrev pub shown_character : ℕ → ℕ
 shown_character c = if c == 38 then 32 else c
 
+-- the mark of a character in the part of the digits
 abbrev pub mark_of : ℕ → Mark
 mark_of c = if c == 32 then Digit else Insert (shown_character c)
 
@@ -25,13 +26,16 @@ marks_of (c ∷ rest) = if is_stop c then Digit ∷ map mark_of rest else mark_o
 abbrev pub places_end : List Mark → ℕ
 places_end marks = length marks - suffix_len (λ m. not (is_digit_place m)) marks
 
+-- the mark of a character that is always shown
 abbrev pub always_mark : ℕ → Mark
 always_mark c = Always (shown_character c)
 
+-- the text begins with that character
 abbrev pub begins_with_character : ℕ → List ℕ → Bool
 begins_with_character c [] = false
 begins_with_character c (d ∷ rest) = d == c
 
+-- the text begins with CR
 abbrev pub begins_credit : List ℕ → Bool
 begins_credit [] = false
 begins_credit (c ∷ rest) = (c == 67) && begins_with_character 82 rest
@@ -48,11 +52,13 @@ sign_part (c ∷ rest) =
 abbrev pub first_dollar : List ℕ → List Mark → List Mark
 first_dollar word marks = if begins_with_character 36 word then slice_set marks 0 (Always 36) else marks
 
+-- the marks of an edit word
 abbrev pub word_marks : List ℕ → List Mark
 word_marks word =
     let marks = first_dollar word (marks_of word) in
     take (places_end marks) marks ++ sign_part (drop (places_end marks) word)
 
+-- where zeros stop being suppressed
 abbrev pub stop_of : List ℕ → ℕ
 stop_of word = position_or_len is_stop word
 
@@ -60,6 +66,7 @@ stop_of word = position_or_len is_stop word
 abbrev pub digits_behind_stop : List ℕ → ℕ
 digits_behind_stop word = count_by (λ c. c == 32) (after_first is_stop word)
 
+-- the character for suppressed zeros: an asterisk or a blank
 abbrev pub word_fill : List ℕ → ℕ
 word_fill word = if slice_index word (stop_of word) == 42 then 42 else 32
 

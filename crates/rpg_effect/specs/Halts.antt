@@ -3,6 +3,7 @@ use Rattle.std.specs.Prelude.{ℕ}
 use Rattle.rpg_effect.specs.declared.halt.Halt.{Halt}
 use Rattle.rpg_effect.specs.declared.halt.Halt.TheVariants.{ZeroDivisor, BadIndex, NoRecordType, BadDigit, AllowanceSpent, IndicatorOn, BadRecord, OutOfSequence}
 
+-- the number of a halt
 abbrev pub halt_number : Halt → ℕ
 halt_number ZeroDivisor = 1
 halt_number BadIndex = 2

@@ -25,25 +25,31 @@ use Rattle.rpg_effect.specs.declared.operation.Operand.{Operand}
 
 -- ---- the same words at another key
 
+-- an index with its field renamed
 abbrev pub renamed_index : {K L : Type 0} → (K → L) → Index K → Index L
 renamed_index at Blank = Blank
 renamed_index at (Literal n) = Literal n
 renamed_index at (Field k) = Field (at k)
 
+-- an operand with its fields renamed
 abbrev pub renamed_operand : {K L : Type 0} → (K → L) → Operand K → Operand L
 renamed_operand at o = record { field = at o.field; index = renamed_index at o.index }
 
+-- an entry with its fields renamed
 abbrev pub renamed_entry : {K L : Type 0} → (K → L) → Entry K → Entry L
 renamed_entry at e = record { field = at e.field; index = renamed_index at e.index; position = e.position }
 
+-- an action with its fields renamed
 abbrev pub renamed_action : {K L : Type 0} → (K → L) → Action (Operand K) → Action (Operand L)
 renamed_action at a = with_operands (renamed_operand at) a
 
+-- an edit word's field renamed
 abbrev pub renamed_editing : {K L : Type 0} → (K → L) → Editing K → Editing L
 renamed_editing at editings.Plain = editings.Plain
 renamed_editing at (editings.Code c) = editings.Code c
 renamed_editing at (editings.Word k) = editings.Word (at k)
 
+-- an output field with its fields renamed
 abbrev pub renamed_field : {K L : Type 0} → (K → L) → LineField K → LineField L
 renamed_field at f = record {
   source = f.source;
@@ -55,6 +61,7 @@ renamed_field at f = record {
   conditions = f.conditions;
 }
 
+-- a line with its fields renamed
 abbrev pub renamed_line : {K L : Type 0} → (K → L) → Line K → Line L
 renamed_line at l = record {
   file = l.file;
@@ -65,18 +72,22 @@ renamed_line at l = record {
   fields = map (renamed_field at) l.fields;
 }
 
+-- an input field with its field renamed
 abbrev pub renamed_input : {K L : Type 0} → (K → L) → InputField K → InputField L
 renamed_input at f = record { from = f.from; to = f.to; field = at f.field; shows = f.shows }
 
+-- a record type with its fields renamed
 abbrev pub renamed_type : {K L : Type 0} → (K → L) → TypeRow K → TypeRow L
 renamed_type at t = record { file = t.file; indicator = t.indicator; codes = t.codes; levels = t.levels; inputs = map (renamed_input at) t.inputs; matches = t.matches }
 
 -- ---- what has a form by the old names
 
 module _ {K : Type 0} (forms : K → Option FieldForm) where
+  -- there is a field of that name
   abbrev pub HasField : K → Type 0
   HasField k = has_field (forms k) ≡ true
 
+  -- the index names a field that there is, or none
   abbrev pub HasIndex : Index K → Type 0
   HasIndex Blank = Unit {0}
   HasIndex (Literal n) = Unit {0}

@@ -15,6 +15,7 @@ pub record Counts : Type 0 where
   pub print : ℕ
   pub disk : ℕ
 
+-- how often each device has failed
 abbrev pub device_counts : {R S P D : Type 0} → (input : Counted R) (secondary : Counted S) (print : Counted P) (disk : Counted D) → Counts
 device_counts input secondary print disk = record { primary = faults_of input; secondary = faults_of secondary; print = faults_of print; disk = faults_of disk }
 

@@ -24,6 +24,7 @@ pub record Front : Type 0 where
   pub read : List ℕ
   pub ended : Bool
 
+-- what has been read of an input
 abbrev pub front_of : {given left : Option (List ℕ)} → WasRead given left → Front
 front_of w = record { read = w.read; ended = w.ended }
 

@@ -36,10 +36,12 @@ IsRefused objects.NoMemory p = IsAccepted p
 
 -- ---- the faults of decoding and of the rules
 
+-- why bytes aren't an object
 abbrev pub undecoded : DecodeFault → ObjectFault
 undecoded (decoding.Object offset code) = objects.NotAnObject offset code
 undecoded decoding.NoMemory = objects.NoMemory
 
+-- why an object is refused
 abbrev pub unverified : VerifyFault → ObjectFault
 unverified (verifying.Refused rule row) = objects.Refused (record { rule = rule; row = row })
 unverified verifying.NoMemory = objects.NoMemory

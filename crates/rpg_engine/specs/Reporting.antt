@@ -98,6 +98,7 @@ WentOn cycles p day primary secondary out Then = GoesOnFor cycles p [] (records_
 
 -- ---- what the writers have
 
+-- the bytes of what is put out
 abbrev pub bytes_of : Output → Bytes
 bytes_of out = record { print = paper out.lines; disk = disk_bytes out.records }
 
@@ -141,6 +142,7 @@ IsBad p f (Some r) = is_good_record p f r ≡ false
 abbrev pub AreAlike : Object → InputFile → Option (List ℕ) → Option (List ℕ) → Type 0
 AreAlike p f x y = (x ≡ y) ⊎ (IsBad p f x × IsBad p f y)
 
+-- the records of a file
 abbrev pub records_in : InputFile → Records → List (List ℕ)
 records_in Primary rs = rs.primary
 records_in Secondary rs = rs.secondary

@@ -125,6 +125,7 @@ FaultsOfWriters (faults.Disk sent) print print' disk disk' = (print' ≡ print) 
 FaultsOfWriters (faults.NoMemory cycles) print print' disk disk' = MayFail print print' disk disk'
 FaultsOfWriters e print print' disk disk' = (print' ≡ print) × (disk' ≡ disk)
 
+-- which writer has failed, if one has
 abbrev pub WriterFaults : {X : Type 0} → Result X RunFault → (print print' disk disk' : ℕ) → Type 0
 WriterFaults (Ok x) print print' disk disk' = (print' ≡ print) × (disk' ≡ disk)
 WriterFaults (Err e) print print' disk disk' = FaultsOfWriters e print print' disk disk'

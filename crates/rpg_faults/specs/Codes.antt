@@ -3,6 +3,7 @@ use Rattle.std.specs.Prelude.{ℕ, List, ◌++◌, codes, decimal}
 use Rattle.rpg_faults.specs.declared.code.FaultCode.{FaultCode}
 use Rattle.rpg_faults.specs.declared.code.FaultCode.TheVariants.{F1, F2, F3, F4, F5, F6, F7, F8, F9, F10, F11, F12, F13, F14, F15, F16, F17, F18}
 
+-- the number in a code
 abbrev pub fault_number : FaultCode → ℕ
 fault_number F1 = 1
 fault_number F2 = 2
@@ -23,5 +24,6 @@ fault_number F16 = 16
 fault_number F17 = 17
 fault_number F18 = 18
 
+-- a code as it is printed
 abbrev pub fault_code_text : FaultCode → List ℕ
 fault_code_text code = codes "F" ++ decimal (fault_number code)

@@ -17,9 +17,11 @@ use Rattle.rpg_sheet_specs.specs.declared.extension.TableSpec.{TableSpec}
 
 -- ---- which data are whose: the E cards with entries per card take the decks in their order
 
+-- the E card's table has its values in the source
 abbrev pub wants_data : SpecCard → Bool
 wants_data c = option_map_or (λ (e : ExtensionSpec). is_some e.entries_per_card) (extension_on c.spec) false
 
+-- how many cards want data
 abbrev pub wanted : List SpecCard → ℕ
 wanted cards = count_by wants_data cards
 
@@ -29,9 +31,11 @@ deck_at n cards = option_map (λ g. g.followers) (slice_get (groups data_role ca
 
 -- ---- the entries of a table: each takes `width` columns of a card and stands in `len` of them, from the column `from` on
 
+-- the text of an entry on a data card
 abbrev pub entry_on : ℕ → ℕ → ℕ → List ℕ → ℕ → List ℕ
 entry_on width from len card i = slice_range card (i * width + from) (i * width + from + len)
 
+-- the texts of all entries on a data card
 abbrev pub entries_on : ℕ → ℕ → ℕ → ℕ → List ℕ → List (List ℕ)
 entries_on per_card width from len card = map (entry_on width from len card) (range_with_len 0 per_card)
 
@@ -46,6 +50,7 @@ abbrev pub is_bad : Option ℕ → List ℕ → Bool
 is_bad None text = false
 is_bad (Some decimals) text = is_none (number_in text)
 
+-- both are numbers, and the first is lower
 abbrev pub are_lower : Option ℤ → Option ℤ → Bool
 are_lower (Some m) (Some n) = int_lt m n
 are_lower (Some m) None = false
@@ -62,11 +67,13 @@ descends lower [] = false
 descends lower (x ∷ []) = false
 descends lower (x ∷ y ∷ ys) = lower y x || descends lower (y ∷ ys)
 
+-- the entries of a table are bad: one isn't a value of its form, or they don't ascend where they should
 abbrev pub bad_table_data : TableSpec → List (List ℕ) → Bool
 bad_table_data t texts = list_any (is_bad t.decimals) texts || (t.ascending && descends (is_lower t.decimals) texts)
 
 -- ---- the deck of an E card
 
+-- the columns that an entry takes on a data card, with its alternating one
 abbrev pub data_columns : ExtensionSpec → ℕ
 data_columns e = sum_by (λ (t : TableSpec). t.length) (tables_on e)
 
@@ -80,6 +87,7 @@ bad_tables e per_card cards from [] = false
 bad_tables e per_card cards from (t ∷ ts) =
     bad_table_data t (data_entries e.entries per_card (data_columns e) from t.length cards) || bad_tables e per_card cards (from + t.length) ts
 
+-- the data of an E card don't fit it: the entries on a card, the number of cards, or an entry
 abbrev pub bad_deck : ExtensionSpec → ℕ → List (List ℕ) → Bool
 bad_deck e per_card cards =
     per_card == 0 || (nat_lt 80 (per_card * data_columns e) || (not (length cards == cards_for e.entries per_card) || bad_tables e per_card cards 0 (tables_on e)))
@@ -90,6 +98,7 @@ bad_deck e per_card cards =
 abbrev pub has_forms : ExtensionSpec → Bool
 has_forms e = list_all (λ t. is_some (table_form e.entries t)) (tables_on e)
 
+-- one of the names is a table's
 abbrev pub has_table : ExtensionSpec → Bool
 has_table e = list_any (λ (t : TableSpec). is_table_name t.name) (tables_on e)
 
@@ -107,6 +116,7 @@ abbrev pub is_unwanted : List SpecCard → List SpecCard → DataSpec → Bool
 is_unwanted cards before deck.Begin = are_taken cards before
 is_unwanted cards before (deck.Card text) = false
 
+-- the card breaks the rules of table data
 abbrev pub breaks_data : List SpecCard → List SpecCard → SpecCard → Bool
 breaks_data cards before c =
     option_map_or (λ (e : ExtensionSpec). bad_data cards before e e.entries_per_card) (extension_on c.spec) false

@@ -5,9 +5,11 @@ use Rattle.rpg_cards.specs.declared.spec_card.SpecCard.{SpecCard}
 use Rattle.rpg_faults.specs.Data.{wanted}
 use Rattle.rpg_faults.specs.declared.decks.Decks.{Decks}
 
+-- the data after a ** card, up to the next one
 abbrev pub deck : List SpecCard → Group (Unit {0}) (List ℕ)
 deck behind = record { heading = tt; followers = followers data_role behind; file = None }
 
+-- what is left of the data for the E cards from here on
 pub record AreDecks (cards before : List SpecCard) (d : Decks) : Type 0 where
   pub rest : groups data_role d.rest.now ≡ drop (wanted before) (groups data_role cards)
   pub to_come : d.wanted ≡ wanted cards - group_count data_role before

@@ -8,6 +8,7 @@ use Rattle.rpg_sheet_specs.specs.declared.extension.TableSpec.{TableSpec}
 abbrev pub is_wrong : TableSpec → Option (List ℕ) → List ℕ → Bool
 is_wrong t before x = is_bad t.decimals x || (t.ascending && option_map_or (λ b. is_lower t.decimals x b) before false)
 
+-- one of the entries is wrong, seen with the one before it
 abbrev pub any_wrong : TableSpec → Option (List ℕ) → List (List ℕ) → Bool
 any_wrong t before [] = false
 any_wrong t before (x ∷ xs) = is_wrong t before x || any_wrong t (Some x) xs

@@ -19,15 +19,19 @@ pub record AreAllFaults (cards : List SpecCard) (faults : List Fault) : Type 0 w
 
 -- ---- how they are found: what the source as a whole breaks, then card by card, code by code
 
+-- the faults of a card, by their codes
 abbrev pub faults_on : List SpecCard → SpecCard → List SpecCard → List Fault
 faults_on before c after = map (fault_on c) (filter (λ code. rule code before c after) codes)
 
+-- the faults of the cards from here on
 abbrev pub faults_from : List SpecCard → List SpecCard → List Fault
 faults_from before [] = []
 faults_from before (c ∷ after) = faults_on before c after ++ faults_from (before ++ c ∷ []) after
 
+-- the fault of a source without a primary file, which no card has
 abbrev pub faults_of_whole : List SpecCard → List Fault
 faults_of_whole cards = if lacks_input cards then record { card = 0; code = F7 } ∷ [] else []
 
+-- all faults of a source: by card, and on a card by code
 abbrev pub all_faults : List SpecCard → List Fault
 all_faults cards = faults_of_whole cards ++ faults_from [] cards

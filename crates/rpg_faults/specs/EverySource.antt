@@ -11,6 +11,7 @@ use Rattle.rpg_sheet.specs.declared.unreadable.UnreadableCard.{UnreadableCard}
 use Rattle.rpg_sheet.specs.Unreadable.{unreadable_cards}
 use Rattle.rpg_sheet_specs.specs.declared.spec.Spec.{Spec}
 
+-- the cards of a source with their numbers, from 1 on
 abbrev pub numbered_specs : List (Option Spec) → List SpecCard
 numbered_specs specs = numbered_cards 1 specs
 

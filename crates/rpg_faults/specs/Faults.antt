@@ -25,14 +25,17 @@ pub record BreaksRule (r : Rule) (cards : List SpecCard) (number : ℕ) : Type 0
 abbrev pub HasFault : List SpecCard → Fault → Type 0
 HasFault cards f = BreaksRule (rule f.code) cards f.card ⊎ ((f.card ≡ 0) × (source_rule f.code cards ≡ true))
 
+-- a source without a fault
 abbrev pub Faultless : List SpecCard → Type 0
 Faultless cards = (f : Fault) → ¬ HasFault cards f
 
 -- ---- the least of them, by card and then by code
 
+-- faults are in order: by card, and on a card by code
 abbrev pub FaultNotAfter : Fault → Fault → Type 0
 FaultNotAfter f g = (f.card < g.card) ⊎ ((f.card ≡ g.card) × (fault_number f.code ≤ fault_number g.code))
 
+-- a fault of the source, and none comes before it
 pub record IsLeastFault (cards : List SpecCard) (f : Fault) : Type 0 where
   pub is : HasFault cards f
   pub least : (g : Fault) → HasFault cards g → FaultNotAfter f g
@@ -43,12 +46,15 @@ codes = F1 ∷ F2 ∷ F3 ∷ F4 ∷ F5 ∷ F6 ∷ F7 ∷ F8 ∷ F9 ∷ F10 ∷ F
 
 -- ---- how it is found: on the first card that breaks a rule, the least code; before all cards what the source as a whole breaks
 
+-- a fault of a card
 abbrev pub fault_on : SpecCard → FaultCode → Fault
 fault_on c code = record { card = c.number; code = code }
 
+-- the first fault of the cards from here on
 abbrev pub least_fault_from : List SpecCard → List SpecCard → Option Fault
 least_fault_from before [] = None
 least_fault_from before (c ∷ after) = option_or (option_map (fault_on c) (find (λ code. rule code before c after) codes)) (least_fault_from (before ++ c ∷ []) after)
 
+-- the first fault of a source
 abbrev pub least_fault : List SpecCard → Option Fault
 least_fault cards = if lacks_input cards then Some (record { card = 0; code = F7 }) else least_fault_from [] cards

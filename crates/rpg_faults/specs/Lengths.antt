@@ -18,12 +18,15 @@ first_lengths cards before = map (λ level. first_length level (take (group_coun
 abbrev pub lengths_of : List InputSpec → List ℕ
 lengths_of specs = map (λ level. min (joined_length level specs) 65535) levels
 
+-- the cards of the open record type
 abbrev pub input_specs_in : Option (Group RecordType InputSpec) → Option (List InputSpec)
 input_specs_in o = option_map (λ g. g.followers) o
 
+-- what is known of the control fields of the open record type
 abbrev pub AreOpenLengths : List SpecCard → JoinedLengths → Type 0
 AreOpenLengths before j = j.open_type ≡ option_map lengths_of (input_specs_in (open_group input_role before))
 
+-- what is known of control fields before a card: of the first type, and of the open one
 pub record AreJoinedLengths (cards before : List SpecCard) (j : JoinedLengths) : Type 0 where
   pub first : j.first ≡ first_lengths cards before
   pub open_type : AreOpenLengths before j

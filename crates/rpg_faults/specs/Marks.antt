@@ -27,6 +27,7 @@ use Rattle.rpg_sheet_specs.specs.declared.input.RecordCode.{RecordCode}
 
 -- ---- F16: the first code that is outside; of a field the column that is wrong, or its control level or match level
 
+-- the columns of the first record code that is outside the record
 abbrev pub code_columns : Option FileSpec → Three (Option RecordCode) → Option ColumnRange
 code_columns file codes =
     if is_code_outside file codes.first then Some range.FirstCode
@@ -34,6 +35,7 @@ code_columns file codes =
     else if is_code_outside file codes.third then Some range.ThirdCode
     else None
 
+-- the columns of an input field that break the rule
 abbrev pub field_range : Option FileSpec → List SpecCard → InputField → ColumnRange
 field_range file before f =
     if f.from == 0 then range.FirstColumn
@@ -41,6 +43,7 @@ field_range file before f =
     else if passes_length before f then range.InputLevel
     else range.InputMatch
 
+-- the columns of an I card that break the rule
 abbrev pub place_on_input : Option FileSpec → List SpecCard → InputSpec → Option ColumnRange
 place_on_input file before (input.Type t) = code_columns file t.codes
 place_on_input file before (input.And codes) = code_columns file codes
@@ -51,27 +54,32 @@ abbrev pub TellsRange : {X : Type 0} → (Option FileSpec → List SpecCard → 
 TellsRange range_of length lengths answer =
     (file : Option FileSpec) (before : List SpecCard) → length ≡ option_map (λ f. f.record_length) file → AreOpenLengths before lengths → answer ≡ range_of file before
 
+-- the columns that break the rule of places in records and lines
 abbrev pub place_columns : List SpecCard → List SpecCard → SpecCard → Option ColumnRange
 place_columns cards before c = option_map_or (λ i. place_on_input (file_by (own_file before i) cards) before i) (input_on c.spec) (option_map (λ f. range.EndPosition) (output_field_on c.spec))
 
 -- ---- F18: the entries per card, which ask for data
 
+-- the columns of an E card that its data don't fit
 abbrev pub deck_columns : SpecCard → Option ColumnRange
 deck_columns c = option_map (λ e. range.EntriesPerCard) (extension_on c.spec)
 
 -- ---- F9 and F12 are of several rooms
 
+-- the columns where something is missing, or stands where nothing may
 abbrev pub missing_columns : List SpecCard → SpecCard → List SpecCard → Option ColumnRange
 missing_columns before c after =
     if calculations.bad_calculation_columns before c after then flow.calculation_columns c after
     else if columns.bad_operand_columns (before ++ c ∷ after) c after then operands.missing_columns c after
     else limits.movement_columns c
 
+-- the columns of a card that is out of order
 abbrev pub order_columns : SpecCard → Option ColumnRange
 order_columns c = option_or (flow.order_columns c) (limits.stray_columns c.spec)
 
 -- ---- each code
 
+-- the columns of a card that break the rule of a code; none where the whole card does
 unfoldable pub fault_range : FaultCode → List SpecCard → SpecCard → List SpecCard → Option ColumnRange
 fault_range F1 before c after = Some (operands.unknown_name (before ++ c ∷ after) c after)
 fault_range F2 before c after = limits.redefined_columns before c
@@ -92,5 +100,6 @@ fault_range F16 before c after = place_columns (before ++ c ∷ after) before c
 fault_range F17 before c after = operands.editing_columns c
 fault_range F18 before c after = deck_columns c
 
+-- the same with their numbers
 abbrev pub fault_columns : FaultCode → List SpecCard → SpecCard → List SpecCard → Option ColumnFault
 fault_columns code before c after = option_map columns_of (fault_range code before c after)

@@ -18,6 +18,7 @@ use Rattle.rpg_sheet_specs.specs.declared.input.InputSpec.{InputSpec}
 abbrev pub first_of_types : List SpecCard → List SpecCard → Option (List ℕ)
 first_of_types cards before = first_matches (take (group_count input_role before) (groups input_role cards))
 
+-- one of the fields has that match level
 abbrev pub has_level : List InputField → ℕ → Bool
 has_level fs level = list_any (is_at match_level level) fs
 
@@ -25,9 +26,11 @@ has_level fs level = list_any (is_at match_level level) fs
 abbrev pub matches_of : List InputSpec → OpenMatches
 matches_of specs = record { levels = map (has_level (match_fields specs)) levels; length = min (sum_by input_columns (match_fields specs)) 65535 }
 
+-- what is known of the match fields of the open record type
 abbrev pub AreOpenMatches : List SpecCard → Matches → Type 0
 AreOpenMatches before m = m.open_type ≡ option_map matches_of (input_specs_in (open_group input_role before))
 
+-- what is known of match fields before a card: of the first type, and of the open one
 pub record AreMatches (cards before : List SpecCard) (m : Matches) : Type 0 where
   pub first : m.first ≡ first_of_types cards before
   pub open_type : AreOpenMatches before m

@@ -24,9 +24,11 @@ use Rattle.rpg_sheet_specs.specs.declared.output.OutputField.{OutputField}
 abbrev pub is_past : Option FileSpec → ℕ → Bool
 is_past file column = option_map_or (λ f. nat_lt f.record_length column) file false
 
+-- the position of a record code isn't in the record
 abbrev pub is_code_outside : Option FileSpec → Option RecordCode → Bool
 is_code_outside file code = option_map_or (λ (c : RecordCode). c.position == 0 || is_past file c.position) code false
 
+-- one of three record codes is outside the record
 abbrev pub bad_codes : Option FileSpec → Three (Option RecordCode) → Bool
 bad_codes file codes = is_code_outside file codes.first || (is_code_outside file codes.second || is_code_outside file codes.third)
 
@@ -34,6 +36,7 @@ bad_codes file codes = is_code_outside file codes.first || (is_code_outside file
 abbrev pub outside_record : Option FileSpec → InputField → Bool
 outside_record file f = f.from == 0 || (f.to == 0 || (nat_lt f.to f.from || is_past file f.to))
 
+-- an I card asks for a column that isn't in the record
 abbrev pub outside_on_input : Option FileSpec → InputSpec → Bool
 outside_on_input file (input.Type t) = bad_codes file t.codes
 outside_on_input file (input.And codes) = bad_codes file codes
@@ -53,9 +56,11 @@ outside_line cards file f = f.end == 0 || (is_past file f.end || is_wider cards 
 abbrev pub input_columns : InputField → ℕ
 input_columns f = if f.from == 0 then 0 else f.to + 1 - f.from
 
+-- the field is part of that control level
 abbrev pub is_at_level : ℕ → InputField → Bool
 is_at_level level f = is_at control_level level f
 
+-- the fields of a control level
 abbrev pub level_fields : ℕ → List InputSpec → List InputField
 level_fields level specs = fields_at control_level level specs
 
@@ -63,6 +68,7 @@ level_fields level specs = fields_at control_level level specs
 abbrev pub joined_length : ℕ → List InputSpec → ℕ
 joined_length level specs = sum_by input_columns (level_fields level specs)
 
+-- one of the fields has no columns
 abbrev pub has_bad : List InputField → Bool
 has_bad fs = list_any (λ f. input_columns f == 0) fs
 
@@ -71,6 +77,7 @@ abbrev pub good_length : List InputField → Option ℕ
 good_length [] = None
 good_length (f ∷ fs) = if has_bad (f ∷ fs) then None else Some (sum_by input_columns (f ∷ fs))
 
+-- the length of a control level, if its fields have columns
 abbrev pub level_length : ℕ → List InputSpec → Option ℕ
 level_length level specs = good_length (level_fields level specs)
 
@@ -79,6 +86,7 @@ abbrev pub first_length : ℕ → List (Group RecordType InputSpec) → Option �
 first_length level [] = None
 first_length level (g ∷ gs) = option_or (level_length level g.followers) (first_length level gs)
 
+-- two lengths, and not the same
 abbrev pub lengths_differ : Option ℕ → Option ℕ → Bool
 lengths_differ first own = option_map_or (λ m. option_map_or (λ n. not (m == n)) own false) first false
 
@@ -90,6 +98,7 @@ levels = range_with_len 1 9
 abbrev pub has_other_lengths : List SpecCard → List SpecCard → Bool
 has_other_lengths before after = list_any (λ level. lengths_differ (first_length level (groups input_role before)) (level_length level (followers input_role after))) levels
 
+-- the cards of the open record type, so far
 abbrev pub open_specs : List SpecCard → List InputSpec
 open_specs before = option_map_or (λ g. g.followers) (open_group input_role before) []
 
@@ -98,6 +107,7 @@ abbrev pub passes_length : List SpecCard → InputField → Bool
 passes_length before f =
     option_map_or (λ level. nat_le (joined_length level (open_specs before)) 256 && nat_lt 256 (joined_length level (open_specs before) + input_columns f)) f.level false
 
+-- the control fields of an I card's type break the rule
 abbrev pub controls_badly : List SpecCard → List SpecCard → InputSpec → Bool
 controls_badly before after (input.Type t) = has_other_lengths before after
 controls_badly before after (input.And codes) = false
@@ -105,6 +115,7 @@ controls_badly before after (input.Field f) = passes_length before f
 
 -- ---- match fields: a type has each level once, those of all its levels are joined, and each type that has some has the same
 
+-- the fields with a match level
 abbrev pub match_fields : List InputSpec → List InputField
 match_fields specs = fields_with match_level specs
 
@@ -116,6 +127,7 @@ match_lengths fs = map (λ level. sum_by input_columns (filter (is_at match_leve
 abbrev pub repeats : List InputField → InputField → Bool
 repeats fs f = option_map_or (λ level. list_any (is_at match_level level) fs) f.match_level false
 
+-- a match level stands there twice
 abbrev pub has_twice : List InputField → Bool
 has_twice [] = false
 has_twice (f ∷ fs) = repeats fs f || has_twice fs
@@ -130,6 +142,7 @@ abbrev pub first_matches : List (Group RecordType InputSpec) → Option (List �
 first_matches [] = None
 first_matches (g ∷ gs) = option_or (good_matches (match_fields g.followers)) (first_matches gs)
 
+-- two lists of lengths, and not the same
 abbrev pub matches_differ : Option (List ℕ) → Option (List ℕ) → Bool
 matches_differ first own = option_map_or (λ ms. option_map_or (λ ns. not (pointwise nat_eq ms ns)) own false) first false
 
@@ -137,6 +150,7 @@ matches_differ first own = option_map_or (λ ms. option_map_or (λ ns. not (poin
 abbrev pub has_other_matches : List SpecCard → List SpecCard → Bool
 has_other_matches before after = matches_differ (first_matches (groups input_role before)) (good_matches (match_fields (followers input_role after)))
 
+-- the match fields of the open record type, so far
 abbrev pub open_matches : List SpecCard → List InputField
 open_matches before = match_fields (open_specs before)
 
@@ -148,11 +162,13 @@ passes_matches fs f = is_match_field f && (nat_le (sum_by input_columns fs) 256 
 abbrev pub refuses : List InputField → InputField → Bool
 refuses fs f = repeats fs f || passes_matches fs f
 
+-- the match fields of an I card's type break the rule
 abbrev pub matches_badly : List SpecCard → List SpecCard → InputSpec → Bool
 matches_badly before after (input.Type t) = has_other_matches before after
 matches_badly before after (input.And codes) = false
 matches_badly before after (input.Field f) = refuses (open_matches before) f
 
+-- the control or match fields of an I card's type break the rule
 abbrev pub joins_badly : List SpecCard → List SpecCard → InputSpec → Bool
 joins_badly before after i = controls_badly before after i || matches_badly before after i
 
@@ -164,6 +180,7 @@ own_file before (input.Type t) = option_or t.file (open_file input_role before)
 own_file before (input.And codes) = open_file input_role before
 own_file before (input.Field f) = open_file input_role before
 
+-- the card asks for a place outside the record or the line, or joins fields badly
 abbrev pub misplaces : List SpecCard → List SpecCard → SpecCard → List SpecCard → Bool
 misplaces cards before c after =
     option_map_or (λ i. outside_on_input (file_by (own_file before i) cards) i || joins_badly before after i) (input_on c.spec) false

@@ -5,6 +5,7 @@ use Rattle.rpg_faults.specs.declared.source_fault.SourceCode.TheVariants.{Sheet,
 use Rattle.rpg_faults.specs.Codes as faults
 use Rattle.rpg_sheet.specs.Codes as sheets
 
+-- a code as it is printed
 abbrev pub source_code_text : SourceCode → List ℕ
 source_code_text (Sheet code) = sheets.sheet_code_text code
 source_code_text (Fault code) = faults.fault_code_text code

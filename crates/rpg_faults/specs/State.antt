@@ -6,6 +6,7 @@ use Rattle.rpg_faults.specs.Lengths.{AreJoinedLengths}
 use Rattle.rpg_faults.specs.Matches.{AreMatches}
 use Rattle.rpg_faults.specs.declared.state.Places.{Places}
 
+-- what is known before a card: of table data, of control fields and of match fields
 pub record IsPlaces (cards before : List SpecCard) (p : Places) : Type 0 where
   pub decks : AreDecks cards before p.decks
   pub lengths : AreJoinedLengths cards before p.lengths

@@ -18,6 +18,7 @@ abbrev pub columns_in : List SpecCard → List SpecCard → Fault → Option Col
 columns_in before [] f = None
 columns_in before (c ∷ after) f = if c.number == f.card then fault_columns f.code before c after else columns_in (before ++ c ∷ []) after f
 
+-- a fault of a source, with its columns
 abbrev pub told_of : List SpecCard → Fault → CardFault
 told_of cards f = record { card = f.card; code = source_codes.Fault f.code; columns = columns_in [] cards f }
 
@@ -27,21 +28,27 @@ AreFaultsOf cards told = (faults : List Fault) × AreAllFaults cards faults × (
 
 -- ---- how they are found: what the source as a whole breaks, then card by card, code by code
 
+-- a fault of a card, with its columns
 abbrev pub told_by : List SpecCard → SpecCard → List SpecCard → FaultCode → CardFault
 told_by before c after code = record { card = c.number; code = source_codes.Fault code; columns = fault_columns code before c after }
 
+-- the faults of a card, by their codes
 abbrev pub told_on : List SpecCard → SpecCard → List SpecCard → List CardFault
 told_on before c after = map (told_by before c after) (filter (λ code. rule code before c after) codes)
 
+-- the faults of the cards from here on
 abbrev pub told_from : List SpecCard → List SpecCard → List CardFault
 told_from before [] = []
 told_from before (c ∷ after) = told_on before c after ++ told_from (before ++ c ∷ []) after
 
+-- the fault of a source without a primary file
 abbrev pub of_whole : CardFault
 of_whole = record { card = 0; code = source_codes.Fault F7; columns = None }
 
+-- the faults that no card has
 abbrev pub told_of_whole : List SpecCard → List CardFault
 told_of_whole cards = if lacks_input cards then of_whole ∷ [] else []
 
+-- all faults of a source with their columns: by card, and on a card by code
 abbrev pub told_faults : List SpecCard → List CardFault
 told_faults cards = told_of_whole cards ++ told_from [] cards

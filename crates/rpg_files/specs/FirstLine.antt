@@ -20,6 +20,7 @@ pub record IsIncomplete (limit : ℕ) (bytes : List ℕ) (scanned : ℕ) : Type 
   pub characters : list_all is_character (take scanned bytes) ≡ true
   pub behind : (drop scanned bytes ≡ []) ⊎ (drop scanned bytes ≡ 13 ∷ [])
 
+-- what the bytes begin with: a record, a bad line, or one that isn't complete
 abbrev pub IsFirstLine : ℕ → List ℕ → FirstLine → Type 0
 IsFirstLine limit bytes (line.Record len line_len) = IsFirstRecord limit bytes len line_len
 IsFirstLine limit bytes line.Bad = (more : List ℕ) → BeginsBad limit (bytes ++ more)

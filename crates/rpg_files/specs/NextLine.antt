@@ -8,12 +8,14 @@ use Rattle.rpg_files.specs.declared.input.NextLine.TheVariants as next
 abbrev pub CanFollow : Bool → List ℕ → Type 0
 CanFollow ended more = ended ≡ true → more ≡ []
 
+-- the next line is a record of that length
 pub record IsNextRecord (limit : ℕ) (bytes : List ℕ) (ended : Bool) (len line_len : ℕ) : Type 0 where
   pub ordered : len ≤ line_len
   pub within : line_len ≤ length bytes
   pub good : is_good limit (take len bytes) ≡ true
   pub first : (more : List ℕ) → CanFollow ended more → records (bytes ++ more) ≡ take len bytes ∷ records (drop line_len bytes ++ more)
 
+-- what comes next: a record, a bad line, or the end of file
 abbrev pub IsNextLine : ℕ → List ℕ → Bool → NextLine → Type 0
 IsNextLine limit bytes ended (next.Record len line_len) = IsNextRecord limit bytes ended len line_len
 IsNextLine limit bytes ended next.Bad = (more : List ℕ) → CanFollow ended more → BeginsBad limit (bytes ++ more)

@@ -55,6 +55,7 @@ pub record Input : Type 0 where
   pub ended : Bool
   pub remaining : Option (List ℕ)
 
+-- what a reader has read and not given yet, and what is left of its device
 abbrev pub input_of : {R : Type 0} → (R → Option (List ℕ)) → RecordReader R → Input
 input_of remaining r = record { buffered = buffered_of r; ended = has_ended r; remaining = remaining (device_of (reader_of r)) }
 
@@ -65,6 +66,7 @@ is_sure r = nat_lt r.count max_records && (r.is_ended || nat_le (r.limit + 2) (l
 
 -- ---- a call
 
+-- the call has given a record
 abbrev pub is_record : Result Next ReadFault → Bool
 is_record (Ok next.Record) = true
 is_record (Ok next.Bad) = false

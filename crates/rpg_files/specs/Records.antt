@@ -4,6 +4,7 @@ use Rattle.std.specs.List.{flat_map, list_all}
 use Rattle.rpg_text.specs.Lines.{is_line, with_line_feed, unless_empty}
 use Rattle.rpg_text.specs.Texts.{is_character}
 
+-- a line feed comes first
 abbrev pub begins_with_line_feed : List ℕ → Bool
 begins_with_line_feed [] = false
 begins_with_line_feed (b ∷ bytes) = b == 10

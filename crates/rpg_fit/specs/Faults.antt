@@ -9,6 +9,7 @@ use Rattle.rpg_fit.specs.Applied.{AsRulesLeave}
 use Rattle.rpg_fit.specs.declared.fault.FitFault.{FitFault}
 use Rattle.rpg_fit.specs.declared.fault.FitFault.TheVariants as faults
 
+-- why a deck isn't rewritten
 abbrev pub fault_of : Stopped → FitFault
 fault_of (stops.Refused refusal) = faults.Refused refusal
 fault_of stops.TooMany = faults.TooMany

@@ -10,6 +10,7 @@ use Rattle.rpg_fit_deck.specs.New.{made_lines, new_cards, nothing_told, untold, 
 abbrev pub cards_of_new : List ℕ → Fitted → List (List ℕ)
 cards_of_new source f = new_cards (lines source) f.slots.items ++ made_lines f.end.items
 
+-- what a rewritten deck keeps of its source
 abbrev pub IsFitted : List ℕ → Fitted → Type 0
 IsFitted source f =
     -- nothing told, nothing changed

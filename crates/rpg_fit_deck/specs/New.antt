@@ -7,6 +7,7 @@ use Rattle.rpg_fit_deck.specs.declared.here.Here.TheVariants.{Kept, Changed, Gon
 use Rattle.rpg_fit_deck.specs.declared.slot.Made.{Made}
 use Rattle.rpg_fit_deck.specs.declared.slot.Slot.{Slot}
 
+-- the lines of the new cards, without blanks at their ends
 abbrev pub made_lines : List Made → List (List ℕ)
 made_lines cards = map (λ m. trimmed m.card.columns) cards
 
@@ -22,9 +23,11 @@ new_cards [] _ = []
 new_cards (card ∷ cards) [] = card ∷ new_cards cards []
 new_cards (card ∷ cards) (slot ∷ slots) = made_lines slot.before.items ++ lines_here card slot.here ++ new_cards cards slots
 
+-- nothing has been noted at a card
 abbrev pub is_untold : Slot → Bool
 is_untold slot = vec_len slot.told == 0
 
+-- nothing has been noted at any card
 abbrev pub nothing_told : List Slot → Bool
 nothing_told slots = list_all is_untold slots
 

@@ -5,6 +5,7 @@ use Rattle.rpg_fit_deck.specs.declared.view.View.{View}
 use Rattle.rpg_fit_terms.specs.declared.fresh.FreshNames.{FreshNames}
 use Rattle.rpg_fit_terms.specs.Names.{is_name_used, is_reserved}
 
+-- a digit's character
 abbrev pub digit : ℕ → ℕ
 digit n = 48 + n % 10
 
@@ -37,6 +38,7 @@ AllTaken view stem room from = (n : ℕ) → from ≤ n → n < 10000 → NameIs
 abbrev pub IsTaken : View → FreshNames → ℕ → Type 0
 IsTaken view names n = NameIsTaken view (text_of names.stem) names.room n
 
+-- all names tried so far are taken
 abbrev pub AreTaken : View → FreshNames → Type 0
 AreTaken view names = AllTaken view (text_of names.stem) names.room names.next
 

@@ -35,6 +35,7 @@ is_indicator_used view indicator = list_any (λ seen. is_indicator_on indicator 
 abbrev pub numbered : ℕ → Indicator
 numbered n = record { first = 48 + n / 10 % 10; second = 48 + n % 10 }
 
+-- H0 to H9
 abbrev pub halt : ℕ → Indicator
 halt n = record { first = 72; second = 48 + n % 10 }
 

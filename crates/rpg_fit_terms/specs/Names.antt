@@ -11,12 +11,15 @@ use Rattle.rpg_fit_terms.specs.declared.name.Columns.{Columns}
 abbrev pub is_comma : ℕ → Bool
 is_comma c = c == 44
 
+-- the name before the comma
 abbrev pub name_in : List ℕ → List ℕ
 name_in operand = before_first is_comma operand
 
+-- the index after the comma
 abbrev pub index_in : List ℕ → List ℕ
 index_in operand = after_first is_comma operand
 
+-- the columns from first to last
 abbrev pub columns : ℕ → ℕ → Columns
 columns first last = record { first = first; last = last }
 
@@ -56,5 +59,6 @@ is_prefix_used view prefix = list_any (λ seen. has_operand (is_prefix_in prefix
 abbrev pub is_date_part : List ℕ → Bool
 is_date_part name = bytes_eq name (codes "UDAY") || bytes_eq name (codes "UMONTH") || bytes_eq name (codes "UYEAR")
 
+-- a name that no card may define
 unfoldable pub is_reserved : List ℕ → Bool
 is_reserved name = bytes_eq name (codes "UDATE") || bytes_eq name (codes "PAGE") || is_date_part name

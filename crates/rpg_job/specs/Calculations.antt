@@ -28,18 +28,22 @@ use Rattle.rpg_job.specs.Lines.{meant_conditions, meant_index, meant_places}
 
 -- ---- operands: factor 1 in 18-27, factor 2 in 33-42, the result field in 43-48
 
+-- the operand that a name with its index stands for
 abbrev pub entry_named : Entry → Operand Key
 entry_named e = record { field = Named e.name; index = meant_index e.index }
 
+-- the operand of a blank column
 abbrev pub blank_operand : Operand Key
 blank_operand = record { field = Nowhere; index = index.Blank }
 
+-- the operand in a factor
 abbrev pub meant_factor : Option Factor → Operand Key
 meant_factor None = blank_operand
 meant_factor (Some (factor.Entry e)) = entry_named e
 meant_factor (Some (factor.Literal (literal.Number n))) = record { field = Fixed (constant.Number n); index = index.Blank }
 meant_factor (Some (factor.Literal (literal.Text t))) = record { field = Fixed (constant.Text t); index = index.Blank }
 
+-- the operand in the result field
 abbrev pub meant_result : Option Entry → Operand Key
 meant_result None = blank_operand
 meant_result (Some e) = entry_named e
@@ -58,9 +62,11 @@ meant_name (Some (factor.Entry e)) = if is_some e.index then None else Some e.na
 -- ---- the operation, 28-32
 
 module _ (k : CalculationSpec) where
+  -- the resulting indicators: for plus, minus and zero
   abbrev pub meant_indicators : Shows
   meant_indicators = record { plus = k.resulting_indicators.first; minus = k.resulting_indicators.second; zero = k.resulting_indicators.third }
 
+  -- what a C card does, by its operation
   abbrev pub done_by : Option Operation → Deed Key
   done_by None = Nothing
   done_by (Some op.Add) = Acts (Compute operator.Add k.half_adjust (first_or k.factor_1 k.result_field) (meant_factor k.factor_2) (meant_result k.result_field) meant_indicators)
@@ -94,6 +100,7 @@ meant_level control.Subroutine = None
 meant_level control.And = None
 meant_level control.Or = None
 
+-- an AN or OR card, by columns 7 and 8
 abbrev pub is_and_or : ControlLevel → Bool
 is_and_or control.Detail = false
 is_and_or (control.Total n) = false
@@ -101,6 +108,7 @@ is_and_or control.Subroutine = false
 is_and_or control.And = true
 is_and_or control.Or = true
 
+-- an OR card
 abbrev pub is_or_card : CalculationSpec → Bool
 is_or_card k = by k.control_level
   where
@@ -152,5 +160,6 @@ meant_from follows_one (c ∷ cs) =
     option_map_or (λ k. if follows_one && is_and_or k.control_level then [] else meant_calculation k (joined_after cs) ∷ []) (calculation_on c.spec) []
     ++ meant_from (is_some (calculation_on c.spec)) cs
 
+-- the calculations of a source, in the order of their cards
 abbrev pub meant_calculations : List SpecCard → List (Calculation Key)
 meant_calculations cards = meant_from false cards

@@ -13,11 +13,13 @@ use Rattle.rpg_sheet_specs.specs.declared.file.FileSpec.{FileSpec}
 
 -- ---- which file it is: 15, 16 and the device in 40-46
 
+-- the role of the primary file
 abbrev pub is_primary_by : FileRole → Bool
 is_primary_by role.Primary = true
 is_primary_by role.Secondary = false
 is_primary_by role.Output = false
 
+-- the role of the secondary file
 abbrev pub is_secondary_by : FileRole → Bool
 is_secondary_by role.Primary = false
 is_secondary_by role.Secondary = true
@@ -37,15 +39,19 @@ is_disk_by role.Output device.Disk = true
 is_disk_by role.Primary d = false
 is_disk_by role.Secondary d = false
 
+-- the primary file
 abbrev pub is_primary : FileSpec → Bool
 is_primary f = is_primary_by f.role
 
+-- the secondary file
 abbrev pub is_secondary : FileSpec → Bool
 is_secondary f = is_secondary_by f.role
 
+-- an output file on the printer
 abbrev pub is_printer : FileSpec → Bool
 is_printer f = is_printer_by f.role f.device
 
+-- an output file on a disk
 abbrev pub is_disk : FileSpec → Bool
 is_disk f = is_disk_by f.role f.device
 

@@ -32,20 +32,25 @@ meant_blank kind.Text len = Text (replicate len 32)
 
 -- ---- data: the cards after each `**` card, up to the next one
 
+-- a ** card among those of table data
 abbrev pub begins_deck_by : DataSpec → Bool
 begins_deck_by deck.Begin = true
 begins_deck_by (deck.Card text) = false
 
+-- a ** card
 abbrev pub begins_deck : Spec → Bool
 begins_deck s = option_map_or begins_deck_by (data_on s) false
 
+-- the text of a data card
 abbrev pub data_card : DataSpec → Option (List ℕ)
 data_card deck.Begin = None
 data_card (deck.Card text) = Some text
 
+-- the texts of the data cards
 abbrev pub data_cards : List SpecCard → List (List ℕ)
 data_cards cards = filter_map (λ c. option_map_or data_card (data_on c.spec) None) cards
 
+-- the data of each table: the texts of the cards from each ** to the next
 abbrev pub meant_decks : List SpecCard → List (List (List ℕ))
 meant_decks [] = []
 meant_decks (c ∷ cs) = if begins_deck c.spec then data_cards (up_to begins_deck cs) ∷ meant_decks cs else meant_decks cs
@@ -66,6 +71,7 @@ pub record Stored : Type 0 where
 abbrev pub width_of : ExtensionSpec → ℕ
 width_of e = option_map_or (λ (t : TableSpec). e.table.length + t.length) e.alternating e.table.length
 
+-- the tables whose values one set of data has: the E card's, and its alternating one
 abbrev pub stored_on : (ExtensionSpec × ℕ) × List (List ℕ) → List Stored
 stored_on p =
     record { table = p.0.0.table; entries = p.0.0.entries; per_card = p.0.1; width = width_of p.0.0; before = 0; deck = p.1 }
@@ -91,11 +97,13 @@ abbrev pub entry_by : Option ℕ → List ℕ → Value
 entry_by None text = Text text
 entry_by (Some decimals) text = Number (unwrap_or (number_in text) (pos 0))
 
+-- the value of an entry
 abbrev pub meant_entry : Stored → ℕ → Option Value
 meant_entry s n = if nat_lt n s.entries then option_map (entry_by s.table.decimals) (entry_text s s.deck n) else None
 
 -- ---- names: the n-th entry has its data, or zero or blanks where the name has none
 
+-- the first value of an entry of a name: by the data of a source, else zero or blanks
 abbrev pub meant_named_value : List SpecCard → List ℕ → FieldForm → ℕ → Option Value
 meant_named_value cards name form n =
     option_map_or (λ s. meant_entry s n) (find (λ (s : Stored). pointwise nat_eq name s.table.name) (all_stored cards)) (if nat_lt n form.entries then Some (meant_blank form.kind form.length) else None)

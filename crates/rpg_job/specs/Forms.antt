@@ -29,12 +29,14 @@ use Rattle.rpg_sheet_specs.specs.declared.spec.Spec.{Spec}
 use Rattle.rpg_sheet_specs.specs.declared.spec.Spec.TheVariants as spec
 use Rattle.rpg_text.specs.Texts.{is_between}
 
+-- the form of a number
 abbrev pub a_number : Class → ℕ → ℕ → FieldForm
 a_number c len decimals = record { kind = kind.Number; class = c; length = len; decimals = decimals; is_ascending = false; entries = 1 }
 
 -- ---- a length and decimals: where the decimals are blank a text of 1 to 256 characters, else a number of 1 to 15 digits with at most 9
 -- decimals
 
+-- a form of that length: a text where the decimals are blank; none where the length is out of its limits
 abbrev pub sized_as : Class → ℕ → Bool → ℕ → Option ℕ → Option FieldForm
 sized_as c entries ascending len None =
     if is_between 1 256 len then Some (record { kind = kind.Text; class = c; length = len; decimals = 0; is_ascending = ascending; entries = entries }) else None
@@ -47,6 +49,7 @@ sized_as c entries ascending len (Some d) =
 abbrev pub meant_field_form : InputField → Option FieldForm
 meant_field_form f = if nat_le f.from f.to then sized_as class.Plain 1 false (f.to + 1 - f.from) f.decimals else None
 
+-- what an I card defines
 abbrev pub given_by_input : InputSpec → List Definition
 given_by_input (input.Type t) = []
 given_by_input (input.And codes) = []
@@ -62,9 +65,11 @@ given_by_result (Some e) None decimals = []
 abbrev pub meant_class : List ℕ → Class
 meant_class name = if pointwise nat_eq (codes "TAB") (take 3 name) then class.Table else class.Array
 
+-- what an E card defines by one of its names
 abbrev pub given_by_table : ℕ → TableSpec → Definition
 given_by_table entries t = record { name = t.name; form = if is_between 1 9999 entries then sized_as (meant_class t.name) entries t.ascending t.length t.decimals else None }
 
+-- what a card defines
 abbrev pub given_on : Spec → List Definition
 given_on (spec.Header x) = []
 given_on (spec.File x) = []
@@ -80,6 +85,7 @@ given_on (spec.Data x) = []
 abbrev pub standing_form : List ℕ → Option FieldForm
 standing_form name = if pointwise nat_eq name (codes "UDATE") then Some (a_number class.Date 6 0) else (if pointwise nat_eq name (codes "PAGE") then Some (a_number class.Plain 4 0) else None)
 
+-- the form that a definition gives a name
 abbrev pub form_given : List ℕ → Definition → Option FieldForm
 form_given name d = if pointwise nat_eq name d.name then d.form else None
 
@@ -89,18 +95,21 @@ form_of_named cards name = option_or (standing_form name) (slice_get (filter_map
 
 -- ---- constants
 
+-- the form of a constant
 abbrev pub form_of_constant : Constant → FieldForm
 form_of_constant (constant.Number n) = record { kind = kind.Number; class = class.Constant; length = n.length; decimals = n.decimals; is_ascending = false; entries = 1 }
 form_of_constant (constant.Text text) = record { kind = kind.Text; class = class.Constant; length = length text; decimals = 0; is_ascending = false; entries = 1 }
 
 -- ---- the constants of a source: the literals in factors, and the texts in 45-70 of O cards, except the fill of an edit code
 
+-- the constant is what the literal stands for
 abbrev pub is_literal : Constant → Literal → Bool
 is_literal (constant.Number m) (literal.Number n) = int_eq m.value n.value && (m.length == n.length) && (m.decimals == n.decimals)
 is_literal (constant.Number m) (literal.Text t) = false
 is_literal (constant.Text s) (literal.Number n) = false
 is_literal (constant.Text s) (literal.Text t) = pointwise nat_eq s t
 
+-- the constant stands in the factor
 abbrev pub is_in_factor : Constant → Option Factor → Bool
 is_in_factor c None = false
 is_in_factor c (Some (factor.Entry e)) = false
@@ -111,16 +120,19 @@ abbrev pub is_text : Constant → List ℕ → Bool
 is_text (constant.Number n) text = false
 is_text (constant.Text t) text = pointwise nat_eq t text
 
+-- the constant stands in the output field, which has no edit code
 abbrev pub is_in_field : Constant → Option EditCode → Option (List ℕ) → Bool
 is_in_field c None text = option_map_or (is_text c) text false
 is_in_field c (Some code) text = false
 
+-- the constant stands on the O card
 abbrev pub is_on_output : Constant → OutputSpec → Bool
 is_on_output c (output.Record r) = false
 is_on_output c (output.And t) = false
 is_on_output c (output.Or t) = false
 is_on_output c (output.Field f) = is_in_field c f.code f.text
 
+-- the constant stands on the card
 abbrev pub is_on_card : Constant → Spec → Bool
 is_on_card c (spec.Header x) = false
 is_on_card c (spec.File x) = false
@@ -130,11 +142,13 @@ is_on_card c (spec.Calculation k) = is_in_factor c k.factor_1 || is_in_factor c 
 is_on_card c (spec.Output x) = is_on_output c x
 is_on_card c (spec.Data x) = false
 
+-- the constant stands on one of the cards
 abbrev pub stands_on : List SpecCard → Constant → Bool
 stands_on cards c = list_any (λ card. is_on_card c card.spec) cards
 
 -- ---- keys
 
+-- the form of each name and constant of a source
 abbrev pub meant_forms : List SpecCard → Key → Option FieldForm
 meant_forms cards (Named name) = form_of_named cards name
 meant_forms cards (Fixed c) = if stands_on cards c then Some (form_of_constant c) else None

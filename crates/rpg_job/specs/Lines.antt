@@ -46,9 +46,11 @@ use Rattle.rpg_job.specs.Cards.{filled, up_to}
 
 -- ---- files and times
 
+-- a file of that name is on a disk
 abbrev pub is_on_disk : Option (List ℕ) → List SpecCard → Bool
 is_on_disk name cards = option_map_or is_disk (the_file_named name cards) false
 
+-- the record length of an output file
 abbrev pub length_on : List SpecCard → File → ℕ
 length_on cards files.Printer = length_of (the_file is_printer cards)
 length_on cards files.Disk = length_of (the_file is_disk cards)
@@ -62,18 +64,22 @@ meant_time time.Exception = times.Exception
 
 -- ---- spacing: 17 and 18 space before and after, 19-20 and 21-22 skip before and after; with 17-22 blank the printer spaces one line after
 
+-- spaces and skips: a print line without any spaces one line after it
 abbrev pub moves_by : File → Option ℕ → Option ℕ → Option ℕ → Option ℕ → Spacing
 moves_by files.Printer None None None None = record { space_before = 0; space_after = 1; skip_before = 0; skip_after = 0 }
 moves_by file a b c d = record { space_before = unwrap_or a 0; space_after = unwrap_or b 0; skip_before = unwrap_or c 0; skip_after = unwrap_or d 0 }
 
+-- the spaces and skips of a line
 abbrev pub meant_moves : File → Movement → Spacing
 meant_moves file m = moves_by file m.space_before m.space_after m.skip_before m.skip_after
 
 -- ---- conditions: 23-25, 26-28 and 29-31
 
+-- a condition on a card as the machine tests it
 abbrev pub meant_condition : written.Condition → Condition
 meant_condition c = record { indicator = c.indicator; is_negated = c.negated }
 
+-- the conditions of a card, in the order of the columns
 abbrev pub meant_conditions : Three (Option written.Condition) → List Condition
 meant_conditions t = map meant_condition (filled t)
 
@@ -84,15 +90,18 @@ and_card (output.And t) = Some (meant_conditions t)
 and_card (output.Or t) = None
 and_card (output.Field f) = None
 
+-- the conditions of an OR card
 abbrev pub or_card : OutputSpec → Option (List Condition)
 or_card (output.Record r) = None
 or_card (output.And t) = None
 or_card (output.Or t) = Some (meant_conditions t)
 or_card (output.Field f) = None
 
+-- the conditions of an AND card
 abbrev pub and_on : Spec → Option (List Condition)
 and_on s = option_and_then and_card (output_on s)
 
+-- the conditions of an OR card
 abbrev pub or_on : Spec → Option (List Condition)
 or_on s = option_and_then or_card (output_on s)
 
@@ -107,6 +116,7 @@ others (c ∷ cs) = option_to_list (option_map (λ own. own ++ further cs) (or_o
 
 -- ---- fields
 
+-- an index on a card: blank, a number or a field
 abbrev pub meant_index : Option EntryIndex → Index Key
 meant_index None = index.Blank
 meant_index (Some (entry.Literal n)) = index.Literal n
@@ -118,6 +128,7 @@ meant_value (Some e) text = record { field = Named e.name; index = meant_index e
 meant_value None (Some text) = record { field = Fixed (constant.Text text); index = index.Blank }
 meant_value None None = record { field = Nowhere; index = index.Blank }
 
+-- the page number
 abbrev pub is_page : Entry → Bool
 is_page e = is_none e.index && pointwise nat_eq e.name (codes "PAGE")
 
@@ -138,9 +149,11 @@ meant_fill (Some code) (Some text) = if pointwise nat_eq text (codes "*") then f
 abbrev pub meant_source : Option Entry → Source
 meant_source f = if option_map_or is_page f false then source.Page else source.Value
 
+-- at most three conditions, in the three places of a row
 abbrev pub meant_places : List Condition → Conditions
 meant_places cs = record { first = slice_get cs 0; second = slice_get cs 1; third = slice_get cs 2 }
 
+-- the field of an O card as the machine writes it
 abbrev pub meant_field : OutputField → LineField Key
 meant_field f = record {
   source = meant_source f.operand;
@@ -154,6 +167,7 @@ meant_field f = record {
 
 -- ---- lines
 
+-- the card begins a line
 abbrev pub begins_line : Spec → Bool
 begins_line s = is_some (output_record_on s)
 
@@ -162,6 +176,7 @@ abbrev pub meant_file : Option (List ℕ) → Option OutputRecord → Option (Li
 meant_file before r = option_or (option_and_then (λ r. r.file) r) before
 
 module _ (all : List SpecCard) where
+  -- a line with its fields and conditions
   abbrev pub meant_line : File → OutputRecord → List SpecCard → Line Key
   meant_line file r own = record {
     file = file;
@@ -181,5 +196,6 @@ module _ (all : List SpecCard) where
   lines_after name [] = []
   lines_after name (c ∷ cs) = let file = meant_file name (output_record_on c.spec) in option_to_list (option_map (line_with file (up_to begins_line cs)) (output_record_on c.spec)) ++ lines_after file cs
 
+-- the lines of a source, in the order of their cards
 abbrev pub meant_lines : List SpecCard → List (Line Key)
 meant_lines cards = lines_after cards None cards

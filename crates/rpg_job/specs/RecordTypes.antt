@@ -22,6 +22,7 @@ use Rattle.rpg_job.specs.Files.{is_secondary, the_file_named}
 
 -- ---- record identification codes: 21-27, 28-34 and 35-41 of the type card and of its AND cards
 
+-- a record code as the machine tests it
 abbrev pub asked_for : RecordCode → asked.RecordCode
 asked_for c = record { position = c.position; is_negated = c.negated; character = c.character }
 
@@ -31,6 +32,7 @@ codes_in (input.Type t) = []
 codes_in (input.And codes) = filled codes
 codes_in (input.Field f) = []
 
+-- the record codes on a card
 abbrev pub codes_on : SpecCard → List RecordCode
 codes_on c = option_map_or codes_in (input_on c.spec) []
 
@@ -51,6 +53,7 @@ part_of f level = record { level = level; is_numeric = is_some f.decimals; from 
 
 -- ---- record types
 
+-- the card begins a record type
 abbrev pub begins_type : Spec → Bool
 begins_type s = is_some (type_on s)
 
@@ -83,5 +86,6 @@ module _ (all : List SpecCard) where
   types_after name [] = []
   types_after name (c ∷ cs) = let file = meant_file name (type_on c.spec) in option_to_list (option_map (type_with file (up_to begins_type cs)) (type_on c.spec)) ++ types_after file cs
 
+-- the record types of a source, in the order of their cards
 abbrev pub meant_types : List SpecCard → List (TypeRow Key)
 meant_types cards = types_after cards None cards

@@ -8,6 +8,7 @@ use Rattle.rpg_sheet_specs.specs.declared.calculation.ControlLevel.TheVariants a
 
 -- ---- 7-8: blank at detail time; L0 to L9 and LR at total time; SR in a subroutine
 
+-- columns 7 and 8 are blank
 abbrev pub is_at_detail_time : ControlLevel → Bool
 is_at_detail_time control.Detail = true
 is_at_detail_time (control.Total n) = false
@@ -15,6 +16,7 @@ is_at_detail_time control.Subroutine = false
 is_at_detail_time control.And = false
 is_at_detail_time control.Or = false
 
+-- columns 7 and 8 have L0 to L9 or LR
 abbrev pub is_at_total_time : ControlLevel → Bool
 is_at_total_time control.Detail = false
 is_at_total_time (control.Total n) = true
@@ -22,6 +24,7 @@ is_at_total_time control.Subroutine = false
 is_at_total_time control.And = false
 is_at_total_time control.Or = false
 
+-- columns 7 and 8 have SR
 abbrev pub is_in_subroutine : ControlLevel → Bool
 is_in_subroutine control.Detail = false
 is_in_subroutine (control.Total n) = false
@@ -31,6 +34,7 @@ is_in_subroutine control.Or = false
 
 -- ---- subroutines: each from the calculation after its BEGSR to the one before the next BEGSR
 
+-- BEGSR
 abbrev pub is_begin : Deed Key → Bool
 is_begin (Begins name) = true
 is_begin (Acts a) = false
@@ -41,6 +45,7 @@ is_begin (Marks label) = false
 is_begin (Ends label) = false
 is_begin Nothing = false
 
+-- the calculations of a subroutine: those before the next BEGSR
 abbrev pub meant_body : List (Calculation Key) → List (Calculation Key)
 meant_body [] = []
 meant_body (g ∷ gs) = if is_begin g.deed then [] else g ∷ meant_body gs
@@ -56,12 +61,14 @@ begun_before gs (Marks label) = []
 begun_before gs (Ends label) = []
 begun_before gs Nothing = []
 
+-- the subroutines, each with the calculations after its BEGSR
 abbrev pub meant_subroutines : List (Calculation Key) → List (Subroutine Key)
 meant_subroutines [] = []
 meant_subroutines (g ∷ gs) = begun_before gs g.deed ++ meant_subroutines gs
 
 -- ---- all sections, in the order of the cards
 
+-- the calculations of a source by section
 abbrev pub meant_sections : List (Calculation Key) → Sections Key
 meant_sections calculations = record {
   detail = filter (λ g. is_at_detail_time g.control) calculations;

@@ -16,5 +16,6 @@ pub record IsFieldEntry (forms : List FieldForm) (field entry : ℕ) : Type 0 wh
   pub low : 1 ≤ entry
   pub high : entry ≤ form.entries
 
+-- each of these is an entry of a field
 abbrev pub AreFieldEntries : List FieldForm → List (ℕ × ℕ) → Type 0
 AreFieldEntries forms entries = All (λ e. IsFieldEntry forms e.0 e.1) entries

@@ -29,6 +29,7 @@ pub record IsRightLine (p : Object) (l : LineRow) : Type 0 where
   pub fields : AreRight (form_at p.fields) (word_at p) (file_length p l.file) l.fields
   pub few : length l.fields ≤ 200
 
+-- nothing is wrong with a line of the program
 abbrev pub AreRightLines : Object → Type 0
 AreRightLines p = All (IsRightLine p) p.lines
 

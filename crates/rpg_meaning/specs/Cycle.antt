@@ -25,12 +25,15 @@ use Rattle.rpg_cycle_records.specs.Waiting.{Inputs, first_of, input_at, other_fi
 module _ (job : Job) where
   -- ---- record types
 
+  -- the control fields of a record type
   abbrev pub levels_at : ℕ → List ControlField
   levels_at type = option_map_or (λ t. t.levels) (slice_get job.types type) []
 
+  -- the input fields of a record type
   abbrev pub meant_inputs_at : ℕ → List (InputField Key)
   meant_inputs_at type = option_map_or (λ t. t.inputs) (slice_get job.types type) []
 
+  -- the indicator of a record type
   abbrev pub indicator_at : ℕ → Option ℕ
   indicator_at type = option_map_or (λ t. t.indicator) (slice_get job.types type) None
 
@@ -43,9 +46,11 @@ module _ (job : Job) where
   abbrev pub meant_broken_level : List Selected → Selected → ℕ
   meant_broken_level earlier s = highest_broken (λ level. differs (meant_last_bytes level earlier) (level_bytes (levels_at s.type) s.text level)) 9
 
+  -- the match fields of a record type
   abbrev pub matches_at : ℕ → List ControlField
   matches_at type = option_map_or (λ t. t.matches) (slice_get job.types type) []
 
+  -- the file of a record type
   abbrev pub meant_file_at : ℕ → InputFile
   meant_file_at type = option_map_or (λ t. t.file) (slice_get job.types type) Primary
 
@@ -74,19 +79,23 @@ module _ (job : Job) where
 
   -- ---- 1 heading and detail lines of the cycle before, and at first those of the first page
 
+  -- heading and detail lines
   abbrev pub meant_detail_lines : MeantPhase
   meant_detail_lines = by_effect (detail_output job.source.forms job.source.words job.source.overflow job.source.lines)
 
   -- ---- 2 halt 6 where a halt indicator is on
 
+  -- halt 6 where a halt indicator is on
   abbrev pub meant_halt_where_asked : MeantPhase
   meant_halt_where_asked = meant_does (λ s. (if any_on_in halt_indicators s then Halt 6 else GoesOn, s))
 
   -- ---- 3 the indicators of record types but LR, L1 to L9 and 1P go off
 
+  -- the indicators of record types, but for LR
   abbrev pub type_indicators : List (TypeRow Key) → List ℕ
   type_indicators types = filter (λ n. not (n == last_record)) (filter_map (λ t. t.indicator) types)
 
+  -- indicators of record types and control levels turn off, and 1P with them
   abbrev pub meant_set_off : MeantPhase
   meant_set_off = meant_does (λ s. (GoesOn, with_turned (type_indicators job.types ++ (level_indicators ++ first_page ∷ [])) false s))
 
@@ -101,6 +110,7 @@ module _ (job : Job) where
   abbrev pub is_good_text : InputFile → List ℕ → Bool
   is_good_text f text = nat_le (length text) (length_in f) && list_all is_character text
 
+  -- a record's text, with blanks up to the length of its file
   abbrev pub meant_padded : InputFile → List ℕ → List ℕ
   meant_padded f text = text ++ replicate (length_in f - length text) 32
 
@@ -130,6 +140,7 @@ module _ (job : Job) where
   abbrev pub meant_takes_in : Inputs → InputFile → Bool
   meant_takes_in i f = not (length_in f == 0) && (not (input_at i f).is_over && is_none (waiting_in i f))
 
+  -- the next record of a file, where one is to be taken in
   abbrev pub meant_take_in : List Selected → InputFile → Option (List ℕ) → MeantPhase
   meant_take_in earlier f next = meant_does (λ s. if meant_takes_in s.inputs f then read earlier f next s else (GoesOn, s))
 
@@ -154,6 +165,7 @@ module _ (job : Job) where
   meant_select_from earlier None s = with_turned (last_record ∷ level_indicators) true s
   meant_select_from earlier (Some f) s = meant_select_waiting earlier f (waiting_in s.inputs f) s
 
+  -- the record that the cycle is for
   abbrev pub meant_select_one : List Selected → MeantPhase
   meant_select_one earlier = meant_does (λ s. (GoesOn, meant_select_from earlier (meant_chosen (waiting_in s.inputs Primary) (waiting_in s.inputs Secondary)) s))
 
@@ -165,9 +177,11 @@ module _ (job : Job) where
 
   -- ---- 5 total calculations and total lines, but not in the first cycle, and where types have control fields not before a record had some
 
+  -- no total time: before the first record, or before the first one with control fields
   abbrev pub meant_is_bypassed : List Selected → JobState → Bool
   meant_is_bypassed earlier s = not (is_on_in last_record s) && (not (is_any earlier) || (list_any (λ t. is_any t.levels) job.types && not (meant_any_control earlier)))
 
+  -- total calculations and total lines
   abbrev pub meant_total_time : List Selected → MeantPhase
   meant_total_time earlier =
       meant_unless (meant_is_bypassed earlier)
@@ -175,11 +189,13 @@ module _ (job : Job) where
 
   -- ---- 6 the job ends where LR is on, or where no record was selected
 
+  -- the job ends where LR is on, or no record is left
   abbrev pub meant_end_where_last : MeantPhase
   meant_end_where_last = meant_does (λ s. (if is_on_in last_record s || is_none s.selected then EndOfJob else GoesOn, s))
 
   -- ---- 7 all lines of a new page, where the overflow indicator asks for one
 
+  -- the lines for overflow, where its indicator is on
   abbrev pub meant_overflow_lines : MeantPhase
   meant_overflow_lines =
       meant_unless (λ s. not (option_map_or (λ n. is_on_in n s) job.source.overflow false))
@@ -192,13 +208,16 @@ module _ (job : Job) where
   meant_has_match earlier i r =
       meant_any_agrees (other_file (meant_file_at r.type)) (meant_match_value r) (with_record (waiting_in i (other_file (meant_file_at r.type))) earlier)
 
+  -- MR is on if the record has a match, and off if not
   abbrev pub meant_show_match : List Selected → MeantPhase
   meant_show_match earlier = meant_does (λ s. (GoesOn, with_turned (matching_record ∷ []) (if_selected (meant_has_match earlier s.inputs) s.selected) s))
 
+  -- the fields of the selected record
   abbrev pub meant_fill_from : Option Selected → MeantPhase
   meant_fill_from None = meant_passes
   meant_fill_from (Some r) = by_effect (record_in job.source.forms r.text (meant_inputs_at r.type))
 
+  -- the fields take what the record has
   abbrev pub meant_fill_fields : MeantPhase
   meant_fill_fields s = meant_fill_from s.selected s
 

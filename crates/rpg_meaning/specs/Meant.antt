@@ -24,6 +24,7 @@ RunsAsMeant cards allowance p date =
     → (records : machine.Records) (course : machine.Course) (bytes : Bytes) → machine.IsRun p date (first_fields p) records course bytes
     → IsMeant cards allowance w records course bytes
 
+-- the program does what the cards mean, over all records
 pub record DoesAsMeant (cards : List SpecCard) (allowance : ℕ) (p : Object) : Type 0 where
   -- from where both agree: one calculation, whole sections with the subroutines that they call, and runs of them
   pub calculations : KeepsMeaning p (source_of cards) (key_numbers cards)

@@ -27,6 +27,7 @@ meant_from_there Q other m put e t out = ⊥
 
 -- the one phase and then the other
 infixr 5 ◌andthen◌
+-- one phase after the other; the second is left out where the first ends the job
 abbrev pub ◌andthen◌ : MeantPhase → MeantPhase → MeantPhase
 (P andthen Q) s e t out = (f : PhaseEnd) × (m : JobState) × (put : Output) × P s f m put × meant_from_there Q f m put e t out
 
@@ -36,9 +37,11 @@ abbrev pub ◌andthen◌ : MeantPhase → MeantPhase → MeantPhase
 abbrev pub meant_does : (JobState → PhaseEnd × JobState) → MeantPhase
 meant_does f s e t out = (e ≡ (f s).0) × (t ≡ (f s).1) × (out ≡ no_output)
 
+-- nothing is done
 abbrev pub meant_passes : MeantPhase
 meant_passes = meant_does (λ s. (GoesOn, s))
 
+-- one of two phases, by a test
 abbrev pub meant_either : Bool → MeantPhase → MeantPhase → MeantPhase
 meant_either true P Q = P
 meant_either false P Q = Q
@@ -63,15 +66,19 @@ calculated source part s e t out = (x : MeantOutcome) × CardsCome source (calcu
 
 -- ---- indicators
 
+-- the indicator is on
 abbrev pub is_on_in : ℕ → JobState → Bool
 is_on_in n s = set.contains s.world.on n
 
+-- one of the indicators is on
 abbrev pub any_on_in : List ℕ → JobState → Bool
 any_on_in ns s = list_any (λ n. set.contains s.world.on n) ns
 
+-- the indicators on, once these are turned on or off
 abbrev pub turned_all : List ℕ → Bool → set.FinSet nat_cmp → set.FinSet nat_cmp
 turned_all [] is_on on = on
 turned_all (n ∷ ns) is_on on = turned_all ns is_on (indicators_turned n is_on on)
 
+-- the state, once these indicators are turned on or off
 abbrev pub with_turned : List ℕ → Bool → JobState → JobState
 with_turned ns is_on s = record s { world = record s.world { on = turned_all ns is_on s.world.on } }

@@ -33,6 +33,7 @@ meant_needs job s f = not (is_on_in last_record s || any_on_in halt_indicators s
 abbrev pub meant_next : Job → JobState → InputFile → List (List ℕ) → Option (List ℕ)
 meant_next job s f rs = next_of (meant_needs job s f) rs
 
+-- the records that are left, once the next cycle has read what it needs
 abbrev pub meant_left : Job → JobState → Records → Records
 meant_left job s rs = record { primary = rest_where_needed (meant_needs job s Primary) rs.primary; secondary = rest_where_needed (meant_needs job s Secondary) rs.secondary }
 

@@ -14,6 +14,7 @@ use Rattle.rpg_meaning.specs.Start.{IsStart}
 use Rattle.rpg_meaning_calculations.specs.Sources.{source_of}
 use Rattle.rpg_compile_program.specs.Program.{program_of}
 
+-- what the cards of a source mean, with the allowance of a cycle
 abbrev pub job_of : List SpecCard → ℕ → Job
 job_of cards allowance = record {
   source = source_of cards;

@@ -23,6 +23,7 @@ meant_first_value cards (Fixed c) (suc zero) = Some (meant_constant c)
 meant_first_value cards (Fixed c) (suc (suc n)) = None
 meant_first_value cards Nowhere (suc n) = None
 
+-- the field has the date
 abbrev pub takes_date : Option FieldForm → Bool
 takes_date form = option_map_or (λ f. is_date f.class) form false
 

@@ -56,6 +56,7 @@ KeepsRuns p source number =
     → (e : End) (d : Config) (out : Output) → RunsTo p (part_section source.sections part) c e d out
     → (x : MeantOutcome) × CardsCome source (part_begun part v c.allowance) x × EndsAs p source number x e d out
 
+-- a program that does what its source's calculations mean
 pub record KeepsMeaning (p : Object) (source : Source) (number : Key → ℕ) : Type 0 where
   pub calculations : KeepsCalculations p source number
   pub sections : KeepsSections p source number

@@ -18,6 +18,7 @@ use Rattle.rpg_meaning_calculations.specs.Parts.{InDetail, InSubroutine, InTotal
 
 -- ---- whether a calculation is done
 
+-- the level indicator of a calculation is on, or it has none
 abbrev pub level_holds : set.FinSet nat_cmp → Option ℕ → Bool
 level_holds on None = true
 level_holds on (Some level) = set.contains on level
@@ -66,6 +67,7 @@ after_effect GoesOn s w o = On (record s { world = w; next = s.next + 1 }) o
 after_effect (Halt k) s w o = Stops k (record s { world = w }) o
 after_effect other s w o = Over
 
+-- what an effect on the world makes of a state
 abbrev pub affected : State → Effect key_cmp → MeantOutcome
 affected s e = after_effect e.ending s e.world (record { lines = e.lines; records = e.records })
 
@@ -83,6 +85,7 @@ come_back s [] = Over
 come_back s (b ∷ bs) = On (record s { part = b.0; next = b.1; back = bs }) no_output
 
 module _ (source : Source) where
+  -- what a calculation does, by its operation
   abbrev pub deed_done : State → Deed Key → MeantOutcome
   deed_done s (Marks l) = On (at_next s (s.next + 1)) no_output
   deed_done s (Begins l) = On (at_next s (s.next + 1)) no_output
@@ -93,6 +96,7 @@ module _ (source : Source) where
   deed_done s (Executes name) = spending s (record s { part = InSubroutine name; next = 0; back = (s.part, s.next + 1) ∷ s.back })
   deed_done s (Ends l) = come_back s s.back
 
+  -- one calculation: what it does where its conditions hold, and then the next one
   abbrev pub calculation_done : State → Option (Calculation Key) → MeantOutcome
   calculation_done s None = Over
   calculation_done s (Some g) = if is_done s.world.on g then deed_done s g.deed else On (at_next s (s.next + 1)) no_output
@@ -109,6 +113,7 @@ part_has_end InDetail = true
 part_has_end InTotal = true
 part_has_end (InSubroutine name) = false
 
+-- the section is at its end; a subroutine ends by its ENDSR
 abbrev pub is_finished : Sections Key → State → Bool
 is_finished c s = part_has_end s.part && nat_le (length (calculations_in c s.part)) s.next
 

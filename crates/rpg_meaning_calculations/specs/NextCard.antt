@@ -21,18 +21,22 @@ abbrev pub numbered_group : Option (ℕ × CalculationGroup) → ℕ → Calcula
 numbered_group None number k = (number, alone k)
 numbered_group (Some e) number k = if joins k.control_level then (e.0, joined_group e.1 k) else (number, alone k)
 
+-- the open group with its first card's number, once a card has been read
 abbrev pub open_at : Option (ℕ × CalculationGroup) → SpecCard → Option (ℕ × CalculationGroup)
 open_at o c = option_map (numbered_group o c.number) (calculation_on c.spec)
 
+-- a calculation with the number of its first card
 abbrev pub numbered_calculation : ℕ × CalculationGroup → ℕ × Calculation Key
 numbered_calculation e = (e.0, calculation_of e.1)
 
+-- the calculations on these cards, each with the number of its first card
 abbrev pub numbered_from : Option (ℕ × CalculationGroup) → List SpecCard → List (ℕ × Calculation Key)
 numbered_from o [] = []
 numbered_from o (c ∷ cs) = option_to_list (option_map numbered_calculation (if goes_on cs then None else open_at o c)) ++ numbered_from (open_at o c) cs
 
 -- ---- those of a part
 
+-- the calculations before the next BEGSR
 abbrev pub up_to_next : List (ℕ × Calculation Key) → List (ℕ × Calculation Key)
 up_to_next [] = []
 up_to_next (e ∷ es) = if is_some (begun_by e.1.deed) then [] else e ∷ up_to_next es
@@ -42,6 +46,7 @@ abbrev pub behind_begin : Option Name → List (ℕ × Calculation Key) → List
 behind_begin name [] = []
 behind_begin name (e ∷ es) = if option_map_or (is_same_name name) (begun_by e.1.deed) false then up_to_next es else behind_begin name es
 
+-- the calculations of a section
 abbrev pub those_in : Part → List (ℕ × Calculation Key) → List (ℕ × Calculation Key)
 those_in InDetail es = filter (λ e. is_detail e.1.control) es
 those_in InTotal es = filter (λ e. is_total e.1.control) es

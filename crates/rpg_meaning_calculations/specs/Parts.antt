@@ -4,6 +4,7 @@ use Rattle.rpg_cards.specs.Deeds.{Calculation}
 use Rattle.rpg_cards.specs.Keys.{Key, Name}
 use Rattle.rpg_cards.specs.Sections.{Sections, Subroutine, is_same_name, label_on}
 
+-- where the calculations of a job are done
 pub data Part : Type 0 where
   InDetail : Part
   InTotal : Part
@@ -14,6 +15,7 @@ abbrev pub body_named : Option Name → List (Subroutine Key) → List (Calculat
 body_named name [] = []
 body_named name (s ∷ ss) = if is_same_name name s.name then s.body else body_named name ss
 
+-- the calculations of a section
 abbrev pub calculations_in : Sections Key → Part → List (Calculation Key)
 calculations_in c InDetail = c.detail
 calculations_in c InTotal = c.total

@@ -8,6 +8,7 @@ use Rattle.rpg_job.specs.Lines.{meant_lines}
 use Rattle.rpg_job.specs.Sections.{meant_sections}
 use Rattle.rpg_meaning_calculations.specs.Meaning.{Source}
 
+-- what the cards of a source mean for calculations
 abbrev pub source_of : List SpecCard → Source
 source_of cards = record {
   sections = meant_sections (meant_calculations cards);

@@ -18,9 +18,11 @@ AreFilled [] = ⊥
 AreFilled (a ∷ []) = Unit {0}
 AreFilled (a ∷ b ∷ rest) = (0 < length a) × AreFilled (b ∷ rest)
 
+-- the calculation has an alternative, and each before the last has conditions
 abbrev pub IsFilled : Calculation Key → Type 0
 IsFilled g = AreFilled g.alternatives
 
+-- what a translated program keeps of its source
 pub record IsTranslation (p : Object) (source : Source) (number : Key → ℕ) : Type 0 where
   pub level : ℕ → ℕ
   pub names : IsRenaming key_cmp nat_cmp source.forms (form_at p.fields) number

@@ -13,10 +13,12 @@ use Rattle.rpg_store.specs.Store.{Currents, Values}
 
 -- ---- worlds
 
+-- a value as one of two types
 abbrev value_to : Value → ℤ ⊎ List ℕ
 value_to (Number n) = inl n
 value_to (Text t) = inr t
 
+-- a value again
 abbrev value_from : ℤ ⊎ List ℕ → Value
 value_from (inl n) = Number n
 value_from (inr t) = Text t
@@ -25,39 +27,51 @@ pub value_law : (v : Value) → value_from (value_to v) ≡ v
 value_law (Number n) = refl
 value_law (Text t) = refl
 
+-- the code of a value
 abbrev pub value_code : Coded Value
 value_code = code_by (ℤ ⊎ List ℕ) (coded⊎ coded_ℤ (coded_list coded_ℕ)) value_to value_from value_law
 
+-- the code of the values of all entries
 abbrev pub values_code : Coded Values
 values_code = map.code (coded× coded_ℕ coded_ℕ) value_code
 
+-- the code of all current entries
 abbrev pub currents_code : Coded Currents
 currents_code = map.code coded_ℕ coded_ℕ
 
+-- fields as a pair
 abbrev fields_to : Fields nat_cmp → Values × Currents
 fields_to f = (f.values, f.current)
 
+-- fields again
 abbrev fields_from : Values × Currents → Fields nat_cmp
 fields_from p = record { values = p.0; current = p.1 }
 
+-- the code of fields
 abbrev pub fields_code : Coded (Fields nat_cmp)
 fields_code = code_by (Values × Currents) (coded× values_code currents_code) fields_to fields_from (λ _. refl)
 
+-- a place on the paper as a pair
 abbrev position_to : Position → ℕ × ℕ
 position_to p = (p.page, p.line)
 
+-- a place on the paper again
 abbrev position_from : ℕ × ℕ → Position
 position_from p = record { page = p.0; line = p.1 }
 
+-- the code of a place on the paper
 abbrev pub position_code : Coded Position
 position_code = code_by (ℕ × ℕ) (coded× coded_ℕ coded_ℕ) position_to position_from (λ _. refl)
 
+-- a fraction as a pair
 abbrev fraction_to : Fraction → ℤ × ℕ
 fraction_to p = (p.top, p.bottom)
 
+-- a fraction again
 abbrev fraction_from : ℤ × ℕ → Fraction
 fraction_from p = record { top = p.0; bottom = p.1 }
 
+-- the code of a fraction
 abbrev pub fraction_code : Coded Fraction
 fraction_code = code_by (ℤ × ℕ) (coded× coded_ℤ coded_ℕ) fraction_to fraction_from (λ _. refl)
 
@@ -69,14 +83,18 @@ marks_code = coded× coded_bool coded_bool
 abbrev Paper : Type 0
 Paper = Position × (Bool × Bool)
 
+-- the parts of a world
 abbrev Parts : Type 0
 Parts = Fields nat_cmp × (set.FinSet nat_cmp × (Fraction × Paper))
 
+-- a world as its parts
 abbrev world_to : World nat_cmp → Parts
 world_to w = (w.fields, (w.on, (w.remainder, (w.here, (w.was_overflow, w.has_turned_on)))))
 
+-- a world again
 abbrev world_from : Parts → World nat_cmp
 world_from p = record { fields = p.0; on = p.1.0; remainder = p.1.1.0; here = p.1.1.1.0; was_overflow = p.1.1.1.1.0; has_turned_on = p.1.1.1.1.1 }
 
+-- the code of a world
 abbrev pub world_code : Coded (World nat_cmp)
 world_code = code_by Parts (coded× fields_code (coded× (set.code coded_ℕ) (coded× fraction_code (coded× position_code marks_code)))) world_to world_from (λ _. refl)

@@ -41,6 +41,7 @@ first_world fields = record {
   has_turned_on = false;
 }
 
+-- a memory at the beginning of a job
 abbrev pub first_working : Object → Fields nat_cmp → Working
 first_working p fields = record { program = p; last = None; world = first_world fields }
 
@@ -50,6 +51,7 @@ first_working p fields = record { program = p; last = None; world = first_world 
 abbrev pub held_of : Working → Held
 held_of w = record { last = w.last; world = w.world }
 
+-- the form of a field of the memory's program
 abbrev pub forms_in : Working → ℕ → Option FieldForm
 forms_in w field = form_at w.program.fields field
 
@@ -61,6 +63,7 @@ standing_of w = record { last = w.last; begun = w.world.here.page; line = w.worl
 abbrev pub behind_line : Working → Working
 behind_line w = record w { last = Some w.world.here.line; world = record w.world { here = record { page = 0; line = w.world.here.line } } }
 
+-- the world with these indicators on
 abbrev pub with_on : set.FinSet nat_cmp → World nat_cmp → World nat_cmp
 with_on on w = record w { on = on }
 
@@ -68,6 +71,7 @@ with_on on w = record w { on = on }
 abbrev pub indicator_turned : ℕ → Bool → World nat_cmp → World nat_cmp
 indicator_turned n is_on w = with_on (if is_on then set.insert w.on n else set.remove w.on n) w
 
+-- the world with this remainder
 abbrev pub with_remainder : Fraction → World nat_cmp → World nat_cmp
 with_remainder p w = record w { remainder = p }
 
@@ -75,6 +79,7 @@ with_remainder p w = record w { remainder = p }
 abbrev pub position_in : Working → Operand ℕ → Option ℕ
 position_in w o = position_of (forms_in w) w.world.fields o
 
+-- the entry of an operand, if its index is in range
 abbrev pub entry_if_in_range : Working → Operand ℕ → Option (Entry ℕ)
 entry_if_in_range w o = if is_some (position_in w o) then Some (entry_of (forms_in w) w.world.fields o) else None
 
@@ -82,9 +87,11 @@ entry_if_in_range w o = if is_some (position_in w o) then Some (entry_of (forms_
 abbrev pub NamesNumber : Working → Resolved → Type 0
 NamesNumber w r = IsResolved w.program.fields kinds.Number r
 
+-- the operand is a text
 abbrev pub NamesText : Working → Resolved → Type 0
 NamesText w r = IsResolved w.program.fields kinds.Text r
 
+-- the second operand has the kind of the first
 abbrev pub NamesLike : Working → Resolved → Resolved → Type 0
 NamesLike w a r = IsResolved w.program.fields (kind_of (forms_in w a.entry.field)) r
 

@@ -13,10 +13,12 @@ use Rattle.rpg_object_format.specs.Numbers.{choice, flag_number, number_where, b
 use Rattle.rpg_object_program.specs.Kept.{length_limit, may_have_entries}
 use Rattle.rpg_text.specs.Texts.{is_between}
 
+-- the number of a kind of value
 abbrev pub kind_number : Kind → ℕ
 kind_number kinds.Number = 1
 kind_number kinds.Text = 2
 
+-- the number of a class of fields
 abbrev pub class_number : Class → ℕ
 class_number classes.Plain = 0
 class_number classes.Array = 1
@@ -24,6 +26,7 @@ class_number classes.Table = 2
 class_number classes.Constant = 3
 class_number classes.Date = 4
 
+-- the kind with that number
 abbrev pub kind_by_number : ℕ → Result Kind Code
 kind_by_number = choice (kinds.Number ∷ kinds.Text ∷ []) kind_number
 
@@ -32,6 +35,7 @@ abbrev pub classes_of : Kind → List Class
 classes_of kinds.Number = classes.Plain ∷ classes.Array ∷ classes.Table ∷ classes.Constant ∷ classes.Date ∷ []
 classes_of kinds.Text = classes.Plain ∷ classes.Array ∷ classes.Table ∷ classes.Constant ∷ []
 
+-- the class with that number, if a field of that kind may have it
 abbrev pub class_of : Kind → ℕ → Result Class Code
 class_of k = choice (classes_of k) class_number
 
@@ -39,6 +43,7 @@ class_of k = choice (classes_of k) class_number
 abbrev pub shortest : Class → ℕ
 shortest c = if is_date c then 6 else 1
 
+-- the length that a field of that kind and class may have
 abbrev pub longest_field : Kind → Class → ℕ
 longest_field k c = if is_date c then 6 else length_limit k
 
@@ -55,9 +60,11 @@ is_decimals most digits n = nat_le n most && nat_le n digits
 abbrev pub sequences_of : Class → List Bool
 sequences_of c = if may_have_entries c then false ∷ true ∷ [] else false ∷ []
 
+-- whether entries ascend, if fields of the class have entries
 abbrev pub sequence_of : Class → ℕ → Result Bool Code
 sequence_of c = choice (sequences_of c) flag_number
 
+-- the entries that a field of that class may have
 abbrev pub most_entries : Class → ℕ
 most_entries c = if may_have_entries c then 9999 else 1
 

@@ -19,6 +19,7 @@ abbrev pub as_written : List ℕ → Option ℤ → Result ℤ Code
 as_written text None = Err NotAllowed
 as_written text (Some n) = if bytes_eq text (zoned_text (length text) n) then Ok n else Err NotAllowed
 
+-- a number as a value
 abbrev pub as_value : Result ℤ Code → Result Value Code
 as_value (Ok n) = Ok (Number n)
 as_value (Err c) = Err c
@@ -28,11 +29,13 @@ abbrev pub first_value_in : Kind → List ℕ → Result Value Code
 first_value_in kinds.Number text = as_value (as_written text (number_in text))
 first_value_in kinds.Text text = if list_all is_character text then Ok (Text text) else Err NotAllowed
 
+-- the first value of an entry, by its kind and length
 abbrev pub read_value : Kind → ℕ → List ℕ → Result (Value × List ℕ) Fault
 read_value k len bytes =
     if nat_lt (length bytes) len then Err ends_early
     else ruled bytes (drop len bytes) (first_value_in k (take len bytes))
 
+-- a value's characters
 abbrev pub value_text : ℕ → Value → List ℕ
 value_text len (Number n) = zoned_text len n
 value_text len (Text text) = text
@@ -61,6 +64,7 @@ abbrev pub next_entries : List FieldForm → Format (List Value)
 next_entries [] = table 0 (value kinds.Text 1)
 next_entries (f ∷ fs) = entries_format f
 
+-- the fields after the one whose values come next
 abbrev pub later_fields : List FieldForm → List Value → List FieldForm
 later_fields [] vs = []
 later_fields (f ∷ fs) vs = fs

@@ -15,6 +15,7 @@ use Rattle.rpg_object.specs.declared.header.Counts.{Counts}
 use Rattle.rpg_object.specs.declared.header.Header.{Header}
 use Rattle.rpg_object.specs.declared.header.Settings.{Settings}
 
+-- the version with that number
 abbrev pub version_of : ℕ → Result Version Code
 version_of n = if n == 1 then Ok versions.One else (if n == 2 then Ok versions.Two else Err faults.Version)
 

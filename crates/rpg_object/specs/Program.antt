@@ -21,6 +21,7 @@ use Rattle.rpg_object.specs.FirstValues.{values_format}
 use Rattle.rpg_object.specs.Header.{header_format, most_instructions}
 use Rattle.rpg_object.specs.Subroutines.{subroutines}
 
+-- the tables of an object, in the order of its bytes
 abbrev pub Tables : Type 0
 Tables = List FieldForm × (List (List Value) × (List (TypeRow ℕ) × (List LineRow × (List (Instruction ℕ) × (List (Instruction ℕ) × List SubroutineRow)))))
 
@@ -54,23 +55,29 @@ object_of p = record {
   subroutines = p.1.1.1.1.1.1.1;
 }
 
+-- what the header has of files, allowance and overflow
 abbrev pub settings_of : Object → Settings
 settings_of p = record { allowance = p.allowance; record_length = p.record_length; printer_length = p.printer_length; disk_length = p.disk_length; overflow = p.overflow }
 
+-- how many rows each table has
 abbrev pub counts_of : Object → Counts
 counts_of p = record { fields = length p.fields; types = length p.types; lines = length p.lines; detail = length p.detail; total = length p.total; subroutines = length p.subroutines }
 
+-- the header of an object
 abbrev pub header_of : Object → Header
 header_of p = record { version = p.version; settings = settings_of p; counts = counts_of p; secondary_length = p.secondary_length }
 
+-- the tables of an object, one after the other
 abbrev pub tables_of : Object → Tables
 tables_of p = (p.fields, (p.values, (p.types, (p.lines, (p.detail, (p.total, p.subroutines))))))
 
+-- an object after its name
 unfoldable pub body : Format Object
 body = row object_of (λ p. (header_of p, tables_of p)) (pair header_format (λ h. tables h.version h.counts))
 
 -- ---- whole objects
 
+-- the characters that each object begins with
 abbrev pub object_name : List ℕ
 object_name = codes "RPGOBJ"
 
@@ -78,10 +85,12 @@ object_name = codes "RPGOBJ"
 abbrev pub spelling : Object → List ℕ
 spelling p = object_name ++ body.spelling p
 
+-- no byte is left
 abbrev pub wholly_read : Object × List ℕ → Result Object Fault
 wholly_read (p, []) = Ok p
 wholly_read (p, b ∷ rest) = Err (fault_at (b ∷ rest) LeftOver)
 
+-- the bytes begin with these
 abbrev pub begins_with : List ℕ → List ℕ → Bool
 begins_with [] bytes = true
 begins_with (x ∷ xs) [] = false
@@ -93,6 +102,7 @@ reading bytes = if begins_with object_name bytes then (body.reading (drop 6 byte
 
 -- ---- faults by their offsets
 
+-- the fault, and how many bytes stand before it
 abbrev pub fault_in : List ℕ → Result Object Fault → Option (ℕ × Code)
 fault_in bytes (Ok p) = None
 fault_in bytes (Err f) = Some (length bytes - f.left, f.code)

@@ -13,6 +13,7 @@ pub record Format (X : Type 0) : Type 1 where
 -- ---- steps that may fail
 
 infixl 10 ◌>>=◌
+-- one after the other; the first fault ends it
 abbrev pub ◌>>=◌ : {A B : Type 0} → Result A Fault → (A → Result B Fault) → Result B Fault
 (Ok x) >>= f = f x
 (Err e) >>= f = Err e
@@ -32,10 +33,12 @@ abbrev pub ruled : {X : Type 0} → List ℕ → List ℕ → Result X Code → 
 ruled bytes rest (Ok x) = Ok (x, rest)
 ruled bytes rest (Err c) = Err (fault_at bytes c)
 
+-- a byte, by a rule
 unfoldable pub read_byte : {X : Type 0} → (ℕ → Result X Code) → List ℕ → Result (X × List ℕ) Fault
 read_byte rule [] = Err ends_early
 read_byte rule (b ∷ rest) = ruled (b ∷ rest) rest (rule b)
 
+-- two bytes, the high one first, by a rule
 unfoldable pub read_two : {X : Type 0} → (ℕ → Result X Code) → List ℕ → Result (X × List ℕ) Fault
 read_two rule [] = Err ends_early
 read_two rule (a ∷ []) = Err ends_early
@@ -59,9 +62,11 @@ two_bytes rule code = record {
 
 -- ---- one after another
 
+-- one more part, and the bytes that are left
 abbrev pub joined : {A B : Type 0} → A → B × List ℕ → Result ((A × B) × List ℕ) Fault
 joined a b = Ok ((a, b.0), b.1)
 
+-- what the parts make, and the bytes that are left
 abbrev pub made : {A X : Type 0} → (A → X) → A × List ℕ → Result (X × List ℕ) Fault
 made make a = Ok (make a.0, a.1)
 
@@ -83,9 +88,11 @@ row make parts f = record {
 
 -- ---- rows, one after another
 
+-- one more row in front, and the bytes that are left
 abbrev pub with_listed : {X : Type 0} → X → List X × List ℕ → Result (List X × List ℕ) Fault
 with_listed x xs = Ok (x ∷ xs.0, xs.1)
 
+-- so many rows, each by what the ones before it have left
 unfoldable pub read_times : {S X : Type 0} → (S → List ℕ → Result (X × List ℕ) Fault) → (S → X → S) → ℕ → S → List ℕ → Result (List X × List ℕ) Fault
 read_times read next zero s bytes = Ok ([], bytes)
 read_times read next (suc n) s bytes = read s bytes >>= λ x. read_times read next n (next s x.0) x.1 >>= with_listed x.0

@@ -8,6 +8,7 @@ use Rattle.rpg_object_format.specs.Format.{Format, byte, two_bytes}
 abbrev pub allowed : (ℕ → Bool) → ℕ → Result ℕ Code
 allowed test n = if test n then Ok n else Err NotAllowed
 
+-- each number passes
 abbrev pub is_any_number : ℕ → Bool
 is_any_number n = true
 
@@ -35,21 +36,27 @@ two n = n / 256 ∷ n % 256 ∷ []
 
 -- ---- formats of single numbers
 
+-- two bytes whose number passes a test
 abbrev pub number_where : (ℕ → Bool) → Format ℕ
 number_where test = two_bytes (allowed test) (λ n. n)
 
+-- two bytes, with any number
 abbrev pub any_number : Format ℕ
 any_number = number_where is_any_number
 
+-- a byte that passes a test
 abbrev pub byte_where : (ℕ → Bool) → Format ℕ
 byte_where test = byte (allowed test) (λ n. n)
 
+-- a byte for one of several choices
 abbrev pub choice_format : {K : Type 0} → List K → (K → ℕ) → Format K
 choice_format ks number = byte (choice ks number) number
 
+-- 0 is no, 1 is yes
 abbrev pub flag : ℕ → Result Bool Code
 flag = choice (false ∷ true ∷ []) flag_number
 
+-- a byte for no or yes
 abbrev pub yes_or_no : Format Bool
 yes_or_no = byte flag flag_number
 
@@ -61,5 +68,6 @@ count limit = two_bytes (up_to limit) (λ n. n)
 abbrev pub only_byte : ℕ → Code → Format (Unit {0})
 only_byte k c = byte (exactly k c) (λ u. k)
 
+-- two bytes that have one number alone
 abbrev pub only_number : ℕ → Code → Format (Unit {0})
 only_number k c = two_bytes (exactly k c) (λ u. k)

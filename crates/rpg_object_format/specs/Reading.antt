@@ -11,6 +11,7 @@ abbrev pub Fails : {Y : Type 0} → ReadFault → Result Y Fault → Type 0
 Fails faults.NoMemory read = Unit {0}
 Fails (faults.At f) read = read ≡ Err f
 
+-- a call reads what the format reads, or reports the same fault
 abbrev pub Gives : {X Y : Type 0} → (X → Y) → Result X ReadFault → Result Y Fault → Type 0
 Gives view (Ok x) read = read ≡ Ok (view x)
 Gives view (Err e) read = Fails e read

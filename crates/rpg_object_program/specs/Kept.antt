@@ -80,6 +80,7 @@ pub record IsDateForm (f : FieldForm) : Type 0 where
   pub digits : f.length ≡ 6
   pub decimals : f.decimals ≡ 0
 
+-- a field that an object has room for
 pub record IsFieldRow (f : FieldForm) : Type 0 where
   pub shortest : 1 ≤ f.length
   pub longest : f.length ≤ length_limit f.kind
@@ -116,22 +117,26 @@ storage_of (f ∷ fs) = size_of f + storage_of fs
 
 -- ---- record types
 
+-- a record code that an object has room for
 pub record IsCodeRow (c : RecordCode) : Type 0 where
   pub position : IsTwoBytes c.position
   pub character : IsCharacter c.character
 
+-- a control or match field that an object has room for
 pub record IsControlRow (c : ControlField) : Type 0 where
   pub lowest : 1 ≤ c.level
   pub highest : c.level ≤ 9
   pub from : IsTwoBytes c.from
   pub to : IsTwoBytes c.to
 
+-- an input field that an object has room for
 pub record IsInputRow (f : InputField ℕ) : Type 0 where
   pub from : IsTwoBytes f.from
   pub to : IsTwoBytes f.to
   pub field : IsTwoBytes f.field
   pub shows : AreIndicators f.shows
 
+-- a record type that an object has room for
 pub record IsTypeRow (t : TypeRow ℕ) : Type 0 where
   pub indicator : ForSome t.indicator IsIndicator
   pub few_codes : length t.codes ≤ 100
@@ -151,6 +156,7 @@ IsIndexRow Blank = Unit {0}
 IsIndexRow (Literal n) = (1 ≤ n) × (n ≤ 9999)
 IsIndexRow (Field k) = IsTwoBytes (10000 + k)
 
+-- an operand that an object has room for
 pub record IsOperandRow (o : Operand ℕ) : Type 0 where
   pub field : IsTwoBytes o.field
   pub index : IsIndexRow o.index
@@ -164,6 +170,7 @@ pub record IsOptionalRow (o : Option (Operand ℕ)) : Type 0 where
   pub row : ForSome o IsOperandRow
   pub there : ForSome o IsAnOperand
 
+-- a condition that an object has room for
 pub record IsConditionRow (c : Condition) : Type 0 where
   pub indicator : IsIndicator c.indicator
 
@@ -175,12 +182,14 @@ pub record AreConditions (cs : Conditions) : Type 0 where
 
 -- ---- lines
 
+-- spaces and skips that an object has room for
 pub record IsSpacingRow (s : Spacing) : Type 0 where
   pub space_before : s.space_before < 256
   pub space_after : s.space_after < 256
   pub skip_before : s.skip_before < 256
   pub skip_after : s.skip_after < 256
 
+-- the conditions of one alternative of a line: at most 60
 pub record IsAlternativeRow (conditions : List Condition) : Type 0 where
   pub few : length conditions ≤ 60
   pub each : All IsConditionRow conditions
@@ -191,12 +200,14 @@ IsEditingRow editings.Plain = Unit {0}
 IsEditingRow (editings.Code code) = Unit {0}
 IsEditingRow (editings.Word field) = IsTwoBytes field
 
+-- an output field that an object has room for
 pub record IsLineFieldRow (f : LineField ℕ) : Type 0 where
   pub operand : IsOperandRow f.operand
   pub editing : IsEditingRow f.editing
   pub end : IsTwoBytes f.end
   pub conditions : AreConditions f.conditions
 
+-- a line that an object has room for
 pub record IsLineRow (l : LineRow) : Type 0 where
   pub spacing : IsSpacingRow l.spacing
   pub some_alternatives : 1 ≤ length l.alternatives
@@ -219,6 +230,7 @@ IsActionRow (LookUp a b r s) = IsOperandRow a × IsOperandRow b × IsOptionalRow
 IsActionRow (Move side b r) = IsOperandRow b × IsOperandRow r
 IsActionRow (SetIndicators is_on s) = AreIndicators s
 
+-- an instruction that an object has room for
 abbrev pub IsInstructionRow : Instruction ℕ → Type 0
 IsInstructionRow (Act a) = IsActionRow a
 IsInstructionRow Except = Unit {0}
@@ -226,6 +238,7 @@ IsInstructionRow (Branch is_taken_where cs target) = AreConditions cs × IsTwoBy
 IsInstructionRow (Call subroutine) = IsTwoBytes subroutine
 IsInstructionRow (Return subroutine) = IsTwoBytes subroutine
 
+-- a subroutine that an object has room for
 pub record IsSubroutineRow (s : SubroutineRow) : Type 0 where
   pub level : IsTwoBytes s.level
   pub instructions : All IsInstructionRow s.instructions

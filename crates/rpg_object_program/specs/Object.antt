@@ -50,12 +50,15 @@ pub record Object : Type 0 where
   pub total : List (Instruction ℕ)
   pub subroutines : List SubroutineRow
 
+-- a record type as a row
 abbrev pub type_row : RecordType → TypeRow ℕ
 type_row t = record { file = t.file; indicator = t.indicator; codes = t.codes.items; levels = t.levels.items; inputs = t.inputs.items; matches = t.matches.items }
 
+-- a line as a row
 abbrev pub line_row : Line → LineRow
 line_row l = record { file = l.file; time = l.time; spacing = l.spacing; alternatives = map (λ a. a.items) l.alternatives.items; fields = l.fields.items }
 
+-- a subroutine as a row
 abbrev pub subroutine_row : Subroutine → SubroutineRow
 subroutine_row s = record { level = s.level; instructions = s.instructions.items }
 
@@ -80,6 +83,7 @@ seen r = record {
 
 -- ---- versions
 
+-- the number of a version
 abbrev pub version_number : Version → ℕ
 version_number One = 1
 version_number Two = 2

@@ -16,10 +16,12 @@ use Rattle.rpg_object_rows.specs.Shapes.{counted_rows}
 abbrev pub indicator_by_number : ℕ → Result (Option ℕ) Code
 indicator_by_number n = if n == 0 then Ok None else (if nat_le n 129 then Ok (Some n) else Err NotAllowed)
 
+-- an indicator as a byte; 0 is none
 abbrev pub indicator_number : Option ℕ → ℕ
 indicator_number None = 0
 indicator_number (Some n) = n
 
+-- a byte for an indicator, or none
 abbrev pub indicator_format : Format (Option ℕ)
 indicator_format = byte indicator_by_number indicator_number
 
@@ -45,9 +47,11 @@ alternative = counted_rows 60 condition_format
 
 -- ---- three conditions: their indicators, and N bits for those that are negated (1 the first, 2 the second, 4 the third)
 
+-- the bit of that weight is on
 abbrev pub has_bit : ℕ → ℕ → Bool
 has_bit weight n = (n / weight) % 2 == 1
 
+-- a bit of that weight
 abbrev pub bit : ℕ → Bool → ℕ
 bit weight is_on = if is_on then weight else 0
 
@@ -60,9 +64,11 @@ may_negate (Some n) is_negated = true
 abbrev pub are_negations : Shows → ℕ → Bool
 are_negations s n = nat_le n 7 && (may_negate s.plus (has_bit 1 n) && (may_negate s.minus (has_bit 2 n) && may_negate s.zero (has_bit 4 n)))
 
+-- a condition on an indicator, if there is one
 abbrev pub condition_with : Bool → Option ℕ → Option Condition
 condition_with is_negated o = option_map (λ n. record { indicator = n; is_negated = is_negated }) o
 
+-- three indicators as conditions, negated where their bits are on
 abbrev pub conditions_of : Shows → ℕ → Conditions
 conditions_of s n = record {
   first = condition_with (has_bit 1 n) s.plus;
@@ -70,9 +76,11 @@ conditions_of s n = record {
   third = condition_with (has_bit 4 n) s.zero;
 }
 
+-- the indicator of a condition
 abbrev pub indicator_in : Option Condition → Option ℕ
 indicator_in c = option_map (λ x. x.indicator) c
 
+-- the condition is negated
 abbrev pub is_negation : Option Condition → Bool
 is_negation None = false
 is_negation (Some c) = c.is_negated
@@ -81,6 +89,7 @@ is_negation (Some c) = c.is_negated
 abbrev pub indicators_of : Conditions → Shows
 indicators_of cs = record { plus = indicator_in cs.first; minus = indicator_in cs.second; zero = indicator_in cs.third }
 
+-- the bits of the negated conditions
 abbrev pub negations_of : Conditions → ℕ
 negations_of cs = bit 1 (is_negation cs.first) + bit 2 (is_negation cs.second) + bit 4 (is_negation cs.third)
 

@@ -12,14 +12,17 @@ use Rattle.rpg_object_rows.specs.Shapes.{unused_number}
 abbrev pub index_by_number : ℕ → Index ℕ
 index_by_number n = if n == 0 then Blank else (if nat_le n 9999 then Literal n else Field (n - 10000))
 
+-- an index as a number: 0 is none, above 10000 stand fields
 abbrev pub index_number : Index ℕ → ℕ
 index_number Blank = 0
 index_number (Literal n) = n
 index_number (Field k) = 10000 + k
 
+-- the index with that number
 abbrev pub index_rule : ℕ → Result (Index ℕ) Code
 index_rule n = Ok (index_by_number n)
 
+-- an index with its bytes
 abbrev pub index : Format (Index ℕ)
 index = two_bytes index_rule index_number
 
@@ -46,9 +49,11 @@ if_operand field Blank = if field == 0 then None else Some (record { field = fie
 if_operand field (Literal n) = Some (record { field = field; index = Literal n })
 if_operand field (Field k) = Some (record { field = field; index = Field k })
 
+-- the operand, if there is one
 abbrev pub optional_of : Operand ℕ → Option (Operand ℕ)
 optional_of o = if_operand o.field o.index
 
+-- an operand, or the row of none
 abbrev pub operand_or_none : Option (Operand ℕ) → Operand ℕ
 operand_or_none None = no_operand
 operand_or_none (Some o) = o

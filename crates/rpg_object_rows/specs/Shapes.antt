@@ -14,6 +14,7 @@ any_byte = byte_where is_any_number
 abbrev pub unused_byte : Format (Unit {0})
 unused_byte = only_byte 0 Unused
 
+-- a number that isn't used is zero
 abbrev pub unused_number : Format (Unit {0})
 unused_number = only_number 0 Unused
 

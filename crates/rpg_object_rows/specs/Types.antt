@@ -17,14 +17,17 @@ use Rattle.rpg_object_rows.specs.Shapes.{no_number, unused_byte, where_used}
 
 -- ---- what version 2 has more
 
+-- version 2
 abbrev pub is_two : Version → Bool
 is_two versions.One = false
 is_two versions.Two = true
 
+-- the number of an input file
 abbrev pub input_file_number : InputFile → ℕ
 input_file_number Primary = 0
 input_file_number Secondary = 1
 
+-- the input file with that number
 abbrev pub input_file_by_number : ℕ → Result InputFile Code
 input_file_by_number = choice (Primary ∷ Secondary ∷ []) input_file_number
 
@@ -59,6 +62,7 @@ input_field_format = row
     (λ f. (f.from, (f.to, (f.field, (f.shows, tt)))))
     (pair any_number (λ from. pair any_number (λ to. pair any_number (λ field. pair shows_format (λ s. unused_byte)))))
 
+-- the numbers of a record type, one after the other
 abbrev pub TypeParts : Type 0
 TypeParts = Option ℕ × (InputFile × (ℕ × (ℕ × (ℕ × (ℕ × (List RecordCode × (List ControlField × (List (InputField ℕ) × List ControlField))))))))
 
@@ -70,6 +74,7 @@ type_parts v =
     pair (table codes record_code_format) (λ cs. pair (table levels control_field_format) (λ ls.
     pair (table inputs input_field_format) (λ is. table matches control_field_format)))))))))
 
+-- a record type with its bytes, which differ by version
 unfoldable pub record_type_format : Version → Format (TypeRow ℕ)
 record_type_format v = row
     (λ p. record {

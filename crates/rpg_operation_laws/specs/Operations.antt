@@ -36,6 +36,7 @@ use Rattle.rpg_sheet_specs.specs.declared.calculation.Operation.TheVariants as o
 abbrev pub negative : Fraction → Fraction
 negative p = record p { top = neg_ℤ p.top }
 
+-- the number is zero
 abbrev pub is_zero : Fraction → Bool
 is_zero p = int_eq p.top (pos 0)
 
@@ -63,6 +64,7 @@ module _ (source : Source) (s : State) (k : CalculationSpec) where
   abbrev pub table : Option (Operand Key)
   table = option_map entry_named k.result_field
 
+  -- the table that LOKUP takes an entry of
   abbrev pub table_field : Option Key
   table_field = option_map (λ e. Named e.name) k.result_field
 
@@ -76,6 +78,7 @@ module _ (source : Source) (s : State) (k : CalculationSpec) where
   abbrev pub entry : Operand Key → Entry Key
   entry o = entry_of source.forms s.world.fields o
 
+  -- the form of an operand
   abbrev pub form : Operand Key → Option FieldForm
   form o = source.forms o.field
 
@@ -95,6 +98,7 @@ module _ (source : Source) (s : State) (k : CalculationSpec) where
   abbrev pub first : Fraction
   first = number factor_1_or_result
 
+  -- the number of factor 2
   abbrev pub second : Fraction
   second = number factor_2
 
@@ -102,6 +106,7 @@ module _ (source : Source) (s : State) (k : CalculationSpec) where
   abbrev pub digits : Operand Key → ℤ
   digits o = number_at s.world o.field (entry o).position
 
+  -- the characters of an operand
   abbrev pub characters : Operand Key → List ℕ
   characters o = characters_at s.world o.field (entry o).position
 
@@ -123,6 +128,7 @@ module _ (source : Source) (s : State) (k : CalculationSpec) where
   abbrev pub goes_on : World key_cmp → MeantOutcome
   goes_on w = On (record s { world = w; next = s.next + 1 }) no_output
 
+  -- the job halts by that number
   abbrev pub halts : ℕ → MeantOutcome
   halts n = Stops n s no_output
 
@@ -134,15 +140,19 @@ module _ (source : Source) (s : State) (k : CalculationSpec) where
   abbrev pub computing : MeantOutcome → MeantOutcome
   computing = unless_out_of_range (factor_1_or_result ∷ factor_2 ∷ result ∷ [])
 
+  -- halt 2 in its place, if the index of factor 2 or of the result field is out of range
   abbrev pub assigning : MeantOutcome → MeantOutcome
   assigning = unless_out_of_range (factor_2 ∷ result ∷ [])
 
+  -- the same for the result field alone
   abbrev pub taking : MeantOutcome → MeantOutcome
   taking = unless_out_of_range (result ∷ [])
 
+  -- the same for both factors
   abbrev pub comparing : MeantOutcome → MeantOutcome
   comparing = unless_out_of_range (factor_1 ∷ factor_2 ∷ [])
 
+  -- the same for both factors and the table
   abbrev pub searching : MeantOutcome → MeantOutcome
   searching = unless_out_of_range (factor_1 ∷ factor_2 ∷ option_to_list table)
 
@@ -182,6 +192,7 @@ module _ (source : Source) (s : State) (k : CalculationSpec) where
 
   -- ---- ADD, SUB, MULT, DIV, MVR, Z-ADD, Z-SUB, XFOOT
 
+  -- ADD, SUB, MULT, Z-ADD, Z-SUB, XFOOT, MVR
   pub record Computes : Type 0 where
     -- the result field becomes factor 1 plus, minus, or times factor 2
     pub add : does op.Add ≡ computing (becomes (plus first second))
@@ -195,6 +206,7 @@ module _ (source : Source) (s : State) (k : CalculationSpec) where
     -- it becomes what the last division has left, cut off
     pub move_remainder : does op.MoveRemainder ≡ taking (becomes_in s.world false s.world.remainder)
 
+  -- DIV
   pub record Divides : Type 0 where
     -- halt 1 if factor 2 is zero
     pub by_zero : is_zero second ≡ true → does op.Divide ≡ computing (halts 1)
@@ -232,6 +244,7 @@ module _ (source : Source) (s : State) (k : CalculationSpec) where
     pub texts : kind factor_1 ≡ kinds.Text → does op.Compare
         ≡ comparing (goes_on (turned (shown indicators (text_cmp (characters factor_1) (characters factor_2))) s.world))
 
+  -- LOKUP
   pub record LooksUp : Type 0 where
     -- nothing is found: all named indicators turn off, and the index of factor 2 becomes 1
     pub nothing : found ≡ None → does op.LookUp
@@ -242,6 +255,7 @@ module _ (source : Source) (s : State) (k : CalculationSpec) where
 
   -- ---- SETON, SETOF, EXCPT
 
+  -- SETON, SETOF and EXCPT
   pub record Sets : Type 0 where
     -- all named indicators turn on, or off
     pub on : does op.SetOn ≡ goes_on (turned (all_on indicators) s.world)
@@ -255,6 +269,7 @@ module _ (source : Source) (s : State) (k : CalculationSpec) where
   abbrev pub target : ℕ
   target = label_position (meant_name k.factor_2) (calculations_in source.sections s.part)
 
+  -- GOTO, TAG, EXSR, BEGSR and ENDSR
   pub record Leads : Type 0 where
     -- a label after this calculation is next
     pub go_to_later : nat_lt target s.next ≡ false → does op.GoTo ≡ On (at_next s target) no_output

@@ -20,6 +20,7 @@ pub record IsOnPaper (last : Option ℕ) (begun line : ℕ) : Type 0 where
   pub few_pages : begun ≤ 1000
   pub forward : begun ≡ 0 → unwrap_or last 1 ≤ line
 
+-- the page of the last line, or the first page
 abbrev pub page_or_1 : Option Position → ℕ
 page_or_1 None = 1
 page_or_1 (Some p) = p.page
@@ -39,6 +40,7 @@ pub record HasPrinted (form : Standing) (lines : List Placed) (here : Position) 
 abbrev pub here_of : Standing → Position
 here_of form = record { page = form.begun; line = form.line }
 
+-- the form, once it stands at a place
 abbrev pub moved_to : Position → Standing → Standing
 moved_to to form = record { last = form.last; begun = to.page; line = to.line }
 
@@ -73,6 +75,7 @@ pub record FormLine : Type 0 where
 abbrev pub position_after : Option Position → FormLine → Position
 position_after previous x = record { page = page_or_1 previous + x.begun; line = x.line }
 
+-- the lines with their places, after the last one before them
 abbrev pub placed_after : Option Position → List FormLine → List Placed
 placed_after previous [] = []
 placed_after previous (x ∷ xs) = record { at = position_after previous x; text = x.text } ∷ placed_after (Some (position_after previous x)) xs

@@ -12,6 +12,7 @@ pub record Placed : Type 0 where
   pub at : Position
   pub text : List ℕ
 
+-- the first line of the first page
 abbrev pub top_of_paper : Position
 top_of_paper = record { page = 1; line = 1 }
 

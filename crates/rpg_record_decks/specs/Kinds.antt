@@ -8,6 +8,7 @@ use Rattle.rpg_text.specs.Texts.{is_between}
 use Rattle.rpg_record_decks.specs.Types.{TypeRead}
 use Rattle.rpg_record_decks.specs.declared.fields.FieldColumns.{FieldColumns}
 
+-- the column is one of the field's
 abbrev pub covers : ℕ → FieldColumns → Bool
 covers k f = is_between f.first f.last k
 

@@ -10,6 +10,7 @@ use Rattle.rpg_record_decks.specs.declared.fault.DeckFault.{DeckFault}
 use Rattle.rpg_record_decks.specs.declared.types.TypeCards.{TypeCards}
 use Rattle.rpg_record_decks.specs.declared.types.Types.{Types}
 
+-- a record type's cards, as specs see them
 abbrev pub type_read : TypeCards → TypeRead
 type_read t = record { card = t.card; codes = t.codes.items; fields = t.fields.items; numbers = map number_seen t.numbers.items }
 

@@ -28,6 +28,7 @@ use Rattle.rpg_record_decks.specs.declared.fields.FieldColumns.{FieldColumns}
 
 -- ---- the I cards of a file
 
+-- an I card
 abbrev pub is_input_card : List ℕ → Bool
 is_input_card card = bytes_eq (cols 6 6 card) (codes "I")
 
@@ -68,6 +69,7 @@ new_type card = record { card = card; codes = []; fields = []; numbers = [] }
 
 -- ---- codes
 
+-- a record code with its place counted from 0
 abbrev pub code_of : RecordCode → Code
 code_of c = record { place = c.position - 1; is_negated = c.negated; character = c.character }
 
@@ -80,6 +82,7 @@ with_code length cs (Some c) = if is_between 1 length c.position then Ok (cs ++ 
 abbrev pub with_three : ℕ → List Code → Three (Option RecordCode) → Result (List Code) CardFault
 with_three length cs three = and_then (and_then (with_code length cs three.first) (λ ds. with_code length ds three.second)) (λ es. with_code length es three.third)
 
+-- the record type with the codes of one more card
 abbrev pub with_codes : ℕ → TypeRead → Three (Option RecordCode) → Result TypeRead CardFault
 with_codes length t three = and_then (with_three length t.codes three) (λ cs. Ok (record { card = t.card; codes = cs; fields = t.fields; numbers = t.numbers }))
 

@@ -3,6 +3,7 @@ use Rattle.std.specs.Prelude.{ℕ, ◌-◌, ◌*◌, ◌==◌, ◌&&◌, ◌||�
 use Rattle.rpg_record_layouts.specs.declared.layout.NumberForm.{NumberForm}
 use Rattle.rpg_record_layouts.specs.declared.layout.NumberForm.TheVariants as forms
 
+-- the bytes that a field of that form may have
 abbrev pub is_field_size : NumberForm → ℕ → Bool
 is_field_size forms.Packed k = nat_le 1 k && nat_le k 8
 is_field_size forms.Binary k = k == 2 || k == 4

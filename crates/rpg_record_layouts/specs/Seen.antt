@@ -29,12 +29,15 @@ pub record LayoutSeen : Type 0 where
   pub length : ℕ
   pub types : List TypeSeen
 
+-- a field of numbers, as specs see it
 abbrev pub number_seen : NumberField → NumberSeen
 number_seen f = record { card = f.card; first = f.first; last = f.last; form = f.form }
 
+-- a record type, as specs see it
 abbrev pub type_seen : RecordType → TypeSeen
 type_seen t = record { card = t.card; codes = t.codes.items; columns = t.columns.items; numbers = map number_seen t.numbers.items }
 
+-- a layout, as specs see it
 abbrev pub layout_seen : Layout → LayoutSeen
 layout_seen layout = record { card = layout.card; length = layout.length; types = map type_seen layout.types.items }
 
@@ -42,6 +45,7 @@ layout_seen layout = record { card = layout.card; length = layout.length; types 
 abbrev pub digits_seen : NumberSeen → ℕ
 digits_seen f = digit_count f.form (f.last - f.first + 1)
 
+-- the most digits that a line of one of these types takes
 abbrev pub most_seen : List TypeSeen → ℕ
 most_seen [] = 0
 most_seen (t ∷ ts) = max (counted (sum_by digits_seen t.numbers)) (most_seen ts)

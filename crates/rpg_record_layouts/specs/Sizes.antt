@@ -21,6 +21,7 @@ field_digits f = digit_count f.form (field_size f)
 abbrev pub digits_after : RecordType → ℕ
 digits_after t = counted (sum_by field_digits t.numbers.items)
 
+-- the most digits that a record of one of these types takes
 abbrev pub most_digits : List RecordType → ℕ
 most_digits [] = 0
 most_digits (t ∷ ts) = max (digits_after t) (most_digits ts)

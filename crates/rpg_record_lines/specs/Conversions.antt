@@ -38,6 +38,7 @@ pub record Conversion : Type 0 where
 
 -- ---- one record
 
+-- the counts after one more record, converted or dropped
 abbrev pub counts_after : Counts → Option (List ℕ) → Counts
 counts_after c (Some text) = record { records = c.records + 1; dropped = c.dropped }
 counts_after c None = record { records = c.records; dropped = c.dropped + 1 }
@@ -50,12 +51,15 @@ place_after p used text = record { counts = counts_after p.counts text; offset =
 abbrev pub fault_at : Place → RecordFault → ConversionFault
 fault_at p fault = stops.Record (p.counts.records + p.counts.dropped + 1) p.offset fault
 
+-- the end of the input
 abbrev pub finished_at : Place → Conversion
 finished_at p = record { written = []; ending = Ok p.counts }
 
+-- a record that is refused
 abbrev pub refused_at : Place → RecordFault → Conversion
 refused_at p fault = record { written = []; ending = Err (fault_at p fault) }
 
+-- a text in front of what comes next
 abbrev pub following : List ℕ → Conversion → Conversion
 following text c = record { written = text ++ c.written; ending = c.ending }
 
@@ -79,9 +83,11 @@ conversion_from way (suc left) p input =
     at_cut p (next_of way.framing way.most input)
     (λ used r. at_made p (way.text_of r) (λ text. following (unwrap_or text []) (conversion_from way left (place_after p used text) (drop used input))))
 
+-- the most records that a run converts
 abbrev pub max_records : ℕ
 max_records = 10000000
 
+-- the beginning of the input
 abbrev pub beginning : Place
 beginning = record { counts = record { records = 0; dropped = 0 }; offset = 0 }
 

@@ -10,15 +10,19 @@ use Rattle.rpg_record_lines.specs.Types.{first_type}
 use Rattle.rpg_record_layouts.specs.declared.layout.RecordType.{RecordType}
 use Rattle.rpg_record_lines.specs.declared.line.Converter.{Converter}
 
+-- the record types of a converter
 abbrev pub types_of : Converter → List RecordType
 types_of c = c.layout.now.types.items
 
+-- the record length of a converter
 abbrev pub length_of : Converter → ℕ
 length_of c = c.layout.now.length
 
+-- the code page of its records
 abbrev pub page_of_records : Converter → Page
 page_of_records c = page_of c.records
 
+-- whether the byte 0 is a blank
 abbrev pub is_low_blank_of : Converter → Bool
 is_low_blank_of c = is_low_blank c.records
 
@@ -32,9 +36,11 @@ type_again c columns = first_type pages.Ascii false columns (types_of c)
 
 -- ---- what it makes
 
+-- the characters of a record of a type
 abbrev pub characters_by : Converter → RecordType → List ℕ → Outcome
 characters_by c t = characters_of (page_of_records c) (is_low_blank_of c) t.columns.items
 
+-- the line of a record of a type
 abbrev pub whole_line_by : Converter → RecordType → List ℕ → Outcome
 whole_line_by c t r = whole_line_of (page_of_records c) (is_low_blank_of c) (types_of c) r t
 
@@ -42,9 +48,11 @@ whole_line_by c t r = whole_line_of (page_of_records c) (is_low_blank_of c) (typ
 abbrev pub line_by : Converter → List ℕ → Outcome
 line_by c = line_of (page_of_records c) (is_low_blank_of c) (types_of c)
 
+-- a record, if by its bytes it is of its line's type
 abbrev pub checked_by : Converter → RecordType → List ℕ → Outcome
 checked_by c = checked_record (page_of_records c) (is_low_blank_of c) (types_of c)
 
+-- the record of a line of a type
 abbrev pub typed_by : Converter → List ℕ → List ℕ → RecordType → Outcome
 typed_by c = typed_record (page_of_records c) (is_low_blank_of c) (types_of c)
 

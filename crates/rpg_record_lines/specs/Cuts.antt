@@ -39,6 +39,7 @@ described_cut most word rest =
     if is_descriptor word then (if nat_lt most (described_whole word - 4) then Refused (faults.TooLong (described_whole word - 4)) else after_word (described_whole word - 4) rest)
     else Refused (faults.NoDescriptor word)
 
+-- the next record with a descriptor: four bytes in front of it
 abbrev pub next_described : ℕ → List ℕ → Cut
 next_described most input =
     if length input == 0 then Finished else (if nat_lt (length input) 4 then Refused (faults.Cut (length input)) else described_cut most (take 4 input) (drop 4 input))

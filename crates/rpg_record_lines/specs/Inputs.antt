@@ -37,12 +37,15 @@ GivesFirst front remaining old new bytes = GivesFront front (remaining_in remain
 
 -- ---- its records
 
+-- how records are told apart
 abbrev pub framing_of : {R : Type 0} → Frames R → Framing
 framing_of frames = frames.framing
 
+-- the most bytes that a record may have
 abbrev pub most_of : {R : Type 0} → Frames R → ℕ
 most_of frames = frames.most
 
+-- the bytes that are left
 abbrev pub remaining_of : {R : Type 0} → (R → Option (List ℕ)) → Frames R → Option (List ℕ)
 remaining_of remaining frames = remaining_in remaining frames.input
 

@@ -7,6 +7,7 @@ use Rattle.rpg_record_lines.specs.declared.conversion.ConversionFault.{Conversio
 use Rattle.rpg_record_lines.specs.declared.conversion.ConversionFault.TheVariants as stops
 use Rattle.rpg_record_lines.specs.declared.conversion.Counts.{Counts}
 
+-- no record yet
 abbrev pub no_counts : Counts
 no_counts = record { records = 0; dropped = 0 }
 

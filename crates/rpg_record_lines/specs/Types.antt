@@ -26,9 +26,11 @@ abbrev pub first_type : Page → Bool → List ℕ → List RecordType → Optio
 first_type page low_blank record_bytes [] = None
 first_type page low_blank record_bytes (t ∷ ts) = if is_of page low_blank record_bytes t then Some t else first_type page low_blank record_bytes ts
 
+-- the type begins on that card
 abbrev pub is_card : ℕ → Option RecordType → Bool
 is_card card None = false
 is_card card (Some t) = t.card == card
 
+-- the card that a type begins on
 abbrev pub card_of : RecordType → ℕ
 card_of t = t.card

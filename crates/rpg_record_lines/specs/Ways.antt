@@ -75,6 +75,7 @@ line_text_by c r = made with_line_feed (line_by c (padded (page_of_records c) (l
 abbrev pub record_text_by : Framing → Converter → List ℕ → Made
 record_text_by framing c line = made (frame framing) (record_by c line)
 
+-- what a record or a line becomes, by the direction
 abbrev pub text_by_parts : Making → Page → Bool → List RecordType → ℕ → List ℕ → Made
 text_by_parts (makings.Lines dropped) = line_text dropped
 text_by_parts (makings.Records framing) = record_text framing
@@ -87,9 +88,11 @@ text_by m = text_by_parts m.making (page_of_records m.converter) (is_low_blank_o
 abbrev pub way_by : Framing → ℕ → Maker → Way
 way_by framing most maker = record { framing = framing; most = most; text_of = text_by maker }
 
+-- the way that records go
 abbrev pub way_of : {R : Type 0} → Maker → Frames R → Way
 way_of maker frames = way_by (framing_of frames) (most_of frames) maker
 
+-- how far the input has been read
 abbrev pub place_at : {R : Type 0} → Counts → Frames R → Place
 place_at counts frames = record { counts = counts; offset = position_of frames }
 

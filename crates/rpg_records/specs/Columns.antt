@@ -12,10 +12,12 @@ abbrev pub page_character : Page → ℕ → ℕ
 page_character pages.Ebcdic b = character_of b
 page_character pages.Ascii b = if is_character b then b else 0
 
+-- the character for the last place of a number
 abbrev pub last_place_character : Page → ℕ → ℕ
 last_place_character pages.Ebcdic b = last_place_of b
 last_place_character pages.Ascii b = page_character pages.Ascii b
 
+-- a blank where a byte stands for no character
 abbrev pub blank_for_none : ℕ → ℕ
 blank_for_none c = if c == 0 then 32 else c
 
@@ -43,12 +45,14 @@ page_byte pages.Ascii c = c
 
 -- ---- a table of characters
 
+-- the number of a kind of columns
 abbrev pub row_of : Column → ℕ
 row_of columns.Text = 0
 row_of columns.LastPlace = 1
 row_of columns.Number = 2
 row_of columns.Unnamed = 3
 
+-- the kind of columns of that number
 abbrev pub column_at : ℕ → Column
 column_at row = if row == 0 then columns.Text else (if row == 1 then columns.LastPlace else (if row == 2 then columns.Number else columns.Unnamed))
 

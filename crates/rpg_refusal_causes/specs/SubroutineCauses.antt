@@ -27,6 +27,7 @@ foreign_cause number at i = None
 abbrev pub body_cause : ℕ → SubroutineRow → Option RefusalCause
 body_cause number s = or_next (first_cause (foreign_cause number) 0 s.instructions) (Some causes.Unended)
 
+-- the level of a subroutine
 abbrev pub level_cause : SubroutineRow → Option RefusalCause
 level_cause s = Some (causes.Level s.level)
 

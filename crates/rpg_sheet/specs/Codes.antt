@@ -3,6 +3,7 @@ use Rattle.std.specs.Prelude.{ℕ, List, ◌++◌, codes, decimal}
 use Rattle.rpg_sheet.specs.declared.sheet.SheetCode.{SheetCode}
 use Rattle.rpg_sheet.specs.declared.sheet.SheetCode.TheVariants.{S1, S2, S3, S4, S5, S6}
 
+-- the number in a code
 abbrev pub sheet_code_number : SheetCode → ℕ
 sheet_code_number S1 = 1
 sheet_code_number S2 = 2
@@ -11,5 +12,6 @@ sheet_code_number S4 = 4
 sheet_code_number S5 = 5
 sheet_code_number S6 = 6
 
+-- a code as it is printed
 abbrev pub sheet_code_text : SheetCode → List ℕ
 sheet_code_text code = codes "S" ++ decimal (sheet_code_number code)

@@ -36,6 +36,7 @@ comes_after n card = option_map_or (λ f. nat_lt n (sheet_place f)) (sheet_of fa
 abbrev pub sheet_behind : List (List ℕ) → List ℕ → Option FormType
 sheet_behind earlier line = sheet_of (is_data_behind earlier) (card_of line)
 
+-- the line has that fault
 abbrev pub has : List (List ℕ) → List ℕ → SheetCode → Bool
 has earlier line S1 = nat_lt 80 (length line)
 has earlier line S2 = not (list_all is_character line)
@@ -57,6 +58,7 @@ fault_columns behind card S4 = None
 fault_columns behind card S5 = option_and_then (λ f. bad_value_columns f card) (sheet_of behind card)
 fault_columns behind card S6 = None
 
+-- a fault with its card and its columns
 abbrev pub fault_under : List (List ℕ) → List ℕ → SheetCode → SheetFault
 fault_under earlier line code = At (length earlier + 1) code (fault_columns (is_data_behind earlier) (card_of line) code)
 
@@ -65,6 +67,7 @@ abbrev pub fault_behind : List (List ℕ) → List (List ℕ) → Option SheetFa
 fault_behind earlier [] = None
 fault_behind earlier (line ∷ more) = option_or (option_map (fault_under earlier line) (line_code earlier line)) (fault_behind (earlier ++ line ∷ []) more)
 
+-- the first line with a fault, with the lowest code of it
 abbrev pub first_sheet_fault : List (List ℕ) → Option SheetFault
 first_sheet_fault all = fault_behind [] all
 

@@ -8,6 +8,7 @@ use Rattle.rpg_sheet.specs.declared.unreadable.UnreadableCard.{UnreadableCard}
 use Rattle.rpg_sheet.specs.Sheet.{fault_columns, is_data_behind, line_code}
 use Rattle.rpg_sheet_specs.specs.Cards.{card_of}
 
+-- a card that can't be read, with its lowest code
 abbrev pub unreadable_by : List (List ℕ) → List ℕ → SheetCode → UnreadableCard
 unreadable_by earlier line code = record { card = length earlier + 1; code = code; columns = fault_columns (is_data_behind earlier) (card_of line) code }
 
@@ -20,6 +21,7 @@ abbrev pub unreadable_behind : List (List ℕ) → List (List ℕ) → List Unre
 unreadable_behind earlier [] = []
 unreadable_behind earlier (line ∷ more) = if nat_lt 2000 (length earlier) then [] else unreadable_at earlier line ++ unreadable_behind (earlier ++ line ∷ []) more
 
+-- all cards that can't be read
 abbrev pub unreadable_cards : List (List ℕ) → List UnreadableCard
 unreadable_cards all = unreadable_behind [] all
 

@@ -9,6 +9,7 @@ use Rattle.rpg_text.specs.Texts.{all_blank}
 
 -- ---- cards: a line of the source, padded with blanks
 
+-- a line as a card of 80 columns, filled up with blanks
 abbrev pub card_of : List ℕ → List ℕ
 card_of line = take 80 line ++ replicate (80 - length line) 32
 
@@ -26,11 +27,13 @@ is_skipped card = all_blank card || bytes_eq (cols 7 7 card) (codes "*")
 
 -- ---- form types
 
+-- a sheet by its letter
 abbrev pub form_type_of : List ℕ → Option FormType
 form_type_of = one_of (
     (codes "H", form.Header) ∷ (codes "F", form.File) ∷ (codes "E", form.Extension) ∷ (codes "I", form.Input)
     ∷ (codes "C", form.Calculation) ∷ (codes "O", form.Output) ∷ [])
 
+-- the sheet of a card, by column 6
 abbrev pub form_type : List ℕ → Option FormType
 form_type card = form_type_of (cols 6 6 card)
 

@@ -28,6 +28,7 @@ pub record Columns (X : Type 0) : Type 1 where
 unfoldable pub values : {X : Type 0} → X → Columns X
 values x = record { reading = λ card. Ok x; bad = λ card. [] }
 
+-- the column, where its range has no value
 abbrev pub bad_if_none : {X : Type 0} → ℕ → Option X → List ℕ
 bad_if_none a None = a ∷ []
 bad_if_none a (Some x) = []
@@ -39,6 +40,7 @@ at_with a b rule = record {
   bad = λ card. bad_if_none a (rule card (cols a b card));
 }
 
+-- the text of columns a to b, by a rule
 abbrev pub at : {X : Type 0} → ℕ → ℕ → (List ℕ → Option X) → Columns X
 at a b rule = at_with a b (λ card text. rule text)
 
@@ -46,14 +48,17 @@ at a b rule = at_with a b (λ card text. rule text)
 abbrev pub is_filled : ℕ → Bool
 is_filled c = not (c == 32)
 
+-- the columns that aren't blank, counted from the first
 abbrev pub filled_from : ℕ → List ℕ → List ℕ
 filled_from a [] = []
 filled_from a (c ∷ cs) = if is_filled c then a ∷ filled_from (a + 1) cs else filled_from (a + 1) cs
 
+-- a fault at one column, where there is one
 abbrev pub fault_if_some : ℕ → Option ℕ → Result (Unit {0}) ColumnFault
 fault_if_some a None = Ok tt
 fault_if_some a (Some i) = Err (column_fault (a + i) (a + i))
 
+-- columns a to b are blank
 unfoldable pub blank : ℕ → ℕ → Columns (Unit {0})
 blank a b = record {
   reading = λ card. fault_if_some a (position is_filled (cols a b card));
@@ -65,14 +70,17 @@ abbrev pub mapped : {X Y : Type 0} → (X → Y) → Result X ColumnFault → Re
 mapped f (Ok x) = Ok (f x)
 mapped f (Err e) = Err e
 
+-- one more value for a function, or the first fault of both
 abbrev pub applied : {X Y : Type 0} → Result (X → Y) ColumnFault → Result X ColumnFault → Result Y ColumnFault
 applied (Ok f) r = mapped f r
 applied (Err e) r = Err e
 
+-- the first value, or the first fault of both
 abbrev pub and_only : {X Y : Type 0} → Result X ColumnFault → Result Y ColumnFault → Result X ColumnFault
 and_only (Ok x) r = mapped (λ y. x) r
 and_only (Err e) r = Err e
 
+-- one more value; bad columns are those of both
 unfoldable pub also : {X Y : Type 0} → Columns (X → Y) → Columns X → Columns Y
 also f g = record {
   reading = λ card. applied (f.reading card) (g.reading card);
@@ -88,9 +96,11 @@ past f g = record {
 
 infixl 7 ◌⊛◌
 infixl 7 ◌⊘◌
+-- one after the other: the function takes the value
 abbrev pub ◌⊛◌ : {X Y : Type 0} → Columns (X → Y) → Columns X → Columns Y
 f ⊛ g = also f g
 
+-- one after the other: the second has no value of its own
 abbrev pub ◌⊘◌ : {X Y : Type 0} → Columns X → Columns Y → Columns X
 f ⊘ g = past f g
 

@@ -1,6 +1,7 @@
 -- The value of a numeric literal.
 use Rattle.std.specs.Prelude.{ℕ, ◌^◌, ◌<◌, ◌≤◌, ℤ, unsigned_abs}
 
+-- a number on a card, with its digits
 pub record Numeral : Type 0 where
   -- the number without its point
   pub value : ℤ

@@ -4,6 +4,7 @@ use Rattle.rpg_sheet_specs.specs.declared.column.ColumnFault.{ColumnFault}
 use Rattle.rpg_sheet_specs.specs.declared.column_range.ColumnRange.{ColumnRange}
 use Rattle.rpg_sheet_specs.specs.declared.column_range.ColumnRange.TheVariants as range
 
+-- the columns of a range
 unfoldable pub columns_of : ColumnRange → ColumnFault
 -- F
 columns_of range.FileName = column_fault 7 14

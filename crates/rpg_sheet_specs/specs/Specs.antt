@@ -39,5 +39,6 @@ abbrev pub specs_from : Bool → List (List ℕ) → List (Option Spec)
 specs_from behind [] = []
 specs_from behind (card ∷ cards) = spec_of behind card ∷ specs_from (behind || begins_data card) cards
 
+-- what the cards of a source mean; none for a card without a meaning
 abbrev pub specs_of : List (List ℕ) → List (Option Spec)
 specs_of cards = specs_from false cards

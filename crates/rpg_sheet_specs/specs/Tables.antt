@@ -37,6 +37,7 @@ use Rattle.rpg_sheet_specs.specs.Columns.{Columns, cols, values, at, at_with, bl
 use Rattle.rpg_text.specs.Texts.{all_blank, is_between}
 use Rattle.rpg_sheet_specs.specs.Values.{one_of, only, unused, when, blank_or, marked, number, digits, name, letters, entry, quoted, factor, indicator, indicator_within, level, condition, record_code, edit_code}
 
+-- three in the order of their columns
 abbrev pub three : {X : Type 0} → X → X → X → Three X
 three a b c = record { first = a; second = b; third = c }
 
@@ -50,6 +51,7 @@ indicators a b c d e f = values three ⊛ at a b (blank_or indicator) ⊛ at c d
 
 -- ---- H; free: 7-14
 
+-- an H card
 unfoldable pub header : Columns HeaderSpec
 header = values (record {}) ⊘ blank 15 74
 
@@ -59,6 +61,7 @@ header = values (record {}) ⊘ blank 15 74
 unfoldable pub direction : List ℕ → Option (Unit {0})
 direction = one_of ((codes "I", tt) ∷ (codes "O", tt) ∷ [])
 
+-- column 15 has I
 abbrev pub is_read : List ℕ → Bool
 is_read card = bytes_eq (cols 15 15 card) (codes "I")
 
@@ -66,9 +69,11 @@ is_read card = bytes_eq (cols 15 15 card) (codes "I")
 unfoldable pub role : List ℕ → List ℕ → Option FileRole
 role card = one_of (if is_read card then (codes "P", Primary) ∷ (codes "S", Secondary) ∷ [] else (codes " ", Output) ∷ [])
 
+-- the printer, or a disk
 unfoldable pub device_named : List ℕ → Option Device
 device_named text = Some (if bytes_eq text (codes "PRINTER") then device.Printer else device.Disk)
 
+-- column 15 has O
 abbrev pub is_output_card : List ℕ → Bool
 is_output_card card = bytes_eq (cols 15 15 card) (codes "O")
 
@@ -76,12 +81,15 @@ is_output_card card = bytes_eq (cols 15 15 card) (codes "O")
 unfoldable pub overflow : Columns (Option ℕ)
 overflow = where_card is_output_card (values (λ o. o) ⊛ at 33 34 (blank_or (indicator_within 112 119))) (values None ⊘ at 33 34 unused)
 
+-- the overflow indicator of an output file
 unfoldable pub file_overflow : Columns (Option ℕ)
 file_overflow = values (λ o. o) ⊘ blank 28 32 ⊛ overflow ⊘ blank 35 39
 
+-- the columns of an F card, in their order
 abbrev pub file_spec : List ℕ → FileRole → Bool → Bool → ℕ → Option ℕ → Device → FileSpec
 file_spec n r e a l o v = record { name = n; role = r; ends_job = e; ascending = a; record_length = l; overflow = o; device = v }
 
+-- an F card
 unfoldable pub file : Columns FileSpec
 file = values file_spec
     ⊛ at 7 14 (name 8)
@@ -97,6 +105,7 @@ file = values file_spec
 
 -- ---- E; free: 58-74
 
+-- the columns of a table on an E card, in their order
 abbrev pub table_spec : List ℕ → ℕ → Option ℕ → Bool → TableSpec
 table_spec n l d a = record { name = n; length = l; decimals = d; ascending = a }
 
@@ -109,15 +118,19 @@ alternating_table = values table_spec
     ⊛ at 56 56 (blank_or digits)
     ⊛ at 57 57 (marked (codes "A"))
 
+-- no alternating table is named
 abbrev pub has_no_name : List ℕ → Bool
 has_no_name card = all_blank (cols 46 51 card)
 
+-- the alternating table, or its columns blank
 unfoldable pub alternating : Columns (Option TableSpec)
 alternating = where_card has_no_name (values None ⊘ blank 46 57) (values Some ⊛ alternating_table)
 
+-- the columns of an E card, in their order
 abbrev pub extension_spec : List ℕ → Option ℕ → ℕ → ℕ → Option ℕ → Bool → Option TableSpec → ExtensionSpec
 extension_spec n p e l d a t = record { table = table_spec n l d a; entries_per_card = p; entries = e; alternating = t }
 
+-- an E card
 unfoldable pub extension : Columns ExtensionSpec
 extension = values extension_spec
     ⊘ blank 7 26
@@ -136,9 +149,11 @@ extension = values extension_spec
 unfoldable pub record_codes : Columns (Three (Option RecordCode))
 record_codes = values three ⊛ at 21 27 (blank_or record_code) ⊛ at 28 34 (blank_or record_code) ⊛ at 35 41 (blank_or record_code)
 
+-- the columns of a record type, in their order
 abbrev pub record_type : Option (List ℕ) → List ℕ → Option ℕ → Three (Option RecordCode) → RecordType
 record_type f s i c = record { file = f; sequence = s; indicator = i; codes = c }
 
+-- an I card that begins a record type
 unfoldable pub type_card : Columns RecordType
 type_card = values record_type
     ⊛ at 7 14 (blank_or (name 8))
@@ -152,6 +167,7 @@ type_card = values record_type
 abbrev pub nothing : {X : Type 0} → List ℕ → Option X
 nothing text = None
 
+-- no record codes
 abbrev pub has_no_codes : List ℕ → Bool
 has_no_codes card = all_blank (cols 21 41 card)
 
@@ -159,12 +175,14 @@ has_no_codes card = all_blank (cols 21 41 card)
 unfoldable pub and_codes : Columns (Three (Option RecordCode))
 and_codes = where_card has_no_codes (values (λ c. c) ⊛ at 21 41 nothing) record_codes
 
+-- an AND card among I cards
 unfoldable pub type_and_card : Columns (Three (Option RecordCode))
 type_and_card = values (λ c. c)
     ⊘ blank 17 20
     ⊛ and_codes
     ⊘ blank 42 74
 
+-- the columns of an input field, in their order
 abbrev pub input_field : ℕ → ℕ → Option ℕ → List ℕ → Option ℕ → Option ℕ → Three (Option ℕ) → InputField
 input_field f t d n l m i = record { from = f; to = t; decimals = d; name = n; level = l; match_level = m; indicators = i }
 
@@ -176,6 +194,7 @@ control_field_level = level 76
 abbrev pub match_field_level : List ℕ → Option ℕ
 match_field_level = level 77
 
+-- an I card of a field
 unfoldable pub field_card : Columns InputField
 field_card = values input_field
     ⊘ blank 17 43
@@ -193,6 +212,7 @@ field_card = values input_field
 abbrev pub is_and_card : List ℕ → Bool
 is_and_card card = all_blank (cols 7 13 card) && bytes_eq (cols 14 16 card) (codes "AND")
 
+-- a card of a field leaves the columns of a type blank
 abbrev pub is_field_card : List ℕ → Bool
 is_field_card card = all_blank (cols 7 16 card)
 
@@ -200,6 +220,7 @@ is_field_card card = all_blank (cols 7 16 card)
 unfoldable pub type_or_field_card : Columns InputSpec
 type_or_field_card = where_card is_field_card (values input.Field ⊛ field_card) (values input.Type ⊛ type_card)
 
+-- an I card
 unfoldable pub input_card : Columns InputSpec
 input_card = where_card is_and_card (values input.And ⊛ type_and_card) type_or_field_card
 
@@ -209,6 +230,7 @@ input_card = where_card is_and_card (values input.And ⊛ type_and_card) type_or
 unfoldable pub control_level : List ℕ → Option ControlLevel
 control_level text = option_or (one_of ((codes "  ", control.Detail) ∷ (codes "SR", control.Subroutine) ∷ (codes "AN", control.And) ∷ (codes "OR", control.Or) ∷ []) text) (option_map control.Total (indicator_within 100 110 text))
 
+-- an operation by its letters
 unfoldable pub operation : List ℕ → Option Operation
 operation = one_of (
     (codes "ADD  ", op.Add) ∷ (codes "SUB  ", op.Subtract) ∷ (codes "MULT ", op.Multiply) ∷ (codes "DIV  ", op.Divide) ∷ (codes "MVR  ", op.MoveRemainder)
@@ -217,6 +239,7 @@ operation = one_of (
     ∷ (codes "SETON", op.SetOn) ∷ (codes "SETOF", op.SetOff) ∷ (codes "GOTO ", op.GoTo) ∷ (codes "EXSR ", op.Call) ∷ (codes "TAG  ", op.Label)
     ∷ (codes "BEGSR", op.BeginSubroutine) ∷ (codes "ENDSR", op.EndSubroutine) ∷ (codes "EXCPT", op.Except) ∷ [])
 
+-- the columns of a C card, in their order
 abbrev pub calculation_spec : ControlLevel → Three (Option Condition) → Option Factor → Option Operation → Option Factor → Option Entry → Option ℕ → Option ℕ → Bool → Three (Option ℕ) → CalculationSpec
 calculation_spec t c f o g r l d h i = record { control_level = t; conditions = c; factor_1 = f; operation = o; factor_2 = g; result_field = r; length = l; decimals = d; half_adjust = h; resulting_indicators = i }
 
@@ -236,9 +259,11 @@ calculation_card = values calculation_spec
 
 -- ---- O; free: 71-74
 
+-- when a line is put out, by its letter
 unfoldable pub line_time : List ℕ → Option LineTime
 line_time = one_of ((codes "H", time.Heading) ∷ (codes "D", time.Detail) ∷ (codes "T", time.Total) ∷ (codes "E", time.Exception) ∷ [])
 
+-- lines to space, by a digit
 unfoldable pub space : List ℕ → Option ℕ
 space = one_of ((codes "0", 0) ∷ (codes "1", 1) ∷ (codes "2", 2) ∷ (codes "3", 3) ∷ [])
 
@@ -247,12 +272,15 @@ abbrev pub skip_line : Option ℕ → Option ℕ
 skip_line None = None
 skip_line (Some n) = when (is_between 1 66 n) n
 
+-- the line to skip to
 unfoldable pub skip : List ℕ → Option ℕ
 skip text = skip_line (digits text)
 
+-- the columns of spaces and skips, in their order
 abbrev pub movement_of : Option ℕ → Option ℕ → Option ℕ → Option ℕ → Movement
 movement_of a b c d = record { space_before = a; space_after = b; skip_before = c; skip_after = d }
 
+-- spaces and skips before and after a line
 unfoldable pub movement : Columns Movement
 movement = values movement_of
     ⊛ at 17 17 (blank_or space)
@@ -260,9 +288,11 @@ movement = values movement_of
     ⊛ at 19 20 (blank_or skip)
     ⊛ at 21 22 (blank_or skip)
 
+-- the columns of a line, in their order
 abbrev pub output_record : Option (List ℕ) → LineTime → Movement → Three (Option Condition) → OutputRecord
 output_record f t m c = record { file = f; time = t; movement = m; conditions = c }
 
+-- an O card that begins a line
 unfoldable pub record_card : Columns OutputRecord
 record_card = values output_record
     ⊛ at 7 14 (blank_or (name 8))
@@ -279,9 +309,11 @@ line_conditions = values (λ c. c)
     ⊛ conditions 23 25 26 28 29 31
     ⊘ blank 32 70
 
+-- the columns of an output field, in their order
 abbrev pub output_field : Three (Option Condition) → Option Entry → Option EditCode → Bool → ℕ → Option (List ℕ) → OutputField
 output_field c f e b n t = record { conditions = c; operand = f; code = e; blank_after = b; end = n; text = t }
 
+-- an O card of a field
 unfoldable pub output_field_card : Columns OutputField
 output_field_card = values output_field
     ⊘ blank 17 22
@@ -301,8 +333,10 @@ is_or_card card = all_blank (cols 7 13 card) && bytes_eq (cols 14 15 card) (code
 unfoldable pub line_or_field_card : Columns OutputSpec
 line_or_field_card = where_card is_field_card (values output.Field ⊛ output_field_card) (values output.Record ⊛ record_card)
 
+-- an OR card among O cards, or one that is no AND card either
 unfoldable pub line_or_card : Columns OutputSpec
 line_or_card = where_card is_or_card (values output.Or ⊘ blank 16 16 ⊛ line_conditions) line_or_field_card
 
+-- an O card
 unfoldable pub output_card : Columns OutputSpec
 output_card = where_card is_and_card (values output.And ⊛ line_conditions) line_or_card

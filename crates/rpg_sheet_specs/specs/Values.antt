@@ -25,6 +25,7 @@ use Rattle.rpg_text.specs.Texts.{is_between, is_blank, all_blank, trimmed}
 abbrev pub right_part : List ℕ → List ℕ
 right_part text = drop (prefix_len is_blank text) text
 
+-- a value where a test holds
 abbrev pub when : {X : Type 0} → Bool → X → Option X
 when b x = if b then Some x else None
 
@@ -51,6 +52,7 @@ marked mark text = one_of ((codes " ", false) ∷ (mark, true) ∷ []) text
 
 -- ---- numbers and names
 
+-- digits alone, and at least one
 abbrev pub all_digits : List ℕ → Bool
 all_digits text = nat_lt 0 (length text) && list_all is_ascii_digit text
 
@@ -62,9 +64,11 @@ digits text = when (all_digits text) (digits_value 10 text)
 unfoldable pub number : List ℕ → Option ℕ
 number text = digits (right_part text)
 
+-- A to Z, and the characters that names have as letters: $ # @
 abbrev pub is_letter : ℕ → Bool
 is_letter c = is_ascii_uppercase c || (c == 36) || (c == 35) || (c == 64)
 
+-- a letter or a digit
 abbrev pub is_name_character : ℕ → Bool
 is_name_character c = is_letter c || is_ascii_digit c
 
@@ -73,6 +77,7 @@ abbrev pub is_name : ℕ → List ℕ → Bool
 is_name most [] = false
 is_name most (c ∷ cs) = is_letter c && list_all is_name_character cs && nat_le (length cs + 1) most
 
+-- a text that is a name of at most so many characters
 abbrev pub name_of : ℕ → List ℕ → Option (List ℕ)
 name_of most text = when (is_name most text) text
 
@@ -90,15 +95,19 @@ letters text = when (list_all is_ascii_uppercase text) text
 abbrev pub literal_index : List ℕ → Option ℕ
 literal_index text = if nat_le (length text) 4 then digits text else None
 
+-- an index: a number or a name
 abbrev pub index_spelled : List ℕ → Option EntryIndex
 index_spelled text = option_or (option_map indexes.Literal (literal_index text)) (option_map indexes.Name (name_of 6 text))
 
+-- a comma
 abbrev pub is_comma : ℕ → Bool
 is_comma c = c == 44
 
+-- a name without an index
 abbrev pub plain : List ℕ → Entry
 plain n = record { name = n; index = None }
 
+-- a name with its index
 abbrev pub indexed : List ℕ → EntryIndex → Entry
 indexed n i = record { name = n; index = Some i }
 
@@ -107,17 +116,21 @@ abbrev pub entry_split : Option ℕ → List ℕ → Option Entry
 entry_split None text = option_map plain (name_of 6 text)
 entry_split (Some i) text = option_and_then (λ n. option_map (indexed n) (index_spelled (drop (i + 1) text))) (name_of 6 (take i text))
 
+-- a name, with an index after a comma or without one
 abbrev pub entry_spelled : List ℕ → Option Entry
 entry_spelled text = entry_split (position is_comma text) text
 
+-- a name in columns, with or without an index
 unfoldable pub entry : List ℕ → Option Entry
 entry text = entry_spelled (trimmed text)
 
 -- ---- literals, from the first column on
 
+-- a decimal point
 abbrev pub is_point : ℕ → Bool
 is_point c = c == 46
 
+-- the number, negative after a minus sign
 abbrev pub with_sign : Bool → ℕ → ℤ
 with_sign minus n = if minus then neg_ℤ (pos n) else pos n
 
@@ -133,6 +146,7 @@ numeral minus whole behind = when (all_digits (whole ++ behind)) (record {
 abbrev pub numeral_of : List ℕ → Option Numeral
 numeral_of text = numeral (starts_with_minus text) (before_first is_point (without_leading_sign text)) (after_first is_point (without_leading_sign text))
 
+-- an apostrophe
 abbrev pub is_apostrophe : ℕ → Bool
 is_apostrophe c = c == 39
 
@@ -162,12 +176,15 @@ is_enclosed text = nat_lt 2 (length text) && is_apostrophe (slice_index text 0) 
 abbrev pub quoted_of : List ℕ → Option (List ℕ)
 quoted_of text = if is_enclosed text then undoubled (slice_range text 1 (length text - 1)) else None
 
+-- a number in columns
 abbrev pub numeric_literal : List ℕ → Option Numeral
 numeric_literal text = numeral_of (trimmed text)
 
+-- a text between apostrophes
 unfoldable pub quoted : List ℕ → Option (List ℕ)
 quoted text = quoted_of (trimmed text)
 
+-- a number, or a text between apostrophes
 abbrev pub literal : List ℕ → Option Literal
 literal text = option_or (option_map literals.Number (numeric_literal text)) (option_map literals.Text (quoted text))
 
@@ -177,6 +194,7 @@ factor text = option_or (option_map factors.Entry (entry text)) (option_map fact
 
 -- ---- indicators
 
+-- a digit's value
 abbrev pub digit_number : ℕ → ℕ
 digit_number c = c - 48
 

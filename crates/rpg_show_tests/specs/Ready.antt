@@ -5,6 +5,7 @@ use Rattle.rpg_effect.specs.declared.form.FieldForm.{FieldForm}
 use Rattle.rpg_memory.specs.Fits.{Fits}
 use Rattle.rpg_store.specs.Store.{Currents, Values}
 
+-- values and current entries that fit the forms
 pub record HoldsForms (forms mine : List FieldForm) (values : Values) (current : Currents) : Type 0 where
   pub own : mine ≡ forms
   pub fits : Fits forms values current

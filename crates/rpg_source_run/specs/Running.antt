@@ -37,6 +37,7 @@ module _ {R S P D : Type 0} (remaining : R → Option (List ℕ)) (others : S �
   abbrev pub SourcePrints : CompiledSource → (date : List ℕ) → Lent R → Lent S → Lent P → Lent D → Report → Type 0
   SourcePrints source date input secondary print disk = PrintsOn source.text.items source.allowance date input secondary print disk
 
+  -- the run of a source ends with a fault of the run
   abbrev pub SourceStops : CompiledSource → (date : List ℕ) → Lent R → Lent S → Lent P → Lent D → RunFault → Type 0
   SourceStops source date input secondary print disk = StopsOn source.text.items source.allowance date input secondary print disk
 

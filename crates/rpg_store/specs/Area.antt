@@ -20,9 +20,11 @@ pub record AreaPart : Type 0 where
 abbrev pub zeros : ℕ → List ℕ
 zeros n = replicate n 48
 
+-- so many bytes of the area, from a place on
 abbrev pub bytes_at : List ℕ → ℕ → ℕ → List ℕ
 bytes_at area at len = take len (drop at area)
 
+-- the bytes of a part of the area
 abbrev pub bytes_in : List ℕ → AreaPart → List ℕ
 bytes_in area p = bytes_at area p.at p.len
 
@@ -31,6 +33,7 @@ abbrev pub text_value : Kind → List ℕ → Value
 text_value kinds.Number text = Number (spelled_number text)
 text_value kinds.Text text = Text text
 
+-- the value of a part of the area
 abbrev pub part_value : List ℕ → AreaPart → Value
 part_value area p = text_value p.kind (bytes_in area p)
 
@@ -49,6 +52,7 @@ abbrev pub length_in : Option Slot → ℕ
 length_in None = 0
 length_in (Some r) = r.form.length
 
+-- where the bytes of an entry begin
 abbrev pub start : List Slot → ℕ × ℕ → ℕ
 start slots entry = slot_start (slot_at slots entry.0) + (entry.1 - 1) * length_in (slot_at slots entry.0)
 
@@ -71,6 +75,7 @@ abbrev pub number_bytes : Kind → ℕ → ℕ
 number_bytes kinds.Number n = n
 number_bytes kinds.Text n = 0
 
+-- the bytes of a text; those of numbers stand in their own part of the area
 abbrev pub text_bytes : Kind → ℕ → ℕ
 text_bytes kinds.Number n = 0
 text_bytes kinds.Text n = n
@@ -80,10 +85,12 @@ abbrev pub all_number_bytes : List FieldForm → ℕ
 all_number_bytes [] = 0
 all_number_bytes (f ∷ fs) = number_bytes f.kind (size_of f) + all_number_bytes fs
 
+-- the bytes of the texts of these fields
 abbrev pub all_text_bytes : List FieldForm → ℕ
 all_text_bytes [] = 0
 all_text_bytes (f ∷ fs) = text_bytes f.kind (size_of f) + all_text_bytes fs
 
+-- one of two, by the kind of a value
 abbrev pub by_kind : Kind → ℕ → ℕ → ℕ
 by_kind kinds.Number a b = a
 by_kind kinds.Text a b = b

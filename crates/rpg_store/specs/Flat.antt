@@ -6,10 +6,12 @@ use Rattle.rpg_store.specs.Slots.{forms_of}
 use Rattle.rpg_store.specs.Store.{Values}
 use Rattle.rpg_store.specs.declared.slot.Slot.{Slot}
 
+-- a store whose values are bytes of one area
 pub record Flat : Type 0 where
   pub slots : List Slot
   pub area : List ℕ
 
+-- the values of such a store, by field and entry
 abbrev pub flat_contents : Flat → Values
 flat_contents s = by_entry (forms_of s.slots) (map (part_value s.area) (parts s.slots))
 

@@ -6,6 +6,7 @@ use Rattle.rpg_store.specs.Slots.{forms_of, spot}
 use Rattle.rpg_store.specs.Store.{Values}
 use Rattle.rpg_store.specs.declared.slot.Slot.{Slot}
 
+-- a store whose values are a list
 pub record Listed : Type 0 where
   pub slots : List Slot
   pub list : List Value
@@ -29,6 +30,7 @@ number_part v = number_of (Some v)
 abbrev pub text_part : Value → List ℕ
 text_part v = characters_of (Some v)
 
+-- the values of such a store, by field and entry
 abbrev pub listed_contents : Listed → Values
 listed_contents s = by_entry (forms_of s.slots) s.list
 

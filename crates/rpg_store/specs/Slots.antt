@@ -6,6 +6,7 @@ use Rattle.rpg_effect.specs.declared.form.FieldForm.{FieldForm}
 use Rattle.rpg_effect.specs.Forms.{is_table}
 use Rattle.rpg_store.specs.declared.slot.Slot.{Slot}
 
+-- the forms of all fields
 abbrev pub forms_of : List Slot → List FieldForm
 forms_of slots = along (λ r. r.form) slots
 
@@ -14,6 +15,7 @@ abbrev pub currents_from : ℕ → List Slot → List (ℕ × ℕ)
 currents_from field [] = []
 currents_from field (r ∷ rs) = if is_table r.form.class then (field, r.current) ∷ currents_from (field + 1) rs else currents_from (field + 1) rs
 
+-- the current entry of each field
 unfoldable pub currents : List Slot → map.FinMap nat_cmp ℕ
 currents slots = map.from_entries (currents_from 1 slots)
 
@@ -27,6 +29,7 @@ abbrev pub slot_at : List Slot → ℕ → Option Slot
 slot_at slots zero = None
 slot_at slots (suc k) = slice_get slots k
 
+-- the number of a field's first entry among all entries
 abbrev pub slot_start : Option Slot → ℕ
 slot_start None = 0
 slot_start (Some r) = r.first
@@ -40,6 +43,7 @@ abbrev pub slots_from : ℕ → List FieldForm → List Slot
 slots_from at [] = []
 slots_from at (f ∷ fs) = record { form = f; first = at; current = 1 } ∷ slots_from (at + f.entries) fs
 
+-- how many entries the fields have
 abbrev pub entries_count : List FieldForm → ℕ
 entries_count [] = 0
 entries_count (f ∷ fs) = f.entries + entries_count fs

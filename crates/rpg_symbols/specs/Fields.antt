@@ -41,6 +41,7 @@ same_form f g =
     sameb kinds.the_type f.kind g.kind && sameb classes.the_type f.class g.class && f.length == g.length && f.decimals == g.decimals
     && beq f.is_ascending g.is_ascending && f.entries == g.entries
 
+-- the characters that fields take in storage, all together
 abbrev pub storage : NamedForms → ℕ
 storage fields = sum_by (λ (f : List ℕ × FieldForm). size_of f.1) fields
 

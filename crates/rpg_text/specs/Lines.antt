@@ -3,6 +3,7 @@ use Rattle.std.specs.Prelude.{◌≡◌, ◌==◌, ℕ, Bool, true, not, List, [
 use Rattle.std.specs.List.{flat_map, list_all}
 use Rattle.std.specs.Str.Lines.{lines, strip_carriage_return}
 
+-- a line feed
 abbrev pub is_line_feed : ℕ → Bool
 is_line_feed b = b == 10
 
@@ -10,9 +11,11 @@ is_line_feed b = b == 10
 abbrev pub is_line : List ℕ → Bool
 is_line = list_all (λ b. not (is_line_feed b))
 
+-- a text with a line feed at its end
 abbrev pub with_line_feed : List ℕ → List ℕ
 with_line_feed text = text ++ 10 ∷ []
 
+-- one text, or none if it is empty
 abbrev pub unless_empty : List ℕ → List (List ℕ)
 unless_empty [] = []
 unless_empty (b ∷ bytes) = (b ∷ bytes) ∷ []

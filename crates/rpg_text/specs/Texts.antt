@@ -14,9 +14,11 @@ is_character c = is_between 32 126 c
 abbrev pub shown : ℕ → ℕ
 shown c = if is_character c then c else 63
 
+-- a blank
 abbrev pub is_blank : ℕ → Bool
 is_blank c = c == 32
 
+-- blanks alone
 abbrev pub all_blank : List ℕ → Bool
 all_blank text = list_all is_blank text
 

@@ -33,6 +33,7 @@ first_cost p first code = slice_index (costs_at p first code) 0
 
 -- ---- the greatest cost that a spend leads to: of a branch's target not later than itself, or of a subroutine's first place
 
+-- the cost from where a branch back leads to
 abbrev pub back_cost : ℕ → List ℕ → ℕ → Instruction ℕ → ℕ
 back_cost first costs place (Branch is_taken_where cs target) = if nat_le target place then cost_in first costs target else 0
 back_cost first costs place i = 0
@@ -69,11 +70,13 @@ most p = max (main_most p) (most_in p (length p.detail + length p.total) p.subro
 abbrev pub once : Object → ℕ
 once p = first_cost p 0 p.detail + first_cost p (length p.detail) p.total
 
+-- the steps of a cycle at most: its lines and fields, each instruction once, and each branch back or call that the allowance pays for
 unfoldable pub bound : Object → ℕ
 bound p = types_weight p.types + all_outputs_weight p + once p + p.allowance * most p
 
 -- ---- the costs of all places, one after another
 
+-- the costs of these subroutines
 abbrev pub costs_in : Object → ℕ → List SubroutineRow → List ℕ
 costs_in p first [] = []
 costs_in p first (s ∷ ss) = costs_at p first s.instructions ++ costs_in p (first + length s.instructions) ss
@@ -82,5 +85,6 @@ costs_in p first (s ∷ ss) = costs_at p first s.instructions ++ costs_in p (fir
 abbrev pub main_costs : Object → List ℕ
 main_costs p = costs_at p 0 p.detail ++ costs_at p (length p.detail) p.total
 
+-- the costs of all instructions: detail, total, then each subroutine
 abbrev pub costs : Object → List ℕ
 costs p = main_costs p ++ costs_in p (length p.detail + length p.total) p.subroutines

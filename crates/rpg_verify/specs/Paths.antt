@@ -22,9 +22,11 @@ Follows place (Branch is_taken_where cs target) next = (place < next) × ((next 
 Follows place (Call s) next = next ≡ place + 1
 Follows place (Return s) next = ⊥
 
+-- an instruction stands there
 abbrev pub IsPlace : Stretch → ℕ → Type 0
 IsPlace s place = (i : Instruction ℕ) × (at_place s place ≡ Some i)
 
+-- control may go from one place to the other
 abbrev pub Leads : Stretch → ℕ → ℕ → Type 0
 Leads s place next = (i : Instruction ℕ) × (at_place s place ≡ Some i) × Follows place i next
 
@@ -34,6 +36,7 @@ IsPath s [] = Unit {0}
 IsPath s (x ∷ []) = IsPlace s x
 IsPath s (x ∷ y ∷ rest) = Leads s x y × IsPath s (y ∷ rest)
 
+-- the path begins at the place, unless it is empty
 abbrev pub IsFrom : ℕ → List ℕ → Type 0
 IsFrom place [] = Unit {0}
 IsFrom place (x ∷ xs) = x ≡ place
@@ -48,6 +51,7 @@ cost_ahead place costs next = if nat_lt place next then slice_index costs (next 
 abbrev pub cost_passed : Bool → List ℕ → ℕ
 cost_passed always costs = if always then 0 else slice_index costs 0
 
+-- the most that may follow an instruction, without going back
 abbrev pub cost_onward : ℕ → Instruction ℕ → List ℕ → ℕ
 cost_onward place (Act a) costs = slice_index costs 0
 cost_onward place Except costs = slice_index costs 0
@@ -56,10 +60,12 @@ cost_onward place (Call s) costs = slice_index costs 0
 cost_onward place (Return s) costs = 0
 
 module _ (weight : Instruction ℕ → ℕ) where
+  -- the weight of the instruction at a place
   abbrev pub weight_in : Option (Instruction ℕ) → ℕ
   weight_in None = 0
   weight_in (Some i) = weight i
 
+  -- the weight of a path
   abbrev pub weight_along : Stretch → List ℕ → ℕ
   weight_along s [] = 0
   weight_along s (x ∷ xs) = weight_in (at_place s x) + weight_along s xs
@@ -73,6 +79,7 @@ module _ (weight : Instruction ℕ → ℕ) where
   abbrev pub with_cost : ℕ → Instruction ℕ → List ℕ → List ℕ
   with_cost place i costs = (weight i + cost_onward place i costs) ∷ costs
 
+  -- the cost of each instruction of a section
   abbrev pub costs_from : ℕ → List (Instruction ℕ) → List ℕ
   costs_from place [] = []
   costs_from place (i ∷ is) = with_cost place i (costs_from (place + 1) is)

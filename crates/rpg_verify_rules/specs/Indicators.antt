@@ -33,6 +33,7 @@ abbrev pub most_asked : Version → ℕ
 most_asked One = 128
 most_asked Two = 129
 
+-- the condition is on an indicator that the version has
 abbrev pub may_be_asked : Version → Condition → Bool
 may_be_asked v c = nat_le c.indicator (most_asked v)
 

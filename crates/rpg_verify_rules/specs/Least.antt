@@ -8,6 +8,7 @@ first_true n (b ∷ bs) = if b then Some n else first_true (n + 1) bs
 
 -- For each rule: its number, and of each row of its table whether it is broken.
 module _ {R : Type 0} (number : R → ℕ) (broken : R → List Bool) where
+  -- the row breaks the rule
   abbrev pub IsBroken : R → ℕ → Type 0
   IsBroken r row = slice_get (broken r) row ≡ Some true
 
@@ -15,9 +16,11 @@ module _ {R : Type 0} (number : R → ℕ) (broken : R → List Bool) where
   abbrev pub IsFaultless : Type 0
   IsFaultless = (r : R) (row : ℕ) → ¬ IsBroken r row
 
+  -- rules are in order, and rows within a rule
   abbrev pub NotAfter : R → ℕ → R → ℕ → Type 0
   NotAfter r row q other = (number r < number q) ⊎ ((r ≡ q) × (row ≤ other))
 
+  -- a broken rule with its row, and none comes before it
   pub record IsLeast (r : R) (row : ℕ) : Type 0 where
     pub is : IsBroken r row
     pub least : (q : R) (other : ℕ) → IsBroken q other → NotAfter r row q other
@@ -27,6 +30,7 @@ module _ {R : Type 0} (number : R → ℕ) (broken : R → List Bool) where
   or_later r None later = later
   or_later r (Some row) later = Some (r, row)
 
+  -- the first of these rules that is broken, with its first row
   abbrev pub first_broken : List R → Option (R × ℕ)
   first_broken [] = None
   first_broken (r ∷ rs) = or_later r (first_true 0 (broken r)) (first_broken rs)

@@ -44,6 +44,7 @@ edits_form form Plain fill = is_blank_fill fill
 edits_form form (Code code) fill = same_kind (kind_of form) kinds.Number && fits_code (length_of form) (decimals_of form) code fill
 edits_form form (Word k) fill = same_kind (kind_of form) kinds.Number && is_blank_fill fill
 
+-- the edit code fits the field
 abbrev pub is_field_edited : Object → LineField ℕ → Bool
 is_field_edited p f = edits_form (form_put_out p f) f.editing f.fill
 
@@ -53,6 +54,7 @@ is_word_for p digits Plain = true
 is_word_for p digits (Code code) = true
 is_word_for p digits (Word k) = is_text_constant (form_at p.fields k) && fits_word digits (word_at p k)
 
+-- the edit word fits the field
 abbrev pub is_field_worded : Object → LineField ℕ → Bool
 is_field_worded p f = is_word_for p (length_of (form_put_out p f)) f.editing
 
@@ -90,6 +92,7 @@ fits_line p len f = has_width p f && has_room (form_at p.fields) (word_at p) len
 abbrev pub blanks_wrongly : Object → ℕ → LineField ℕ → Bool
 blanks_wrongly p len f = not (blanks_writable (form_at p.fields) (word_at p) f) && fits_line p len f
 
+-- the conditions are on indicators that the version has
 abbrev pub is_field_asked : Version → LineField ℕ → Bool
 is_field_asked v f = all_asked v f.conditions
 
@@ -99,6 +102,7 @@ asks_wrongly p len f = not (is_field_asked p.version f) && (blanks_writable (for
 
 -- ---- whether a line breaks a rule; of a field each of V10 to V15 is silent where a smaller one refuses it
 
+-- the line breaks the rule
 unfoldable pub line_breaks : LineRule → Object → LineRow → Bool
 line_breaks V2 p l = file_length p l.file == 0
 line_breaks V8 p l = not (is_spaced_on l.file l.spacing)

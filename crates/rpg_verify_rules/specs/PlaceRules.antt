@@ -38,6 +38,7 @@ abbrev pub is_ordered : Marks → Bool
 is_ordered (Sought s) = is_some s.plus || is_some s.minus
 is_ordered m = false
 
+-- the entries ascend
 abbrev pub is_form_ascending : Option FieldForm → Bool
 is_form_ascending None = false
 is_form_ascending (Some d) = d.is_ascending
@@ -88,6 +89,7 @@ compares i = false
 abbrev pub knows_kinds : Object → Instruction ℕ → Bool
 knows_kinds p i = not (compares i) || all_used (is_good_operand (form_at p.fields)) (columns p i).factor1
 
+-- the operand has the kind that its use asks for, if kinds are known here
 abbrev pub has_known_kind : Object → Instruction ℕ → Use (Operand ℕ) → Bool
 has_known_kind p i u = not (knows_kinds p i) || has_kind (form_at p.fields) u
 
@@ -95,9 +97,11 @@ has_known_kind p i u = not (knows_kinds p i) || has_kind (form_at p.fields) u
 abbrev pub good_columns : Object → Instruction ℕ → Row (Operand ℕ)
 good_columns p i = those_passing (is_good_operand (form_at p.fields)) (columns p i)
 
+-- the operands that have the kind that is asked for
 abbrev pub columns_of_kind : Object → Instruction ℕ → Row (Operand ℕ)
 columns_of_kind p i = those_passing (has_known_kind p i) (good_columns p i)
 
+-- those of them that may be written where they are
 abbrev pub written_columns : Object → Instruction ℕ → Row (Operand ℕ)
 written_columns p i =
     record { factor1 = (columns_of_kind p i).factor1; factor2 = (columns_of_kind p i).factor2; result = passing (is_writable_use (form_at p.fields)) (columns_of_kind p i).result; marks = (columns_of_kind p i).marks }
@@ -108,6 +112,7 @@ holds_found p r = all_of (is_current_table (form_at p.fields)) r && holds_positi
 
 -- ---- whether an instruction of a section breaks a rule; V17 to V20 are silent on an operand that a smaller rule refuses
 
+-- the instruction breaks the rule
 unfoldable pub place_breaks : PlaceRule → Object → Section → Instruction ℕ → Bool
 place_breaks V16 p s i = not (all_of (is_good_operand (form_at p.fields)) (columns p i))
 place_breaks V17 p s i = not (all_of (has_known_kind p i) (good_columns p i))
@@ -151,6 +156,7 @@ abbrev pub is_return_if_any : Option (Instruction ℕ) → Bool
 is_return_if_any None = false
 is_return_if_any (Some i) = is_return i
 
+-- the last instruction returns
 abbrev pub ends_in_return : List (Instruction ℕ) → Bool
 ends_in_return code = is_return_if_any (slice_get code (length code - 1))
 
@@ -168,8 +174,10 @@ abbrev pub with_first : Bool → List Bool → List Bool
 with_first b [] = b ∷ []
 with_first b (x ∷ xs) = (b || x) ∷ xs
 
+-- an instruction outside subroutines returns
 abbrev pub has_stray_return : Object → Bool
 has_stray_return p = list_any is_return p.detail || list_any is_return p.total
 
+-- the level isn't 1 to 100
 abbrev pub is_off_level : SubroutineRow → Bool
 is_off_level s = not (is_between 1 100 s.level)

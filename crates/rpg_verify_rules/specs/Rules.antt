@@ -18,6 +18,7 @@ use Rattle.rpg_verify_rules.specs.declared.rule.TypeRule.TheVariants.{V3, V4, V5
 abbrev pub lacks_printer : Object → Bool
 lacks_printer p = is_some p.overflow && p.printer_length == 0
 
+-- which subroutines break the rule
 abbrev pub subroutines_broken : SubroutineRule → Object → List Bool
 subroutines_broken V23 p = with_first (has_stray_return p) (bodies_judged 0 p.subroutines)
 subroutines_broken V24 p = map is_off_level p.subroutines

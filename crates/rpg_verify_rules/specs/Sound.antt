@@ -60,6 +60,7 @@ pub record IsSoundType (p : Object) (t : TypeRow ℕ) : Type 0 where
   pub few_matched : sum (joined_widths t.matches) ≤ 256
   pub alike : are_joined_as (joined_widths (first_matches p.types)) t.matches ≡ true
 
+-- what the rules give a machine
 pub record IsSound (p : Object) : Type 0 where
   pub each : (x : Place) (i : Instruction ℕ) → IsAt p x i → IsSoundInstruction p x.section i
   pub ended : (n : ℕ) → has_subroutine p n ≡ true → ends_in_return (section_instructions p (Subroutine n)) ≡ true

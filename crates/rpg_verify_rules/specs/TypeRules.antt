@@ -73,6 +73,7 @@ joined_widths cs =
     joined_width 1 cs ∷ joined_width 2 cs ∷ joined_width 3 cs ∷ joined_width 4 cs ∷ joined_width 5 cs ∷ joined_width 6 cs ∷ joined_width 7 cs ∷ joined_width 8 cs
     ∷ joined_width 9 cs ∷ []
 
+-- the field is part of that level
 abbrev pub is_of_level : ℕ → ControlField → Bool
 is_of_level level c = c.level == level
 
@@ -96,6 +97,7 @@ are_matches len widths cs = list_all (is_control_in len) cs && (are_once cs && (
 
 -- ---- whether a type breaks a rule; its records have the length of those of its file
 
+-- the record type breaks the rule
 unfoldable pub type_breaks : TypeRule → Object → TypeRow ℕ → Bool
 type_breaks V3 p t = not (list_all (is_code_in (input_length p t.file)) t.codes)
 type_breaks V4 p t = not (if_any is_of_type t.indicator)

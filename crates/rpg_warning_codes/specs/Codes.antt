@@ -4,6 +4,7 @@ use Rattle.rpg_warning_codes.specs.declared.code.WarningCode.{WarningCode}
 use Rattle.rpg_warning_codes.specs.declared.code.WarningCode.TheVariants.{W1, W2, W3, W4, W5, W6}
 use Rattle.rpg_warning_codes.specs.declared.codes.WarningCodes.{WarningCodes}
 
+-- a code as it is printed
 abbrev pub code_text : WarningCode → List ℕ
 code_text W1 = codes "W1"
 code_text W2 = codes "W2"
@@ -12,6 +13,7 @@ code_text W4 = codes "W4"
 code_text W5 = codes "W5"
 code_text W6 = codes "W6"
 
+-- the code is in the set
 abbrev pub has : WarningCodes → WarningCode → Bool
 has set W1 = set.w1
 has set W2 = set.w2
@@ -20,6 +22,7 @@ has set W4 = set.w4
 has set W5 = set.w5
 has set W6 = set.w6
 
+-- the set with one more code
 abbrev pub with : WarningCodes → WarningCode → WarningCodes
 with set W1 = record set { w1 = true }
 with set W2 = record set { w2 = true }
