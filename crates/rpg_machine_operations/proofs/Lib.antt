@@ -4,6 +4,7 @@ pub mod Doing
 pub mod Finding
 pub mod Fixing
 pub mod Looking
+pub mod Named
 pub mod Overlays
 pub mod Rights
 pub mod Sums

@@ -1,3 +1,9 @@
+use Rattle.std.proofs.Common.{refl, sym, subst, nat_cmp}
+use Rattle.rpg_effect.specs.Act.{act}
+use Rattle.rpg_effect.specs.Effect.{Effect}
+use Rattle.rpg_effect.specs.Ends.{GoesOn}
+use Rattle.rpg_machine_operations.specs.Words.{DidEffect}
+use Rattle.rpg_machine_operations.proofs.Named.{compare_named}
 use Rattle.rpg_machine_operations.proofs.Rights.{names_like}
 use Rattle.rpg_machine_operations.proofs.comparing.compare_entries.Goals as goal
 
@@ -6,3 +12,10 @@ show_order-requires-clause-factor1 g c = names_like c.args.memory.now.program.fi
 
 pub show_order-requires-clause-factor2 : goal.show_order-requires-clause-factor2
 show_order-requires-clause-factor2 g c = names_like c.args.memory.now.program.fields _ _ c.in_ok-factor1.factor1 _ c.in_ok-factor1.ensures.operand c.in_ok-factor2.ensures.named c.requires.factor2
+
+pub returns : goal.returns
+unfolding act
+returns g c =
+    let is = compare_named c.args.memory.now c.args.factor1.now c.args.factor2.now c.args.shows c.in_ok-factor1.factor1 c.in_ok-factor2.factor2 c.in_ok-factor1.ensures.entry c.in_ok-factor2.ensures.entry in
+    subst (λ (e : Effect nat_cmp). DidEffect e c.args.memory.now GoesOn c.show_order.new.memory) (sym is)
+    (record { leaves = rw c.show_order.ensures refl; right = tt; rest = rw c.show_order.ensures refl })
