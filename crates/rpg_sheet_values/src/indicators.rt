@@ -12,17 +12,25 @@ pub fn indicator(text: &[u8]) -> Option<Indicator>
     ensures { result ≡ values.indicator text.now }
 {
     match text {
-        b"00" => None,
-        [tens @ b'0'..=b'9', units @ b'0'..=b'9'] => Some(Indicator::new(
-            10 * (*tens - b'0') + (*units - b'0'),
-        )),
-        [b'L', level @ b'0'..=b'9'] => Some(Indicator::new(100 + (*level - b'0'))),
-        [b'O', letter @ b'A'..=b'G'] => Some(Indicator::new(112 + (*letter - b'A'))),
-        [b'H', halt @ b'1'..=b'9'] => Some(Indicator::new(119 + (*halt - b'0'))),
-        b"LR" => Some(Indicator::new(110)),
-        b"1P" => Some(Indicator::new(111)),
-        b"OV" => Some(Indicator::new(119)),
-        b"MR" => Some(Indicator::new(129)),
+        [first, second] => spelled(*first, *second),
+        _ => None,
+    }
+}
+
+/// The indicator of two characters.
+fn spelled(first: u8, second: u8) -> Option<Indicator>
+    ensures { result ≡ values.indicator_spelled first second }
+{
+    match (first, second) {
+        (b'0', b'0') => None,
+        (b'0'..=b'9', b'0'..=b'9') => Some(Indicator::new(10 * (first - b'0') + (second - b'0'))),
+        (b'L', b'0'..=b'9') => Some(Indicator::new(100 + (second - b'0'))),
+        (b'O', b'A'..=b'G') => Some(Indicator::new(112 + (second - b'A'))),
+        (b'H', b'1'..=b'9') => Some(Indicator::new(119 + (second - b'0'))),
+        (b'L', b'R') => Some(Indicator::new(110)),
+        (b'1', b'P') => Some(Indicator::new(111)),
+        (b'O', b'V') => Some(Indicator::new(119)),
+        (b'M', b'R') => Some(Indicator::new(129)),
         _ => None,
     }
 }
