@@ -2,7 +2,7 @@
 use Rattle.std.proofs.Common.{◌≡◌, ℕ, zero, suc, ◌-◌, ◌≤◌, Bool, true, false, List, [], ◌∷◌, length, take, drop, Some, refl, ap, ◌∙◌, arith}
 use Rattle.std.specs.Prelude.{if◌then◌else◌, ◌&&◌, slice_range}
 use Rattle.std.specs.List.{list_all, suffix_len}
-use Rattle.std.proofs.lemmas.Grind.{common_steps}
+use Rattle.std.proofs.lemmas.Bool.{eqb-true}
 use Rattle.rpg_text.specs.Texts.{is_character, is_blank, trimmed}
 use Rattle.rpg_sheet_specs.specs.Values.{is_apostrophe, doubled, undoubled, is_enclosed}
 use Rattle.rpg_sheet_values.proofs.LiteralLemmas.{enclosed_is, doubled-undoubled}
@@ -27,7 +27,7 @@ all-undoubled p (c ∷ cs) e = by (is_apostrophe c) refl (all-undoubled p cs) e
   where
     by : (b : Bool) → is_apostrophe c ≡ b → (list_all p (doubled cs) ≡ true → list_all p cs ≡ true) → list_all p (if b then 39 ∷ 39 ∷ doubled cs else c ∷ doubled cs) ≡ true → list_all p (c ∷ cs) ≡ true
     by true h more e =
-        let is : c ≡ 39 = grind (arith, common_steps) in
+        let is = eqb-true c 39 h in
         let first = both (p 39) (list_all p (39 ∷ doubled cs)) e in
         let second = both (p 39) (list_all p (doubled cs)) first.1 in
         rw (is, first.0) (more second.1)

@@ -4,7 +4,7 @@ use Rattle.std.specs.Prelude.{position, ◌⊎◌, if◌then◌else◌, not, opt
 use Rattle.std.specs.List.{list_all, position_or_len, before_first, after_first}
 use Rattle.std.specs.Char.{is_ascii_digit}
 use Rattle.std.specs.Str.Parse.{digits_value}
-use Rattle.std.proofs.lemmas.Bool.{cases_lt}
+use Rattle.std.proofs.lemmas.Bool.{cases_lt, eqb-true}
 use Rattle.std.proofs.lemmas.Grind.{common_steps}
 use Rattle.std.proofs.Math.Seq.{take-suc, take-append_seam, get_or-append_seam}
 use Rattle.std.proofs.lemmas.List.{take_all, drop_all, length-take}
@@ -57,7 +57,7 @@ undoubled-doubled [] = refl
 undoubled-doubled (c ∷ cs) = by (is_apostrophe c) refl (undoubled-doubled cs)
   where
     by : (b : Bool) → is_apostrophe c ≡ b → undoubled (doubled cs) ≡ Some cs → undoubled (if b then 39 ∷ 39 ∷ doubled cs else c ∷ doubled cs) ≡ Some (c ∷ cs)
-    by true e more = let is : c ≡ 39 = grind (arith, common_steps) in rw (more, is) refl
+    by true e more = rw (more, eqb-true c 39 e) refl
     by false e more = undoubled_other c (doubled cs) e ∙ rw more refl
 
 -- what is made of Some is made of its item
@@ -81,9 +81,7 @@ doubled-undoubled (c ∷ d ∷ cs) t e = by (is_apostrophe c) (is_apostrophe d) 
     by false b h k more less e = let m = mapped_some (λ u. c ∷ u) (undoubled (d ∷ cs)) t e in rw (sym m.2) (rw h (ap (λ (u : List ℕ). c ∷ u) (more m.0 m.1)))
     by true true h k more less e =
         let m = mapped_some (λ u. 39 ∷ u) (undoubled cs) t e in
-        let first : c ≡ 39 = grind (arith, common_steps) in
-        let second : d ≡ 39 = grind (arith, common_steps) in
-        rw (sym m.2, first, second) (ap (λ (u : List ℕ). 39 ∷ 39 ∷ u) (less m.0 m.1))
+        rw (sym m.2, eqb-true c 39 h, eqb-true d 39 k) (ap (λ (u : List ℕ). 39 ∷ 39 ∷ u) (less m.0 m.1))
     by true false h k more less e = absurd cc
 
 enclosed : (inner : List ℕ) → 0 < length inner → is_enclosed (39 ∷ inner ++ 39 ∷ []) ≡ true

@@ -125,7 +125,6 @@ fn is_enclosed(text: &[u8]) -> bool
 }
 
 /// The text whose apostrophes are written twice: none if one of them is single.
-#[tactic(auto, using(crate::proofs::LiteralLemmas::one_more))]
 fn undoubled<const N: usize>(text: &[u8]) -> Option<Word<N>>
     requires { length text.now ≤ N }
     ensures { result ≡ values.undoubled text.now }
