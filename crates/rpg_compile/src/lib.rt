@@ -4,4 +4,4 @@
 mod source;
 
 pub use rpg_faults::{SourceCode, SourceFault};
-pub use source::compile;
+pub use source::{Compiled, compile, compile_with_cards};

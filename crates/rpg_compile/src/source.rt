@@ -2,12 +2,36 @@
 
 ghost use Rattle.std.specs.Prelude.{◌<◌, IfOk, IfErr};
 ghost use Rattle.rpg_compile.specs.Compile.{Compiles};
-ghost use Rattle.rpg_faults.specs.Source.{IsSourceRefusal};
+ghost use Rattle.rpg_faults.specs.Source.{AreFaultless, IsSourceRefusal};
 
+use rpg_cards::SpecCard;
 use rpg_compile_translator::translate;
 use rpg_faults::{SourceFault, faultless_cards};
 use rpg_object_program::Program;
 use std::alloc::Global;
+
+/// A source without a fault: its cards, and the program that they are compiled to.
+#[derive(Drop)]
+pub struct Compiled {
+    pub cards: Vec<SpecCard>,
+    pub program: Program,
+}
+
+/// Compiles a source as `compile` does, and returns its cards too, so that nobody has to read and judge them again.
+pub fn compile_with_cards(
+    alloc: Global,
+    text: &[u8],
+    allowance: u16,
+) -> Result<Compiled, SourceFault>
+    requires { 0 < allowance }
+    ensures ok { IfOk result (λ compiled. Compiles text.now allowance compiled.program) }
+    ensures cards { IfOk result (λ compiled. AreFaultless text.now compiled.cards.items) }
+    ensures err { IfErr result (λ fault. IsSourceRefusal fault text.now) }
+{
+    let cards = faultless_cards(alloc, text)?;
+    let program = translate(alloc, &cards, allowance)?;
+    Ok(Compiled { cards, program })
+}
 
 /// Compiles a source. `allowance` is what its program may spend in a cycle on backward branches and calls.
 pub fn compile(alloc: Global, text: &[u8], allowance: u16) -> Result<Program, SourceFault>
