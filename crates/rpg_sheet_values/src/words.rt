@@ -11,7 +11,7 @@ use crate::indicators::indicator_within;
 use crate::numbers::digits;
 use rpg_sheet_specs::{ControlLevel, Device, FormType, LineTime, Operation, Within};
 
-/// Whether a text is this word. The proof of a caller is half as long as with `==`.
+/// Whether a text is this word.
 pub fn is(text: &[u8], word: &[u8]) -> bool
     ensures { result ≡ bytes_eq text.now word.now }
 {
