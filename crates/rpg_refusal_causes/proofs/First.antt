@@ -21,6 +21,11 @@ pub some_later : {C : Type 0} (a b : Option C) → is_some b ≡ true → is_som
 some_later None b h = h
 some_later (Some c) b h = refl
 
+-- one of two tests doesn't pass
+pub one_of_two : {C : Type 0} (a b : Bool) (x y : Option C) → (not a ≡ true → is_some x ≡ true) → (not b ≡ true → is_some y ≡ true) → not (a && b) ≡ true → is_some (or_next x y) ≡ true
+one_of_two false b x y f g h = some_front x y (f refl)
+one_of_two true b x y f g h = some_later x y (g h)
+
 pub some_mapped : {X C : Type 0} (f : X → C) (o : Option X) → is_some o ≡ true → is_some (option_map f o) ≡ true
 some_mapped f None h = absurd (false≢true h)
 some_mapped f (Some x) h = refl

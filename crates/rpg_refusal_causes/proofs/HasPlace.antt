@@ -3,8 +3,10 @@ use Rattle.std.proofs.Common.{◌≡◌, ℕ, ◌+◌, Bool, true, false, not, �
 use Rattle.std.proofs.lemmas.Bool.{false≢true}
 use Rattle.std.proofs.lemmas.List.{map-append}
 use Rattle.std.specs.Option.{is_some}
-use Rattle.rpg_effect.specs.Forms.{form_at}
-use Rattle.rpg_effect.specs.Rows.{all_of, all_used, is_good_operand, is_writable_use}
+use Rattle.std.specs.Prelude.{◌||◌, nat_le}
+use Rattle.rpg_effect.specs.Forms.{entries_of, form_at}
+use Rattle.rpg_effect.specs.Rows.{all_of, all_used, can_hold, field_of, holds_all, holds_position, holds_positions, is_current_table, is_good_operand, is_searched, is_two_sided, is_writable_use}
+use Rattle.rpg_effect.specs.declared.row.Marks.{Marks}
 use Rattle.rpg_effect.specs.declared.operation.Instruction.{Instruction}
 use Rattle.rpg_effect.specs.declared.operation.Instruction.TheVariants.{Act, Except, Branch, Call, Return}
 use Rattle.rpg_effect.specs.declared.operation.Operand.{Operand}
@@ -15,14 +17,14 @@ use Rattle.rpg_object_program.specs.Object.{Object, SubroutineRow}
 use Rattle.rpg_object_program.specs.declared.section.Section.{Section}
 use Rattle.rpg_object_program.specs.declared.section.Section.TheVariants.{Detail, Total, Subroutine}
 use Rattle.rpg_object_program.specs.declared.spans.Span.{Span}
-use Rattle.rpg_refusal_causes.proofs.First.{some_front, some_if, some_later, some_unless}
+use Rattle.rpg_refusal_causes.proofs.First.{one_of_two, some_front, some_if, some_later, some_unless}
 use Rattle.rpg_refusal_causes.specs.First.{cause_if, or_next}
-use Rattle.rpg_refusal_causes.specs.PlaceCauses.{all_placed, call_cause, column_cause, marks_cause, operand_cause, place_cause, placed_after_detail, placed_in, placed_in_subroutines, target_cause}
+use Rattle.rpg_refusal_causes.specs.PlaceCauses.{all_placed, call_cause, column_cause, entries_cause, found_cause, marks_cause, operand_cause, place_cause, placed_after_detail, placed_in, placed_in_subroutines, search_cause, short_cause, shows_cause, target_cause, unordered_cause}
 use Rattle.rpg_refusal_causes.specs.declared.cause.Column.{Column}
 use Rattle.rpg_refusal_causes.specs.declared.cause.Column.TheVariants as column_names
 use Rattle.rpg_refusal_causes.specs.declared.cause.Placed.{Placed}
 use Rattle.rpg_refusal_causes.specs.declared.cause.RefusalCause.TheVariants as causes
-use Rattle.rpg_verify_rules.specs.PlaceRules.{calls_higher, has_known_kind, judged_behind_detail, passing, place_breaks, places_judged, stays_inside, subroutines_judged, those_passing}
+use Rattle.rpg_verify_rules.specs.PlaceRules.{are_marked, calls_higher, columns_of_kind, has_known_kind, is_ascending, is_ordered, is_searched_well, judged_behind_detail, passing, place_breaks, places_judged, stays_inside, subroutines_judged, those_passing, written_columns, are_asked, holds_found}
 use Rattle.rpg_verify_rules.specs.declared.rule.PlaceRule.{PlaceRule}
 use Rattle.rpg_verify_rules.specs.declared.rule.PlaceRule.TheVariants.{V16, V17, V18, V19, V20, V21, V22}
 
@@ -77,12 +79,50 @@ module _ (good known : Use (Operand ℕ) → Bool) where
 
 -- ---- indicators, and where control goes
 
-marks_has : (p : Object) (i : Instruction ℕ) → is_some (marks_cause p i) ≡ true
-marks_has p (Act a) = refl
-marks_has p Except = refl
-marks_has p (Branch is_taken_where cs target) = refl
-marks_has p (Call n) = refl
-marks_has p (Return n) = refl
+shows_have : (p : Object) (m : Marks) (factor2 : Option (Use (Operand ℕ)))
+    → not (are_marked m && (not (is_two_sided m) && (not (is_ordered m) || all_used (is_ascending p) factor2))) ≡ true → is_some (shows_cause p m factor2) ≡ true
+shows_have p m factor2 h = by (are_marked m) (is_two_sided m) (is_ordered m) factor2 h
+  where
+    by : (a two ordered : Bool) (o : Option (Use (Operand ℕ))) → not (a && (not two && (not ordered || all_used (is_ascending p) o))) ≡ true
+        → is_some (or_next (cause_if (not (a && not two)) (causes.Marked m)) (unordered_cause p m o)) ≡ true
+    by false two ordered o h = refl
+    by true true ordered o h = refl
+    by true false false o h = absurd (false≢true h)
+    by true false true None h = absurd (false≢true h)
+    by true false true (Some u) h = some_if (not (is_ascending p u)) (causes.Unordered m u) h
+
+marks_has : (p : Object) (i : Instruction ℕ) → not (are_asked p.version i && (are_marked (columns p i).marks && is_searched_well p (columns_of_kind p i))) ≡ true → is_some (marks_cause p i) ≡ true
+marks_has p (Act a) h = shows_have p (columns p (Act a)).marks (columns_of_kind p (Act a)).factor2 h
+marks_has p Except h = shows_have p (columns p Except).marks (columns_of_kind p Except).factor2 h
+marks_has p (Branch is_taken_where cs target) h = refl
+marks_has p (Call n) h = shows_have p (columns p (Call n)).marks (columns_of_kind p (Call n)).factor2 h
+marks_has p (Return n) h = shows_have p (columns p (Return n)).marks (columns_of_kind p (Return n)).factor2 h
+
+-- ---- what is searched
+
+entries_have : (p : Object) (to : Option (Use (Operand ℕ))) (u : Use (Operand ℕ)) (n : ℕ) → not (holds_position (form_at p.fields) u.operand.index (field_of (form_at p.fields) to) n) ≡ true
+    → is_some (entries_cause p to u n) ≡ true
+entries_have p None u n h =
+    some_front (cause_if (not (can_hold (form_at p.fields) u.operand.index n)) (causes.Index u n)) (short_cause p n None) (some_if (not (can_hold (form_at p.fields) u.operand.index n)) (causes.Index u n) h)
+entries_have p (Some t) u n h =
+    let holds = can_hold (form_at p.fields) u.operand.index n in
+    let enough = nat_le n (entries_of (form_at p.fields t.operand.field)) in
+    one_of_two holds enough (cause_if (not holds) (causes.Index u n)) (cause_if (not enough) (causes.Short t n)) (some_if (not holds) (causes.Index u n)) (some_if (not enough) (causes.Short t n)) h
+
+found_have : (p : Object) (to factor2 : Option (Use (Operand ℕ))) → not (all_used (λ u. not (is_searched (form_at p.fields) u.shape) || holds_all (form_at p.fields) to u) factor2) ≡ true → is_some (found_cause p to factor2) ≡ true
+found_have p to None h = absurd (false≢true h)
+found_have p to (Some u) h = by (is_searched (form_at p.fields) u.shape) h
+  where
+    by : (b : Bool) → not (not b || holds_all (form_at p.fields) to u) ≡ true → is_some (cond b (entries_cause p to u (entries_of (form_at p.fields u.operand.field))) None) ≡ true
+    by true e = entries_have p to u (entries_of (form_at p.fields u.operand.field)) e
+    by false e = absurd (false≢true e)
+
+search_has : (p : Object) (r : Row (Operand ℕ)) → not (holds_found p r) ≡ true → is_some (search_cause p r) ≡ true
+unfolding holds_positions
+search_has p r h =
+    one_of_two (all_of (is_current_table (form_at p.fields)) r) (all_used (λ u. not (is_searched (form_at p.fields) u.shape) || holds_all (form_at p.fields) r.result u) r.factor2)
+    (operand_cause (λ u. not (is_current_table (form_at p.fields) u)) r) (found_cause p r.result r.factor2)
+    (operand_has (is_current_table (form_at p.fields)) r) (found_have p r.result r.factor2) h
 
 target_has : (p : Object) (x : Span) (s : Section) (i : Instruction ℕ) → not (stays_inside p s i) ≡ true → is_some (target_cause x i) ≡ true
 target_has p x s (Act a) h = absurd (false≢true h)
@@ -103,8 +143,8 @@ unfolding place_breaks place_cause
 place_has V16 p x h = operand_has (is_good_operand (form_at p.fields)) (columns p x.instruction) h
 place_has V17 p x h = kinds_have (is_good_operand (form_at p.fields)) (has_known_kind p x.instruction) (columns p x.instruction) h
 place_has V18 p x h = written_has (is_good_operand (form_at p.fields)) (has_known_kind p x.instruction) (is_writable_use (form_at p.fields)) column_names.Result (columns p x.instruction).result h
-place_has V19 p x h = marks_has p x.instruction
-place_has V20 p x h = refl
+place_has V19 p x h = marks_has p x.instruction h
+place_has V20 p x h = search_has p (written_columns p x.instruction) h
 place_has V21 p x h = target_has p x.span x.span.section x.instruction h
 place_has V22 p x h = call_has p x.span.section x.instruction h
 

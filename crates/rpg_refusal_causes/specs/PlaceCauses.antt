@@ -1,11 +1,13 @@
 -- What in an instruction breaks V16 to V22.
-use Rattle.std.specs.Prelude.{ℕ, ◌+◌, Bool, false, not, ◌&&◌, List, [], ◌∷◌, ◌++◌, map, Option, None, Some, slice_get}
-use Rattle.std.specs.Option.{option_map}
-use Rattle.rpg_effect.specs.Forms.{form_at}
-use Rattle.rpg_effect.specs.Rows.{is_good_operand, is_writable_use}
+use Rattle.std.specs.Prelude.{ℕ, ◌+◌, Bool, false, not, ◌&&◌, nat_le, List, [], ◌∷◌, ◌++◌, map, Option, None, Some, slice_get, if◌then◌else◌}
+use Rattle.std.specs.Option.{option_map, option_map_or}
+use Rattle.rpg_effect.specs.Forms.{entries_of, form_at}
+use Rattle.rpg_effect.specs.Rows.{can_hold, is_current_table, is_good_operand, is_searched, is_two_sided, is_writable_use}
+use Rattle.rpg_effect.specs.declared.condition.Conditions.{Conditions}
 use Rattle.rpg_effect.specs.declared.operation.Instruction.{Instruction}
 use Rattle.rpg_effect.specs.declared.operation.Instruction.TheVariants.{Branch, Call}
 use Rattle.rpg_effect.specs.declared.operation.Operand.{Operand}
+use Rattle.rpg_effect.specs.declared.row.Marks.{Marks}
 use Rattle.rpg_effect.specs.declared.row.Row.{Row}
 use Rattle.rpg_effect.specs.declared.row.Use.{Use}
 use Rattle.rpg_object_program.specs.Instructions.{columns}
@@ -20,7 +22,7 @@ use Rattle.rpg_refusal_causes.specs.declared.cause.Column.TheVariants as column_
 use Rattle.rpg_refusal_causes.specs.declared.cause.Placed.{Placed}
 use Rattle.rpg_refusal_causes.specs.declared.cause.RefusalCause.{RefusalCause}
 use Rattle.rpg_refusal_causes.specs.declared.cause.RefusalCause.TheVariants as causes
-use Rattle.rpg_verify_rules.specs.PlaceRules.{has_known_kind}
+use Rattle.rpg_verify_rules.specs.PlaceRules.{are_marked, columns_of_kind, has_known_kind, is_ascending, written_columns}
 use Rattle.rpg_verify_rules.specs.declared.rule.PlaceRule.{PlaceRule}
 use Rattle.rpg_verify_rules.specs.declared.rule.PlaceRule.TheVariants.{V16, V17, V18, V19, V20, V21, V22}
 
@@ -73,10 +75,41 @@ operand_cause breaks r =
 
 -- ---- indicators, and where control goes
 
--- the indicators that an instruction names: a branch asks them, an operation is marked by them
+-- factor 2, where it isn't in ascending sequence
+abbrev pub unordered_cause : Object → Marks → Option (Use (Operand ℕ)) → Option RefusalCause
+unordered_cause p m None = None
+unordered_cause p m (Some u) = cause_if (not (is_ascending p u)) (causes.Unordered m u)
+
+-- the indicators of an operation; where these may stand, factor 2, which is searched by them
+abbrev pub shows_cause : Object → Marks → Option (Use (Operand ℕ)) → Option RefusalCause
+shows_cause p m factor2 = or_next (cause_if (not (are_marked m && not (is_two_sided m))) (causes.Marked m)) (unordered_cause p m factor2)
+
+-- the conditions that a branch asks
+abbrev pub asked_by : Instruction ℕ → Option Conditions
+asked_by (Branch is_taken_where cs target) = Some cs
+asked_by i = None
+
+-- a branch asks indicators, an operation is marked by them
 abbrev pub marks_cause : Object → Instruction ℕ → Option RefusalCause
-marks_cause p (Branch is_taken_where cs target) = Some (causes.Asked cs)
-marks_cause p i = Some (causes.Marked (columns p i).marks (columns p i).factor2)
+marks_cause p i = option_map_or (λ cs. Some (causes.Asked cs)) (asked_by i) (shows_cause p (columns p i).marks (columns_of_kind p i).factor2)
+
+-- a result with fewer entries than that
+abbrev pub short_cause : Object → ℕ → Option (Use (Operand ℕ)) → Option RefusalCause
+short_cause p n None = None
+short_cause p n (Some u) = cause_if (not (nat_le n (entries_of (form_at p.fields u.operand.field)))) (causes.Short u n)
+
+-- what is searched has so many entries: its index can't hold their number, or the result has fewer
+abbrev pub entries_cause : Object → Option (Use (Operand ℕ)) → Use (Operand ℕ) → ℕ → Option RefusalCause
+entries_cause p to u n = or_next (cause_if (not (can_hold (form_at p.fields) u.operand.index n)) (causes.Index u n)) (short_cause p n to)
+
+-- of what is searched
+abbrev pub found_cause : Object → Option (Use (Operand ℕ)) → Option (Use (Operand ℕ)) → Option RefusalCause
+found_cause p to None = None
+found_cause p to (Some u) = if is_searched (form_at p.fields) u.shape then entries_cause p to u (entries_of (form_at p.fields u.operand.field)) else None
+
+-- of operands that no smaller rule refuses: what is to become current is no table; else what is searched
+abbrev pub search_cause : Object → Row (Operand ℕ) → Option RefusalCause
+search_cause p r = or_next (operand_cause (λ u. not (is_current_table (form_at p.fields) u)) r) (found_cause p r.result r.factor2)
 
 -- where a branch leads
 abbrev pub target_cause : Span → Instruction ℕ → Option RefusalCause
@@ -94,6 +127,6 @@ place_cause V16 p x = operand_cause (operand_breaks V16 p x.instruction) (column
 place_cause V17 p x = operand_cause (operand_breaks V17 p x.instruction) (columns p x.instruction)
 place_cause V18 p x = column_cause (operand_breaks V18 p x.instruction) column_names.Result (columns p x.instruction).result
 place_cause V19 p x = marks_cause p x.instruction
-place_cause V20 p x = Some (causes.Search (columns p x.instruction).factor2 (columns p x.instruction).result)
+place_cause V20 p x = search_cause p (written_columns p x.instruction)
 place_cause V21 p x = target_cause x.span x.instruction
 place_cause V22 p x = call_cause p x.instruction

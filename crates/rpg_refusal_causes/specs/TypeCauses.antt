@@ -1,6 +1,6 @@
 -- What in a record type breaks V3 to V7, V25 and V26.
-use Rattle.std.specs.Prelude.{ℕ, not, List, take, Option, Some}
-use Rattle.std.specs.List.{list_any}
+use Rattle.std.specs.Prelude.{ℕ, ◌+◌, ◌==◌, not, nat_le, List, [], ◌∷◌, take, Option, None, Some, if◌then◌else◌}
+use Rattle.std.specs.List.{list_any, sum}
 use Rattle.std.specs.Option.{option_map}
 use Rattle.rpg_effect.specs.Input.{TypeRow}
 use Rattle.rpg_effect.specs.declared.input.ControlField.{ControlField}
@@ -10,7 +10,7 @@ use Rattle.rpg_object_program.specs.Object.{Object, input_length}
 use Rattle.rpg_refusal_causes.specs.First.{cause_if, first_cause, or_next}
 use Rattle.rpg_refusal_causes.specs.declared.cause.RefusalCause.{RefusalCause}
 use Rattle.rpg_refusal_causes.specs.declared.cause.RefusalCause.TheVariants as causes
-use Rattle.rpg_verify_rules.specs.TypeRules.{is_code_in, is_control_in, is_input_in, is_of_level, shows_wrongly}
+use Rattle.rpg_verify_rules.specs.TypeRules.{first_matches, is_code_in, is_control_in, is_input_in, is_measured, is_of_level, joined_width, joined_widths, measures, shows_wrongly}
 use Rattle.rpg_verify_rules.specs.declared.rule.TypeRule.{TypeRule}
 use Rattle.rpg_verify_rules.specs.declared.rule.TypeRule.TheVariants.{V3, V4, V5, V6, V7, V25, V26}
 
@@ -38,12 +38,34 @@ twice_cause cs n c = cause_if (list_any (is_of_level c.level) (take n cs)) (caus
 abbrev pub match_cause : ℕ → List ControlField → ℕ → ControlField → Option RefusalCause
 match_cause len cs n c = or_next (cause_if (not (is_control_in len c)) (causes.Match n c len)) (twice_cause cs n c)
 
+-- ---- joined lengths
+
+-- a level of so many columns, where the first type with it has others: too many, or other ones
+abbrev pub level_cause : ℕ → ℕ → ℕ → RefusalCause
+level_cause level n first = if nat_le n 256 then causes.OtherLevel level n first else causes.LongLevel level n
+
+-- the first level from a number on that isn't as long as the first one of its kind
+abbrev pub levels_cause : ℕ → List ℕ → List ControlField → Option RefusalCause
+levels_cause level [] cs = None
+levels_cause level (m ∷ ms) cs =
+    if is_measured m (joined_width level cs) then levels_cause (level + 1) ms cs else Some (level_cause level (joined_width level cs) m)
+
+-- the first level from a number on whose match fields haven't that joined length
+abbrev pub widths_cause : ℕ → List ℕ → List ControlField → Option RefusalCause
+widths_cause level [] cs = None
+widths_cause level (w ∷ ws) cs =
+    if joined_width level cs == w then widths_cause (level + 1) ws cs else Some (causes.OtherMatches level (joined_width level cs) w)
+
+-- all match fields are too long, or a level has another length than in the first type with match fields
+abbrev pub matches_cause : List ℕ → List ControlField → Option RefusalCause
+matches_cause widths cs = or_next (cause_if (not (nat_le (sum (joined_widths cs)) 256)) (causes.LongMatches (sum (joined_widths cs)))) (widths_cause 1 widths cs)
+
 -- what in a type that breaks a rule breaks it; joined lengths, where no single field does
 unfoldable pub type_cause : TypeRule → Object → TypeRow ℕ → Option RefusalCause
 type_cause V3 p t = first_cause (code_cause (input_length p t.file)) 0 t.codes
 type_cause V4 p t = option_map causes.TurnedOn t.indicator
-type_cause V5 p t = or_next (first_cause (control_cause (input_length p t.file)) 0 t.levels) (Some causes.Joined)
+type_cause V5 p t = or_next (first_cause (control_cause (input_length p t.file)) 0 t.levels) (levels_cause 1 (measures p.types) t.levels)
 type_cause V6 p t = first_cause (input_cause p (input_length p t.file)) 0 t.inputs
 type_cause V7 p t = first_cause (shown_cause p (input_length p t.file)) 0 t.inputs
 type_cause V25 p t = Some causes.NoSecondary
-type_cause V26 p t = or_next (first_cause (match_cause (input_length p t.file) t.matches) 0 t.matches) (Some causes.Joined)
+type_cause V26 p t = or_next (first_cause (match_cause (input_length p t.file) t.matches) 0 t.matches) (matches_cause (joined_widths (first_matches p.types)) t.matches)

@@ -55,8 +55,27 @@ pub enum RefusalCause {
         at: usize,
         level: u8,
     },
-    /// V5 and V26: the joined lengths of control or match fields that are all columns of the record.
-    Joined,
+    /// V5: the joined length of the first level whose control fields have over 256 columns together.
+    LongLevel {
+        level: u8,
+        columns: u128,
+    },
+    /// V5: the joined length of the first level that isn't as long as in the first type with that level.
+    OtherLevel {
+        level: u8,
+        columns: u128,
+        first: u128,
+    },
+    /// V26: the length of all match fields, which is over 256 columns.
+    LongMatches {
+        columns: u128,
+    },
+    /// V26: the joined length of the first level that isn't as long as in the first type with match fields.
+    OtherMatches {
+        level: u8,
+        columns: u128,
+        first: u128,
+    },
     /// V6: the first input field that isn't columns of the record, or not as many as its field is long.
     Input {
         at: usize,
@@ -83,7 +102,7 @@ pub enum RefusalCause {
         at: usize,
         field: LineField<u16>,
     },
-    /// V16 to V18: the first operand that breaks the rule.
+    /// V16 to V18: the first operand that breaks the rule; V20: the one that is no table.
     Operand {
         column: Column,
         used: Use<Operand<u16>>,
@@ -92,15 +111,24 @@ pub enum RefusalCause {
     Asked {
         conditions: Conditions,
     },
-    /// V19: the indicators of an operation, and the operand that is searched by them.
+    /// V19: the indicators of an operation.
     Marked {
         marks: Marks,
-        factor2: Option<Use<Operand<u16>>>,
     },
-    /// V20: the index that can't hold the number of entries, or the result that is no table of so many.
-    Search {
-        factor2: Option<Use<Operand<u16>>>,
-        to: Option<Use<Operand<u16>>>,
+    /// V19: factor 2, which is searched for the next one and isn't in ascending sequence.
+    Unordered {
+        marks: Marks,
+        used: Use<Operand<u16>>,
+    },
+    /// V20: factor 2, whose index can't hold the number of its entries.
+    Index {
+        used: Use<Operand<u16>>,
+        entries: u16,
+    },
+    /// V20: the result, a table of fewer entries than factor 2.
+    Short {
+        used: Use<Operand<u16>>,
+        entries: u16,
     },
     /// V21: where the branch leads, with the first place of its section and its end.
     Target {

@@ -3,10 +3,12 @@
 
 mod cause;
 mod indicators;
+mod joined;
 pub mod laws;
 mod lines;
 mod places;
 mod refusals;
+mod searches;
 mod subroutines;
 mod types;
 mod widths;

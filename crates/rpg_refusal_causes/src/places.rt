@@ -13,6 +13,8 @@ ghost use Rattle.rpg_refusal_causes.specs.PlaceCauses as words;
 ghost use Rattle.rpg_verify_rules.specs.PlaceRules as rules;
 
 use crate::cause::{Column, Placed, RefusalCause, or_next};
+use crate::searches::{search_cause, shows_cause, written_columns};
+use rpg_effect::condition::Conditions;
 use rpg_effect::operation::{Action, Instruction, Operand};
 use rpg_effect::row::{Row, Use};
 use rpg_object_program::Program;
@@ -165,7 +167,11 @@ fn knows_kinds(rows: &Rows, instruction: Instruction<u16>) -> bool
     !compares(instruction) || is_good_if_any(rows, columns_of(rows, instruction).factor1)
 }
 
-fn has_known_kind(rows: &Rows, instruction: Instruction<u16>, used: Use<Operand<u16>>) -> bool
+pub(crate) fn has_known_kind(
+    rows: &Rows,
+    instruction: Instruction<u16>,
+    used: Use<Operand<u16>>,
+) -> bool
     ensures { result ≡ rules.has_known_kind (seen rows.now) instruction used }
 {
     !knows_kinds(rows, instruction) || has_kind(rows, used)
@@ -232,19 +238,25 @@ fn operand_cause(
 
 // ---- indicators, and where control goes
 
-fn marks_cause(rows: &Rows, instruction: Instruction<u16>) -> Option<RefusalCause>
-    ensures { result ≡ words.marks_cause (seen rows.now) instruction }
+/// The conditions that a branch asks.
+fn asked_by(instruction: Instruction<u16>) -> Option<Conditions>
+    ensures { result ≡ words.asked_by instruction }
 {
-    let row = columns_of(rows, instruction);
     match instruction {
-        Instruction::Branch { conditions, .. } => Some(RefusalCause::Asked { conditions }),
+        Instruction::Branch { conditions, .. } => Some(conditions),
         Instruction::Act(_)
         | Instruction::Except
         | Instruction::Call { .. }
-        | Instruction::Return { .. } => Some(RefusalCause::Marked {
-            marks: row.marks,
-            factor2: row.factor2,
-        }),
+        | Instruction::Return { .. } => None,
+    }
+}
+
+fn marks_cause(rows: &Rows, instruction: Instruction<u16>) -> Option<RefusalCause>
+    ensures { result ≡ words.marks_cause (seen rows.now) instruction }
+{
+    match asked_by(instruction) {
+        Some(conditions) => Some(RefusalCause::Asked { conditions }),
+        None => shows_cause(rows, instruction),
     }
 }
 
@@ -300,10 +312,7 @@ fn cause_at(rule: PlaceRule, rows: &Rows, placed: Placed) -> Option<RefusalCause
             column_cause(rule, rows, placed.instruction, Column::Result, row.result)
         }
         PlaceRule::V19 => marks_cause(rows, placed.instruction),
-        PlaceRule::V20 => Some(RefusalCause::Search {
-            factor2: row.factor2,
-            to: row.result,
-        }),
+        PlaceRule::V20 => search_cause(rows, written_columns(rows, placed.instruction)),
         PlaceRule::V21 => target_cause(placed.span, placed.instruction),
         PlaceRule::V22 => call_cause(rows, placed.instruction),
     }

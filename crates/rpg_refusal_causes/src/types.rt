@@ -10,6 +10,7 @@ ghost use Rattle.rpg_verify_rules.specs.TypeRules as rules;
 
 use crate::cause::{RefusalCause, or_next};
 use crate::indicators::are_settable;
+use crate::joined::{levels_cause, matches_cause};
 use rpg_effect::form::{Kind, is_plain};
 use rpg_effect::input::{ControlField, InputField, RecordCode};
 use rpg_effect::operation::Shows;
@@ -38,14 +39,14 @@ fn cause_in_type(rule: TypeRule, rows: &Rows, record_type: &RecordType) -> Optio
         TypeRule::V4 => turned_on(record_type.indicator),
         TypeRule::V5 => or_next(
             control_cause(length, &record_type.levels),
-            Some(RefusalCause::Joined),
+            levels_cause(&rows.types, &record_type.levels),
         ),
         TypeRule::V6 => input_cause(rows, length, &record_type.inputs),
         TypeRule::V7 => shown_cause(rows, length, &record_type.inputs),
         TypeRule::V25 => Some(RefusalCause::NoSecondary),
         TypeRule::V26 => or_next(
             match_cause(length, &record_type.matches),
-            Some(RefusalCause::Joined),
+            matches_cause(&rows.types, &record_type.matches),
         ),
     }
 }
