@@ -2,7 +2,7 @@
 
 use crate::fields::{asked, write_field, write_indicator, write_operand, write_shows};
 use crate::rows::write_subroutine;
-use rpg_cli_text::TextWriter;
+use rpg_cli_text::{Piece, TextWriter};
 use rpg_effect::input::{ControlField, InputField};
 use rpg_effect::line::{Editing, LineField, Spacing};
 use rpg_effect::operation::Operand;
@@ -19,6 +19,15 @@ const CONTROL_FIELD: &str =
 const MATCH_FIELD: &str = "; its match field {}, of M{}, is columns {} to {}, and a record has {}";
 
 const TWICE_MATCHED: &str = "; its match field {} is of M{}, as one before it is";
+
+const LONG_LEVEL: &str = "; the joined length of L{} is {}, and may be 256";
+
+const OTHER_LEVEL: &str = "; the joined length of L{} is {}, and in the first type that has it {}";
+
+const LONG_MATCHES: &str = "; the joined length of its match fields is {}, and may be 256";
+
+const OTHER_MATCHES: &str =
+    "; the joined length of M{} is {}, and in the first type that has match fields {}";
 
 const INPUT_FIELD: &str = "; its input field {} is columns {} to {} of a record's {}, for ";
 
@@ -47,6 +56,35 @@ fn write_level(out: &mut TextWriter, sentence: &str, at: usize, field: ControlFi
             columns.into(),
         ],
     );
+}
+
+/// A joined length, which is counted in 128 bits.
+fn length(columns: u128) -> Piece<'static> {
+    u64::try_from(columns).unwrap_or(u64::MAX).into()
+}
+
+/// A level's joined length, and the one that it has in the first type; all that is too long.
+fn write_joined(out: &mut TextWriter, cause: RefusalCause) {
+    match cause {
+        RefusalCause::LongLevel { level, columns } => {
+            out.fill(LONG_LEVEL, &[level.into(), length(columns)]);
+        }
+        RefusalCause::OtherLevel {
+            level,
+            columns,
+            first,
+        } => out.fill(OTHER_LEVEL, &[level.into(), length(columns), length(first)]),
+        RefusalCause::LongMatches { columns } => out.fill(LONG_MATCHES, &[length(columns)]),
+        RefusalCause::OtherMatches {
+            level,
+            columns,
+            first,
+        } => out.fill(
+            OTHER_MATCHES,
+            &[level.into(), length(columns), length(first)],
+        ),
+        _ => {}
+    }
 }
 
 fn write_input(out: &mut TextWriter, rows: &Rows, at: usize, input: InputField<u16>, columns: u16) {
@@ -91,7 +129,7 @@ fn write_type_cause(out: &mut TextWriter, rows: &Rows, cause: RefusalCause) {
         RefusalCause::Input { at, input, columns } => write_input(out, rows, at, input, columns),
         RefusalCause::Shown { at, input } => write_shown(out, rows, at, input),
         RefusalCause::NoSecondary => out.write_str("; it is of the secondary file"),
-        _ => {}
+        _ => write_joined(out, cause),
     }
 }
 
@@ -140,33 +178,23 @@ fn write_line_cause(out: &mut TextWriter, rows: &Rows, cause: RefusalCause) {
 // ---- instructions
 
 /// What an operand is, by the name of its column.
-fn write_used(out: &mut TextWriter, rows: &Rows, column: Column, used: Option<Use<Operand<u16>>>) {
-    if let Some(used) = used {
-        out.write_str(match column {
-            Column::Factor1 => "; factor 1 is ",
-            Column::Factor2 => "; factor 2 is ",
-            Column::Result => "; the result is ",
-        });
-        write_operand(out, rows, used.operand);
-    }
+fn write_used(out: &mut TextWriter, rows: &Rows, column: Column, used: Use<Operand<u16>>) {
+    out.write_str(match column {
+        Column::Factor1 => "; factor 1 is ",
+        Column::Factor2 => "; factor 2 is ",
+        Column::Result => "; the result is ",
+    });
+    write_operand(out, rows, used.operand);
 }
 
-/// The indicators of an operation, and the operand that is searched by them.
-fn write_marks(
-    out: &mut TextWriter,
-    rows: &Rows,
-    marks: Marks,
-    factor2: Option<Use<Operand<u16>>>,
-) {
+/// The indicators of an operation.
+fn write_marks(out: &mut TextWriter, marks: Marks) {
     match marks {
-        Marks::Unmarked => return,
+        Marks::Unmarked => {}
         Marks::Shown(shows) | Marks::Wanted(shows) | Marks::Sought(shows) => {
             out.write_str("; its indicators:");
             write_shows(out, shows);
         }
-    }
-    if let Marks::Sought(_) = marks {
-        write_used(out, rows, Column::Factor2, factor2);
     }
 }
 
@@ -183,15 +211,20 @@ fn write_called(out: &mut TextWriter, rows: &Rows, subroutine: u16, level: Optio
 
 fn write_place_cause(out: &mut TextWriter, rows: &Rows, cause: RefusalCause) {
     match cause {
-        RefusalCause::Operand { column, used } => write_used(out, rows, column, Some(used)),
+        RefusalCause::Operand { column, used } => write_used(out, rows, column, used),
         RefusalCause::Asked { conditions } => {
             out.write_str("; its indicators:");
             write_shows(out, asked(conditions));
         }
-        RefusalCause::Marked { marks, factor2 } => write_marks(out, rows, marks, factor2),
-        RefusalCause::Search { factor2, to } => {
-            write_used(out, rows, Column::Factor2, factor2);
-            write_used(out, rows, Column::Result, to);
+        RefusalCause::Marked { marks } => write_marks(out, marks),
+        RefusalCause::Unordered { marks, used } => {
+            write_marks(out, marks);
+            write_used(out, rows, Column::Factor2, used);
+        }
+        RefusalCause::Index { used, .. } => write_used(out, rows, Column::Factor2, used),
+        RefusalCause::Short { used, entries } => {
+            write_used(out, rows, Column::Result, used);
+            out.fill(", and factor 2 has {}", &[entries.into()]);
         }
         RefusalCause::Target { target, first, end } => {
             out.fill(TARGET, &[target.into(), first.into(), end.into()]);
