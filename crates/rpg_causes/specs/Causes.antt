@@ -3,9 +3,12 @@ use Rattle.std.specs.Prelude.{ℕ, ◌==◌, List, [], ◌∷◌, ◌++◌, Bool
 use Rattle.std.specs.Option.{option_map, option_or}
 use Rattle.rpg_cards.specs.Cards.{output_record_on}
 use Rattle.rpg_cards.specs.declared.spec_card.SpecCard.{SpecCard}
+use Rattle.rpg_causes.specs.Editing.{editing_cause}
 use Rattle.rpg_causes.specs.Files.{file_cause}
+use Rattle.rpg_causes.specs.Joins.{join_cause}
+use Rattle.rpg_causes.specs.Limits.{limit_cause}
 use Rattle.rpg_causes.specs.Movements.{moved_disk}
-use Rattle.rpg_causes.specs.Places.{is_outside, outside}
+use Rattle.rpg_causes.specs.Places.{outside}
 use Rattle.rpg_causes.specs.declared.cause.Cause.{Cause}
 use Rattle.rpg_causes.specs.declared.cause.Cause.TheVariants as cause
 use Rattle.rpg_causes_flow.specs.Columns.{on_calculation}
@@ -36,16 +39,20 @@ missing before c after =
 abbrev pub misordered : List SpecCard → SpecCard → List SpecCard → Option Cause
 misordered before c after = option_or (option_map cause.Order (order_cause before c after)) (option_map cause.Stray (stray_cause before c))
 
+-- F16: of the card's own columns, or of control fields and match fields
+abbrev pub misplaced : List SpecCard → SpecCard → List SpecCard → Option Cause
+misplaced before c after = option_or (option_map cause.Outside (outside (before ++ c ∷ after) before c)) (option_map cause.Join (join_cause before c after))
+
 -- ---- each code
 
--- what gives a cause: the rule of the code; of F14 that the card names what is given, and of F16 the rule of the card's own columns
+-- what gives a cause: the rule of the code; of F14 that the card names what is given
 unfoldable pub explained_rule : FaultCode → Rule
 explained_rule F1 before c after = rule F1 before c after
 explained_rule F2 before c after = rule F2 before c after
 explained_rule F3 before c after = rule F3 before c after
 explained_rule F4 before c after = rule F4 before c after
 explained_rule F5 before c after = rule F5 before c after
-explained_rule F6 before c after = false
+explained_rule F6 before c after = rule F6 before c after
 explained_rule F7 before c after = rule F7 before c after
 explained_rule F8 before c after = rule F8 before c after
 explained_rule F9 before c after = rule F9 before c after
@@ -55,8 +62,8 @@ explained_rule F12 before c after = rule F12 before c after
 explained_rule F13 before c after = rule F13 before c after
 explained_rule F14 before c after = is_some (target (before ++ c ∷ after) c after)
 explained_rule F15 before c after = rule F15 before c after
-explained_rule F16 before c after = is_outside (before ++ c ∷ after) before c
-explained_rule F17 before c after = false
+explained_rule F16 before c after = rule F16 before c after
+explained_rule F17 before c after = rule F17 before c after
 explained_rule F18 before c after = false
 
 -- why a card breaks the rule of a code
@@ -66,7 +73,7 @@ cause_of F2 before c after = option_map cause.RedefinedName (redefined (before +
 cause_of F3 before c after = option_map cause.Size (size_cause c)
 cause_of F4 before c after = option_map cause.Operand (operand_cause (before ++ c ∷ after) c after)
 cause_of F5 before c after = option_map cause.Index (index_cause (before ++ c ∷ after) c after)
-cause_of F6 before c after = None
+cause_of F6 before c after = option_map cause.Limit (limit_cause (before ++ c ∷ after) before c after)
 cause_of F7 before c after = option_map cause.File (file_cause (before ++ c ∷ after) before c)
 cause_of F8 before c after = option_map cause.Indicator (indicators.on_card (before ++ c ∷ after) c.spec)
 cause_of F9 before c after = missing before c after
@@ -76,8 +83,8 @@ cause_of F12 before c after = misordered before c after
 cause_of F13 before c after = option_map cause.Apart (apart (before ++ c ∷ after) before c after)
 cause_of F14 before c after = option_map cause.Recursion (target (before ++ c ∷ after) c after)
 cause_of F15 before c after = option_map cause.Rounding (rounding_cause before c after)
-cause_of F16 before c after = option_map cause.Outside (outside (before ++ c ∷ after) before c)
-cause_of F17 before c after = None
+cause_of F16 before c after = misplaced before c after
+cause_of F17 before c after = option_map cause.Editing (editing_cause (before ++ c ∷ after) c)
 cause_of F18 before c after = None
 
 -- ---- of a source

@@ -1,4 +1,9 @@
 pub mod Causes
+pub mod Counts
+pub mod Editing
 pub mod Files
+pub mod JoinSums
+pub mod Joins
+pub mod Limits
 pub mod Movements
 pub mod Places

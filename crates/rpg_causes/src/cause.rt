@@ -4,9 +4,12 @@ ghost use Rattle.std.specs.Prelude.{◌≡◌, ◌≤◌, [], ◌∷◌, ◌++�
 ghost use Rattle.rpg_cards.specs.Sheets.{AreSheets};
 ghost use Rattle.rpg_causes.specs.Causes as causes;
 ghost use Rattle.rpg_faults.specs.Rules as rules;
-ghost use Rattle.rpg_faults.specs.declared.code.FaultCode.TheVariants.{F9, F12};
+ghost use Rattle.rpg_faults.specs.declared.code.FaultCode.TheVariants.{F9, F12, F16};
 
+use crate::editing::{EditingCause, editing_cause};
 use crate::files::{FileCause, FileOnCard, file_cause, moved_disk};
+use crate::joins::{JoinCause, join_cause};
+use crate::limits::{LimitCause, limit_cause};
 use crate::places::{PlaceCause, outside_cause};
 use rpg_cards::{IndexedCards, Sheets, SpecCard};
 use rpg_causes_flow::{
@@ -35,6 +38,8 @@ pub enum Cause {
     Operand(OperandCause),
     /// F5
     Index(IndexCause),
+    /// F6
+    Limit(LimitCause),
     /// F7
     File(FileCause),
     /// F8
@@ -59,8 +64,12 @@ pub enum Cause {
     Recursion(Target),
     /// F15
     Rounding(RoundingCause),
-    /// F16: what is outside the record or the line; nothing of control fields and match fields.
+    /// F16: what is outside the record or the line.
     Outside(PlaceCause),
+    /// F16 of control fields and match fields.
+    Join(JoinCause),
+    /// F17
+    Editing(EditingCause),
 }
 
 /// Why the first card with a number breaks the rule of a code; nothing where it doesn't, and for a code whose causes aren't given here.
@@ -110,6 +119,7 @@ fn cause_of(
         FaultCode::F3 => Some(Cause::Size(size_cause(card)?)),
         FaultCode::F4 => Some(Cause::Operand(operand_cause(source, card, after)?)),
         FaultCode::F5 => Some(Cause::Index(index_cause(source, card, after)?)),
+        FaultCode::F6 => Some(Cause::Limit(limit_cause(source, sheets, before, card, after)?)),
         FaultCode::F7 => Some(Cause::File(file_cause(source, sheets, before, card)?)),
         FaultCode::F8 => Some(Cause::Indicator(indicator_cause(source, card)?)),
         FaultCode::F9 => missing(source, before, card, after),
@@ -119,8 +129,9 @@ fn cause_of(
         FaultCode::F13 => Some(Cause::Apart(apart_cause(source, before, card, after)?)),
         FaultCode::F14 => Some(Cause::Recursion(target_on(source, card, after)?)),
         FaultCode::F15 => Some(Cause::Rounding(rounding_cause(before, card, after)?)),
-        FaultCode::F16 => Some(Cause::Outside(outside_cause(source, before, card)?)),
-        _ => None,
+        FaultCode::F16 => misplaced(source, before, card, after),
+        FaultCode::F17 => Some(Cause::Editing(editing_cause(source, card)?)),
+        FaultCode::F18 => None,
     }
 }
 
@@ -163,4 +174,24 @@ fn misordered(
         return Some(Cause::Order(cause));
     }
     Some(Cause::Stray(stray_cause(source, sheets, before, card)?))
+}
+
+/// F16: of the card's own columns, or of control fields and match fields.
+#[tactic(auto, unfolding(rpg_faults::specs::Rules::rule), using(crate::proofs::JoinRule::misplaces_is))]
+fn misplaced(
+    source: &IndexedCards,
+    before: &[SpecCard],
+    card: &SpecCard,
+    after: &[SpecCard],
+) -> Option<Cause>
+    requires split { source.now ≡ before.now ++ card.now ∷ after.now }
+    requires few { length before.now ≤ 2000 }
+    requires few_behind { length after.now ≤ 2000 }
+    ensures cause { result ≡ causes.misplaced before.now card.now after.now }
+    ensures rule { is_some result ≡ rules.rule F16 before.now card.now after.now }
+{
+    if let Some(cause) = outside_cause(source, before, card) {
+        return Some(Cause::Outside(cause));
+    }
+    Some(Cause::Join(join_cause(before, card, after)?))
 }

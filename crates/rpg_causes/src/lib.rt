@@ -2,11 +2,20 @@
 #![tactic(auto)]
 
 mod cause;
+mod editing;
 mod files;
+mod joins;
+mod limits;
+mod line_counts;
 mod places;
+mod totals;
+mod type_counts;
 
 pub use cause::{Cause, fault_cause};
+pub use editing::{EditingCause, Misfit};
 pub use files::{FileCause, FileOnCard, FileUser};
+pub use joins::JoinCause;
+pub use limits::{Limit, LimitCause};
 pub use places::PlaceCause;
 pub use rpg_causes_flow::{
     ColumnCause, Giver, NowhereCause, OrderCause, RoundingCause, StrayCause, Target, TwiceCause,

@@ -1,0 +1,59 @@
+-- F17: which field's code or word doesn't fit, with what the number has and what the word takes.
+use Rattle.std.specs.Prelude.{ℕ, ◌==◌, ◌&&◌, List, [], ◌∷◌, Option, None, Some, option_and_then, if◌then◌else◌}
+use Rattle.std.specs.List.{range_with_len}
+use Rattle.std.specs.Option.{option_map}
+use Rattle.rpg_cards.specs.Cards.{output_field_on}
+use Rattle.rpg_cards.specs.Names.{form_in, form_of_name}
+use Rattle.rpg_cards.specs.declared.spec_card.SpecCard.{SpecCard}
+use Rattle.rpg_causes.specs.declared.editing.EditingCause.{EditingCause}
+use Rattle.rpg_causes.specs.declared.editing.Misfit.{Misfit}
+use Rattle.rpg_causes.specs.declared.editing.Misfit.TheVariants.{Date, Fill, Text, Word}
+use Rattle.rpg_edit_marks.specs.declared.code.EditCode.{EditCode}
+use Rattle.rpg_edit_marks.specs.declared.code.EditCode.TheVariants.{Combination, X, Y, Z}
+use Rattle.rpg_effect.specs.LineFaults.{fits_word}
+use Rattle.rpg_effect.specs.declared.form.FieldForm.{FieldForm}
+use Rattle.rpg_effect.specs.declared.form.Kind.{Kind}
+use Rattle.rpg_effect.specs.declared.form.Kind.TheVariants as kind
+use Rattle.rpg_faults_operands.specs.Editing.{bad_editing}
+use Rattle.rpg_sheet_specs.specs.declared.entry.Entry.{Entry}
+use Rattle.rpg_sheet_specs.specs.declared.output.OutputField.{OutputField}
+
+-- the first of these numbers of digits that a word fits
+abbrev pub first_fitting : List ℕ → List ℕ → Option ℕ
+first_fitting word [] = None
+first_fitting word (d ∷ ds) = if fits_word d word then Some d else first_fitting word ds
+
+-- how many digits a word has places for; none where it fits no number
+abbrev pub places_of : List ℕ → Option ℕ
+places_of word = first_fitting word (range_with_len 0 25)
+
+-- code Y edits 6 digits without decimals
+abbrev pub date_misfit : FieldForm → Misfit
+date_misfit form = if form.length == 6 && form.decimals == 0 then Fill else Date form.length form.decimals
+
+-- of a number: code Y, the fill of another code, or a word
+abbrev pub number_misfit : FieldForm → Option EditCode → Option (List ℕ) → Misfit
+number_misfit form (Some Y) text = date_misfit form
+number_misfit form (Some X) text = Fill
+number_misfit form (Some Z) text = Fill
+number_misfit form (Some (Combination commas zeros ending)) text = Fill
+number_misfit form None None = Fill
+number_misfit form None (Some word) = Word (places_of word) form.length form.decimals
+
+-- codes and words edit numbers
+abbrev pub kind_misfit : Kind → FieldForm → OutputField → Misfit
+kind_misfit kind.Text form f = Text form.length
+kind_misfit kind.Number form f = number_misfit form f.code f.text
+
+-- of a field without a form only the fill is known
+abbrev pub misfit : Option FieldForm → OutputField → Misfit
+misfit None f = Fill
+misfit (Some form) f = kind_misfit form.kind form f
+
+-- of the field of that name
+abbrev pub editing_of : List SpecCard → OutputField → Entry → EditingCause
+editing_of cards f e = record { name = e.name; misfit = misfit (form_in (form_of_name e.name cards)) f }
+
+-- F17 of a card
+abbrev pub editing_cause : List SpecCard → SpecCard → Option EditingCause
+editing_cause cards c = if bad_editing cards c then option_and_then (λ (f : OutputField). option_map (editing_of cards f) f.operand) (output_field_on c.spec) else None

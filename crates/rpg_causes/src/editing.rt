@@ -1,0 +1,112 @@
+//! F17: edit codes and words that don't fit.
+
+ghost use Rattle.std.specs.Prelude.{◌≡◌, is_some};
+ghost use Rattle.rpg_cards.specs.Names.{form_in, form_of_name};
+ghost use Rattle.rpg_causes.specs.Editing as causes;
+ghost use Rattle.rpg_effect.specs.LineFaults.{fits_word};
+ghost use Rattle.rpg_faults_operands.specs.Editing as rules;
+
+use rpg_cards::{Defined, IndexedCards, SpecCard};
+use rpg_edit_marks::EditCode;
+use rpg_edit_widths::EditWord;
+use rpg_effect::form::{FieldForm, Kind};
+use rpg_faults_operands::bad_editing;
+use rpg_sheet_specs::{Entry, OutputField, Word};
+
+/// Why a code or a word doesn't fit a field.
+#[derive(Clone, Copy)]
+pub enum Misfit {
+    /// The field is a text of so many characters.
+    Text {
+        length: u16,
+    },
+    /// The text beside a code is no fill that it takes.
+    Fill,
+    /// Code Y beside a number that isn't one of 6 digits without decimals.
+    Date {
+        length: u16,
+        decimals: u8,
+    },
+    /// A word with places for so many digits, or that fits no number, beside a number of other ones.
+    Word {
+        places: Option<u8>,
+        length: u16,
+        decimals: u8,
+    },
+}
+
+/// A field whose code or word doesn't fit.
+#[derive(Drop)]
+pub struct EditingCause {
+    pub name: Word<6>,
+    pub misfit: Misfit,
+}
+
+/// F17: the field, and why its code or word doesn't fit.
+pub(crate) fn editing_cause(source: &IndexedCards, card: &SpecCard) -> Option<EditingCause>
+    ensures cause { result ≡ causes.editing_cause source.now card.now }
+    ensures rule { is_some result ≡ rules.bad_editing source.now card.now }
+{
+    if !bad_editing(source, card) {
+        return None;
+    }
+    let field = card.output_field()?;
+    let entry = field.operand.as_ref()?;
+    Some(EditingCause {
+        name: Word::new(entry.name.as_slice()),
+        misfit: misfit_of(source, entry, field),
+    })
+}
+
+fn misfit_of(source: &IndexedCards, entry: &Entry, field: &OutputField) -> Misfit
+    ensures { result ≡ causes.misfit (form_in (form_of_name entry.now.name source.now)) field.now }
+{
+    match source.form_of_name(&entry.name) {
+        Defined::Good(form) => match form.kind {
+            Kind::Text => Misfit::Text {
+                length: form.length,
+            },
+            Kind::Number => number_misfit(form, field),
+        },
+        Defined::Missing | Defined::Bad => Misfit::Fill,
+    }
+}
+
+fn number_misfit(form: FieldForm, field: &OutputField) -> Misfit
+    ensures { result ≡ causes.number_misfit form field.now.code field.now.text }
+{
+    let FieldForm {
+        length,
+        decimals,
+        ..
+    } = form;
+    match (field.code, &field.text) {
+        (Some(EditCode::Y), _) if length != 6 || decimals != 0 => Misfit::Date { length, decimals },
+        (Some(_), _) => Misfit::Fill,
+        (None, None) => Misfit::Fill,
+        (None, Some(word)) => Misfit::Word {
+            places: places_of(word.as_slice()),
+            length,
+            decimals,
+        },
+    }
+}
+
+fn fits(word: &[u8], digits: u8) -> bool
+    ensures { result ≡ fits_word digits word.now }
+{
+    (!word.is_empty() && word.len() <= 24) && EditWord::fits(word, digits)
+}
+
+/// How many digits a word has places for; none where it fits no number.
+#[tactic(auto, using(crate::proofs::Ranges::fitting_from))]
+fn places_of(word: &[u8]) -> Option<u8>
+    ensures { result ≡ causes.places_of word.now }
+{
+    for digits in 0..25 {
+        if fits(word, digits) {
+            return Some(digits);
+        }
+    }
+    None
+}

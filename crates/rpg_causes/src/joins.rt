@@ -1,0 +1,456 @@
+//! F16 of control fields and match fields: joined lengths that differ or are too long, and match levels that stand twice.
+
+ghost use Rattle.std.specs.Prelude.{◌≡◌, ◌≤◌, false, is_some, length, sum_by};
+ghost use Rattle.std.specs.Option.{option_map_or};
+ghost use Rattle.rpg_cards.specs.Cards.{input_on};
+ghost use Rattle.rpg_cards.specs.Groups.{followers, input_role};
+ghost use Rattle.rpg_cards.specs.Levels.{is_at, match_level};
+ghost use Rattle.rpg_causes.specs.Joins as causes;
+ghost use Rattle.rpg_causes.specs.JoinSums as sums;
+ghost use Rattle.rpg_faults.specs.Lengths.{some_length};
+ghost use Rattle.rpg_faults.specs.Places as rules;
+
+use rpg_cards::SpecCard;
+use rpg_sheet_specs::{InputField, InputSpec};
+
+/// The most columns of a level, and of all match fields.
+const LIMIT: u32 = 256;
+
+/// What of control fields and match fields is wrong.
+#[derive(Clone, Copy)]
+pub enum JoinCause {
+    /// With the field its control level has so many columns in its type.
+    LongLevel {
+        level: u8,
+        columns: u32,
+    },
+    /// The control level has another joined length than in the type of that card.
+    OtherLength {
+        level: u8,
+        length: u32,
+        first: u32,
+        card: u16,
+    },
+    /// The match level stands on that card before.
+    MatchedTwice {
+        level: u8,
+        card: u16,
+    },
+    /// With the field the match fields of its type have so many columns.
+    LongMatches {
+        columns: u32,
+    },
+    /// The match level has another length than in the type of that card; 0 is none.
+    OtherMatches {
+        level: u8,
+        length: u32,
+        first: u32,
+        card: u16,
+    },
+}
+
+/// The joined length of a control level, with its type's card.
+#[derive(Clone, Copy)]
+pub struct FirstLength {
+    pub card: u16,
+    pub length: u32,
+}
+
+/// The lengths of the match levels of a type, M1 first, with its card.
+#[derive(Clone, Copy)]
+pub struct FirstMatched {
+    pub card: u16,
+    pub lengths: [u32; 9],
+}
+
+/// F16 of control fields and match fields: what is wrong with them.
+pub(crate) fn join_cause(
+    before: &[SpecCard],
+    card: &SpecCard,
+    after: &[SpecCard],
+) -> Option<JoinCause>
+    requires few { length before.now ≤ 2000 }
+    requires few_behind { length after.now ≤ 2000 }
+    ensures cause { result ≡ causes.join_cause before.now card.now after.now }
+    ensures rule { is_some result ≡ option_map_or (rules.joins_badly before.now after.now) (input_on card.now.spec) false }
+{
+    on_card(before, card, after)
+}
+
+#[tactic(auto, unfolding(crate::specs::Joins::join_cause))]
+fn on_card(before: &[SpecCard], card: &SpecCard, after: &[SpecCard]) -> Option<JoinCause>
+    requires few { length before.now ≤ 2000 }
+    requires few_behind { length after.now ≤ 2000 }
+    ensures { result ≡ causes.join_cause before.now card.now after.now }
+{
+    match card.input()? {
+        InputSpec::Type(_) => {
+            let lengths = other_length(before, after);
+            if lengths.is_some() {
+                return lengths;
+            }
+            other_matches(before, after)
+        }
+        InputSpec::And(_) => None,
+        InputSpec::Field(field) => on_field(open_cards(before), field),
+    }
+}
+
+fn on_field(own: &[SpecCard], field: &InputField) -> Option<JoinCause>
+    requires { length own.now ≤ 2000 }
+    ensures { result ≡ causes.on_field own.now field.now }
+{
+    let level = level_cause(own, field);
+    if level.is_some() {
+        return level;
+    }
+    match_cause(own, field)
+}
+
+/// The cards of the open type, behind its own.
+fn open_cards(before: &[SpecCard]) -> &[SpecCard]
+    ensures own { result.now ≡ causes.open_cards before.now }
+    ensures few { length result.now ≤ length before.now }
+{
+    let mut own = &before[..0];
+    let mut rest = before;
+    while let Some((card, behind)) = rest.split_first() {
+        if card.record_type().is_some() {
+            own = behind;
+        }
+        rest = behind;
+    }
+    own
+}
+
+/// How many columns a field has: 0 where they begin at 0 or are turned round.
+fn columns_of(field: &InputField) -> u32
+    ensures value { result ≡ rules.input_columns field.now }
+    ensures few { result ≤ 65535 }
+{
+    if field.from == 0 {
+        return 0;
+    }
+    (field.to as u32 + 1).saturating_sub(field.from as u32)
+}
+
+// ---- control fields
+
+fn is_at_level(level: u8, field: &InputField) -> bool
+    ensures { result ≡ rules.is_at_level level field.now }
+{
+    match field.level {
+        None => false,
+        Some(own) => own.number() == level,
+    }
+}
+
+fn some_length(sum: u32) -> Option<u32>
+    ensures { result ≡ some_length sum }
+{
+    if sum == 0 { None } else { Some(sum) }
+}
+
+/// The joined length of a level up to the next type: none without a field, or with bad columns.
+fn level_length(level: u8, cards: &[SpecCard]) -> Option<u32>
+    requires { length cards.now ≤ 2000 }
+    ensures { result ≡ rules.level_length level (followers input_role cards.now) }
+{
+    let mut sum = 0;
+    for card in cards {
+        match card.input() {
+            Some(InputSpec::Type(_)) => return some_length(sum),
+            Some(InputSpec::Field(field)) if is_at_level(level, field) => {
+                let columns = columns_of(field);
+                if columns == 0 {
+                    return None;
+                }
+                sum += columns;
+            }
+            _ => {}
+        }
+    }
+    some_length(sum)
+}
+
+/// That of the first of these types that has the level.
+fn first_on(level: u8, cards: &[SpecCard]) -> Option<FirstLength>
+    requires { length cards.now ≤ 2000 }
+    ensures { result ≡ causes.first_on level cards.now }
+{
+    let mut rest = cards;
+    while let Some((card, behind)) = rest.split_first() {
+        if card.record_type().is_some() {
+            if let Some(length) = level_length(level, behind) {
+                let card = card.number;
+                return Some(FirstLength { card, length });
+            }
+        }
+        rest = behind;
+    }
+    None
+}
+
+/// A level of a type, where its joined length isn't the first one.
+fn of_level(before: &[SpecCard], after: &[SpecCard], level: u8) -> Option<JoinCause>
+    requires few { length before.now ≤ 2000 }
+    requires few_behind { length after.now ≤ 2000 }
+    ensures { result ≡ causes.of_level before.now after.now level }
+{
+    let first = first_on(level, before)?;
+    let length = level_length(level, after)?;
+    if first.length == length {
+        return None;
+    }
+    Some(JoinCause::OtherLength {
+        level,
+        length,
+        first: first.length,
+        card: first.card,
+    })
+}
+
+/// The first such level.
+#[tactic(auto, using(crate::proofs::Ranges::level_from))]
+fn other_length(before: &[SpecCard], after: &[SpecCard]) -> Option<JoinCause>
+    requires few { length before.now ≤ 2000 }
+    requires few_behind { length after.now ≤ 2000 }
+    ensures { result ≡ causes.other_length before.now after.now }
+{
+    for level in 1..=9 {
+        let cause = of_level(before, after, level);
+        if cause.is_some() {
+            return cause;
+        }
+    }
+    None
+}
+
+/// The columns of a level up to the next type.
+fn joined_length(level: u8, cards: &[SpecCard]) -> u32
+    requires { length cards.now ≤ 2000 }
+    ensures value { result ≡ rules.joined_length level (followers input_role cards.now) }
+    ensures few { result ≤ 131070000 }
+{
+    let mut sum = 0;
+    for card in cards {
+        match card.input() {
+            Some(InputSpec::Type(_)) => return sum,
+            Some(InputSpec::Field(field)) if is_at_level(level, field) => sum += columns_of(field),
+            _ => {}
+        }
+    }
+    sum
+}
+
+/// The field with which its level is too long.
+fn level_cause(own: &[SpecCard], field: &InputField) -> Option<JoinCause>
+    requires { length own.now ≤ 2000 }
+    ensures { result ≡ causes.level_cause own.now field.now }
+{
+    let level = field.level?.number();
+    let joined = joined_length(level, own);
+    let columns = joined + columns_of(field);
+    if joined <= LIMIT && LIMIT < columns {
+        return Some(JoinCause::LongLevel { level, columns });
+    }
+    None
+}
+
+// ---- match fields
+
+fn is_matched_at(level: u8, field: &InputField) -> bool
+    ensures { result ≡ is_at match_level level field.now }
+{
+    match field.match_level {
+        None => false,
+        Some(own) => own.number() == level,
+    }
+}
+
+/// The first card up to the next type that has the match level.
+fn matched_on(level: u8, cards: &[SpecCard]) -> Option<u16>
+    ensures { result ≡ causes.matched_on level cards.now }
+{
+    for card in cards {
+        match card.input() {
+            Some(InputSpec::Type(_)) => return None,
+            Some(InputSpec::Field(field)) if is_matched_at(level, field) => {
+                return Some(card.number);
+            }
+            _ => {}
+        }
+    }
+    None
+}
+
+/// The columns of all match fields up to the next type.
+fn matched_columns(cards: &[SpecCard]) -> u32
+    requires { length cards.now ≤ 2000 }
+    ensures value { result ≡ sum_by rules.input_columns (causes.matched cards.now) }
+    ensures few { result ≤ 131070000 }
+{
+    let mut sum = 0;
+    for card in cards {
+        match card.input() {
+            Some(InputSpec::Type(_)) => return sum,
+            Some(InputSpec::Field(field)) if field.match_level.is_some() => {
+                sum += columns_of(field);
+            }
+            _ => {}
+        }
+    }
+    sum
+}
+
+/// A match level that stands before, or a field with which all match fields are too long.
+fn match_cause(own: &[SpecCard], field: &InputField) -> Option<JoinCause>
+    requires { length own.now ≤ 2000 }
+    ensures { result ≡ causes.match_cause own.now field.now }
+{
+    let level = field.match_level?.number();
+    if let Some(card) = matched_on(level, own) {
+        return Some(JoinCause::MatchedTwice { level, card });
+    }
+    let joined = matched_columns(own);
+    let columns = joined + columns_of(field);
+    if joined <= LIMIT && LIMIT < columns {
+        return Some(JoinCause::LongMatches { columns });
+    }
+    None
+}
+
+/// Whether there is a match field up to the next type.
+fn has_matches(cards: &[SpecCard]) -> bool
+    ensures { result ≡ sums.are_some (causes.matched cards.now) }
+{
+    for card in cards {
+        match card.input() {
+            Some(InputSpec::Type(_)) => return false,
+            Some(InputSpec::Field(field)) if field.match_level.is_some() => return true,
+            _ => {}
+        }
+    }
+    false
+}
+
+/// Whether a field is a match field without columns, or one whose level stands on the cards behind it.
+#[tactic(auto, using(crate::proofs::JoinRule::matched_on_some))]
+fn is_bad_match(field: &InputField, behind: &[SpecCard]) -> bool
+    ensures { result ≡ sums.is_bad_match field.now (causes.matched behind.now) }
+{
+    match field.match_level {
+        None => false,
+        Some(level) => columns_of(field) == 0 || matched_on(level.number(), behind).is_some(),
+    }
+}
+
+/// Whether there is such a field up to the next type.
+fn has_bad_match(cards: &[SpecCard]) -> bool
+    ensures { result ≡ sums.any_bad (causes.matched cards.now) }
+{
+    let mut rest = cards;
+    while let Some((card, behind)) = rest.split_first() {
+        match card.input() {
+            Some(InputSpec::Type(_)) => return false,
+            Some(InputSpec::Field(field)) if is_bad_match(field, behind) => return true,
+            _ => {}
+        }
+        rest = behind;
+    }
+    false
+}
+
+/// The columns of a match level up to the next type.
+fn match_length(level: u8, cards: &[SpecCard]) -> u32
+    requires { length cards.now ≤ 2000 }
+    ensures { result ≡ sums.match_length level cards.now }
+{
+    let mut sum = 0;
+    for card in cards {
+        match card.input() {
+            Some(InputSpec::Type(_)) => return sum,
+            Some(InputSpec::Field(field)) if is_matched_at(level, field) => {
+                sum += columns_of(field);
+            }
+            _ => {}
+        }
+    }
+    sum
+}
+
+/// The lengths of the match levels up to the next type, if they are good.
+fn good_matches(cards: &[SpecCard]) -> Option<[u32; 9]>
+    requires { length cards.now ≤ 2000 }
+    ensures { result ≡ rules.good_matches (causes.matched cards.now) }
+{
+    good_lengths(cards)
+}
+
+#[tactic(auto, unfolding(rpg_faults::specs::Places::levels))]
+fn good_lengths(cards: &[SpecCard]) -> Option<[u32; 9]>
+    requires { length cards.now ≤ 2000 }
+    ensures { result ≡ sums.good_lengths (causes.matched cards.now) }
+{
+    if !has_matches(cards) || has_bad_match(cards) {
+        return None;
+    }
+    Some([
+        match_length(1, cards),
+        match_length(2, cards),
+        match_length(3, cards),
+        match_length(4, cards),
+        match_length(5, cards),
+        match_length(6, cards),
+        match_length(7, cards),
+        match_length(8, cards),
+        match_length(9, cards),
+    ])
+}
+
+/// Those of the first of these types that has some.
+fn first_matched(cards: &[SpecCard]) -> Option<FirstMatched>
+    requires { length cards.now ≤ 2000 }
+    ensures { result ≡ causes.first_matched cards.now }
+{
+    let mut rest = cards;
+    while let Some((card, behind)) = rest.split_first() {
+        if card.record_type().is_some() {
+            if let Some(lengths) = good_matches(behind) {
+                let card = card.number;
+                return Some(FirstMatched { card, lengths });
+            }
+        }
+        rest = behind;
+    }
+    None
+}
+
+/// The first level at which the lengths differ.
+fn apart(first: FirstMatched, own: &[u32; 9]) -> Option<JoinCause>
+    ensures { result ≡ causes.apart first.card 1 first.lengths own.now }
+{
+    for (i, length) in own.iter().enumerate() {
+        let other = first.lengths[i];
+        if *length != other {
+            return Some(JoinCause::OtherMatches {
+                level: i as u8 + 1,
+                length: *length,
+                first: other,
+                card: first.card,
+            });
+        }
+    }
+    None
+}
+
+/// A level of other match fields than in the first type with some.
+fn other_matches(before: &[SpecCard], after: &[SpecCard]) -> Option<JoinCause>
+    requires few { length before.now ≤ 2000 }
+    requires few_behind { length after.now ≤ 2000 }
+    ensures { result ≡ causes.other_matches before.now after.now }
+{
+    let first = first_matched(before)?;
+    let own = good_matches(after)?;
+    apart(first, &own)
+}

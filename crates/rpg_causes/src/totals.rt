@@ -1,0 +1,165 @@
+//! How many names and constants cards have, and the bytes that they take.
+
+ghost use Rattle.std.specs.Prelude.{◌≡◌, List, [], ◌∷◌, ◌++◌, ◌+◌, ◌*◌, ◌<◌, ◌≤◌, length, take, if◌then◌else◌};
+ghost use Rattle.std.specs.Option.{option_map_or};
+ghost use Rattle.rpg_cards.specs.Constants.{constants_in};
+ghost use Rattle.rpg_cards.specs.Names.{definitions};
+ghost use Rattle.rpg_cards.specs.declared.spec_card.SpecCard.{SpecCard};
+ghost use Rattle.rpg_causes.specs.Counts.{AreOfConstants, AreOfNames, IsStorage, kept_totals};
+ghost use Rattle.rpg_effect.specs.Forms.{size_of};
+ghost use Rattle.rpg_faults_limits.specs.Totals.{BeginsWith, HasConstants, HasNames, SeenBefore};
+
+use rpg_cards::{Constant, Definition, IndexedCards, SpecCard};
+use rpg_effect::form::FieldForm;
+
+/// Names or constants: how many items were seen, how many of these are new, and the bytes of the new ones.
+#[derive(Clone, Copy)]
+pub struct Totals {
+    pub items: usize,
+    pub number: u64,
+    pub bytes: u64,
+}
+
+impl Totals {
+    /// The date and the page number.
+    const GIVEN: Totals = Totals {
+        items: 0,
+        number: 2,
+        bytes: 10,
+    };
+
+    const NONE: Totals = Totals {
+        items: 0,
+        number: 0,
+        bytes: 0,
+    };
+
+    fn with(self, is_new: bool, bytes: u32) -> Self
+        requires items { self.items < 4000 }
+        requires number { self.number ≤ 4002 }
+        requires bytes { self.bytes ≤ 10 + 4294967295 * 4000 }
+        ensures items { result.items ≡ self.items + 1 }
+        ensures number { result.number ≡ self.number + (if is_new then 1 else 0) }
+        ensures bytes { result.bytes ≡ self.bytes + (if is_new then bytes else 0) }
+    {
+        let items = self.items + 1;
+        if is_new {
+            Totals {
+                items,
+                number: self.number + 1,
+                bytes: self.bytes + bytes as u64,
+            }
+        } else {
+            Totals { items, ..self }
+        }
+    }
+}
+
+/// The names of the cards at the front.
+fn names_of(source: &IndexedCards, front: &[SpecCard]) -> Totals
+    requires few { length source.now ≤ 2000 }
+    requires front { BeginsWith source.now front.now }
+    ensures { AreOfNames (definitions front.now) result }
+{
+    let mut names = Totals::GIVEN;
+    for card in front {
+        names = names_with(names, source, card);
+    }
+    names
+}
+
+/// The names of the cards at the front and of the next card.
+fn names_with(names: Totals, source: &IndexedCards, card: &SpecCard) -> Totals
+    requires few { length source.now ≤ 2000 }
+    requires seen { (before : List SpecCard) × SeenBefore HasNames definitions source.now card.now (kept_totals names) before }
+    ensures { (before : List SpecCard) → SeenBefore HasNames definitions source.now card.now (kept_totals names) before → AreOfNames (definitions (before ++ card.now ∷ [])) result }
+{
+    let defined = card.definitions();
+    let items = defined.as_slice();
+    let mut names = names;
+    for definition in items {
+        names = with_name(names, source, definition);
+    }
+    names
+}
+
+fn with_name(names: Totals, source: &IndexedCards, definition: &Definition) -> Totals
+    requires few { names.items < 4000 }
+    requires seen { AreOfNames (take names.items (definitions source.now)) names }
+    ensures { AreOfNames (take names.items (definitions source.now) ++ definition.now ∷ []) result }
+{
+    let is_new = source.is_new_name(names.items, &definition.name);
+    names.with(is_new, form_bytes(definition.form))
+}
+
+fn form_bytes(form: Option<FieldForm>) -> u32
+    ensures { result ≡ option_map_or size_of form 0 }
+{
+    match form {
+        None => 0,
+        Some(form) => form.size(),
+    }
+}
+
+/// The constants of the cards at the front.
+fn constants_of(source: &IndexedCards, front: &[SpecCard]) -> Totals
+    requires few { length source.now ≤ 2000 }
+    requires front { BeginsWith source.now front.now }
+    ensures { AreOfConstants (constants_in front.now) result }
+{
+    let mut constants = Totals::NONE;
+    for card in front {
+        constants = constants_with(constants, source, card);
+    }
+    constants
+}
+
+/// The constants of the cards at the front and of the next card.
+fn constants_with(constants: Totals, source: &IndexedCards, card: &SpecCard) -> Totals
+    requires few { length source.now ≤ 2000 }
+    requires seen { (before : List SpecCard) × SeenBefore HasConstants constants_in source.now card.now (kept_totals constants) before }
+    ensures { (before : List SpecCard) → SeenBefore HasConstants constants_in source.now card.now (kept_totals constants) before → AreOfConstants (constants_in (before ++ card.now ∷ [])) result }
+{
+    let written = card.constants();
+    let items = written.as_slice();
+    let mut constants = constants;
+    for constant in items {
+        constants = with_constant(constants, source, constant);
+    }
+    constants
+}
+
+fn with_constant(constants: Totals, source: &IndexedCards, constant: &Constant) -> Totals
+    requires few { constants.items < 4000 }
+    requires seen { AreOfConstants (take constants.items (constants_in source.now)) constants }
+    ensures { AreOfConstants (take constants.items (constants_in source.now) ++ constant.now ∷ []) result }
+{
+    let is_new = source.is_new_constant(constants.items, constant);
+    constants.with(is_new, constant.form().size())
+}
+
+/// What the fields of a source come to up to a card: names, and all names of the source with the constants.
+#[derive(Clone, Copy)]
+pub struct Storage {
+    pub names: u64,
+    pub name_bytes: u64,
+    pub bytes: u64,
+    pub fields: u64,
+}
+
+/// That of the cards at the front.
+pub(crate) fn storage_of(source: &IndexedCards, front: &[SpecCard]) -> Storage
+    requires few { length source.now ≤ 2000 }
+    requires front { BeginsWith source.now front.now }
+    ensures { IsStorage source.now front.now result }
+{
+    let names = names_of(source, front);
+    let constants = constants_of(source, front);
+    let all = names_of(source, source.as_slice());
+    Storage {
+        names: names.number,
+        name_bytes: names.bytes,
+        bytes: all.bytes + constants.bytes,
+        fields: all.number + constants.number,
+    }
+}
