@@ -1,13 +1,14 @@
 //! The cause of a fault in words.
 
+use crate::editing::write_editing;
 use crate::files::{write_file, write_movement};
 use crate::indicators::write_bad_indicator;
-use crate::labels::{write_apart, write_nowhere, write_recursion, write_twice};
+use crate::labels::{write_nowhere, write_target, write_twice};
 use crate::missing::{write_column, write_field};
 use crate::names::{write_redefined, write_undefined};
 use crate::operands::{write_index, write_operand};
 use crate::order::{write_order, write_stray};
-use crate::places::{write_joined, write_outside};
+use crate::places::{write_join, write_outside};
 use crate::rounding::write_rounding;
 use crate::sizes::{write_limit, write_size};
 use crate::spot::{SourceCards, Spot};
@@ -24,6 +25,7 @@ fn write_told(out: &mut TextWriter, spot: Spot<'_>, cause: &Cause) {
         Cause::Size(size) => write_size(out, *size),
         Cause::Operand(operand) => write_operand(out, spot, operand),
         Cause::Index(index) => write_index(out, spot, index),
+        Cause::Limit(limit) => write_limit(out, *limit),
         Cause::File(file) => write_file(out, spot, file),
         Cause::Indicator(indicator) => write_bad_indicator(out, indicator),
         Cause::Column(column) => write_column(out, spot, column),
@@ -33,19 +35,12 @@ fn write_told(out: &mut TextWriter, spot: Spot<'_>, cause: &Cause) {
         Cause::Twice(twice) => write_twice(out, twice),
         Cause::Order(order) => write_order(out, spot, order),
         Cause::Stray(stray) => write_stray(out, *stray),
-        Cause::Apart(target) => write_apart(out, target),
-        Cause::Recursion(target) => write_recursion(out, target),
+        Cause::Apart(target) => write_target(out, target, false),
+        Cause::Recursion(target) => write_target(out, target, true),
         Cause::Rounding(rounding) => write_rounding(out, spot, *rounding),
         Cause::Outside(place) => write_outside(out, spot, place),
-    }
-}
-
-/// Writes the cause of a code that has none by contract, as far as the columns show it.
-fn write_by_columns(out: &mut TextWriter, spot: Spot<'_>, code: FaultCode) -> Option<()> {
-    match code {
-        FaultCode::F6 => write_limit(out, spot),
-        FaultCode::F16 => write_joined(out, spot),
-        _ => None,
+        Cause::Join(join) => write_join(out, *join),
+        Cause::Editing(editing) => write_editing(out, editing),
     }
 }
 
@@ -68,6 +63,6 @@ pub fn write_cause(
             write_told(out, spot, &cause);
             true
         }
-        None => write_by_columns(out, spot, code).is_some(),
+        None => false,
     }
 }

@@ -1,6 +1,5 @@
 //! F7, and F9 of lines: files that are unknown, given twice or of the wrong use, and spaces and skips for the disk file.
 
-use crate::filled::{Piece, write_filled};
 use crate::near::is_near;
 use crate::spot::{Spot, text_at};
 use rpg_cards::{FileUse, SpecCard};
@@ -16,47 +15,47 @@ const fn use_name(serves_as: FileUse) -> &'static str {
     }
 }
 
-/// What to do where a file is one too many.
-const fn way_round(serves_as: FileUse) -> &'static str {
-    match serves_as {
-        FileUse::Primary | FileUse::Secondary =>
-            "; a second input file has S in 16, and a third isn't supported: merge two beforehand (docs/OLD_PROGRAMS.md)",
-        FileUse::Printer | FileUse::Disk =>
-            "; more output files aren't supported: write one with a code in column 1, and split it afterwards (rpg2 fit does it for disk files: A21)",
-    }
-}
+const THIRD_INPUT: &str =
+    "; a second input file has S in 16, and a third isn't supported: merge two beforehand (docs/OLD_PROGRAMS.md)";
 
-/// A second file of a use.
-fn write_second<'a>(out: &mut TextWriter, spot: Spot<'_>, name: &'a [u8], first: &'a FileOnCard) {
-    let pieces = [
-        Piece::Shown(name),
-        Piece::Word(use_name(first.serves_as)),
-        Piece::Shown(first.name.as_slice()),
-        Piece::Card(Some(first.card)),
-    ];
-    write_filled(out, "{} would be a second {}: {}{} is one", &pieces);
+const MORE_OUTPUT: &str =
+    "; more output files aren't supported: write one with a code in column 1, and split it afterwards (rpg2 fit does it for disk files: A21)";
+
+/// A second file of a use, and what to do.
+fn write_second(out: &mut TextWriter, spot: Spot<'_>, name: &[u8], first: &FileOnCard) {
+    let serves_as = use_name(first.serves_as);
+    let first_name = first.name.as_slice();
+    out.fill(
+        "{} would be a second {}: {} (card {}) is one",
+        &[
+            name.into(),
+            serves_as.into(),
+            first_name.into(),
+            first.card.into(),
+        ],
+    );
     let first_device = spot.text_of_card(first.card, 40, 46);
     let own_device = text_at(spot.line, 40, 46);
     match first.serves_as {
-        FileUse::Disk if is_near(first_device, b"PRINTER") => write_filled(
-            out,
-            ", since its device is {} and not PRINTER",
-            &[Piece::Shown(first_device)],
-        ),
-        FileUse::Disk if is_near(own_device, b"PRINTER") => {
-            write_filled(out, "; {} isn't PRINTER", &[Piece::Shown(own_device)]);
+        FileUse::Disk if is_near(first_device, b"PRINTER") => {
+            out.fill(
+                ", since its device is {} and not PRINTER",
+                &[first_device.into()],
+            );
         }
-        serves_as => out.write_str(way_round(serves_as)),
+        FileUse::Disk if is_near(own_device, b"PRINTER") => {
+            out.fill("; {} isn't PRINTER", &[own_device.into()]);
+        }
+        FileUse::Primary | FileUse::Secondary => out.write_str(THIRD_INPUT),
+        FileUse::Printer | FileUse::Disk => out.write_str(MORE_OUTPUT),
     }
 }
 
-fn write_length(out: &mut TextWriter, serves_as: FileUse, length: u16) {
+/// The length that no line, and the one that no record has.
+const fn length_sentence(serves_as: FileUse) -> &'static str {
     match serves_as {
-        FileUse::Printer => write!(
-            out,
-            "a printed line of {length} places: it has 1 to 132 (docs/OLD_PROGRAMS.md)"
-        ),
-        _ => write!(out, "a record length of {length}: it is 1 to 9,999"),
+        FileUse::Printer => "a printed line of {} places: it has 1 to 132 (docs/OLD_PROGRAMS.md)",
+        _ => "a record length of {}: it is 1 to 9,999",
     }
 }
 
@@ -64,10 +63,9 @@ fn write_length(out: &mut TextWriter, serves_as: FileUse, length: u16) {
 fn write_near_file(out: &mut TextWriter, cards: &[SpecCard], name: &[u8]) {
     for card in cards {
         if let Some(file) = card.file() {
-            if is_near(name, file.name.as_slice()) {
-                out.write_str(" (");
-                out.write_shown(file.name.as_slice());
-                write!(out, " is on card {})", card.number);
+            let other = file.name.as_slice();
+            if is_near(name, other) {
+                out.fill(" ({} is on card {})", &[other.into(), card.number.into()]);
                 return;
             }
         }
@@ -85,46 +83,53 @@ const fn user_names(user: FileUser) -> (&'static str, &'static str) {
 /// F7: which file it is, and what is wrong with it.
 pub(crate) fn write_file(out: &mut TextWriter, spot: Spot<'_>, cause: &FileCause) {
     match cause {
-        FileCause::Twice(file) => {
-            out.write_shown(file.name.as_slice());
-            let card = file.card;
-            write!(out, " is on card {card} already: each file has one F card");
-        }
+        FileCause::Twice(file) => out.fill(
+            "{} is on card {} already: each file has one F card",
+            &[file.name.as_slice().into(), file.card.into()],
+        ),
         FileCause::Second { name, first } => write_second(out, spot, name.as_slice(), first),
         FileCause::EndsApart => {
             out.write_str("one of the two input files has E in 17: both have it, or neither");
         }
-        FileCause::Length { serves_as, length } => write_length(out, *serves_as, *length),
+        FileCause::Length { serves_as, length } => {
+            out.fill(length_sentence(*serves_as), &[(*length).into()]);
+        }
         FileCause::Unnamed(user) => {
             let (of_whom, _) = user_names(*user);
-            write!(out, "the first {of_whom} names its file in 7-14");
+            out.fill("the first {} names its file in 7-14", &[of_whom.into()]);
         }
         FileCause::Unknown { name, .. } => {
-            out.write_str("no F card has ");
-            out.write_shown(name.as_slice());
+            out.fill("no F card has {}", &[name.as_slice().into()]);
             write_near_file(out, spot.source.cards.as_slice(), name.as_slice());
         }
-        FileCause::WrongUse { user, file } => {
-            let (of_whom, other_use) = user_names(*user);
-            let name = Piece::Shown(file.name.as_slice());
-            write_filled(out, "{}{}", &[name, Piece::Card(Some(file.card))]);
-            write!(out, " is an {other_use} file, and has no {of_whom}");
-        }
+        FileCause::WrongUse { user, file } => write_wrong_use(out, *user, file),
     }
+}
+
+fn write_wrong_use(out: &mut TextWriter, user: FileUser, file: &FileOnCard) {
+    let (of_whom, other_use) = user_names(user);
+    let name = file.name.as_slice();
+    out.fill(
+        "{} (card {}) is an {} file, and has no {}",
+        &[
+            name.into(),
+            file.card.into(),
+            other_use.into(),
+            of_whom.into(),
+        ],
+    );
 }
 
 /// F9 of a line: its file, which is no printer.
 pub(crate) fn write_movement(out: &mut TextWriter, spot: Spot<'_>, file: &FileOnCard) {
-    let card = file.card;
-    let device = spot.text_of_card(card, 40, 46);
-    out.write_str("spaces and skips are for a printer, and ");
-    out.write_shown(file.name.as_slice());
-    if device.is_empty() {
-        write!(out, " (card {card})");
-    } else {
-        write!(out, " (card {card}, device ");
-        out.write_shown(device);
-        out.write_char(')');
+    let device = spot.text_of_card(file.card, 40, 46);
+    let name = file.name.as_slice();
+    out.fill(
+        "spaces and skips are for a printer, and {} (card {}",
+        &[name.into(), file.card.into()],
+    );
+    if !device.is_empty() {
+        out.fill(", device {}", &[device.into()]);
     }
-    out.write_str(" is the disk file");
+    out.write_str(") is the disk file");
 }

@@ -1,6 +1,5 @@
 //! F10, F11, F13 and F14: labels and subroutines.
 
-use crate::filled::{Piece, write_filled};
 use crate::near::is_near;
 use crate::spot::Spot;
 use rpg_cards::{Named, SpecCard, gives};
@@ -22,94 +21,73 @@ fn write_near_label(out: &mut TextWriter, cards: &[SpecCard], name: &[u8], is_su
         if let Some(named) = given_on(card) {
             let other = named.name.as_slice();
             if named.is_subroutine == is_subroutine && is_near(name, other) {
-                out.write_str(" (");
-                out.write_shown(other);
-                write!(out, " is on card {})", card.number);
+                out.fill(" ({} is on card {})", &[other.into(), card.number.into()]);
                 return;
             }
         }
     }
 }
 
+const IS_SUBROUTINE: &str = "{} is a subroutine (card {}): EXSR does it, GOTO leads to labels";
+
+const IS_LABEL: &str = "{} is a label (card {}): GOTO leads to it, EXSR does subroutines";
+
 /// F10: the label or the subroutine that isn't there, or is the other of the two.
 pub(crate) fn write_nowhere(out: &mut TextWriter, spot: Spot<'_>, cause: &NowhereCause) {
     match cause {
         NowhereCause::Absent(wanted) => {
             let name = wanted.name.as_slice();
-            out.write_str(if wanted.is_subroutine {
-                "no BEGSR gives "
-            } else {
-                "no TAG gives "
-            });
-            out.write_shown(name);
-            write_near_label(
-                out,
-                spot.source.cards.as_slice(),
-                name,
-                wanted.is_subroutine,
-            );
+            let operation = if wanted.is_subroutine { "BEGSR" } else { "TAG" };
+            out.fill("no {} gives {}", &[operation.into(), name.into()]);
+            let cards = spot.source.cards.as_slice();
+            write_near_label(out, cards, name, wanted.is_subroutine);
         }
-        NowhereCause::Other { name, giver } => write_filled(
-            out,
-            if giver.is_subroutine {
-                "{} is a subroutine{}: EXSR does it, GOTO leads to labels"
+        NowhereCause::Other { name, giver } => {
+            let sentence = if giver.is_subroutine {
+                IS_SUBROUTINE
             } else {
-                "{} is a label{}: GOTO leads to it, EXSR does subroutines"
-            },
-            &[Piece::Shown(name.as_slice()), Piece::Card(Some(giver.card))],
-        ),
+                IS_LABEL
+            };
+            out.fill(sentence, &[name.as_slice().into(), giver.card.into()]);
+        }
     }
 }
 
 /// F11: what the name was before.
 pub(crate) fn write_twice(out: &mut TextWriter, cause: &TwiceCause) {
     match cause {
-        TwiceCause::Given { name, giver } => write_filled(
-            out,
-            "{} is a {} on card {} already",
-            &[
-                Piece::Shown(name.as_slice()),
-                Piece::Word(kind(giver.is_subroutine)),
-                Piece::Number(u64::from(giver.card)),
-            ],
-        ),
-        TwiceCause::Field { name, card } => write_filled(
-            out,
+        TwiceCause::Given { name, giver } => {
+            let kind = kind(giver.is_subroutine);
+            out.fill(
+                "{} is a {} on card {} already",
+                &[name.as_slice().into(), kind.into(), giver.card.into()],
+            );
+        }
+        TwiceCause::Field { name, card } => out.fill(
             "{} is a field of card {} already",
-            &[
-                Piece::Shown(name.as_slice()),
-                Piece::Number(u64::from(*card)),
-            ],
+            &[name.as_slice().into(), (*card).into()],
         ),
-        TwiceCause::EveryProgram(name) => write_filled(
-            out,
-            "{} is a field without being defined",
-            &[Piece::Shown(name.as_slice())],
-        ),
+        TwiceCause::EveryProgram(name) => {
+            out.fill(
+                "{} is a field without being defined",
+                &[name.as_slice().into()],
+            );
+        }
     }
 }
 
 /// F13: where the label stands.
-pub(crate) fn write_apart(out: &mut TextWriter, target: &Target) {
-    write_filled(
-        out,
-        "{}{} is a label of another section: GOTO leads within the detail calculations, the total ones, or one subroutine",
-        &pieces(target),
-    );
-}
+const APART: &str =
+    "{} (card {}) is a label of another section: GOTO leads within the detail calculations, the total ones, or one subroutine";
 
 /// F14: the subroutine that leads back.
-pub(crate) fn write_recursion(out: &mut TextWriter, target: &Target) {
-    write_filled(
-        out,
-        "{}{} is the subroutine that this card is in, or leads back to it",
-        &pieces(target),
-    );
-}
+const RECURSION: &str = "{} (card {}) is the subroutine that this card is in, or leads back to it";
 
-fn pieces(target: &Target) -> [Piece<'_>; 2] {
-    [
-        Piece::Shown(target.name.as_slice()),
-        Piece::Card(Some(target.card)),
-    ]
+/// F13, and F14: the label, or the subroutine, that the card names.
+pub(crate) fn write_target(out: &mut TextWriter, target: &Target, is_recursion: bool) {
+    let sentence = if is_recursion { RECURSION } else { APART };
+    out.fill(
+        sentence,
+        &[target.name.as_slice().into(), target.card.into()],
+    );
 }

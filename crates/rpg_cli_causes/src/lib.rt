@@ -3,8 +3,9 @@
 
 mod cause;
 mod counted;
+mod editing;
 mod files;
-mod filled;
+mod forms;
 mod indicators;
 mod labels;
 mod missing;

@@ -1,10 +1,9 @@
 //! F9: columns that are missing or not allowed.
 
-use crate::filled::{Piece, write_filled};
 use crate::spot::Spot;
 use rpg_causes::{ColumnCause, FieldCause};
 use rpg_cli_text::TextWriter;
-use rpg_sheet::{ColumnRange, Word};
+use rpg_sheet::ColumnRange;
 
 /// What columns of a calculation are called.
 const fn name_of(at: ColumnRange) -> &'static str {
@@ -20,40 +19,47 @@ const fn name_of(at: ColumnRange) -> &'static str {
     }
 }
 
-/// The sentence of a cause that has no values.
-const fn sentence(cause: &ColumnCause) -> &'static str {
+/// The sentence of a cause, with the columns that it is about, if they have a name.
+const fn sentence(cause: &ColumnCause) -> (&'static str, &'static str) {
     match cause {
-        ColumnCause::NoOperation => "a calculation needs an operation (28-32)",
-        ColumnCause::ConditionsNeeded =>
+        ColumnCause::NoOperation => ("a calculation needs an operation (28-32)", ""),
+        ColumnCause::ConditionsNeeded => (
             "of a calculation with AN and OR cards each card has conditions (9-17)",
-        ColumnCause::Unconditioned => "TAG, BEGSR and ENDSR have no conditions: blank 9-17",
-        ColumnCause::LengthAlone => "a length (49-51) without a result field (43-48)",
-        ColumnCause::NoIndicators => "{} has no resulting indicators: blank 54-59",
-        ColumnCause::IndicatorNeeded => "{} needs a resulting indicator (54-59)",
-        ColumnCause::HighAndLow => "{} searches for high (54-55) or low (56-57), not for both",
-        ColumnCause::NotAllowed(_) => "{} doesn't have {}: blank it",
-        ColumnCause::Needed(_) => "{} needs {}",
-        ColumnCause::NotPlain(_) => "{} has a name in {}, without an index",
-        ColumnCause::LastCardAlone(_) =>
-            "the calculation goes on with AN or OR, and its last card alone has {}",
+            "",
+        ),
+        ColumnCause::Unconditioned => ("TAG, BEGSR and ENDSR have no conditions: blank 9-17", ""),
+        ColumnCause::LengthAlone => ("a length (49-51) without a result field (43-48)", ""),
+        ColumnCause::NoIndicators => ("{} has no resulting indicators: blank 54-59", ""),
+        ColumnCause::IndicatorNeeded => ("{} needs a resulting indicator (54-59)", ""),
+        ColumnCause::HighAndLow => (
+            "{} searches for high (54-55) or low (56-57), not for both",
+            "",
+        ),
+        ColumnCause::NotAllowed(at) => ("{} doesn't have {}: blank it", name_of(*at)),
+        ColumnCause::Needed(at) => ("{} needs {}", name_of(*at)),
+        ColumnCause::NotPlain(at) => ("{} has a name in {}, without an index", name_of(*at)),
+        ColumnCause::LastCardAlone(at) => (LAST_CARD_ALONE, name_of(*at)),
     }
 }
 
-/// What is searched, and the card that defines it.
-fn write_searched(out: &mut TextWriter, name: &Option<Word<6>>, definer: Option<u16>) {
-    if let (Some(name), Some(_)) = (name, definer) {
-        let pieces = [Piece::Shown(name.as_slice()), Piece::Card(definer)];
-        write_filled(out, ": A in 45 or 57 for {}{}", &pieces);
-    }
-}
+const LAST_CARD_ALONE: &str =
+    "the calculation goes on with AN or OR, and its last card alone has {}";
 
 /// F9 of what LOKUP searches, or of an output field.
 pub(crate) fn write_field(out: &mut TextWriter, spot: Spot<'_>, cause: &FieldCause) {
     match cause {
         FieldCause::Unordered { name, definer } => {
-            let operation = Piece::Shown(spot.operation());
-            write_filled(out, "{} for high or low needs a sequence", &[operation]);
-            write_searched(out, name, *definer);
+            out.fill(
+                "{} for high or low needs a sequence",
+                &[spot.operation().into()],
+            );
+            if let (Some(name), Some(card)) = (name, *definer) {
+                let name = name.as_slice();
+                out.fill(
+                    ": A in 45 or 57 for {} (card {})",
+                    &[name.into(), card.into()],
+                );
+            }
         }
         FieldCause::CodeAlone => out.write_str("an edit code (38) without a field (32-37)"),
         FieldCause::BlankAfterAlone => out.write_str("blank after (39) without a field (32-37)"),
@@ -65,18 +71,10 @@ pub(crate) fn write_field(out: &mut TextWriter, spot: Spot<'_>, cause: &FieldCau
 
 /// F9 of a calculation: what is missing, or not allowed.
 pub(crate) fn write_column(out: &mut TextWriter, spot: Spot<'_>, cause: &ColumnCause) {
-    let operation = Piece::Shown(spot.operation());
-    match cause {
-        ColumnCause::NotAllowed(at) | ColumnCause::Needed(at) | ColumnCause::NotPlain(at) => {
-            write_filled(
-                out,
-                sentence(cause),
-                &[operation, Piece::Word(name_of(*at))],
-            );
-        }
-        ColumnCause::LastCardAlone(at) => {
-            write_filled(out, sentence(cause), &[Piece::Word(name_of(*at))]);
-        }
-        _ => write_filled(out, sentence(cause), &[operation]),
+    let (sentence, columns) = sentence(cause);
+    if matches!(cause, ColumnCause::LastCardAlone(_)) {
+        out.fill(sentence, &[columns.into()]);
+    } else {
+        out.fill(sentence, &[spot.operation().into(), columns.into()]);
     }
 }

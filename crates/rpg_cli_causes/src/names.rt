@@ -1,25 +1,11 @@
 //! F1 and F2: names that no card defines, and names that are defined again.
 
-use crate::filled::{Piece, write_filled};
+use crate::forms::write_form;
 use crate::near::write_near_names;
 use crate::spot::Spot;
 use rpg_causes::Redefined;
 use rpg_cli_text::TextWriter;
 use rpg_effect::form::{is_array, is_table};
-
-/// Names that RPG II defines and this profile doesn't, and what to write.
-const UNREAD: [(&str, &str); 10] = [
-    ("UDAY", DATE),
-    ("UMONTH", DATE),
-    ("UYEAR", DATE),
-    ("PAGE1", PAGES),
-    ("PAGE2", PAGES),
-    ("PAGE3", PAGES),
-    ("PAGE4", PAGES),
-    ("PAGE5", PAGES),
-    ("PAGE6", PAGES),
-    ("PAGE7", PAGES),
-];
 
 const DATE: &str =
     ": take it from UDATE, by MOVEL, MOVE, or DIV and MVR (rpg2 fit rewrites it: A20)";
@@ -27,22 +13,18 @@ const DATE: &str =
 const PAGES: &str =
     ": PAGE is the one page counter; count others in a number of 4 digits, by ADD (of a single one rpg2 fit makes PAGE: A8)";
 
+/// What to write for a name that RPG II defines and this profile doesn't.
 fn unread(name: &[u8]) -> Option<&'static str> {
-    for (other, sentence) in UNREAD {
-        if name == other.as_bytes() {
-            return Some(sentence);
-        }
+    match name {
+        b"UDAY" | b"UMONTH" | b"UYEAR" => Some(DATE),
+        [b'P', b'A', b'G', b'E', b'1'..=b'7'] => Some(PAGES),
+        _ => None,
     }
-    None
 }
 
 /// F1: which name no card defines, and which are close to it.
 pub(crate) fn write_undefined(out: &mut TextWriter, spot: Spot<'_>, name: &[u8]) {
-    write_filled(
-        out,
-        "{} is used, and no card defines it",
-        &[Piece::Shown(name)],
-    );
+    out.fill("{} is used, and no card defines it", &[name.into()]);
     match unread(name) {
         Some(sentence) => out.write_str(sentence),
         None => write_near_names(out, spot, name),
@@ -59,21 +41,15 @@ pub(crate) fn write_redefined(out: &mut TextWriter, spot: Spot<'_>, cause: &Rede
         out.write_str("UDATE is the date, and no card defines it");
         return;
     }
-    let pieces = [
-        Piece::Shown(name),
-        Piece::Form(cause.here),
-        Piece::Form(cause.first),
-    ];
-    match cause.definer {
-        Some(card) => {
-            write_filled(out, "{} is {} here, and {}", &pieces);
-            write!(out, " on card {card}");
-        }
-        None => write_filled(
-            out,
-            "{} is {} here, and without being defined it is {}",
-            &pieces,
-        ),
+    out.fill("{} is ", &[name.into()]);
+    write_form(out, cause.here);
+    out.write_str(" here, and ");
+    if cause.definer.is_none() {
+        out.write_str("without being defined it is ");
+    }
+    write_form(out, cause.first);
+    if let Some(card) = cause.definer {
+        out.fill(" on card {}", &[card.into()]);
     }
     let class = cause.first.class;
     if spot.card.input_field().is_some() && (is_array(class) || is_table(class)) {

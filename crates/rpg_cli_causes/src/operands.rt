@@ -1,7 +1,7 @@
 //! F4 and F5: operands of the wrong kind, and entries whose index is wrong.
 
 use crate::counted::noun;
-use crate::filled::{Piece, write_filled};
+use crate::forms::{write_card, write_form};
 use crate::spot::Spot;
 use rpg_cards::Content;
 use rpg_causes::{IndexCause, OperandCause, TextField};
@@ -23,7 +23,10 @@ fn write_remedy(out: &mut TextWriter, spot: Spot<'_>, text: &TextField) {
         } else {
             "a digit in column 52"
         };
-        write!(out, ": {remedy} of card {card} makes it one");
+        out.fill(
+            ": {} of card {} makes it one",
+            &[remedy.into(), card.into()],
+        );
     }
 }
 
@@ -35,49 +38,54 @@ const fn class_sentence(wanted: Content) -> &'static str {
     }
 }
 
+/// A text, with the card that defines it.
+fn write_text(out: &mut TextWriter, name: &[u8], text: &TextField) {
+    out.fill("{} is a text", &[name.into()]);
+    write_card(out, text.definer);
+}
+
 /// F4: which operand is of the wrong kind, and which card makes it so.
 pub(crate) fn write_operand(out: &mut TextWriter, spot: Spot<'_>, cause: &OperandCause) {
-    let operation = Piece::Shown(spot.operation());
+    let operation = spot.operation();
     match cause {
         OperandCause::WrongClass { at, wanted } => {
-            let pieces = [Piece::Shown(spot.text_in(*at)), operation];
-            write_filled(out, class_sentence(*wanted), &pieces);
+            let pieces = [spot.text_in(*at).into(), operation.into()];
+            out.fill(class_sentence(*wanted), &pieces);
         }
         OperandCause::TextOperand { at, text } => {
-            let shown = Piece::Shown(spot.text_in(*at));
-            let pieces = [shown, Piece::Card(text.definer), operation];
-            write_filled(out, "{} is a text{}, and {} takes numbers", &pieces);
+            write_text(out, spot.text_in(*at), text);
+            out.fill(", and {} takes numbers", &[operation.into()]);
             write_remedy(out, spot, text);
         }
-        OperandCause::Unlike { first, second } => write_filled(
-            out,
-            "factor 1 is {} and factor 2 {}: {} takes two numbers, or two texts",
-            &[Piece::Form(*first), Piece::Form(*second), operation],
-        ),
+        OperandCause::Unlike { first, second } => write_unlike(out, operation, *first, *second),
         OperandCause::Unwritable => {
             out.write_str("UDATE is the date, and no calculation changes it");
         }
         OperandCause::TooFew { found, searched } => write_too_few(out, spot, *found, *searched),
         OperandCause::EditedText(text) => write_edited(out, spot, text),
-        OperandCause::BlankedDate(name) => write_filled(
-            out,
+        OperandCause::BlankedDate(name) => out.fill(
             "{} is the date, and isn't blanked: take B out of column 39",
-            &[Piece::Shown(name.as_slice())],
+            &[name.as_slice().into()],
         ),
     }
 }
 
+fn write_unlike(out: &mut TextWriter, operation: &[u8], first: FieldForm, second: FieldForm) {
+    out.write_str("factor 1 is ");
+    write_form(out, first);
+    out.write_str(" and factor 2 ");
+    write_form(out, second);
+    out.fill(": {} takes two numbers, or two texts", &[operation.into()]);
+}
+
+const TOO_FEW: &str = "{} has {} {}, and what is searched has {}: the result needs as many";
+
 fn write_too_few(out: &mut TextWriter, spot: Spot<'_>, found: u16, searched: u16) {
-    let pieces = [
-        Piece::Shown(spot.text_in(ColumnRange::ResultName)),
-        Piece::Number(u64::from(found)),
-        Piece::Word(noun(usize::from(found), "entry", "entries")),
-        Piece::Number(u64::from(searched)),
-    ];
-    write_filled(
-        out,
-        "{} has {} {}, and what is searched has {}: the result needs as many",
-        &pieces,
+    let name = spot.text_in(ColumnRange::ResultName);
+    let entries = noun(usize::from(found), "entry", "entries");
+    out.fill(
+        TOO_FEW,
+        &[name.into(), found.into(), entries.into(), searched.into()],
     );
 }
 
@@ -86,28 +94,35 @@ fn write_edited(out: &mut TextWriter, spot: Spot<'_>, text: &TextField) {
         Some(name) => name.as_slice(),
         None => &[],
     };
-    let pieces = [Piece::Shown(name), Piece::Card(text.definer)];
-    write_filled(out, "{} is a text{}, and numbers alone are edited", &pieces);
+    write_text(out, name, text);
+    out.write_str(", and numbers alone are edited");
     write_remedy(out, spot, text);
 }
 
 /// What a field is that can be no index.
-const fn field_piece(form: FieldForm) -> Piece<'static> {
+fn write_no_index(out: &mut TextWriter, name: &Word<6>, form: FieldForm, definer: Option<u16>) {
+    out.fill("{} is ", &[name.as_slice().into()]);
     match form.class {
-        Class::Date => Piece::Word("the date"),
-        _ => Piece::Form(form),
+        Class::Date => out.write_str("the date"),
+        _ => write_form(out, form),
     }
+    write_card(out, definer);
+    out.write_str(", and an index is a plain number without decimals");
 }
 
 /// Writes of an array how many entries it has.
 fn write_entries(out: &mut TextWriter, name: &Word<6>, entries: u16) {
-    let pieces = [
-        Piece::Shown(name.as_slice()),
-        Piece::Number(u64::from(entries)),
-        Piece::Word(noun(usize::from(entries), "entry", "entries")),
-    ];
-    write_filled(out, "{} has {} {}, and ", &pieces);
+    let counted = noun(usize::from(entries), "entry", "entries");
+    out.fill(
+        "{} has {} {}, and ",
+        &[name.as_slice().into(), entries.into(), counted.into()],
+    );
 }
+
+const NO_INDEX_GIVEN: &str =
+    "is written with an index, as {},1: whole arrays stand in XFOOT and LOKUP only (rpg2 fit rewrites it: A13, A14)";
+
+const TOO_SHORT: &str = "{} has no room for their number, which LOKUP puts there";
 
 /// F5: what is wrong with the index of an entry.
 pub(crate) fn write_index(out: &mut TextWriter, spot: Spot<'_>, cause: &IndexCause) {
@@ -116,42 +131,20 @@ pub(crate) fn write_index(out: &mut TextWriter, spot: Spot<'_>, cause: &IndexCau
             name,
             form,
             definer,
-        } => write_filled(
-            out,
-            "{} is {}{}, and an index is a plain number without decimals",
-            &[
-                Piece::Shown(name.as_slice()),
-                field_piece(*form),
-                Piece::Card(*definer),
-            ],
-        ),
-        IndexCause::NoArray(name) => write_filled(
-            out,
-            "{} is no array, and has no index",
-            &[Piece::Shown(name.as_slice())],
-        ),
-        IndexCause::Whole(name) => write_filled(
-            out,
+        } => write_no_index(out, name, *form, *definer),
+        IndexCause::NoArray(name) => {
+            out.fill(
+                "{} is no array, and has no index",
+                &[name.as_slice().into()],
+            );
+        }
+        IndexCause::Whole(name) => out.fill(
             "{} takes the whole array {}, without an index",
-            &[
-                Piece::Shown(spot.operation()),
-                Piece::Shown(name.as_slice()),
-            ],
+            &[spot.operation().into(), name.as_slice().into()],
         ),
-        _ => write_of_array(out, cause),
-    }
-}
-
-/// F5 of an array that has an index, or needs one.
-fn write_of_array(out: &mut TextWriter, cause: &IndexCause) {
-    match cause {
         IndexCause::Missing { name, entries } => {
             write_entries(out, name, *entries);
-            write_filled(
-                out,
-                "is written with an index, as {},1: whole arrays stand in XFOOT and LOKUP only (rpg2 fit rewrites it: A13, A14)",
-                &[Piece::Shown(name.as_slice())],
-            );
+            out.fill(NO_INDEX_GIVEN, &[name.as_slice().into()]);
         }
         IndexCause::OutOfRange {
             name,
@@ -159,7 +152,7 @@ fn write_of_array(out: &mut TextWriter, cause: &IndexCause) {
             index,
         } => {
             write_entries(out, name, *entries);
-            write!(out, "{index} is none of them");
+            out.fill("{} is none of them", &[(*index).into()]);
         }
         IndexCause::TooShort {
             name,
@@ -167,12 +160,7 @@ fn write_of_array(out: &mut TextWriter, cause: &IndexCause) {
             index,
         } => {
             write_entries(out, name, *entries);
-            write_filled(
-                out,
-                "{} has no room for their number, which LOKUP puts there",
-                &[Piece::Shown(index.as_slice())],
-            );
+            out.fill(TOO_SHORT, &[index.as_slice().into()]);
         }
-        _ => {}
     }
 }

@@ -1,6 +1,5 @@
 //! F12: sections out of order, BEGSR and ENDSR that aren't paired, and cards that need one before them.
 
-use crate::filled::{Piece, write_filled};
 use crate::spot::Spot;
 use rpg_causes::{OrderCause, StrayCause};
 use rpg_cli_text::TextWriter;
@@ -18,73 +17,74 @@ const fn time_of(control_level: ControlLevel) -> &'static str {
 /// BEGSR, by its name, and ENDSR.
 fn write_unended(out: &mut TextWriter, name: &Option<Word<6>>, next: Option<u16>) {
     match name {
-        Some(name) => write_filled(
-            out,
-            "BEGSR of {} has no ENDSR",
-            &[Piece::Shown(name.as_slice())],
-        ),
+        Some(name) => out.fill("BEGSR of {} has no ENDSR", &[name.as_slice().into()]),
         None => out.write_str("this BEGSR has no ENDSR"),
     }
     if let Some(card) = next {
-        write!(out, ": the next BEGSR is on card {card}");
+        out.fill(": the next BEGSR is on card {}", &[card.into()]);
     }
 }
+
+const UNJOINED: &str = "AN and OR go on with the calculation right before them, and there is none";
+
+const EARLY: &str = "this card is of {} and stands after {} (card {})";
+
+const NO_BEGSR: &str = "this ENDSR has no BEGSR: the last subroutine before it ends on card {}";
 
 /// F12 of a calculation card: what it needs before it, or after it.
 pub(crate) fn write_order(out: &mut TextWriter, spot: Spot<'_>, cause: &OrderCause) {
     match cause {
-        OrderCause::Unjoined => out.write_str(
-            "AN and OR go on with the calculation right before them, and there is none",
-        ),
-        OrderCause::Early { own, later, card } => write_filled(
-            out,
-            "this card is of {} and stands after {}{}",
-            &[
-                Piece::Word(time_of(*own)),
-                Piece::Word(time_of(*later)),
-                Piece::Card(Some(*card)),
-            ],
-        ),
+        OrderCause::Unjoined => out.write_str(UNJOINED),
+        OrderCause::Early { own, later, card } => {
+            let times = (time_of(*own), time_of(*later));
+            out.fill(EARLY, &[times.0.into(), times.1.into(), (*card).into()]);
+        }
         OrderCause::Outside(None) => out.write_str("an SR card before the first BEGSR"),
-        OrderCause::Outside(Some(card)) => write!(
-            out,
-            "an SR card after the ENDSR of card {card}, in no subroutine"
+        OrderCause::Outside(Some(card)) => out.fill(
+            "an SR card after the ENDSR of card {}, in no subroutine",
+            &[(*card).into()],
         ),
-        OrderCause::OutsideSection { .. } => write_filled(
-            out,
+        OrderCause::OutsideSection { .. } => out.fill(
             "{} stands on a card without SR in 7-8",
-            &[Piece::Shown(spot.operation())],
+            &[spot.operation().into()],
         ),
         OrderCause::NoBegsr(None) => out.write_str("this ENDSR has no BEGSR"),
-        OrderCause::NoBegsr(Some(card)) => write!(
-            out,
-            "this ENDSR has no BEGSR: the last subroutine before it ends on card {card}"
-        ),
+        OrderCause::NoBegsr(Some(card)) => out.fill(NO_BEGSR, &[(*card).into()]),
         OrderCause::NoEndsr { name, next } => write_unended(out, name, *next),
+    }
+}
+
+/// Of what goes on with another card: what stands right before.
+fn write_joined(out: &mut TextWriter, sentence: &'static str, card: Option<u16>) {
+    out.write_str(sentence);
+    match card {
+        Some(card) => out.fill(", and card {} is none", &[card.into()]),
+        None => out.write_str(", and there is none"),
     }
 }
 
 /// F12 of an I or O card: what it needs before it.
 pub(crate) fn write_stray(out: &mut TextWriter, cause: StrayCause) {
-    let (sentence, card) = match cause {
-        StrayCause::NoType => (
-            "a field stands after its record type, and none is before it",
-            None,
-        ),
-        StrayCause::NoLine => ("a field stands after its line, and none is before it", None),
-        StrayCause::OtherThanType(card) => (
-            "AND goes on with the record type right before it",
-            card,
-        ),
-        StrayCause::OtherThanLine(card) => (
-            "AND and OR go on with the line right before them",
-            card,
-        ),
-    };
-    out.write_str(sentence);
-    match (cause, card) {
-        (StrayCause::NoType | StrayCause::NoLine, _) => {}
-        (_, Some(card)) => write!(out, ", and card {card} is none"),
-        (_, None) => out.write_str(", and there is none"),
+    match cause {
+        StrayCause::NoType => {
+            out.write_str("a field stands after its record type, and none is before it");
+        }
+        StrayCause::NoLine => {
+            out.write_str("a field stands after its line, and none is before it");
+        }
+        StrayCause::OtherThanType(card) => {
+            write_joined(
+                out,
+                "AND goes on with the record type right before it",
+                card,
+            );
+        }
+        StrayCause::OtherThanLine(card) => {
+            write_joined(
+                out,
+                "AND and OR go on with the line right before them",
+                card,
+            );
+        }
     }
 }

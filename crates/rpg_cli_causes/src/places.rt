@@ -1,53 +1,54 @@
-//! F16: columns of records and of lines.
+//! F16: columns of records and of lines, control fields and match fields.
 
 use crate::counted::noun;
-use crate::filled::{Piece, write_filled};
 use crate::spot::{Spot, text_at};
-use rpg_causes::{FileOnCard, PlaceCause};
-use rpg_cli_text::TextWriter;
-use rpg_sheet::{ColumnRange, InputSpec};
+use rpg_causes::{FileOnCard, JoinCause, PlaceCause};
+use rpg_cli_text::{Piece, TextWriter};
+use rpg_sheet::ColumnRange;
 
 /// How long the records, or the lines, are, and which card has that.
 fn write_length(out: &mut TextWriter, kind: &'static str, file: &FileOnCard) {
-    let pieces = [
-        Piece::Word(kind),
-        Piece::Shown(file.name.as_slice()),
-        Piece::Number(u64::from(file.record_length)),
-        Piece::Card(Some(file.card)),
-    ];
-    write_filled(out, ", and {} of {} have {}{}", &pieces);
+    let name = file.name.as_slice();
+    out.fill(
+        ", and {} of {} have {} (card {})",
+        &[
+            kind.into(),
+            name.into(),
+            file.record_length.into(),
+            file.card.into(),
+        ],
+    );
 }
 
 /// The position of a code, as it stands on the card.
 fn position(spot: Spot<'_>, at: ColumnRange) -> Piece<'_> {
     let first = usize::from(at.columns().column);
-    Piece::Shown(text_at(spot.line, first, first.saturating_add(3)))
+    text_at(spot.line, first, first.saturating_add(3)).into()
 }
+
+const NO_POSITION: &str = "position {}: columns of a record are counted from 1";
+
+const TURNED_ROUND: &str = "the last column, {}, comes before the first, {}";
 
 /// F16 of a card's own columns: what is outside the record or the line.
 pub(crate) fn write_outside(out: &mut TextWriter, spot: Spot<'_>, cause: &PlaceCause) {
     match cause {
-        PlaceCause::NoPosition(at) => write_filled(
-            out,
-            "position {}: columns of a record are counted from 1",
-            &[position(spot, *at)],
-        ),
+        PlaceCause::NoPosition(at) => out.fill(NO_POSITION, &[position(spot, *at)]),
         PlaceCause::PositionPast { at, file, .. } => {
-            write_filled(out, "position {}", &[position(spot, *at)]);
+            out.fill("position {}", &[position(spot, *at)]);
             write_length(out, "records", file);
         }
         PlaceCause::NoColumn => out.write_str("columns of a record are counted from 1"),
-        PlaceCause::TurnedRound { from, to } => write!(
-            out,
-            "the last column, {to}, comes before the first, {from}"
-        ),
+        PlaceCause::TurnedRound { from, to } => {
+            out.fill(TURNED_ROUND, &[(*to).into(), (*from).into()]);
+        }
         PlaceCause::PastRecord { from, to, file } => {
-            write!(out, "columns {from}-{to}");
+            out.fill("columns {}-{}", &[(*from).into(), (*to).into()]);
             write_length(out, "records", file);
         }
         PlaceCause::NoEnd => out.write_str("places of a line are counted from 1"),
         PlaceCause::PastLine { end, file } => {
-            write!(out, "the end is place {end}");
+            out.fill("the end is place {}", &[(*end).into()]);
             write_length(out, "lines", file);
         }
         PlaceCause::Wider { places, end } => write_width(out, spot, *places, *end),
@@ -61,20 +62,81 @@ fn write_width(out: &mut TextWriter, spot: Spot<'_>, width: usize, end: u16) {
         _ => out.write_str("the constant"),
     }
     let of_places = noun(width, "place", "places");
-    write!(out, " takes {width} {of_places}, and ends in place {end}");
+    let pieces = [width.into(), of_places.into(), end.into()];
+    out.fill(" takes {} {}, and ends in place {}", &pieces);
 }
 
-/// F16 of control fields and match fields: which of their reasons it is, the columns decide.
-pub(crate) fn write_joined(out: &mut TextWriter, spot: Spot<'_>) -> Option<()> {
-    let marked = [Piece::Shown(spot.marked())];
-    let sentence = match (spot.card.input()?, spot.column()) {
-        (InputSpec::Field(_), 59) =>
-            "the control fields of {} have more than 256 columns together in this type",
-        (InputSpec::Field(_), _) =>
-            "{} stands twice in this type, or its match fields have more than 256 columns together",
-        _ =>
-            "the control fields of a level, or the match fields, have other lengths or levels in this type than in one before",
-    };
-    write_filled(out, sentence, &marked);
-    Some(())
+const LONG_LEVEL: &str =
+    "the control fields of L{} have {} columns together in this type: a level has at most 256";
+
+const LONG_MATCHES: &str =
+    "the match fields have {} columns together in this type: a type has at most 256";
+
+const OTHER_LENGTH: &str = "{}{} has {} {} in this type, and {} in the one of card {}";
+
+/// A level whose joined length isn't that of an earlier type.
+fn write_other_length(
+    out: &mut TextWriter,
+    letter: char,
+    level: u8,
+    lengths: (u32, u32),
+    card: u16,
+) {
+    let (length, first) = lengths;
+    let columns = if length == 1 { "column" } else { "columns" };
+    out.fill(
+        OTHER_LENGTH,
+        &[
+            letter.into(),
+            level.into(),
+            u64::from(length).into(),
+            columns.into(),
+            u64::from(first).into(),
+            card.into(),
+        ],
+    );
+}
+
+/// F16 of control fields and match fields: which level it is, and how many columns it has.
+pub(crate) fn write_join(out: &mut TextWriter, cause: JoinCause) {
+    match cause {
+        JoinCause::LongLevel { level, columns } => {
+            out.fill(LONG_LEVEL, &[level.into(), u64::from(columns).into()]);
+        }
+        JoinCause::LongMatches { columns } => out.fill(LONG_MATCHES, &[u64::from(columns).into()]),
+        JoinCause::MatchedTwice { level, card } => out.fill(
+            "M{} stands on card {} of this type already",
+            &[level.into(), card.into()],
+        ),
+        JoinCause::OtherLength {
+            level,
+            length,
+            first,
+            card,
+        } => write_other_length(out, 'L', level, (length, first), card),
+        JoinCause::OtherMatches {
+            level,
+            length: 0,
+            card,
+            ..
+        } => out.fill(
+            "this type has no M{}, and the one of card {} has it",
+            &[level.into(), card.into()],
+        ),
+        JoinCause::OtherMatches {
+            level,
+            first: 0,
+            card,
+            ..
+        } => out.fill(
+            "this type has M{}, and the one of card {} doesn't",
+            &[level.into(), card.into()],
+        ),
+        JoinCause::OtherMatches {
+            level,
+            length,
+            first,
+            card,
+        } => write_other_length(out, 'M', level, (length, first), card),
+    }
 }

@@ -1,6 +1,5 @@
 //! F15: H, and MVR.
 
-use crate::filled::{Piece, write_filled};
 use crate::spot::Spot;
 use rpg_causes::RoundingCause;
 use rpg_cli_text::TextWriter;
@@ -15,5 +14,5 @@ pub(crate) fn write_rounding(out: &mut TextWriter, spot: Spot<'_>, cause: Roundi
         RoundingCause::SeveralCards => "MVR has no AN or OR cards",
         RoundingCause::NoDivision => "MVR follows a DIV without H on the card right before it",
     };
-    write_filled(out, sentence, &[Piece::Shown(spot.operation())]);
+    out.fill(sentence, &[spot.operation().into()]);
 }

@@ -1,70 +1,72 @@
 //! F3 and F6: lengths, decimals, and how many there may be.
 
 use crate::counted::noun;
-use crate::filled::{Piece, write_filled};
-use crate::spot::Spot;
-use rpg_causes::SizeCause;
+use rpg_causes::{Limit, LimitCause, SizeCause};
 use rpg_cli_text::TextWriter;
-use rpg_sheet::{InputSpec, OutputSpec, Spec};
+
+const LENGTH: &str = "a length of {}: a number has 1 to 15 digits, a text 1 to 256 characters";
+
+const DIGITS: &str = "a length of {}: a number has 1 to 15 digits";
+
+const DECIMALS: &str = "{} {} of {} {}: there are at most 9, and no more than digits";
 
 /// F3: the length, or the decimals.
 pub(crate) fn write_size(out: &mut TextWriter, cause: SizeCause) {
     match cause {
-        SizeCause::Length(length) => write_filled(
-            out,
-            "a length of {}: a number has 1 to 15 digits, a text 1 to 256 characters",
-            &[Piece::Number(u64::from(length))],
-        ),
-        SizeCause::Digits(length) => write_filled(
-            out,
-            "a length of {}: a number has 1 to 15 digits",
-            &[Piece::Number(u64::from(length))],
-        ),
-        SizeCause::Decimals { decimals, length } => write_filled(
-            out,
-            "{} {} of {} {}: there are at most 9, and no more than digits",
-            &[
-                Piece::Number(u64::from(decimals)),
-                Piece::Word(noun(usize::from(decimals), "decimal", "decimals")),
-                Piece::Number(u64::from(length)),
-                Piece::Word(if length == 1 { "digit" } else { "digits" }),
-            ],
-        ),
+        SizeCause::Length(length) => out.fill(LENGTH, &[u64::from(length).into()]),
+        SizeCause::Digits(length) => out.fill(DIGITS, &[u64::from(length).into()]),
+        SizeCause::Decimals { decimals, length } => write_decimals(out, decimals, length),
         SizeCause::NoLength => out.write_str("decimals (52) without a length (49-51)"),
     }
 }
 
-/// Which limits a card can pass.
-fn limits(spec: &Spec) -> &'static str {
-    match spec {
-        Spec::Extension(_) =>
-            "; with this card there are more than 4,000 fields, or they take more than 65,535 bytes",
-        Spec::Input(InputSpec::Field(_)) =>
-            "; with this card there are more than 500 fields or 100 control fields of a record type, or more than 4,000 fields, or they take more than 65,535 bytes",
-        Spec::Input(_) =>
-            "; with this card there are more than 200 record types, or 100 codes of one",
-        Spec::Calculation(_) =>
-            "; with this card there are more than 1,000 calculation cards, 100 subroutines or 4,000 fields and constants, or these take more than 65,535 bytes",
-        Spec::Output(OutputSpec::Field(_)) =>
-            "; with this card there are more than 200 fields of a line or 4,000 fields and constants, or these take more than 65,535 bytes",
-        Spec::Output(_) =>
-            "; with this card there are more than 1,000 lines, 50 alternatives of one, or 60 conditions of an alternative",
-        Spec::Header(_) | Spec::File(_) | Spec::Data(_) => "",
+fn write_decimals(out: &mut TextWriter, decimals: u8, length: u32) {
+    let of_decimals = noun(usize::from(decimals), "decimal", "decimals");
+    let of_digits = if length == 1 { "digit" } else { "digits" };
+    let length = u64::from(length);
+    out.fill(
+        DECIMALS,
+        &[
+            decimals.into(),
+            of_decimals.into(),
+            length.into(),
+            of_digits.into(),
+        ],
+    );
+}
+
+/// How many there are with the card, and how many there may be.
+const fn limit_sentence(limit: Limit) -> &'static str {
+    match limit {
+        Limit::RecordTypes => "with this card there are {} record types: a source has at most 200",
+        Limit::Codes => "with this card its record type has {} codes: it has at most 100",
+        Limit::ControlFields =>
+            "with this card its record type has {} control fields: it has at most 100",
+        Limit::InputFields => "with this card its record type has {} fields: it has at most 500",
+        Limit::Lines => "with this card there are {} lines: a source has at most 1,000",
+        Limit::Alternatives => "with this card its line has {} alternatives: it has at most 50",
+        Limit::Conditions =>
+            "with this card an alternative of its line has {} conditions: it has at most 60",
+        Limit::OutputFields => "with this card its line has {} fields: it has at most 200",
+        Limit::Calculations =>
+            "with this card there are {} calculation cards: a source has at most 1,000",
+        Limit::Subroutines => "with this card there are {} subroutines: a source has at most 100",
+        Limit::Names => "with this card there are {} names: a source has at most 4,000",
+        Limit::NameBytes => "with this card names take {} bytes: they take at most 65,535",
+        Limit::Bytes =>
+            "with this card names and constants take {} bytes: they take at most 65,535",
+        Limit::Fields =>
+            "with this card there are {} names and constants: a source has at most 4,000",
     }
 }
 
-/// F6: how many entries there are; of other limits those that the card can pass.
-pub(crate) fn write_limit(out: &mut TextWriter, spot: Spot<'_>) -> Option<()> {
-    match (spot.columns, spot.card.extension()) {
-        (Some(_), Some(extension)) => write!(
-            out,
+/// F6: which limit is passed, and how many there are.
+pub(crate) fn write_limit(out: &mut TextWriter, cause: LimitCause) {
+    match cause {
+        LimitCause::Entries(entries) => out.fill(
             "{} entries: a table or an array has 1 to 9,999",
-            extension.entries
+            &[entries.into()],
         ),
-        _ => {
-            out.write_str("a limit is passed");
-            out.write_str(limits(&spot.card.spec));
-        }
+        LimitCause::Passed { limit, count } => out.fill(limit_sentence(limit), &[count.into()]),
     }
-    Some(())
 }

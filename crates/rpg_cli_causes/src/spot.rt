@@ -4,7 +4,7 @@ use rpg_cards::{Defined, IndexedCards, SpecCard};
 use rpg_causes::{Cause, fault_cause};
 use rpg_effect::form::FieldForm;
 use rpg_faults::FaultCode;
-use rpg_sheet::{ColumnFault, ColumnRange, Entry, Factor, Spec, Word};
+use rpg_sheet::{ColumnFault, ColumnRange, Entry, Factor, Word};
 use rpg_text::{first_line, trimmed};
 
 /// The cards of a source that can be read, and its text: none where only the card of the fault is known.
@@ -57,9 +57,7 @@ impl<'a> Spot<'a> {
         number: u16,
         columns: Option<ColumnFault>,
     ) -> Option<Self> {
-        let cards = source.cards.as_slice();
-        let place = cards.iter().position(|card| card.number == number)?;
-        let card = cards.get(place)?;
+        let card = card_at(source.cards.as_slice(), number)?;
         Some(Spot {
             source,
             line,
@@ -76,18 +74,6 @@ impl<'a> Spot<'a> {
         }
     }
 
-    /// What stands in the columns that the fault is about.
-    pub fn marked(self) -> &'a [u8] {
-        match self.columns {
-            Some(columns) => text_at(
-                self.line,
-                usize::from(columns.column),
-                usize::from(columns.last),
-            ),
-            None => &[],
-        }
-    }
-
     /// What stands in a range of columns.
     pub fn text_in(self, range: ColumnRange) -> &'a [u8] {
         let ColumnFault { column, last } = range.columns();
@@ -96,8 +82,10 @@ impl<'a> Spot<'a> {
 
     /// Whether a card, by its number, is an E card.
     pub fn is_extension(self, number: u16) -> bool {
-        self.source.cards.as_slice().iter().any(|card| card.number == number
-            && matches!(card.spec, Spec::Extension(_)))
+        match card_at(self.source.cards.as_slice(), number) {
+            Some(card) => card.extension().is_some(),
+            None => false,
+        }
     }
 
     /// The name of a calculation's operation.
@@ -149,23 +137,33 @@ impl<'a> Spot<'a> {
 
     /// The first card that defines a name.
     pub fn definer(self, name: &[u8]) -> Option<&'a SpecCard> {
-        first_defining(self.source.cards.as_slice(), name)
+        for card in self.source.cards.as_slice() {
+            if defines(card, name) {
+                return Some(card);
+            }
+        }
+        None
     }
 }
 
-/// The first of these cards that defines a name.
-fn first_defining<'a>(cards: &'a [SpecCard], name: &[u8]) -> Option<&'a SpecCard> {
+/// The card with a number.
+fn card_at(cards: &[SpecCard], number: u16) -> Option<&SpecCard> {
     for card in cards {
-        let definitions = card.definitions();
-        if definitions
-            .as_slice()
-            .iter()
-            .any(|definition| definition.name.as_slice() == name)
-        {
+        if card.number == number {
             return Some(card);
         }
     }
     None
+}
+
+fn defines(card: &SpecCard, name: &[u8]) -> bool {
+    let definitions = card.definitions();
+    for definition in definitions.as_slice() {
+        if definition.name.as_slice() == name {
+            return true;
+        }
+    }
+    false
 }
 
 fn factor_entry(factor: &Factor) -> Option<&Entry> {

@@ -1,0 +1,50 @@
+//! F17: by how much an edit code or an edit word misses its number.
+
+use crate::counted::noun;
+use rpg_causes::{EditingCause, Misfit};
+use rpg_cli_text::TextWriter;
+use rpg_faults::FaultCode;
+
+/// How many digits a number has.
+fn write_digits(out: &mut TextWriter, name: &[u8], length: u16, decimals: u8) {
+    let digits = noun(usize::from(length), "digit", "digits");
+    out.fill("{} has {} {}", &[name.into(), length.into(), digits.into()]);
+    if decimals != 0 {
+        out.fill(", {} of them decimals", &[decimals.into()]);
+    }
+}
+
+/// F17: what the number has, and what its code or word takes.
+pub(crate) fn write_editing(out: &mut TextWriter, cause: &EditingCause) {
+    let name = cause.name.as_slice();
+    out.write_str(FaultCode::F17.sentence());
+    match cause.misfit {
+        Misfit::Fill => {}
+        Misfit::Text { length } => {
+            let characters = noun(usize::from(length), "character", "characters");
+            out.fill(
+                ": {} is a text of {} {}",
+                &[name.into(), length.into(), characters.into()],
+            );
+        }
+        Misfit::Date { length, decimals } => {
+            out.write_str(": code Y edits 6 digits without decimals, and ");
+            write_digits(out, name, length, decimals);
+        }
+        Misfit::Word { places: None, .. } => {
+            out.write_str(": the word's $ stands right before its stop");
+        }
+        Misfit::Word {
+            places: Some(places),
+            length,
+            decimals,
+        } => {
+            let digits = noun(usize::from(places), "digit", "digits");
+            out.fill(
+                ": the word has places for {} {}, and ",
+                &[places.into(), digits.into()],
+            );
+            write_digits(out, name, length, decimals);
+        }
+    }
+}

@@ -1,0 +1,29 @@
+//! Fields and cards within sentences.
+
+use crate::counted::noun;
+use rpg_cli_text::TextWriter;
+use rpg_effect::form::{Class, FieldForm, Kind};
+
+/// The card that is meant, in brackets; nothing where there is none.
+pub(crate) fn write_card(out: &mut TextWriter, card: Option<u16>) {
+    if let Some(card) = card {
+        out.fill(" (card {})", &[card.into()]);
+    }
+}
+
+/// What a field is: `a number 6.2` has 6 digits, of which 2 are decimals.
+pub(crate) fn write_form(out: &mut TextWriter, form: FieldForm) {
+    match form.class {
+        Class::Array => out.fill("an array of {}, each ", &[form.entries.into()]),
+        Class::Table => out.fill("a table of {}, each ", &[form.entries.into()]),
+        Class::Plain | Class::Constant | Class::Date => {}
+    }
+    let length = form.length;
+    match form.kind {
+        Kind::Text => {
+            let characters = noun(usize::from(length), "character", "characters");
+            out.fill("a text of {} {}", &[length.into(), characters.into()]);
+        }
+        Kind::Number => out.fill("a number {}.{}", &[length.into(), form.decimals.into()]),
+    }
+}
