@@ -4,7 +4,6 @@
 mod bytes;
 mod card_lines;
 mod data;
-mod editing;
 mod entries;
 mod message;
 mod note;

@@ -1,7 +1,6 @@
 //! What a sentence adds to the rule that is broken: the numbers of the cards that break it.
 
 use crate::data::write_data;
-use crate::editing::write_editing;
 use rpg_cards::{IndexedCards, SpecCard};
 use rpg_cli_text::TextWriter;
 use rpg_faults::FaultCode;
@@ -61,7 +60,6 @@ pub(crate) fn write_numbers(
         return;
     };
     match code {
-        FaultCode::F17 => write_editing(out, source, card),
         FaultCode::F18 => write_data(out, cards, card),
         _ => {}
     }
