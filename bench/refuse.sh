@@ -2,7 +2,7 @@
 # Compiles, lists, verifies and runs sources with each of its allocations refused in turn: the answer must be `no memory`, status 1. Nothing is
 # written by a compilation, and of a run's print a first part. Then jobs, cycle by cycle, by the cases of rpg_show_cases: one that ran out
 # of memory has failed from then on. Last a disk that is full, where an old object stays. Both programs must be built: by `make`
-# and by `rt run` in crates/rpg_show_cases, or named by RPG2 and RPG_SHOW_CASES.
+# and by `rt run` in crates/rpg_show_cases, or named by RPG2 and RPG_SHOW_CASES. tests/lay_out.py lays the cases out.
 set -euo pipefail
 
 top=$(cd "$(dirname "$0")/.." && pwd)
@@ -201,8 +201,8 @@ done
 
 # What rpg_show_cases reports of a job, cycle by cycle, with an allocation refused. The case expects `-`, so that all is reported.
 job_told() {
-    { REFUSED=$2 LD_PRELOAD=$work/refuse.so "$cases" "$work/$1.cases" 2> "$work/line" || true; } |
-        sed -n "s/^DIFFERS: $1: \(.*\), and not -$/\1/p"
+    { REFUSED=$2 LD_PRELOAD=$work/refuse.so "$cases" "$work/$1.rows" 2> "$work/line" || true; } |
+        sed -n "s/^DIFFERS: $1: //p"
 }
 
 # Refuses the allocations of a job in turn, until 100 runs in a row end as without one. If a cycle runs out of memory, each one after it
@@ -210,6 +210,7 @@ job_told() {
 refuse_job() {
     local name=$1
     local refused=0 failed=0 served=0 nth wanted told
+    "$top/tests/lay_out.py" "$rpg2" "$work/$name.cases" > "$work/$name.rows"
     wanted=$(job_told "$name" 0)
     if [[ ! "$wanted" =~ "; end of job" ]]; then
         echo "job of $name: '$wanted'"

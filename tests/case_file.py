@@ -11,7 +11,7 @@ ESCAPES = {"f": "\f", "r": "\r", "t": "\t", "u": "\x1f", "d": "\x7f", "o": "\xff
 
 # The marks whose lines are kept as they are, and the marks that end a run.
 PARTS = {"source", "object", "card", "byte", "input", "secondary", "print", "disk", "compiled"}
-QUESTIONS = {"verify", "answer", "spelled", "sweep", "cycles", "damage"}
+QUESTIONS = {"verify", "answer", "spelled", "sweep", "cycles", "damage", "values"}
 
 
 @dataclass(frozen=True)
@@ -27,7 +27,7 @@ class Run:
     allowance: int = ALLOWANCE
     date: str = DATE
     is_run: bool = False
-    is_over_devices: bool = False
+    devices: tuple[str, ...] = ()  # what the readers and writers do
     most: str | None = None
     input: bytes = b""
     secondary: bytes = b""
@@ -59,7 +59,7 @@ class Case:
     date: str = DATE
     part: Part = field(default_factory=Part)
     lines: dict[str, list[str]] = field(default_factory=dict)  # of one run
-    is_over_devices: bool = False
+    devices: list[str] = field(default_factory=list)
     most: str | None = None
     unknown: str | None = None
 
@@ -69,7 +69,7 @@ class Case:
         self.allowance, self.date, self.unknown = ALLOWANCE, DATE, None
 
     def end_run(self) -> None:
-        self.part, self.lines, self.is_over_devices, self.most = Part(), {}, False, None
+        self.part, self.lines, self.devices, self.most = Part(), {}, [], None
 
     def begin_part(self, word: str, value: str) -> None:
         self.part = Part(word, int(value) if word in ("card", "byte") else 0)
@@ -91,7 +91,7 @@ class Case:
         elif word == "length":
             self.length = int(value)
         elif word == "device":
-            self.is_over_devices = True
+            self.devices.append(value)
         elif word == "most":
             self.most = value
         else:
@@ -135,7 +135,7 @@ class Case:
             allowance=self.allowance,
             date=self.date,
             is_run="input" in self.lines,
-            is_over_devices=self.is_over_devices,
+            devices=tuple(self.devices),
             most=self.most,
             compiled=hex_of(self.lines["compiled"]) if "compiled" in self.lines else None,
             unknown=self.unknown,

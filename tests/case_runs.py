@@ -9,7 +9,7 @@ from outcome import Outcome
 from program import Program, status_of
 
 # What only calls of the library show: the program rpg_show_cases does these.
-OF_THE_LIBRARY = {"sweep", "cycles", "damage"}
+OF_THE_LIBRARY = {"sweep", "cycles", "damage", "values"}
 
 NO_OBJECT = re.compile(r"refused: (B\d at \d+)")
 
@@ -28,7 +28,7 @@ class Told:
 
 def is_for_rpg2(run: Run) -> bool:
     """Whether a run is shown by the command: no device of its own, and no call of the library."""
-    return run.question not in OF_THE_LIBRARY and not run.is_over_devices
+    return run.question not in OF_THE_LIBRARY and not run.devices
 
 
 def written(path: Path) -> bytes:

@@ -27,6 +27,7 @@ import case_runs
 import evaluated
 import fits
 import installed
+import lay_out
 import objects
 import sessions
 from case_file import Run, lines_in, runs_in
@@ -73,14 +74,20 @@ def case_jobs(program: Program, path: Path) -> Iterable[Job]:
         yield partial(shown_runs, program, runs[at : at + AT_ONCE])
 
 
-def installed_file(program: Program, name: str, text: str) -> Outcome:
-    """A file of install/ that comes of the program's help."""
-    is_as_given = (TOP / "install" / name).read_text(encoding="utf-8") == text
-    return Outcome(f"install/{name}", "as build/installed.py writes it", None if is_as_given else "\nit differs")
+def written_files(folder: str, script: str, files: dict[str, str]) -> list[Outcome]:
+    """Files that a script writes by a build: whether they have what it writes now."""
+    are_same = {name: (TOP / folder / name).read_bytes() == text.encode() for name, text in files.items()}
+    return [Outcome(f"{folder}/{it}", f"as {script} writes it", None if same else "\nit differs") for it, same in are_same.items()]
 
 
 def installed_files(program: Program) -> list[Outcome]:
-    return [installed_file(program, name, text) for name, text in installed.files_of(program.path).items()]
+    """The files of install/, which come of the program's help."""
+    return written_files("install", "build/installed.py", installed.files_of(program.path))
+
+
+def laid_out_rows(program: Program) -> list[Outcome]:
+    """The rows that rpg_show_cases does, which come of the cases that only calls show."""
+    return written_files("crates/rpg_show_cases", "tests/lay_out.py", lay_out.laid_out(program))
 
 
 def call_jobs(program: Program, path: Path) -> Iterable[Job]:
@@ -106,6 +113,8 @@ def jobs_of(program: Program, word: str) -> Iterable[Job]:
         yield from fits.jobs_of(program, HERE / "fit")
     if word in "installed":
         yield partial(installed_files, program)
+    if word in "rows":
+        yield partial(laid_out_rows, program)
 
 
 def built(named: list[str]) -> list[Program]:

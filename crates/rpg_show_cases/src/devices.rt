@@ -1,42 +1,87 @@
-//! Readers and writers that give and take little, interrupt, or fail, and runs over them.
+//! Readers and writers that give and take little, interrupt, or fail.
 
 ghost use Rattle.std.specs.Prelude.{Some};
 
-use crate::device_words::Devices;
-use crate::lines::line_of;
-use crate::outcome::Outputs;
-use crate::ways::Given;
-use rpg_engine::execute;
-use rpg_files::Counted;
 use rpg_files::fakes::{Interrupting, ShortReader, ShortWriter};
-use std::alloc::{AllocError, Global};
+use std::alloc::Global;
 use std::io::{self, Write};
 
-/// A reader of pieces that fails once so many bytes were read.
-fn reader(devices: Devices, until_fault: usize, left: &[u8]) -> Interrupting<ShortReader<'_>> {
+/// What a reader or a writer does.
+#[derive(Clone, Copy)]
+pub struct Device {
+    /// How many bytes it gives or takes at once, at most. A writer of none takes nothing, and doesn't fail.
+    pieces: usize,
+    /// After how many bytes it fails.
+    until_fault: usize,
+    /// How often it interrupts before each call.
+    times: usize,
+}
+
+/// A device that does all that it is asked.
+const WHOLE: Device = Device {
+    pieces: usize::MAX,
+    until_fault: usize::MAX,
+    times: 0,
+};
+
+/// The device of three numbers; `-` is without limit.
+pub fn device_of(column: &str) -> Device {
+    let mut numbers = [usize::MAX; 3];
+    for (number, text) in numbers.iter_mut().zip(column.split(' ')) {
+        *number = text.parse().unwrap_or(usize::MAX);
+    }
+    let [pieces, until_fault, times] = numbers;
+    Device {
+        pieces,
+        until_fault,
+        times,
+    }
+}
+
+/// The readers of both inputs, and the writers of the print and the disk file.
+pub type Devices = [Device; 4];
+
+/// Devices that do all that they are asked.
+pub const ALL_WHOLE: Devices = [WHOLE; 4];
+
+pub fn devices_of(column: &str) -> Devices {
+    let mut devices = ALL_WHOLE;
+    for (device, text) in devices.iter_mut().zip(column.split('/')) {
+        *device = device_of(text);
+    }
+    devices
+}
+
+pub fn reader(device: Device, left: &[u8]) -> Interrupting<ShortReader<'_>> {
     Interrupting {
         device: ShortReader {
             left,
-            most: devices.pieces,
-            until_fault,
+            most: device.pieces,
+            until_fault: device.until_fault,
         },
-        times: devices.reads,
+        times: u32::try_from(device.times).unwrap_or(u32::MAX),
         interrupted: 0,
     }
 }
 
 /// A writer that interrupts and fails, or takes nothing and doesn't fail.
 #[derive(Drop)]
-struct CaseWriter {
+pub struct CaseWriter {
     device: Interrupting<ShortWriter>,
-    is_full: bool,
+}
+
+impl CaseWriter {
+    /// What it has taken.
+    pub fn written(&self) -> &[u8] {
+        &self.device.device.written
+    }
 }
 
 impl Write for CaseWriter {
     ghost contents = { λ w. Some w.device.device.written.items };
 
     fn write(&mut self, buf: &[u8]) -> io::Result<usize> {
-        if self.is_full {
+        if self.device.device.most == 0 {
             return Ok(0);
         }
         self.device.write(buf)
@@ -47,65 +92,16 @@ impl Write for CaseWriter {
     }
 }
 
-/// A writer of pieces.
-fn short_writer(alloc: Global, devices: Devices, until_fault: usize) -> ShortWriter {
-    ShortWriter {
-        written: Vec::new(alloc),
-        most: devices.pieces,
-        until_fault,
-    }
-}
-
-fn print_writer(alloc: Global, devices: Devices) -> CaseWriter {
+pub fn writer(alloc: Global, device: Device) -> CaseWriter {
     CaseWriter {
         device: Interrupting {
-            device: short_writer(alloc, devices, devices.print),
-            times: devices.prints,
+            device: ShortWriter {
+                written: Vec::new(alloc),
+                most: device.pieces,
+                until_fault: device.until_fault,
+            },
+            times: u32::try_from(device.times).unwrap_or(u32::MAX),
             interrupted: 0,
         },
-        is_full: devices.is_print_full,
     }
-}
-
-fn disk_writer(alloc: Global, devices: Devices) -> CaseWriter {
-    CaseWriter {
-        device: Interrupting {
-            device: short_writer(alloc, devices, devices.disk),
-            times: devices.stores,
-            interrupted: 0,
-        },
-        is_full: devices.is_disk_full,
-    }
-}
-
-/// What a writer has taken.
-fn taken(writer: Counted<CaseWriter>) -> Vec<u8> {
-    writer.into_device().device.device.written
-}
-
-/// Runs an object over these devices.
-pub fn run_over(
-    alloc: Global,
-    object: &[u8],
-    given: &Given<'_>,
-    devices: Devices,
-) -> Result<Outputs, AllocError> {
-    let mut input = Counted::new(reader(devices, devices.input, &given.input));
-    let mut secondary = Counted::new(reader(devices, devices.secondary, &given.secondary));
-    let mut print = Counted::new(print_writer(alloc, devices));
-    let mut disk = Counted::new(disk_writer(alloc, devices));
-    let told = execute(
-        alloc,
-        object,
-        given.date,
-        &mut input,
-        &mut secondary,
-        &mut print,
-        &mut disk,
-    );
-    Ok(Outputs {
-        answer: line_of(alloc, &told)?,
-        print: taken(print),
-        disk: taken(disk),
-    })
 }

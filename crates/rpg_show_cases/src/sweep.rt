@@ -1,103 +1,119 @@
-//! Sweeps: an object cut to each length, and with each of its bytes changed to each other value.
+//! Objects that are cut to each length, and have each byte changed to each other value: run, or read and spelled again.
 
-use crate::bytes::put;
-use crate::lines::line_of;
+use crate::answers::write_answer;
+use crate::devices::ALL_WHOLE;
+use crate::row::Row;
+use crate::spelling::spell;
+use crate::streams::{Given, run_over};
 use crate::tally::Tally;
-use crate::ways::Given;
-use rpg_engine::{Report, RunFault, execute};
-use rpg_files::Counted;
+use rpg_cli_text::TextWriter;
 use std::alloc::{AllocError, Global};
 
-/// What `execute` answered, and what it sent.
-#[derive(Drop)]
-struct Streamed {
-    told: Result<Report, RunFault>,
-    print: Vec<u8>,
-    disk: Vec<u8>,
+/// What is done with a damaged object.
+#[derive(Clone, Copy)]
+enum Trial<'a> {
+    Run(&'a Given<'a>),
+    Spell,
 }
 
-/// Runs an object over a reader and writers.
-fn run_streamed(alloc: Global, object: &[u8], given: &Given<'_>) -> Streamed {
-    let mut input = Counted::new(given.input.as_slice());
-    let mut secondary = Counted::new(given.secondary.as_slice());
-    let mut print = Counted::new(Vec::new(alloc));
-    let mut disk = Counted::new(Vec::new(alloc));
-    let told = execute(
-        alloc,
-        object,
-        given.date,
-        &mut input,
-        &mut secondary,
-        &mut print,
-        &mut disk,
-    );
-    Streamed {
-        told,
-        print: print.into_device(),
-        disk: disk.into_device(),
-    }
-}
-
-/// Whether a job took more steps in a cycle than its bound.
-fn is_past_bound(told: &Result<Report, RunFault>) -> bool {
-    match told {
-        Ok(report) => report.most > report.bound,
-        Err(_) => false,
-    }
-}
-
-fn add(alloc: Global, tally: &mut Tally, streamed: &Streamed) -> Result<(), AllocError> {
-    let line = line_of(alloc, &streamed.told)?;
-    tally.add_bytes(&line);
-    tally.add_bytes(&streamed.print);
-    tally.add_bytes(&streamed.disk);
-    if is_past_bound(&streamed.told) {
-        return tally.count(alloc, "past the bound");
-    }
-    tally.add_line(alloc, &line)
-}
-
-/// Runs the object cut to each length.
-fn cut(
+/// Runs an object, and takes what it puts out into the tally.
+fn run(
     alloc: Global,
     tally: &mut Tally,
     object: &[u8],
     given: &Given<'_>,
 ) -> Result<(), AllocError> {
-    for length in 0..object.len() {
-        add(alloc, tally, &run_streamed(alloc, &object[..length], given))?;
-    }
+    let streamed = run_over(alloc, object, given, &ALL_WHOLE);
+    let mut line = TextWriter::new(alloc);
+    write_answer(&mut line, &streamed.told);
+    let line = line.finish()?;
+    tally.add_bytes(line.as_bytes());
+    tally.add_bytes(streamed.print.written());
+    tally.add_bytes(streamed.disk.written());
+    tally.count(if streamed.is_past_bound() {
+        "past the bound"
+    } else {
+        line.as_str()
+    });
     Ok(())
 }
 
-/// Runs the object with the byte at a place changed to each other value.
+/// Reads an object and spells it again.
+fn spell_one(alloc: Global, tally: &mut Tally, object: &[u8]) -> Result<(), AllocError> {
+    let mut line = TextWriter::new(alloc);
+    spell(alloc, &mut line, object)?;
+    tally.count(line.finish()?.as_str());
+    Ok(())
+}
+
+/// Puts each other value in the place of a byte.
 fn change(
     alloc: Global,
     tally: &mut Tally,
     object: &mut [u8],
     place: usize,
-    given: &Given<'_>,
+    trial: Trial<'_>,
 ) -> Result<(), AllocError> {
-    let Some(kept) = object.get(place).copied() else {
-        return Ok(());
-    };
+    let kept = object.get(place).copied().unwrap_or(0);
     for value in 0..=255 {
         if value != kept {
             put(object, place, value);
-            add(alloc, tally, &run_streamed(alloc, object, given))?;
+            match trial {
+                Trial::Run(given) => run(alloc, tally, object, given)?,
+                Trial::Spell => spell_one(alloc, tally, object)?,
+            }
         }
     }
     put(object, place, kept);
     Ok(())
 }
 
-/// What is told of the sweep of an object.
-pub fn sweep(alloc: Global, object: &[u8], given: &Given<'_>) -> Result<Vec<u8>, AllocError> {
-    let mut tally = Tally::new(alloc);
-    cut(alloc, &mut tally, object, given)?;
+/// Puts a byte at a place, where there is one.
+fn put(bytes: &mut [u8], place: usize, value: u8) {
+    if let Some(there) = bytes.get_mut(place) {
+        *there = value;
+    }
+}
+
+/// Puts each other value in the place of each byte.
+fn change_all(
+    alloc: Global,
+    tally: &mut Tally,
+    object: &[u8],
+    trial: Trial<'_>,
+) -> Result<(), AllocError> {
     let mut damaged = Vec::from_slice(alloc, object)?;
     for place in 0..object.len() {
-        change(alloc, &mut tally, damaged.as_mut_slice(), place, given)?;
+        change(alloc, tally, &mut damaged, place, trial)?;
     }
-    tally.line(alloc)
+    Ok(())
+}
+
+/// Runs an object that is cut and changed in each place over the row's inputs.
+pub fn sweep(
+    alloc: Global,
+    out: &mut TextWriter,
+    object: &[u8],
+    row: &Row<'_>,
+) -> Result<(), AllocError> {
+    let given = Given::of(alloc, row)?;
+    let mut tally = Tally::new();
+    for length in 0..object.len() {
+        run(alloc, &mut tally, &object[..length], &given)?;
+    }
+    change_all(alloc, &mut tally, object, Trial::Run(&given))?;
+    tally.write(out);
+    Ok(())
+}
+
+/// Spells an object that is changed in each place.
+pub fn spell_changed(alloc: Global, out: &mut TextWriter, object: &[u8]) -> Result<(), AllocError> {
+    let mut tally = Tally::new();
+    change_all(alloc, &mut tally, object, Trial::Spell)?;
+    out.write_str(if tally.is_spelled_again() {
+        "refused or spelled again with each byte"
+    } else {
+        "spelled otherwise with some byte"
+    });
+    Ok(())
 }

@@ -1,77 +1,72 @@
 //! What came of the objects of a sweep.
 
 use rpg_cli_text::TextWriter;
-use std::alloc::{AllocError, Global};
-use std::collections::BTreeMap;
+
+/// What each kind of line begins with; a line of `refused: ` is of the kind of the code after it.
+const KINDS: &str =
+    "B1 ,B2 ,B3 ,B4 ,B5 ,B6 ,B7 ,V1 ,V2 ,V3 ,V4 ,V5 ,V6 ,V7 ,V8 ,V9 ,V10 ,V11 ,V12 ,V13 ,V14 ,V15 ,V16 ,V17 ,V18 ,V19 ,V20 ,V21 ,V22 ,V23 ,V24 ,V25 ,V26 ,\
+    end of job,halt 1,halt 2,halt 3,halt 4,halt 5,halt 6,halt 7,halt 8,past the bound,again,other bytes,no kind";
+
+/// Where these stand among the kinds.
+const AGAIN: usize = 43;
+
+const OTHER_BYTES: usize = 44;
+
+const NO_KIND: usize = 45;
 
 /// What came of the objects of a sweep.
 #[derive(Drop)]
 pub struct Tally {
-    /// How many objects were refused with each code, and how many ended in each way.
-    counts: BTreeMap<String, u64>,
+    /// How many there were of each kind.
+    counts: [u64; 46],
     /// The check sum of all lines, prints and disk files (FNV-1a).
     sum: u32,
 }
 
-/// What stands for all that isn't counted on its own: the code of a refusal, or how a job ended.
-fn kind_of(line: &str) -> &str {
-    match line.strip_prefix("refused: ") {
-        Some(fault) => match fault.split_once(' ') {
-            Some((code, _place)) => code,
-            None => fault,
-        },
-        None => match line.split_once(',') {
-            Some((ending, _numbers)) => ending,
-            None => line,
-        },
+fn kind_of(line: &str) -> usize {
+    let told = line.strip_prefix("refused: ").unwrap_or(line);
+    for (kind, name) in KINDS.split(',').enumerate() {
+        if told.starts_with(name) {
+            return kind;
+        }
     }
-}
-
-/// The check sum with some bytes more.
-fn with_bytes(sum: u32, bytes: &[u8]) -> u32 {
-    let mut sum = sum;
-    for byte in bytes {
-        sum = (sum ^ u32::from(*byte)).wrapping_mul(16_777_619);
-    }
-    sum
+    NO_KIND
 }
 
 impl Tally {
-    pub fn new(alloc: Global) -> Tally {
+    pub fn new() -> Tally {
         Tally {
-            counts: BTreeMap::new(alloc),
+            counts: [0; 46],
             sum: 2_166_136_261,
         }
     }
 
     /// Takes what a run put out into the check sum.
     pub fn add_bytes(&mut self, bytes: &[u8]) {
-        self.sum = with_bytes(self.sum, bytes);
-    }
-
-    /// Counts a run by its line.
-    pub fn add_line(&mut self, alloc: Global, line: &[u8]) -> Result<(), AllocError> {
-        let text = String::from_utf8_lossy(alloc, line)?;
-        self.count(alloc, kind_of(text.as_str()))
-    }
-
-    pub fn count(&mut self, alloc: Global, kind: &str) -> Result<(), AllocError> {
-        let kind = String::from_str(alloc, kind)?;
-        let count = self.counts.entry(kind)?.or_insert(0);
-        *count = count.saturating_add(1);
-        Ok(())
-    }
-
-    /// The counts in the order of their kinds, and the check sum.
-    pub fn line(&self, alloc: Global) -> Result<Vec<u8>, AllocError> {
-        let mut out = TextWriter::new(alloc);
-        for (kind, count) in self.counts.iter() {
-            let kind = kind.as_str();
-            write!(out, "{kind} {count}, ");
+        for byte in bytes {
+            self.sum = (self.sum ^ u32::from(*byte)).wrapping_mul(16_777_619);
         }
-        let sum = self.sum;
-        write!(out, "sum {sum}");
-        let line = out.finish()?;
-        Vec::from_slice(alloc, line.as_str().as_bytes())
+    }
+
+    /// Counts a line by its kind.
+    pub fn count(&mut self, line: &str) {
+        if let Some(count) = self.counts.get_mut(kind_of(line)) {
+            *count = count.saturating_add(1);
+        }
+    }
+
+    /// Writes how many there were of each kind, and the check sum.
+    pub fn write(&self, out: &mut TextWriter) {
+        for (kind, count) in KINDS.split(',').zip(&self.counts) {
+            if *count > 0 {
+                out.fill("{} {}, ", &[kind.trim_end().into(), (*count).into()]);
+            }
+        }
+        out.fill("sum {}", &[u64::from(self.sum).into()]);
+    }
+
+    /// Whether some bytes were spelled again, and none otherwise.
+    pub fn is_spelled_again(&self) -> bool {
+        self.counts[AGAIN] > 0 && self.counts[OTHER_BYTES] == 0
     }
 }

@@ -1,58 +1,17 @@
-//! The ways in which an accepted program runs beside `rpg2`: over lists of records, by the store in one area of bytes and by the store that
-//! keeps each value apart.
+//! The ways in which an accepted program runs beside `rpg2`: over lists of records, by the store in one area of bytes and by the store
+//! that keeps each value apart.
 
-use crate::case::Case;
-use crate::lines::line_of;
-use crate::outcome::Outputs;
-use crate::records::records_of;
-use crate::spelling::text_of;
-use rpg_cycle::{CycleEnd, Output, run_records};
-use rpg_engine::{Job, JobEnd, Report};
+use crate::answers::{write_bytes, write_counts, write_end, write_ending, write_outputs};
+use crate::row::{Row, records_of};
+use rpg_cli_text::TextWriter;
+use rpg_cycle::{CycleEnd, run_records};
+use rpg_engine::Job;
 use rpg_memory::first_values_fit;
 use rpg_memory::memory::Memory;
 use rpg_object::decode;
-use rpg_store::{ListedStore, Store};
+use rpg_store::{FlatStore, ListedStore, Store};
 use rpg_verify::{Verified, verify};
 use std::alloc::{AllocError, Global};
-
-/// What an object program runs on: the date, and the bytes of its inputs.
-#[derive(Drop)]
-pub struct Given<'a> {
-    pub date: &'a [u8],
-    pub input: Vec<u8>,
-    pub secondary: Vec<u8>,
-}
-
-impl<'a> Given<'a> {
-    /// What a case gives.
-    pub fn of(alloc: Global, case: &Case<'a>) -> Result<Given<'a>, AllocError> {
-        Ok(Given {
-            date: case.date.as_bytes(),
-            input: text_of(alloc, case.input.as_slice())?,
-            secondary: text_of(alloc, case.secondary.as_slice())?,
-        })
-    }
-}
-
-/// The records of both inputs.
-#[derive(Drop)]
-pub struct BothRecords {
-    pub primary: Vec<Vec<u8>>,
-    pub secondary: Vec<Vec<u8>>,
-}
-
-impl BothRecords {
-    pub fn of(alloc: Global, given: &Given<'_>) -> Result<BothRecords, AllocError> {
-        Ok(BothRecords {
-            primary: records_of(alloc, &given.input)?,
-            secondary: records_of(alloc, &given.secondary)?,
-        })
-    }
-
-    fn count(&self) -> usize {
-        self.primary.len().saturating_add(self.secondary.len())
-    }
-}
 
 /// The program that the bytes spell, if it keeps all rules.
 pub fn accepted(alloc: Global, object: &[u8]) -> Option<Verified> {
@@ -60,102 +19,107 @@ pub fn accepted(alloc: Global, object: &[u8]) -> Option<Verified> {
     verify(alloc, program).ok()
 }
 
-/// The record of a turn, or none behind the last.
-pub fn record_at(records: &[Vec<u8>], turn: usize) -> Option<&[u8]> {
+/// The records of both inputs.
+#[derive(Drop)]
+struct Inputs {
+    primary: Vec<Vec<u8>>,
+    secondary: Vec<Vec<u8>>,
+}
+
+impl Inputs {
+    fn of(alloc: Global, row: &Row<'_>) -> Result<Inputs, AllocError> {
+        Ok(Inputs {
+            primary: records_of(alloc, row.input)?,
+            secondary: records_of(alloc, row.secondary)?,
+        })
+    }
+}
+
+/// Runs a program over lists of records.
+pub fn run_by_area(
+    alloc: Global,
+    out: &mut TextWriter,
+    program: &Verified,
+    row: &Row<'_>,
+) -> Result<(), AllocError> {
+    let inputs = Inputs::of(alloc, row)?;
+    let date = row.date.as_bytes();
+    match run_records(alloc, program, date, &inputs.primary, &inputs.secondary) {
+        Ok(run) => {
+            write_ending(out, run.ending);
+            write_counts(out, run.cycles, run.most, program.bound());
+            write_outputs(out, &run.output.print, &run.output.disk);
+        }
+        Err(_) => out.write_str("it doesn't start"),
+    }
+    Ok(())
+}
+
+/// Runs a program by the store that keeps each value apart.
+pub fn run_by_list(
+    alloc: Global,
+    out: &mut TextWriter,
+    program: &Verified,
+    row: &Row<'_>,
+) -> Result<(), AllocError> {
+    first_values_fit(program.program());
+    let store = ListedStore::new(alloc, program.program())?;
+    let memory = Memory::new(program.program(), store);
+    match Job::start_in(alloc, program, row.date.as_bytes(), memory) {
+        Ok(mut job) => run_out(alloc, out, program.bound(), &mut job, row),
+        Err(_) => {
+            out.write_str("it doesn't start");
+            Ok(())
+        }
+    }
+}
+
+/// The record of a turn, or none after the last.
+fn record_at(records: &[Vec<u8>], turn: usize) -> Option<&[u8]> {
     match records.get(turn) {
         None => None,
         Some(record) => Some(record.as_slice()),
     }
 }
 
-fn outputs_of(
-    alloc: Global,
-    report: Report,
-    output: Output,
-) -> Result<Option<Outputs>, AllocError> {
-    Ok(Some(Outputs {
-        answer: line_of(alloc, &Ok(report))?,
-        print: output.print,
-        disk: output.disk,
-    }))
-}
-
-/// Runs a program over lists of records: nothing where it doesn't begin.
-pub fn run_by_area(
-    alloc: Global,
-    program: &Verified,
-    date: &[u8],
-    records: &BothRecords,
-) -> Result<Option<Outputs>, AllocError> {
-    match run_records(alloc, program, date, &records.primary, &records.secondary) {
-        Ok(run) => {
-            let report = Report {
-                ending: run.ending,
-                cycles: run.cycles,
-                most: run.most,
-                bound: program.bound(),
-                place: None,
-            };
-            outputs_of(alloc, report, run.output)
-        }
-        Err(_) => Ok(None),
-    }
-}
-
-/// Runs a program by the store that keeps each value apart: nothing where it doesn't begin.
-pub fn run_by_values(
-    alloc: Global,
-    program: &Verified,
-    date: &[u8],
-    records: &BothRecords,
-) -> Result<Option<Outputs>, AllocError> {
-    first_values_fit(program.program());
-    let store = ListedStore::new(alloc, program.program())?;
-    let memory = Memory::new(program.program(), store);
-    match Job::start_in(alloc, program, date, memory) {
-        Ok(mut job) => run_out(alloc, program.bound(), &mut job, records),
-        Err(_) => Ok(None),
-    }
-}
-
-/// How the job ended, or `None` where it goes on.
-fn ending_of(end: CycleEnd) -> Result<Option<JobEnd>, AllocError> {
-    match end {
-        CycleEnd::GoesOn => Ok(None),
-        CycleEnd::EndOfJob => Ok(Some(JobEnd::EndOfJob)),
-        CycleEnd::Halt(halt) => Ok(Some(JobEnd::Halt(halt))),
-        CycleEnd::Failed => Err(AllocError),
-    }
-}
-
 /// Does the cycles of a job up to the one that ends it.
 fn run_out<S: Store + Drop>(
     alloc: Global,
+    out: &mut TextWriter,
     bound: u64,
     job: &mut Job<'_, S>,
-    records: &BothRecords,
-) -> Result<Option<Outputs>, AllocError> {
+    row: &Row<'_>,
+) -> Result<(), AllocError> {
+    let inputs = Inputs::of(alloc, row)?;
     let mut most = 0;
     let mut primary = 0usize;
     let mut secondary = 0usize;
-    for turn in 0..=records.count() {
+    for cycles in 1..=u64::MAX {
         let need = job.needs();
-        let first = record_at(&records.primary, primary);
-        let second = record_at(&records.secondary, secondary);
+        let first = record_at(&inputs.primary, primary);
+        let second = record_at(&inputs.secondary, secondary);
         let end = job.cycle(first, second)?;
         most = job.steps().max(most);
         primary = primary.saturating_add(usize::from(need.primary));
         secondary = secondary.saturating_add(usize::from(need.secondary));
-        if let Some(ending) = ending_of(end)? {
-            let report = Report {
-                ending,
-                cycles: (turn as u64).saturating_add(1),
-                most,
-                bound,
-                place: job.running_place(),
-            };
-            return outputs_of(alloc, report, job.take_output());
+        if !matches!(end, CycleEnd::GoesOn) {
+            write_end(out, end);
+            write_counts(out, cycles, most, bound);
+            break;
         }
     }
-    Ok(None)
+    let output = job.take_output();
+    write_outputs(out, &output.print, &output.disk);
+    Ok(())
+}
+
+/// Writes the bytes of all values in one area.
+pub fn write_area(
+    alloc: Global,
+    out: &mut TextWriter,
+    program: &Verified,
+) -> Result<(), AllocError> {
+    let store = FlatStore::new(alloc, program.program())?;
+    write_bytes(out, store.bytes());
+    Ok(())
 }
