@@ -4,4 +4,4 @@
 mod building;
 mod words;
 
-pub use building::{command, named_command};
+pub use building::{fault, matches_of};

@@ -2,10 +2,7 @@
 
 ghost use Rattle.std.specs.Prelude.{◌<◌};
 
-use crate::dates::DateWord;
-use crate::format::format_of;
-use crate::looks::look_words;
-use crate::request::{FileWord, Request, RunWords, STANDARD};
+use crate::request::{FileWord, Request, RunWords, allowance_of, run_words};
 use crate::warned::{WarningWords, warning_words};
 use clap::ArgMatches;
 
@@ -31,33 +28,10 @@ impl<'a> GoWords<'a> {
     }
 }
 
-/// The words of the run. Where PRINT isn't given, standard output is meant.
-fn run_words<'a>(given: &ArgMatches<'a>) -> Option<RunWords<'a>> {
-    Some(RunWords {
-        object: given.get_str("SRC")?,
-        program: FileWord::Source,
-        input: given.get_str("INPUT")?,
-        print: given.get_str("PRINT").unwrap_or(STANDARD),
-        date: given.get_str("date").map(DateWord::of),
-        secondary: given.get_str("secondary"),
-        disk: given.get_str("disk"),
-        most: given.get_one::<u64>("most"),
-        keeps: given.get_flag("keep"),
-        source: None,
-        looks: look_words(given),
-        is_quiet: given.get_flag("quiet"),
-        format: format_of(given),
-    })
-}
-
 pub(crate) fn go_words<'a>(given: &ArgMatches<'a>) -> Option<Request<'a>> {
-    let allowance = given.get_one::<u16>("allowance")?;
-    if allowance == 0 {
-        return None;
-    }
     Some(Request::Go(GoWords {
-        run: run_words(given)?,
-        allowance,
+        run: run_words(given, FileWord::Source)?,
+        allowance: allowance_of(given)?,
         warnings: warning_words(given)?,
     }))
 }

@@ -94,6 +94,11 @@ fn byte_of(text: &str) -> Option<u8> {
     }
 }
 
+/// The byte with which records begin that are left out.
+fn dropped(given: &ArgMatches) -> Option<u8> {
+    byte_of(given.get_str("drop")?)
+}
+
 /// What is wrong with a value that clap takes.
 pub(crate) fn fault_of(given: &ArgMatches) -> Option<&'static str> {
     if may_be_standard(given.get_str("OUT")) {
@@ -112,10 +117,6 @@ pub(crate) fn fault_of(given: &ArgMatches) -> Option<&'static str> {
 
 pub(crate) fn records_words<'a>(given: &ArgMatches<'a>) -> Option<Request<'a>> {
     let (deck, way) = deck(given)?;
-    let dropped = match given.get_str("drop") {
-        Some(text) => byte_of(text),
-        None => None,
-    };
     Some(Request::Records(RecordsWords {
         input: given.get_str("IN")?,
         output: given.get_str("OUT")?,
@@ -126,7 +127,7 @@ pub(crate) fn records_words<'a>(given: &ArgMatches<'a>) -> Option<Request<'a>> {
         framing: framing(given),
         is_ascii: given.get_flag("ascii"),
         low_blank: given.get_flag("low-blank"),
-        dropped,
+        dropped: dropped(given),
         new_deck: given.get_str("deck"),
         format: format_of(given),
     }))

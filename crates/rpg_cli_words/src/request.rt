@@ -1,6 +1,6 @@
 //! What the words ask for, or what clap says in place of that.
 
-ghost use Rattle.std.specs.Prelude.{◌<◌, ◌≤◌};
+ghost use Rattle.std.specs.Prelude.{◌<◌, ◌≤◌, IfSome};
 
 use crate::dates::DateWord;
 use crate::fitting::{self, FitWords, fit_words};
@@ -11,8 +11,8 @@ use crate::looks::{LookWords, look_words};
 use crate::records::{RecordsWords, fault_of, records_words};
 use crate::warned::{WarningWords, texts, warning_words};
 use clap::error::ErrorKind;
-use clap::{ArgMatches, Command, Error};
-use rpg_cli_commands::{command, named_command};
+use clap::{ArgMatches, Error};
+use rpg_cli_commands::{fault, matches_of};
 use std::alloc::{AllocError, Global};
 
 /// What the words ask for.
@@ -280,7 +280,7 @@ impl<'a> Request<'a> {
 }
 
 /// What stands for standard input or output in place of a file.
-pub(crate) const STANDARD: &str = "-";
+const STANDARD: &str = "-";
 
 /// Whether a word that may name a file is standard input or output.
 pub fn is_standard(path: &str) -> bool {
@@ -413,22 +413,25 @@ impl Refusal {
     }
 }
 
-/// A fault of the command line that clap doesn't see, in clap's form.
-fn fault_of_words(alloc: Global, kind: ErrorKind, message: &str) -> Result<Error, AllocError> {
-    command(alloc, None)?.error(kind, message)
-}
+/// What clap's texts call the program where the words don't.
+const PROGRAM: &str = "rpg2";
 
 /// Refuses words of which one isn't UTF-8.
 pub fn refuse_bytes(alloc: Global) -> Refusal {
     let message = "invalid UTF-8 was detected in one or more arguments";
-    Refusal::of(fault_of_words(alloc, ErrorKind::InvalidValue, message))
+    Refusal::of(fault(alloc, PROGRAM, ErrorKind::InvalidValue, message))
 }
 
 fn same_file_error(alloc: Global, same: SameFile) -> Result<Error, AllocError> {
     let (written, earlier) = (same.written.text(), same.earlier.text());
     let (between, after) = same.shared.texts();
     let message = format!(in alloc; "'{written}' {between} '{earlier}'{after}")?;
-    fault_of_words(alloc, ErrorKind::ArgumentConflict, message.as_str())
+    fault(
+        alloc,
+        PROGRAM,
+        ErrorKind::ArgumentConflict,
+        message.as_str(),
+    )
 }
 
 /// Refuses words that name one file twice.
@@ -436,15 +439,19 @@ pub fn refuse_same_file(alloc: Global, same: SameFile) -> Refusal {
     Refusal::of(same_file_error(alloc, same))
 }
 
-fn compile_words<'a>(given: &ArgMatches<'a>) -> Option<Request<'a>> {
+/// How many backward branches and calls a cycle may take: clap takes no 0.
+pub(crate) fn allowance_of(given: &ArgMatches<'_>) -> Option<u16>
+    ensures { IfSome result (λ allowance. 0 < allowance) }
+{
     let allowance = given.get_one::<u16>("allowance")?;
-    if allowance == 0 {
-        return None;
-    }
+    (allowance > 0).then_some(allowance)
+}
+
+fn compile_words<'a>(given: &ArgMatches<'a>) -> Option<Request<'a>> {
     Some(Request::Compile(CompileWords {
         source: given.get_str("SRC")?,
         object: given.get_str("OBJ")?,
-        allowance,
+        allowance: allowance_of(given)?,
         warnings: warning_words(given)?,
         is_quiet: given.get_flag("quiet"),
         format: format_of(given),
@@ -483,12 +490,13 @@ fn show_words<'a>(given: &ArgMatches<'a>) -> Option<Request<'a>> {
     }))
 }
 
-fn run_words<'a>(given: &ArgMatches<'a>) -> Option<Request<'a>> {
-    Some(Request::Run(RunWords {
-        object: given.get_str("OBJ")?,
-        program: FileWord::Object,
+/// The words of a run whose program a word names. Where PRINT isn't given, standard output is meant.
+pub(crate) fn run_words<'a>(given: &ArgMatches<'a>, program: FileWord) -> Option<RunWords<'a>> {
+    Some(RunWords {
+        object: given.get_str(program.name())?,
+        program,
         input: given.get_str("INPUT")?,
-        print: given.get_str("PRINT")?,
+        print: given.get_str("PRINT").unwrap_or(STANDARD),
         date: given.get_str("date").map(DateWord::of),
         secondary: given.get_str("secondary"),
         disk: given.get_str("disk"),
@@ -498,14 +506,17 @@ fn run_words<'a>(given: &ArgMatches<'a>) -> Option<Request<'a>> {
         looks: look_words(given),
         is_quiet: given.get_flag("quiet"),
         format: format_of(given),
-    }))
+    })
 }
 
-fn explain_words<'a>(alloc: Global, given: &ArgMatches<'a>) -> Result<Request<'a>, AllocError> {
-    Ok(Request::Explain(ExplainWords {
+fn explain_words<'a>(
+    alloc: Global,
+    given: &ArgMatches<'a>,
+) -> Result<Option<Request<'a>>, AllocError> {
+    Ok(Some(Request::Explain(ExplainWords {
         codes: texts(alloc, given, "CODE")?,
         lists: given.get_flag("list"),
-    }))
+    })))
 }
 
 /// The words for sources and object programs that no standard stream stands for, and what is said where one does.
@@ -530,7 +541,7 @@ const PROGRAM_FILES: [(&str, &str); 4] = [
 
 /// What is wrong with the words for a source and an object program, if one is a standard stream.
 fn fault_of_program(given: &ArgMatches) -> Option<&'static str> {
-    for (name, fault) in PROGRAM_FILES {
+    for (name, fault) in &PROGRAM_FILES {
         if may_be_standard(given.get_str(name)) {
             return Some(fault);
         }
@@ -557,9 +568,23 @@ fn plain_request<'a>(name: &str, given: &ArgMatches<'a>) -> Option<Request<'a>> 
         "records" => records_words(given),
         "verify" => verify_words(given),
         "show" => show_words(given),
-        "run" => run_words(given),
+        "run" => Some(Request::Run(run_words(given, FileWord::Object)?)),
         "go" => go_words(given),
         _ => None,
+    }
+}
+
+/// The request of a command.
+fn command_request<'a>(
+    alloc: Global,
+    name: &str,
+    given: &ArgMatches<'a>,
+) -> Result<Option<Request<'a>>, AllocError> {
+    match name {
+        "check" => check_words(alloc, given),
+        "explain" => explain_words(alloc, given),
+        "fit" => fit_words(alloc, given),
+        _ => Ok(plain_request(name, given)),
     }
 }
 
@@ -567,37 +592,52 @@ fn request_in<'a>(
     alloc: Global,
     matches: &ArgMatches<'a>,
 ) -> Result<Option<Request<'a>>, AllocError> {
-    if bad_value(matches).is_some() {
-        return Ok(None);
-    }
     match matches.subcommand() {
-        Some(("check", given)) => check_words(alloc, given),
-        Some(("explain", given)) => Ok(Some(explain_words(alloc, given)?)),
-        Some(("fit", given)) => fit_words(alloc, given),
-        Some((name, given)) => Ok(plain_request(name, given)),
-        None => Ok(None),
+        Some((name, given)) if bad_value(matches).is_none() => command_request(alloc, name, given),
+        _ => Ok(None),
+    }
+}
+
+/// The program's name, as the first word ends in it.
+fn program_name(words: &[String]) -> &str {
+    let Some(path) = words.first() else {
+        return PROGRAM;
+    };
+    match path.rsplit_once('/') {
+        Some((_, name)) => name,
+        None => path,
     }
 }
 
 /// The fault of words that clap takes and that aren't any request.
-fn unread(command: &mut Command<'_>, matches: &ArgMatches<'_>) -> Error {
-    let told = match bad_value(matches) {
-        Some(message) => command.error(ErrorKind::InvalidValue, message),
-        None => command.error(ErrorKind::MissingSubcommand, "a command is wanted"),
-    };
-    match told {
-        Ok(error) => error,
-        Err(error) => Error::from(error),
+fn unread(alloc: Global, words: &[String], matches: &ArgMatches<'_>) -> Result<Error, AllocError> {
+    let program = program_name(words);
+    match bad_value(matches) {
+        Some(message) => fault(alloc, program, ErrorKind::InvalidValue, message),
+        None => fault(
+            alloc,
+            program,
+            ErrorKind::MissingSubcommand,
+            "a command is wanted",
+        ),
+    }
+}
+
+/// The request of words that clap takes.
+fn read_matches<'a>(
+    alloc: Global,
+    words: &[String],
+    matches: &ArgMatches<'a>,
+) -> Result<Request<'a>, Error> {
+    match request_in(alloc, matches)? {
+        Some(request) => Ok(request),
+        None => Err(unread(alloc, words, matches)?),
     }
 }
 
 fn read<'a>(alloc: Global, words: &'a [String]) -> Result<Request<'a>, Error> {
-    let mut command = command(alloc, named_command(words))?;
-    let matches = command.try_get_matches_from_mut(words)?;
-    match request_in(alloc, &matches)? {
-        Some(request) => Ok(request),
-        None => Err(unread(&mut command, &matches)),
-    }
+    let matches = matches_of(alloc, words)?;
+    read_matches(alloc, words, &matches)
 }
 
 /// The request that the words ask for. The first word is the program's name.

@@ -40,8 +40,6 @@ pub(crate) fn texts<'a>(
     name: &str,
 ) -> Result<Vec<&'a str>, AllocError> {
     let mut texts = Vec::new(alloc);
-    for text in given.get_strs(name).unwrap_or(&[]) {
-        texts.push(*text)?;
-    }
+    texts.extend_from_slice(given.get_strs(name).unwrap_or(&[]))?;
     Ok(texts)
 }
