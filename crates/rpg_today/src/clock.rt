@@ -16,10 +16,15 @@ const ZONES: &str = "/usr/share/zoneinfo/";
 /// The most bytes of a zone's file.
 const MOST_BYTES: u64 = 1_048_576;
 
+/// A zone's file, if there is one of this name.
+fn zone_file<R: Files + AllocGlobal>(rt: &R, name: &str) -> Option<R::File> {
+    let path = format!(in rt.alloc(); "{ZONES}{name}").ok()?;
+    fs::open(rt, path.as_str()).ok()
+}
+
 /// The bytes of a zone's file, if there is one of this name.
 fn zone_bytes<R: Files + AllocGlobal>(rt: &R, name: &str) -> Option<Vec<u8>> {
-    let path = format!(in rt.alloc(); "{ZONES}{name}").ok()?;
-    let file = fs::open(rt, path.as_str()).ok()?;
+    let file = zone_file(rt, name)?;
     let mut bytes = Vec::new(rt.alloc());
     file.take(MOST_BYTES).read_to_end(&mut bytes).ok()?;
     Some(bytes)
@@ -62,6 +67,17 @@ fn date_in(instant: Timestamp, zone: TimeZone<'_>) -> Date {
     zone.to_datetime(instant).date()
 }
 
+/// The date of the clock in the system's zone; in UTC, if the system has no zone.
+fn system_date<R: Env + Files + AllocGlobal>(rt: &R, instant: Timestamp) -> Date {
+    let zones = zones(rt);
+    if let Ok(system) = SystemTimeZone::read(rt) {
+        if let Ok(zone) = system.time_zone(&zones) {
+            return date_in(instant, zone);
+        }
+    }
+    date_in(instant, TimeZone::UTC)
+}
+
 /// The day of the system's clock in the system's zone; in UTC, if the system has no zone. None if the clock can't be read.
 pub fn today<R: Clock + Env + Files + AllocGlobal>(rt: &R) -> Option<Day>
     ensures year { IfSome result (λ day. day.year < 100) }
@@ -69,13 +85,5 @@ pub fn today<R: Clock + Env + Files + AllocGlobal>(rt: &R) -> Option<Day>
     ensures day { IfSome result (λ day. day.day < 100) }
 {
     let instant = Timestamp::now(rt).ok()?;
-    let zones = zones(rt);
-    let date = match SystemTimeZone::read(rt) {
-        Ok(system) => match system.time_zone(&zones) {
-            Ok(zone) => date_in(instant, zone),
-            Err(_) => date_in(instant, TimeZone::UTC),
-        },
-        Err(_) => date_in(instant, TimeZone::UTC),
-    };
-    Some(day_of(date))
+    Some(day_of(system_date(rt, instant)))
 }
