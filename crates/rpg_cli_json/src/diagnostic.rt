@@ -98,7 +98,7 @@ fn file_of<'f, 't>(line: &'t str, files: &[&'f str]) -> Option<(&'f str, &'t str
     found
 }
 
-fn is_number(text: &str) -> bool {
+pub(crate) fn is_number(text: &str) -> bool {
     !text.is_empty() && text.bytes().all(|b| b.is_ascii_digit())
 }
 

@@ -72,8 +72,9 @@ fn write_columns(out: &mut TextWriter, column: Option<&str>, marked: Marked<'_>)
 
 /// Writes an object in a line of its own.
 fn write_object(out: &mut TextWriter, diagnostic: Diagnostic<'_, '_>, marked: Marked<'_>) {
-    let severity = diagnostic.severity.text();
-    write!(out, "{{\"severity\":\"{severity}\"");
+    out.write_str("{\"severity\":\"");
+    out.write_str(diagnostic.severity.text());
+    out.write_char('"');
     write_optional_member(out, "file", diagnostic.file);
     write_number_member(out, "line", diagnostic.line);
     write_columns(out, diagnostic.column, marked);
@@ -170,6 +171,7 @@ pub fn source_object(
     out.write_str("{\"file\":");
     write_string(&mut out, path);
     write_member(&mut out, "answer", answer);
-    write!(out, ",\"status\":{status}}}\n");
+    out.fill(",\"status\":{}", &[status.into()]);
+    out.write_str("}\n");
     out.finish()
 }

@@ -1,5 +1,7 @@
 //! The lines below a diagnostic that show a card: a ruler, the card and a mark.
 
+use crate::diagnostic::is_number;
+
 /// What stands before a ruler and a mark.
 const MARGIN: &str = "      | ";
 
@@ -12,15 +14,10 @@ pub(crate) enum Picture<'a> {
     Mark(&'a str),
 }
 
-fn is_number(text: &str) -> bool {
-    let digits = text.trim();
-    !digits.is_empty() && digits.bytes().all(|b| b.is_ascii_digit())
-}
-
 /// The card of a line that has its number before it.
 fn card_of(line: &str) -> Option<&str> {
     let (number, card) = line.split_once(" | ")?;
-    (number.len() >= 5 && is_number(number)).then_some(card)
+    (number.len() >= 5 && is_number(number.trim())).then_some(card)
 }
 
 /// What a line of a picture shows; none if it is another line.
@@ -28,6 +25,6 @@ pub(crate) fn picture_of(line: &str) -> Option<Picture<'_>> {
     match line.strip_prefix(MARGIN) {
         Some(mark) if mark.ends_with('^') => Some(Picture::Mark(mark)),
         Some(_) => Some(Picture::Ruler),
-        None => card_of(line).map(|card| Picture::Card(card)),
+        None => Some(Picture::Card(card_of(line)?)),
     }
 }
