@@ -98,7 +98,7 @@ pub fn file_bytes<R: Files + AllocGlobal>(rt: &R, path: &str) -> Result<Vec<u8>,
     Ok(bytes)
 }
 
-/// A file that will be written, made where there is none. What it holds stays until `empty_file`.
+/// A file that will be written, made where there is none. What it holds stays until it is emptied.
 pub fn output_file<R: Files>(rt: &R, path: &str) -> Result<R::File, FileFault> {
     File::options()
         .write(true)
@@ -108,11 +108,11 @@ pub fn output_file<R: Files>(rt: &R, path: &str) -> Result<R::File, FileFault> {
 }
 
 /// Empties a file that will be written. What isn't a regular file holds nothing.
-pub(crate) fn empty_file<F: OpenFile + Drop>(file: F) -> Result<F, FileFault> {
-    if identity(&file).is_some() {
-        file.set_len(0).map_err(output_fault)?;
+pub(crate) fn empty_file<F: OpenFile>(file: &F) -> Result<(), FileFault> {
+    match identity(file) {
+        Some(_) => file.set_len(0).map_err(output_fault),
+        None => Ok(()),
     }
-    Ok(file)
 }
 
 /// Writes out what a writer still holds.

@@ -51,22 +51,27 @@ pub(crate) fn name_beside(alloc: Global, path: &str, number: u32) -> Result<Stri
     format!(in alloc; "{path}.{number}.new")
 }
 
+/// Makes a file beside another, by the name with this number. None where something has the name.
+fn numbered_beside<R: Files + AllocGlobal>(
+    rt: &R,
+    path: &str,
+    number: u32,
+) -> Result<Option<Beside<R::File>>, FileFault> {
+    let Ok(path) = name_beside(rt.alloc(), path, number) else {
+        return Err(FileFault::NoMemory);
+    };
+    match File::create_new(rt, path.as_str()) {
+        Ok(file) => Ok(Some(Beside { file, path, number })),
+        Err(error) if error.kind() == ErrorKind::AlreadyExists => Ok(None),
+        Err(error) => Err(beside_fault(error)),
+    }
+}
+
 /// Makes a file beside another, by a name that nothing has.
 fn new_beside<R: Files + AllocGlobal>(rt: &R, path: &str) -> Result<Beside<R::File>, FileFault> {
     for number in 0..NAMES {
-        let Ok(beside) = name_beside(rt.alloc(), path, number) else {
-            return Err(FileFault::NoMemory);
-        };
-        match File::create_new(rt, beside.as_str()) {
-            Ok(file) => {
-                return Ok(Beside {
-                    file,
-                    path: beside,
-                    number,
-                });
-            }
-            Err(error) if error.kind() == ErrorKind::AlreadyExists => {}
-            Err(error) => return Err(beside_fault(error)),
+        if let Some(beside) = numbered_beside(rt, path, number)? {
+            return Ok(beside);
         }
     }
     Err(FileFault::Beside(Reason::Taken))

@@ -18,6 +18,16 @@ pub enum Opened<F> {
     Standard,
 }
 
+impl<F: OpenFile> Opened<F> {
+    /// Empties what will be written. A new file is empty.
+    pub fn empty(&self) -> Result<(), FileFault> {
+        match self {
+            Opened::File(file) => empty_file(file),
+            Opened::Nothing | Opened::New(_) | Opened::Standard => Ok(()),
+        }
+    }
+}
+
 /// Where records come from, and why the last read failed, if it did.
 #[derive(Drop)]
 pub struct RecordSource<F, S> {
@@ -64,18 +74,18 @@ pub fn records<R: Files + Input>(
     RecordSource { from, fault: None }
 }
 
-/// Empties a file that was opened, and gives what writes it.
+/// What writes a file that was opened.
 pub fn lines<R: Files + Print>(
     rt: &R,
     opened: Opened<R::File>,
-) -> Result<LineTarget<R::File, Printer<'_, R>>, FileFault> {
+) -> LineTarget<R::File, Printer<'_, R>> {
     let to = match opened {
         Opened::Nothing => Target::Nothing,
-        Opened::File(file) => Target::File(empty_file(file)?),
+        Opened::File(file) => Target::File(file),
         Opened::New(file) => Target::New(file),
         Opened::Standard => Target::StandardOutput(io::writer(rt)),
     };
-    Ok(LineTarget { to, fault: None })
+    LineTarget { to, fault: None }
 }
 
 /// Why a call failed, if it did.
