@@ -126,26 +126,7 @@ fn add_counts(text: &mut Object, answer: &Answer)
             columns,
         } => add_records(text, records, dropped, columns),
         Answer::Fitted { changes } => add_number(text, b"changes", changes),
-        Answer::Compiled
-        | Answer::Faultless
-        | Answer::Denied { .. }
-        | Answer::Source(_)
-        | Answer::Object(_)
-        | Answer::OtherSource
-        | Answer::DiskFileWanted
-        | Answer::SecondaryFileWanted
-        | Answer::DateWanted
-        | Answer::Run(_)
-        | Answer::File { .. }
-        | Answer::Explained
-        | Answer::Deck
-        | Answer::NoCard { .. }
-        | Answer::DeckRefused { .. }
-        | Answer::RecordRefused { .. }
-        | Answer::FitRefused { .. }
-        | Answer::NewDeck(_)
-        | Answer::NoSuchCode
-        | Answer::NoMemory => {}
+        _ => {}
     }
 }
 

@@ -1,6 +1,6 @@
 //! Files that two words name.
 
-use rpg_cli_files::{FileIdentity, Opened, identity, identity_at};
+use rpg_cli_files::{FileIdentity, Opened, Pending, identity, identity_at};
 use rpg_cli_words::{FileWord, SameFile, Shared};
 use std::rt::Files;
 
@@ -21,13 +21,11 @@ impl NamedFile {
 
     /// A file that the words may name.
     pub fn named<R: Files>(rt: &R, word: FileWord, path: Option<&str>) -> NamedFile {
-        match path {
-            Some(path) => NamedFile::at(rt, word, path),
-            None => NamedFile {
-                word,
-                identity: None,
-            },
-        }
+        let identity = match path {
+            Some(path) => identity_at(rt, path),
+            None => None,
+        };
+        NamedFile { word, identity }
     }
 
     /// A file of a job, or the one that a standard stream was led to, which the system has by this path.
@@ -37,16 +35,25 @@ impl NamedFile {
         file: &Opened<R::File>,
         stream: &str,
     ) -> NamedFile {
-        match file {
-            Opened::Nothing => NamedFile {
-                word,
-                identity: None,
-            },
-            Opened::File(file) | Opened::New(file) => NamedFile {
-                word,
-                identity: identity(file),
-            },
-            Opened::Standard => NamedFile::at(rt, word, stream),
+        let identity = match file {
+            Opened::Nothing => None,
+            Opened::File(file) | Opened::New(file) => identity(file),
+            Opened::Standard => identity_at(rt, stream),
+        };
+        NamedFile { word, identity }
+    }
+
+    /// A file that a job writes: by its place, where it's written beside that.
+    pub fn written<R: Files>(
+        rt: &R,
+        word: FileWord,
+        file: &Opened<R::File>,
+        pending: &Option<Pending<'_>>,
+        stream: &str,
+    ) -> NamedFile {
+        match pending {
+            Some(pending) => NamedFile::at(rt, word, pending.place()),
+            None => NamedFile::opened(rt, word, file, stream),
         }
     }
 }
