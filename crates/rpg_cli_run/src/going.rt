@@ -12,23 +12,6 @@ use rpg_source_run::CompiledSource;
 use std::alloc::Global;
 use std::rt::Files;
 
-/// Runs a compiled source. The diagnostic of a halt has cards and names.
-fn run_compiled<R: Files + Input + Print + AllocGlobal, L: Listener>(
-    rt: &R,
-    words: &GoWords,
-    compiled: CompiledSource,
-    listener: &mut L,
-) -> Result<Report, Stop> {
-    let path = words.run.object;
-    let source = OwnSource::of(rt.alloc(), path, compiled)?;
-    let ran = run_own(rt, &words.run, &source, listener);
-    if let Err(Stop::Answer(answer)) = ran {
-        let program = source.compiled.program().program();
-        tell_wanted(rt.alloc(), path, program, answer, listener);
-    }
-    ran
-}
-
 /// Rejects a source that has a warning, if the words deny it. Other sources are run without their warnings.
 fn deny_warned<L: Listener>(
     alloc: Global,
@@ -43,6 +26,24 @@ fn deny_warned<L: Listener>(
     }
 }
 
+/// Runs a compiled source, unless it is rejected for a warning. The diagnostic of a halt has cards and names.
+fn run_compiled<R: Files + Input + Print + AllocGlobal, L: Listener>(
+    rt: &R,
+    words: &GoWords,
+    compiled: CompiledSource,
+    listener: &mut L,
+) -> Result<Report, Stop> {
+    let path = words.run.object;
+    deny_warned(rt.alloc(), words, compiled.text(), listener)?;
+    let source = OwnSource::of(rt.alloc(), path, compiled)?;
+    let ran = run_own(rt, &words.run, &source, listener);
+    if let Err(Stop::Answer(answer)) = ran {
+        let program = source.compiled.program().program();
+        tell_wanted(rt.alloc(), path, program, answer, listener);
+    }
+    ran
+}
+
 /// Compiles a source and runs its program over its files, which are opened only if the source has no fault.
 pub fn go_files<R: Files + Input + Print + AllocGlobal, L: Listener>(
     rt: &R,
@@ -54,18 +55,10 @@ pub fn go_files<R: Files + Input + Print + AllocGlobal, L: Listener>(
     }
     let text = named(FileWord::Source, source_bytes(rt, words.run.object))?;
     match CompiledSource::new(rt.alloc(), text, words.allowance) {
-        Ok(compiled) => {
-            deny_warned(rt.alloc(), words, compiled.text(), listener)?;
-            run_compiled(rt, words, compiled, listener)
-        }
+        Ok(compiled) => run_compiled(rt, words, compiled, listener),
         Err((text, fault)) => {
-            tell_faults(
-                rt.alloc(),
-                words.run.object,
-                &text,
-                words.warnings.most,
-                listener,
-            );
+            let most = words.warnings.most;
+            tell_faults(rt.alloc(), words.run.object, &text, most, listener);
             Err(Answer::Source(fault).into())
         }
     }

@@ -10,21 +10,31 @@ use std::alloc::AllocError;
 use std::io::{BufRead, BufReader};
 use std::rt::Files;
 
-/// A record of a regular file with the end of its line, the first being 1, where it can be read once more. Standard input can't.
-fn record_line<R: Files + AllocGlobal>(rt: &R, words: &RunWords, number: u64) -> Option<Vec<u8>> {
+/// The records of a regular file, where it can be read once more. Standard input can't.
+fn records_again<R: Files + AllocGlobal>(rt: &R, words: &RunWords) -> Option<BufReader<R::File>> {
     let path = words.input_file()?;
     identity_at(rt, path)?;
     let file = input_file(rt, path).ok()?;
-    let mut reader = BufReader::new(rt.alloc(), file).ok()?;
-    let mut line = Vec::new(rt.alloc());
+    BufReader::new(rt.alloc(), file).ok()
+}
+
+/// Reads a record with the end of its line, the first being 1, into `line`, and returns whether it is there.
+fn reads_line<R: BufRead>(reader: &mut R, number: u64, line: &mut Vec<u8>) -> bool {
     for _ in 0..number {
         line.clear();
-        let count = reader.read_until(b'\n', &mut line).ok()?;
-        if count == 0 {
-            return None;
+        match reader.read_until(b'\n', line) {
+            Ok(count) if count > 0 => {}
+            _ => return false,
         }
     }
-    Some(line)
+    true
+}
+
+/// A record with the end of its line, the first being 1.
+fn record_line<R: Files + AllocGlobal>(rt: &R, words: &RunWords, number: u64) -> Option<Vec<u8>> {
+    let mut reader = records_again(rt, words)?;
+    let mut line = Vec::new(rt.alloc());
+    reads_line(&mut reader, number, &mut line).then_some(line)
 }
 
 /// The text of a record without the end of its line.

@@ -13,9 +13,8 @@ use crate::looking::run_as_asked;
 use crate::reading::system_path;
 use crate::refusing::tell_refused;
 use crate::running::{run_over, run_source_over};
-use crate::sharing::{NamedFile, refuse_same_file};
 use crate::sources::{OwnSource, own_source};
-use rpg_cli_answers::{Answer, Listener, Reasons, Stop, named};
+use rpg_cli_answers::{Answer, Listener, NamedFile, Reasons, Stop, named, refuse_same_file};
 use rpg_cli_files::{
     KeptFile, LineTarget, Opened, Pending, RecordSource, file_bytes, input_file, kept_file, lines,
     output_file, records,
@@ -34,28 +33,16 @@ use std::fs::OpenFile;
 use std::io::{Printer, Read, Write};
 use std::rt::Files;
 
-/// Where the records of a disk file go, if the program has one. A path that isn't wanted is left.
-fn disk_path<'a>(program: &Program, named: Option<&'a str>) -> Result<Option<&'a str>, Answer> {
-    if !has_disk_file(program) {
-        return Ok(None);
-    }
-    match named {
-        Some(path) => Ok(Some(path)),
-        None => Err(Answer::DiskFileWanted),
-    }
-}
-
-/// Where the records of a secondary file come from, if the program has one. A path that isn't wanted is left.
-fn secondary_path<'a>(
-    program: &Program,
+/// The path of a file, if the program has the file. A path that isn't wanted is left.
+fn wanted_path<'a>(
+    is_wanted: bool,
     named: Option<&'a str>,
+    missing: Answer,
 ) -> Result<Option<&'a str>, Answer> {
-    if !has_secondary_file(program) {
-        return Ok(None);
-    }
     match named {
-        Some(path) => Ok(Some(path)),
-        None => Err(Answer::SecondaryFileWanted),
+        _ if !is_wanted => Ok(None),
+        None => Err(missing),
+        named => Ok(named),
     }
 }
 
@@ -67,10 +54,12 @@ struct WantedFiles<'a> {
 }
 
 impl<'a> WantedFiles<'a> {
-    /// Those that the words name. The disk file is asked for first.
+    /// Those that the words name. The disk file is asked for first, then the secondary file, and the date last.
     fn of(program: &Program, words: &RunWords<'a>) -> Result<WantedFiles<'a>, Answer> {
-        let disk = disk_path(program, words.disk)?;
-        let secondary = secondary_path(program, words.secondary)?;
+        let disk = wanted_path(has_disk_file(program), words.disk, Answer::DiskFileWanted)?;
+        let has_secondary = has_secondary_file(program);
+        let secondary = wanted_path(has_secondary, words.secondary, Answer::SecondaryFileWanted)?;
+        has_date(program, words.date)?;
         Ok(WantedFiles { secondary, disk })
     }
 }
@@ -108,6 +97,22 @@ fn keeps_limit(
     match accepted {
         Err(fault) => Err(Answer::Object(*fault)),
         Ok(program) => keeps_bound(program, date, most),
+    }
+}
+
+/// Whether a program may run, if that is asked before the other files are opened.
+fn keeps_asked_limit(
+    accepted: &Result<Verified, ObjectFault>,
+    words: &RunWords,
+) -> Result<(), Answer>
+    ensures { OnOk result (IfSome words.now.most (λ most. IfOk accepted.now (λ program. bound program ≤ most))) }
+{
+    if let Some(most) = words.most {
+        keeps_limit(accepted, words.date_text(), most)
+    } else if words.keeps {
+        keeps_limit(accepted, words.date_text(), u64::MAX)
+    } else {
+        Ok(())
     }
 }
 
@@ -179,7 +184,7 @@ fn written_file<'a, R: Files + AllocGlobal>(
 }
 
 /// Refuses to empty or to replace a file that another word names too.
-fn keep_files<R: Files + AllocGlobal>(
+fn refuse_shared<R: Files + AllocGlobal>(
     rt: &R,
     words: &RunWords,
     files: &RunFiles<R::File>,
@@ -190,14 +195,26 @@ fn keep_files<R: Files + AllocGlobal>(
     let source = NamedFile::named(rt, FileWord::OwnSource, words.source);
     let primary = NamedFile::opened(rt, FileWord::Input, &files.input, input);
     let secondary = NamedFile::opened(rt, FileWord::Secondary, &files.secondary, input);
-    let print = kept.print_file(rt, &files.print, output);
-    let disk = kept.disk_file(rt, &files.disk, output);
+    let print = NamedFile::written(rt, FileWord::Print, &files.print, &kept.print, output);
+    let disk = NamedFile::written(rt, FileWord::Disk, &files.disk, &kept.disk, output);
     refuse_same_file(print, &[object, source, primary, secondary])?;
     refuse_same_file(disk, &[object, source, primary, secondary, print])?;
     kept.refuse_shared(rt, &[object, source, primary, secondary, print, disk])
 }
 
-/// What a run reads and writes, the files that are written emptied.
+/// Empties the files that are written, unless another word names one of them.
+fn empty_files<R: Files + AllocGlobal>(
+    rt: &R,
+    words: &RunWords,
+    files: &RunFiles<R::File>,
+    kept: &Kept<'_>,
+) -> Result<(), Stop> {
+    refuse_shared(rt, words, files, kept)?;
+    named(FileWord::Print, files.print.empty())?;
+    Ok(named(FileWord::Disk, files.disk.empty())?)
+}
+
+/// What a run reads and writes.
 #[derive(Drop)]
 pub(crate) struct Devices<F: Drop, S: Drop, P: Drop> {
     input: RecordSource<F, S>,
@@ -206,19 +223,17 @@ pub(crate) struct Devices<F: Drop, S: Drop, P: Drop> {
     disk: LineTarget<F, P>,
 }
 
-/// Empties the files that are written.
-fn emptied_devices<R: Files + Input + Print>(
+/// What reads and writes the files of a run.
+fn devices<R: Files + Input + Print>(
     rt: &R,
     files: RunFiles<R::File>,
-) -> Result<Devices<R::File, R::Reader, Printer<'_, R>>, Answer> {
-    let print = named(FileWord::Print, lines(rt, files.print))?;
-    let disk = named(FileWord::Disk, lines(rt, files.disk))?;
-    Ok(Devices {
+) -> Devices<R::File, R::Reader, Printer<'_, R>> {
+    Devices {
         input: records(rt, files.input),
         secondary: records(rt, files.secondary),
-        print,
-        disk,
-    })
+        print: lines(rt, files.print),
+        disk: lines(rt, files.disk),
+    }
 }
 
 /// What a run runs.
@@ -321,17 +336,15 @@ pub(crate) fn run_devices<
         &mut disk,
         watcher,
     );
+    let reasons = Reasons {
+        input: input.into_device().fault(),
+        secondary: secondary.into_device().fault(),
+        print: print.into_device().fault(),
+        disk: disk.into_device().fault(),
+    };
     match ran {
         Ok(report) => Ok(report),
-        Err(answer) => Err(Stop::Job {
-            answer,
-            reasons: Reasons {
-                input: input.into_device().fault(),
-                secondary: secondary.into_device().fault(),
-                print: print.into_device().fault(),
-                disk: disk.into_device().fault(),
-            },
-        }),
+        Err(answer) => Err(Stop::Job { answer, reasons }),
     }
 }
 
@@ -345,10 +358,9 @@ fn run_opened<'a, R: Files + Input + Print + AllocGlobal, L: Listener>(
     listener: &mut L,
 ) -> Result<Report, Stop> {
     let files = open_files(rt, words, wanted, kept)?;
-    keep_files(rt, words, &files, kept)?;
-    let devices = emptied_devices(rt, files)?;
+    empty_files(rt, words, &files, kept)?;
     match accepted {
-        Ok(runnable) => run_as_asked(rt.alloc(), words, runnable, devices, listener),
+        Ok(runnable) => run_as_asked(rt.alloc(), words, runnable, devices(rt, files), listener),
         Err(fault) => Err(Answer::Object(fault).into()),
     }
 }
@@ -385,13 +397,8 @@ fn program_of<'a>(
 {
     let program = decode_object(alloc, object)?;
     let wanted = WantedFiles::of(&program, words)?;
-    has_date(&program, words.date)?;
     let accepted = accept(alloc, program);
-    if let Some(most) = words.most {
-        keeps_limit(&accepted, words.date_text(), most)?;
-    } else if words.keeps {
-        keeps_limit(&accepted, words.date_text(), u64::MAX)?;
-    }
+    keeps_asked_limit(&accepted, words)?;
     Ok((accepted, wanted))
 }
 
@@ -405,7 +412,6 @@ fn source_files<'a>(
 {
     let program = compiled.program();
     let wanted = WantedFiles::of(program.program(), words)?;
-    has_date(program.program(), words.date)?;
     if let Some(most) = words.most {
         keeps_bound(program, words.date_text(), most)?;
     } else if words.keeps {

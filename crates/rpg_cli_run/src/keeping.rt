@@ -3,9 +3,8 @@
 ghost use Rattle.std.specs.Prelude.{◌≡◌, IfErr};
 ghost use Rattle.rpg_cli_run.specs.Keeping.{IsOfFile, KeepsAnswer, fate_of};
 
-use crate::sharing::{NamedFile, refuse_same_file};
-use rpg_cli_answers::{Answer, Listener, Stop};
-use rpg_cli_files::{FileFault, Opened, Pending};
+use rpg_cli_answers::{Answer, Listener, NamedFile, Stop, refuse_same_file};
+use rpg_cli_files::{FileFault, Pending};
 use rpg_cli_text::TextWriter;
 use rpg_cli_words::{FileWord, SameFile, Shared};
 use rpg_engine::{JobEnd, Report};
@@ -60,8 +59,7 @@ fn kept_message(
     part: Option<&str>,
 ) -> Result<String, AllocError> {
     let mut out = TextWriter::new(alloc);
-    out.write_shown(place.as_bytes());
-    write!(out, " ({}): ", word.name());
+    out.fill("{} ({}): ", &[place.as_bytes().into(), word.name().into()]);
     match part {
         Some(part) => {
             out.write_str("left as it was; what this run wrote is in ");
@@ -106,20 +104,6 @@ fn remove<R: Files>(rt: &R, file: &Option<Pending<'_>>) {
     }
 }
 
-/// A file that is written: by its place, where it's written beside that.
-fn written_file<R: Files>(
-    rt: &R,
-    word: FileWord,
-    opened: &Opened<R::File>,
-    pending: &Option<Pending<'_>>,
-    stream: &str,
-) -> NamedFile {
-    match pending {
-        Some(pending) => NamedFile::at(rt, word, pending.place()),
-        None => NamedFile::opened(rt, word, opened, stream),
-    }
-}
-
 /// Refuses a part that would replace the file of another word.
 fn refuse_part<R: Files>(
     rt: &R,
@@ -133,20 +117,10 @@ fn refuse_part<R: Files>(
     match refuse_same_file(NamedFile::at(rt, word, pending.part()), others) {
         Ok(()) => Ok(()),
         Err(same) => Err(SameFile {
-            earlier: same.earlier,
-            written: same.written,
             shared: Shared::Part,
+            ..same
         }),
     }
-}
-
-/// Two words whose new files would replace one another.
-fn shared_by(earlier: FileWord, written: FileWord, shared: Shared) -> Option<SameFile> {
-    Some(SameFile {
-        earlier,
-        written,
-        shared,
-    })
 }
 
 /// Whether the places of two new files are one, or the part of one goes where the other does.
@@ -155,16 +129,20 @@ fn shared_place<R: Files + AllocGlobal>(
     print: &Pending<'_>,
     disk: &Pending<'_>,
 ) -> Result<Option<SameFile>, AllocError> {
-    if print.goes_to(rt, disk.place())? {
-        return Ok(shared_by(FileWord::Print, FileWord::Disk, Shared::File));
-    }
-    if print.goes_to(rt, disk.part())? {
-        return Ok(shared_by(FileWord::Print, FileWord::Disk, Shared::Part));
-    }
-    if disk.goes_to(rt, print.part())? {
-        return Ok(shared_by(FileWord::Disk, FileWord::Print, Shared::Part));
-    }
-    Ok(None)
+    let (earlier, written, shared) = if print.goes_to(rt, disk.place())? {
+        (FileWord::Print, FileWord::Disk, Shared::File)
+    } else if print.goes_to(rt, disk.part())? {
+        (FileWord::Print, FileWord::Disk, Shared::Part)
+    } else if disk.goes_to(rt, print.part())? {
+        (FileWord::Disk, FileWord::Print, Shared::Part)
+    } else {
+        return Ok(None);
+    };
+    Ok(Some(SameFile {
+        earlier,
+        written,
+        shared,
+    }))
 }
 
 impl<'a> Kept<'a> {
@@ -173,19 +151,6 @@ impl<'a> Kept<'a> {
             print: None,
             disk: None,
         }
-    }
-
-    pub fn print_file<R: Files>(
-        &self,
-        rt: &R,
-        opened: &Opened<R::File>,
-        stream: &str,
-    ) -> NamedFile {
-        written_file(rt, FileWord::Print, opened, &self.print, stream)
-    }
-
-    pub fn disk_file<R: Files>(&self, rt: &R, opened: &Opened<R::File>, stream: &str) -> NamedFile {
-        written_file(rt, FileWord::Disk, opened, &self.disk, stream)
     }
 
     /// Refuses new files that would replace one another, or the file of another word.

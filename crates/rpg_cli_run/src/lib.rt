@@ -11,7 +11,6 @@ mod looking;
 mod reading;
 mod refusing;
 mod running;
-mod sharing;
 mod sources;
 mod warned;
 
@@ -20,6 +19,5 @@ pub use jobs::run_files;
 pub use judging::{compiled, verified};
 pub use reading::{source_bytes, system_path};
 pub use refusing::tell_object;
-pub use sharing::{NamedFile, refuse_same_file};
 pub use sources::{OwnSource, own_source, tell_faults};
 pub use warned::judge_warnings;

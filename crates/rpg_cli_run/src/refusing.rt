@@ -16,18 +16,16 @@ fn wanted_message(
     let rows = program.rows();
     out.write_shown(path.as_bytes());
     match answer {
-        Answer::DiskFileWanted => write!(
-            out,
+        Answer::DiskFileWanted => out.fill(
             " writes a disk file of {} columns: name it with --disk FILE\n",
-            rows.disk_length
+            &[rows.disk_length.into()],
         ),
         Answer::DateWanted => out.write_str(
             " uses the date: give --date today, or six digits, as --date 112376\n",
         ),
-        _ => write!(
-            out,
+        _ => out.fill(
             " reads a secondary file of {} columns: name it with --secondary FILE\n",
-            rows.secondary_length
+            &[rows.secondary_length.into()],
         ),
     }
     out.finish()
