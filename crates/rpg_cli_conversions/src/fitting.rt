@@ -1,9 +1,8 @@
 //! The command that rewrites an old deck.
 
-use rpg_cli_answers::{Answer, Listener, Stop, named};
+use rpg_cli_answers::{Answer, Listener, NamedFile, Stop, named, refuse_same_file};
 use rpg_cli_files::{FileFault, Opened, Reason, SourceCode, file_bytes, lines, write_bytes};
 use rpg_cli_fit::{change_messages, new_deck_messages, refusal_message, too_many_message};
-use rpg_cli_run::{NamedFile, refuse_same_file};
 use rpg_cli_words::{FileWord, FitWords, is_standard};
 use rpg_faults::{CardFault, SourceFault};
 use rpg_fit::{FitFault, FittedDeck, Settings, Switches, TableFile, fit};
@@ -112,7 +111,7 @@ fn keep_files<R: Files>(rt: &R, words: &FitWords, path: &str) -> Result<(), Stop
 
 /// Writes the new deck to standard output.
 fn show_new_deck<R: Files + Print>(rt: &R, new: &[u8]) -> Result<(), Answer> {
-    let mut target = named(FileWord::Fitted, lines(rt, Opened::<R::File>::Standard))?;
+    let mut target = lines(rt, Opened::<R::File>::Standard);
     match target.write_all(new) {
         Ok(()) => Ok(()),
         Err(_) => Err(Answer::File {
@@ -174,6 +173,19 @@ fn answer_of(fit: &FittedDeck) -> Answer {
     }
 }
 
+/// Writes a new deck, and reports what was changed.
+fn conclude<R: Files + Print + AllocGlobal, L: Listener>(
+    rt: &R,
+    words: &FitWords,
+    source: &[u8],
+    fit: &FittedDeck,
+    listener: &mut L,
+) -> Result<Answer, Stop> {
+    write_new_deck(rt, words, fit.fitted.new.as_slice())?;
+    tell_fit(rt.alloc(), words, source, fit, listener);
+    Ok(answer_of(fit))
+}
+
 /// Rewrites an old deck. The new one is written once it is whole, also where it has faults; where a rule refuses the old one nothing is.
 pub fn fit_file<R: Files + Print + AllocGlobal, L: Listener>(
     rt: &R,
@@ -183,11 +195,7 @@ pub fn fit_file<R: Files + Print + AllocGlobal, L: Listener>(
     let source = named(FileWord::Source, file_bytes(rt, words.source))?;
     let records = table_records(rt, words)?;
     match rewrite(rt.alloc(), words, &source, records.as_slice()) {
-        Ok(fit) => {
-            write_new_deck(rt, words, fit.fitted.new.as_slice())?;
-            tell_fit(rt.alloc(), words, &source, &fit, listener);
-            Ok(answer_of(&fit))
-        }
+        Ok(fit) => conclude(rt, words, &source, &fit, listener),
         Err(fault) => Ok(refuse(rt.alloc(), words, &source, &fault, listener)),
     }
 }

@@ -1,12 +1,11 @@
 //! The command that makes lines of a shop's records, and records of such lines.
 
-use rpg_cli_answers::{Answer, Listener, Stop, named};
+use rpg_cli_answers::{Answer, Listener, NamedFile, Stop, named, refuse_same_file};
 use rpg_cli_files::{
     FileFault, KeptFile, LineTarget, Opened, Pending, Reason, RecordSource, file_bytes, input_file,
     kept_file, lines, records, write_bytes,
 };
 use rpg_cli_records::{DeckFault, DeckWords, deck_message, fitted_deck, layout_of, record_message};
-use rpg_cli_run::{NamedFile, refuse_same_file};
 use rpg_cli_words::{
     FileWord, RecordFraming, RecordsWay, RecordsWords, SameFile, Shared, is_standard,
 };
@@ -22,6 +21,15 @@ use std::rt::Files;
 /// How much is kept back of what goes to OUT.
 const WRITE_ROOM: usize = 65_536;
 
+/// The answer to a deck that is refused.
+fn refusal(fault: DeckFault) -> Answer {
+    match fault {
+        DeckFault::Card { number, .. } => Answer::DeckRefused { card: Some(number) },
+        DeckFault::NoFile => Answer::DeckRefused { card: None },
+        DeckFault::NoMemory => Answer::NoMemory,
+    }
+}
+
 /// The layout of the records, by the deck. A bad card is reported.
 fn layout<L: Listener>(
     alloc: Global,
@@ -34,16 +42,15 @@ fn layout<L: Listener>(
         length: words.length,
         are_lines: words.framing == RecordFraming::Lines,
     };
-    layout_of(alloc, source, deck_words).map_err(|fault| {
-        if let Ok(message) = deck_message(alloc, words.deck, fault) {
-            listener.tell(message.as_str());
+    match layout_of(alloc, source, deck_words) {
+        Ok(layout) => Ok(layout),
+        Err(fault) => {
+            if let Ok(message) = deck_message(alloc, words.deck, fault) {
+                listener.tell(message.as_str());
+            }
+            Err(refusal(fault))
         }
-        match fault {
-            DeckFault::Card { number, .. } => Answer::DeckRefused { card: Some(number) },
-            DeckFault::NoFile => Answer::DeckRefused { card: None },
-            DeckFault::NoMemory => Answer::NoMemory,
-        }
-    })
+    }
 }
 
 fn format_of(words: &RecordsWords) -> RecordFormat {
@@ -115,13 +122,6 @@ fn reason_of(fault: Option<Reason>) -> Reason {
     fault.unwrap_or(Reason::Other)
 }
 
-fn output_failed(fault: Option<Reason>) -> Answer {
-    Answer::File {
-        word: FileWord::Out,
-        fault: FileFault::Output(reason_of(fault)),
-    }
-}
-
 /// The answer to a conversion that ended early. A bad record is reported.
 fn early_answer<L: Listener>(
     alloc: Global,
@@ -146,12 +146,34 @@ fn early_answer<L: Listener>(
             word: FileWord::In,
             fault: FileFault::Input(reason_of(read)),
         },
-        ConversionFault::Write => output_failed(written),
+        ConversionFault::Write => Answer::File {
+            word: FileWord::Out,
+            fault: FileFault::Output(reason_of(written)),
+        },
         ConversionFault::NoMemory => Answer::NoMemory,
     }
 }
 
 /// Makes lines of records, or records of lines, and writes out all of them.
+fn convert_all<S: Read, T: Write>(
+    alloc: Global,
+    words: &RecordsWords,
+    layout: &Layout,
+    source: &mut S,
+    target: &mut T,
+) -> Result<Counts, ConversionFault> {
+    let format = format_of(words);
+    let counts = match words.way {
+        RecordsWay::ToLines => records_to_lines(alloc, layout, format, source, target)?,
+        RecordsWay::ToRecords => lines_to_records(alloc, layout, format, source, target)?,
+    };
+    match target.flush() {
+        Ok(()) => Ok(counts),
+        Err(_) => Err(ConversionFault::Write),
+    }
+}
+
+/// The same over the files of the words. What ends it early is reported.
 fn convert<
     F: Read + Drop,
     S: Read + Drop,
@@ -166,22 +188,28 @@ fn convert<
     target: LineTarget<T, P>,
     listener: &mut L,
 ) -> Result<Counts, Answer> {
-    let format = format_of(words);
     let Ok(mut writer) = BufWriter::with_capacity(alloc, WRITE_ROOM, target) else {
         return Err(Answer::NoMemory);
     };
-    let converted = match words.way {
-        RecordsWay::ToLines => records_to_lines(alloc, layout, format, &mut source, &mut writer),
-        RecordsWay::ToRecords => lines_to_records(alloc, layout, format, &mut source, &mut writer),
-    };
-    match converted {
-        Ok(counts) if writer.flush().is_ok() => Ok(counts),
-        Ok(_) => Err(output_failed(writer.get_ref().fault())),
+    match convert_all(alloc, words, layout, &mut source, &mut writer) {
+        Ok(counts) => Ok(counts),
         Err(fault) => {
             let (read, written) = (source.fault(), writer.get_ref().fault());
             Err(early_answer(alloc, words, fault, read, written, listener))
         }
     }
+}
+
+/// Empties what is written, unless another word names a file that is.
+fn empty_output<R: Files + AllocGlobal>(
+    rt: &R,
+    words: &RecordsWords,
+    input: &Opened<R::File>,
+    output: &Opened<R::File>,
+    pending: &Option<Pending<'_>>,
+) -> Result<(), Stop> {
+    keep_files(rt, words, input, pending)?;
+    Ok(named(FileWord::Out, output.empty())?)
 }
 
 /// Converts what was opened, unless another word names a file that is written.
@@ -194,9 +222,8 @@ fn convert_opened<R: Files + Input + Print + AllocGlobal, L: Listener>(
     pending: &Option<Pending<'_>>,
     listener: &mut L,
 ) -> Result<Counts, Stop> {
-    keep_files(rt, words, &input, pending)?;
-    let target = named(FileWord::Out, lines(rt, output))?;
-    let source = records(rt, input);
+    empty_output(rt, words, &input, &output, pending)?;
+    let (source, target) = (records(rt, input), lines(rt, output));
     Ok(convert(rt.alloc(), words, layout, source, target, listener)?)
 }
 
@@ -235,6 +262,22 @@ fn conclude<R: Files>(
     concluded
 }
 
+/// Converts the records, or the lines, of a file.
+fn convert_file<R: Files + Input + Print + AllocGlobal, L: Listener>(
+    rt: &R,
+    words: &RecordsWords,
+    layout: &Layout,
+    listener: &mut L,
+) -> Result<Counts, Stop> {
+    let input = opened_input(rt, words)?;
+    let KeptFile { opened, pending } = named(FileWord::Out, kept_file(rt, words.output))?;
+    let converted = convert_opened(rt, words, layout, input, opened, &pending, listener);
+    match &pending {
+        Some(pending) => conclude(rt, pending, converted),
+        None => converted,
+    }
+}
+
 /// Makes lines of the records of a file, or records of its lines.
 ///
 /// OUT, and then NEW, are written once all records are: where one is refused both are as they were.
@@ -245,13 +288,7 @@ pub fn records_file<R: Files + Input + Print + AllocGlobal, L: Listener>(
 ) -> Result<Answer, Stop> {
     let source = named(words.deck_word(), file_bytes(rt, words.deck))?;
     let layout = layout(rt.alloc(), words, &source, listener)?;
-    let input = opened_input(rt, words)?;
-    let KeptFile { opened, pending } = named(FileWord::Out, kept_file(rt, words.output))?;
-    let converted = convert_opened(rt, words, &layout, input, opened, &pending, listener);
-    let Counts { records, dropped } = match &pending {
-        Some(pending) => conclude(rt, pending, converted)?,
-        None => converted?,
-    };
+    let Counts { records, dropped } = convert_file(rt, words, &layout, listener)?;
     write_deck(rt, words, &source, &layout)?;
     Ok(Answer::Records {
         records,
