@@ -8,27 +8,23 @@ use rpg_engine::RunFault;
 use rpg_today::today;
 use std::alloc::{AllocError, Global};
 use std::rt::{Clock, Env, Files};
+use std::str;
 
 /// A date that was read from the clock, or the one that the words have.
-#[derive(Drop)]
+#[derive(Clone, Copy)]
 pub(crate) struct JobDate {
-    /// None where the words have the date, or none is needed.
-    today: Option<String>,
+    /// The digits of today's date; none where the words have the date, or none is needed.
+    today: Option<[u8; 6]>,
 }
 
 /// Today's date, in an order.
 fn todays_digits<R: Clock + Env + Files + AllocGlobal>(
     rt: &R,
     order: DateOrder,
-) -> Result<String, Answer> {
-    let Some(day) = today(rt) else {
-        return Err(Answer::Run(RunFault::BadDate));
-    };
-    let mut out = TextWriter::new(rt.alloc());
-    out.write_shown(&day.six_digits(order));
-    match out.finish() {
-        Ok(text) => Ok(text),
-        Err(_) => Err(Answer::NoMemory),
+) -> Result<[u8; 6], Answer> {
+    match today(rt) {
+        Some(day) => Ok(day.six_digits(order)),
+        None => Err(Answer::Run(RunFault::BadDate)),
     }
 }
 
@@ -48,7 +44,7 @@ impl JobDate {
     /// The words, with the date of today if they want it.
     pub fn words<'b>(&'b self, words: &'b RunWords<'b>) -> RunWords<'b> {
         match &self.today {
-            Some(text) => words.on(text.as_str()),
+            Some(digits) => words.on(str::from_utf8(digits).unwrap_or("")),
             None => *words,
         }
     }
@@ -84,9 +80,9 @@ fn is_odd(text: &str) -> bool {
 
 fn odd_date_message(alloc: Global, text: &str) -> Result<String, AllocError> {
     let mut out = TextWriter::new(alloc);
-    write!(
-        out,
-        "--date {text} is no date of a calendar: UDATE has it as it is\n"
+    out.fill(
+        "--date {} is no date of a calendar: UDATE has it as it is\n",
+        &[text.into()],
     );
     out.finish()
 }

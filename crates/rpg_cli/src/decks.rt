@@ -41,6 +41,14 @@ fn wanted_text<L: Listener>(
     }
 }
 
+/// Shows cards, behind a ruler if the words want one, or shorthand.
+fn show_text<L: Listener>(words: &CardsWords, text: &str, listener: &mut L) -> Result<(), Stop> {
+    if let CardsWanted::RuledCards = words.wanted {
+        listener.show(RULER)?;
+    }
+    Ok(listener.show(text)?)
+}
+
 /// Shows the cards of a file of shorthand, or the shorthand of a file of cards.
 pub(crate) fn cards_file<R: Files + Input + AllocGlobal, L: Listener>(
     rt: &R,
@@ -49,8 +57,5 @@ pub(crate) fn cards_file<R: Files + Input + AllocGlobal, L: Listener>(
 ) -> Result<(), Stop> {
     let source = named(FileWord::Source, source_bytes(rt, words.source))?;
     let text = wanted_text(rt.alloc(), words, &source, listener)?;
-    if let CardsWanted::RuledCards = words.wanted {
-        listener.show(RULER)?;
-    }
-    Ok(listener.show(text.as_str())?)
+    show_text(words, text.as_str(), listener)
 }

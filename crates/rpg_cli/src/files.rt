@@ -1,22 +1,26 @@
 //! The commands that read one file, and the object that one of them writes.
 
-use rpg_cli_answers::{Answer, Listener, Stop, named};
+use rpg_cli_answers::{Answer, Listener, NamedFile, Stop, named, refuse_same_file};
 use rpg_cli_files::{file_bytes, write_bytes};
 use rpg_cli_run::{
-    NamedFile, compiled, judge_warnings, own_source, refuse_same_file, source_bytes, system_path,
-    tell_faults, tell_object, verified,
+    OwnSource, compiled, judge_warnings, own_source, source_bytes, system_path, tell_faults,
+    tell_object, verified,
 };
 use rpg_cli_show::{program_overview, program_text};
 use rpg_cli_words::{CompileWords, FileWord, Format, ShowWords, VerifyWords};
-use rpg_engine::decode_object;
+use rpg_engine::{Program, decode_object};
+use std::alloc::{AllocError, Global};
 use std::rt::Files;
 
-/// Writes a compiled object to its file, unless that is the source.
-fn write_object<R: Files + AllocGlobal>(
+/// Writes a compiled object to its file, unless a warning rejects its source or that is the file.
+fn write_object<R: Files + AllocGlobal, L: Listener>(
     rt: &R,
     words: &CompileWords,
+    source: &[u8],
     object: &[u8],
+    listener: &mut L,
 ) -> Result<(), Stop> {
+    judge_warnings(rt.alloc(), words.source, source, words.warnings, listener)?;
     let source = NamedFile::at(rt, FileWord::Source, system_path(words.source));
     let written = NamedFile::at(rt, FileWord::Object, words.object);
     refuse_same_file(written, &[source])?;
@@ -34,10 +38,7 @@ pub(crate) fn compile_files<R: Files + Input + AllocGlobal, L: Listener>(
 ) -> Result<(), Stop> {
     let source = named(FileWord::Source, source_bytes(rt, words.source))?;
     match compiled(rt.alloc(), &source, words.allowance) {
-        Ok(object) => {
-            judge_warnings(rt.alloc(), words.source, &source, words.warnings, listener)?;
-            write_object(rt, words, &object)
-        }
+        Ok(object) => write_object(rt, words, &source, &object, listener),
         Err(answer) => {
             let most = words.warnings.most;
             tell_faults(rt.alloc(), words.source, &source, most, listener);
@@ -60,6 +61,23 @@ pub(crate) fn verify_file<R: Files + AllocGlobal, L: Listener>(
     bound
 }
 
+/// The text of a program: with names and cards, if its source is known.
+fn program_shown(
+    alloc: Global,
+    words: &ShowWords,
+    program: Program,
+    source: Option<&OwnSource<'_>>,
+) -> Result<String, AllocError> {
+    if !words.rows {
+        return program_overview(alloc, program);
+    }
+    let rows = match source {
+        Some(source) => Some(&source.rows),
+        None => None,
+    };
+    program_text(alloc, program, rows)
+}
+
 /// The text of the program that the bytes of an object file spell, where they spell one: with names and cards, if the words name its source.
 fn shown_text<R: Files + AllocGlobal, L: Listener>(
     rt: &R,
@@ -69,16 +87,24 @@ fn shown_text<R: Files + AllocGlobal, L: Listener>(
 ) -> Result<String, Answer> {
     let program = decode_object(rt.alloc(), object)?;
     let source = own_source(rt, words.source, object, listener)?;
-    let text = if words.rows {
-        let rows = source.as_ref().map(|source| &source.rows);
-        program_text(rt.alloc(), program, rows)
-    } else {
-        program_overview(rt.alloc(), program)
-    };
-    match text {
+    match program_shown(rt.alloc(), words, program, source.as_ref()) {
         Ok(text) => Ok(text),
         Err(_) => Err(Answer::NoMemory),
     }
+}
+
+/// The same, and what is wrong with the bytes is reported.
+fn text_or_told<R: Files + AllocGlobal, L: Listener>(
+    rt: &R,
+    words: &ShowWords,
+    object: &[u8],
+    listener: &mut L,
+) -> Result<String, Answer> {
+    let text = shown_text(rt, words, object, listener);
+    if let Err(Answer::Object(fault)) = &text {
+        tell_object(rt.alloc(), words.object, object, *fault, listener);
+    }
+    text
 }
 
 /// Reports the rule that a program breaks as an object of JSON, if the words want that: the line for people stands among the rows.
@@ -101,11 +127,7 @@ pub(crate) fn show_file<R: Files + AllocGlobal, L: Listener>(
     listener: &mut L,
 ) -> Result<u64, Stop> {
     let object = named(FileWord::Object, file_bytes(rt, words.object))?;
-    let text = shown_text(rt, words, &object, listener);
-    if let Err(Answer::Object(fault)) = &text {
-        tell_object(rt.alloc(), words.object, &object, *fault, listener);
-    }
-    let text = text?;
+    let text = text_or_told(rt, words, &object, listener)?;
     let bound = verified(rt.alloc(), &object);
     tell_as_object(rt, words, &object, bound, listener);
     listener.show(text.as_str())?;

@@ -15,6 +15,26 @@ fn tell_as_objects<L: Listener>(alloc: Global, words: &ListWords, source: &[u8],
     }
 }
 
+/// Shows the listing of a source by its text.
+fn show_listing<L: Listener>(
+    alloc: Global,
+    words: &ListWords,
+    source: &[u8],
+    listener: &mut L,
+) -> Result<(), Stop> {
+    let fault = faultless_cards(alloc, source).err();
+    if let Some(SourceFault::NoMemory) = fault {
+        return Err(Answer::NoMemory.into());
+    }
+    let text = listing(alloc, words.source, source)?;
+    tell_as_objects(alloc, words, source, listener);
+    listener.show(text.as_str())?;
+    match fault {
+        None => Ok(()),
+        Some(fault) => Err(Answer::Source(fault).into()),
+    }
+}
+
 /// Shows the listing of a source, with or without faults, and returns the least fault. If memory runs out, nothing is shown.
 pub(crate) fn list_file<R: Files + Input + AllocGlobal, L: Listener>(
     rt: &R,
@@ -22,17 +42,7 @@ pub(crate) fn list_file<R: Files + Input + AllocGlobal, L: Listener>(
     listener: &mut L,
 ) -> Result<(), Stop> {
     let source = named(FileWord::Source, source_bytes(rt, words.source))?;
-    let fault = faultless_cards(rt.alloc(), &source).err();
-    if let Some(SourceFault::NoMemory) = fault {
-        return Err(Answer::NoMemory.into());
-    }
-    let text = listing(rt.alloc(), words.source, &source)?;
-    tell_as_objects(rt.alloc(), words, &source, listener);
-    listener.show(text.as_str())?;
-    match fault {
-        None => Ok(()),
-        Some(fault) => Err(Answer::Source(fault).into()),
-    }
+    show_listing(rt.alloc(), words, &source, listener)
 }
 
 fn listing(alloc: Global, path: &str, source: &[u8]) -> Result<String, Answer> {

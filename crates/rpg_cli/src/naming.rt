@@ -55,17 +55,13 @@ pub(crate) fn files_of<'a>(
     if request.format() == Format::Text {
         return Ok(files);
     }
-    for word in WORDS {
-        if let Some(path) = request.path(word) {
+    for word in &WORDS {
+        if let Some(path) = request.path(*word) {
             files.push(path)?;
         }
     }
     match request {
-        Request::Check(words) => {
-            for path in &words.sources {
-                files.push(*path)?;
-            }
-        }
+        Request::Check(words) => files.extend_from_slice(&words.sources)?,
         Request::Fit(words) => push_fitted(&mut files, words)?,
         _ => {}
     }

@@ -21,12 +21,37 @@ use rpg_cli_conversions::{fit_file, records_file};
 use rpg_cli_files::send_line;
 use rpg_cli_json::FormedListener;
 use rpg_cli_run::{go_files, run_files};
-use rpg_cli_words::{Format, Refusal, Request, refuse_bytes, refuse_same_file, request_of};
+use rpg_cli_words::{
+    Format, GoWords, Refusal, Request, RunWords, refuse_bytes, refuse_same_file, request_of,
+};
 use std::alloc::Global;
 use std::io::{Error, ErrorKind, Write};
 use std::process::ExitCode;
 use std::rt::{Clock, Env, Files};
 use std::{env, io};
+
+/// Runs an object program on the date that the words want.
+fn run_on_date<R: Clock + Env + Files + Input + Print + AllocGlobal, L: Listener>(
+    rt: &R,
+    words: &RunWords,
+    listener: &mut L,
+) -> Result<Answer, Stop> {
+    let date = JobDate::of(rt, words)?;
+    tell_odd_date(rt.alloc(), words, listener);
+    Ok(run_files(rt, &date.words(words), listener)?.into())
+}
+
+/// Runs a source on the date that the words want.
+fn go_on_date<R: Clock + Env + Files + Input + Print + AllocGlobal, L: Listener>(
+    rt: &R,
+    words: &GoWords,
+    listener: &mut L,
+) -> Result<Answer, Stop> {
+    let date = JobDate::of(rt, &words.run)?;
+    tell_odd_date(rt.alloc(), &words.run, listener);
+    let words = words.with(date.words(&words.run));
+    Ok(go_files(rt, &words, listener)?.into())
+}
 
 fn answer_to<R: Clock + Env + Files + Input + Print + AllocGlobal, L: Listener>(
     rt: &R,
@@ -57,17 +82,8 @@ fn answer_to<R: Clock + Env + Files + Input + Print + AllocGlobal, L: Listener>(
             let bound = show_file(rt, words, listener)?;
             Ok(Answer::Accepted { bound })
         }
-        Request::Run(words) => {
-            let date = JobDate::of(rt, words)?;
-            tell_odd_date(rt.alloc(), words, listener);
-            Ok(Answer::from(run_files(rt, &date.words(words), listener)?))
-        }
-        Request::Go(words) => {
-            let date = JobDate::of(rt, &words.run)?;
-            tell_odd_date(rt.alloc(), &words.run, listener);
-            let words = words.with(date.words(&words.run));
-            Ok(Answer::from(go_files(rt, &words, listener)?))
-        }
+        Request::Run(words) => run_on_date(rt, words, listener),
+        Request::Go(words) => go_on_date(rt, words, listener),
         Request::Explain(words) => explain(rt.alloc(), words, listener),
     }
 }
@@ -244,6 +260,19 @@ fn words<R: Env + AllocGlobal>(rt: &R) -> io::Result<Vec<String>> {
     Ok(words)
 }
 
+/// Runs a command over the standard streams, and returns the exit status.
+fn obey_on_streams<R: Clock + Env + Files + Input + Print + Eprint + AllocGlobal>(
+    rt: &R,
+    request: &Request,
+    listener: &mut StandardStreams<'_, R>,
+) -> u8 {
+    if request.writes_standard_output() {
+        obey(rt, request, &mut StandardError::new(rt), listener)
+    } else {
+        obey(rt, request, &mut io::writer(rt), listener)
+    }
+}
+
 /// Runs the command of the arguments over the standard streams, and returns the exit status. The line goes to standard output, or to standard error
 /// where a run writes records or lines to standard output.
 fn run_on_streams<R: Clock + Env + Files + Input + Print + Eprint + AllocGlobal>(
@@ -251,14 +280,10 @@ fn run_on_streams<R: Clock + Env + Files + Input + Print + Eprint + AllocGlobal>
     words: &[String],
     has_colours: bool,
 ) -> u8 {
-    let mut out = io::writer(rt);
     let mut listener = StandardStreams::new(rt, has_colours);
     match request_of(rt.alloc(), words) {
-        Err(refusal) => refuse(rt, &refusal, &mut out, &mut listener),
-        Ok(request) if request.writes_standard_output() => {
-            obey(rt, &request, &mut StandardError::new(rt), &mut listener)
-        }
-        Ok(request) => obey(rt, &request, &mut out, &mut listener),
+        Err(refusal) => refuse(rt, &refusal, &mut io::writer(rt), &mut listener),
+        Ok(request) => obey_on_streams(rt, &request, &mut listener),
     }
 }
 

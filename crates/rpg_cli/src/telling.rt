@@ -10,8 +10,7 @@ use std::alloc::{AllocError, Global};
 
 /// A file by its path and its word.
 fn write_path(out: &mut TextWriter, path: &str, word: FileWord) {
-    out.write_shown(path.as_bytes());
-    write!(out, " ({})", word.name());
+    out.fill("{} ({})", &[path.as_bytes().into(), word.name().into()]);
 }
 
 /// A file that the words name.
@@ -22,7 +21,7 @@ fn write_name(out: &mut TextWriter, request: &Request, word: FileWord) {
 /// A file, and why it failed.
 fn write_fault(out: &mut TextWriter, request: &Request, word: FileWord, reason: &str) {
     write_name(out, request, word);
-    write!(out, ": {reason}\n");
+    out.fill(": {}\n", &[reason.into()]);
 }
 
 fn write_file_fault(out: &mut TextWriter, path: &str, word: FileWord, fault: FileFault) {
@@ -33,13 +32,13 @@ fn write_file_fault(out: &mut TextWriter, path: &str, word: FileWord, fault: Fil
         FileFault::NoMemory => return,
     };
     write_path(out, path, word);
-    write!(out, ": {begin}{reason}\n");
+    out.fill(": {}{}\n", &[begin.into(), reason.into()]);
 }
 
 /// The system's reason for a fault, if it's known, and the line's end.
 fn write_reason(out: &mut TextWriter, reason: Option<Reason>) {
     match reason {
-        Some(reason) => write!(out, ": {}\n", reason.text()),
+        Some(reason) => out.fill(": {}\n", &[reason.text().into()]),
         None => out.write_char('\n'),
     }
 }
