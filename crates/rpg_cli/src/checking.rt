@@ -19,7 +19,7 @@ fn check_source<R: Files + Input + AllocGlobal, L: Listener>(
 ) -> Result<(), Answer> {
     let source = named(FileWord::Source, source_bytes(rt, path))?;
     match faultless_cards(rt.alloc(), &source) {
-        Ok(_) => judge_warnings(rt.alloc(), path, &source, words, listener),
+        Ok(cards) => judge_warnings(rt.alloc(), path, &source, &cards, words, listener),
         Err(fault) => {
             tell_faults(rt.alloc(), path, &source, words.most, listener);
             Err(fault.into())

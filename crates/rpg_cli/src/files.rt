@@ -1,7 +1,7 @@
 //! The commands that read one file, and the object that one of them writes.
 
 use rpg_cli_answers::{Answer, Listener, NamedFile, Stop, named, refuse_same_file};
-use rpg_cli_files::{file_bytes, write_bytes};
+use rpg_cli_files::{CompiledObject, file_bytes, write_bytes};
 use rpg_cli_run::{
     OwnSource, compiled, judge_warnings, own_source, source_bytes, system_path, tell_faults,
     tell_object, verified,
@@ -17,14 +17,25 @@ fn write_object<R: Files + AllocGlobal, L: Listener>(
     rt: &R,
     words: &CompileWords,
     source: &[u8],
-    object: &[u8],
+    object: &CompiledObject,
     listener: &mut L,
 ) -> Result<(), Stop> {
-    judge_warnings(rt.alloc(), words.source, source, words.warnings, listener)?;
+    let cards = &object.cards;
+    judge_warnings(
+        rt.alloc(),
+        words.source,
+        source,
+        cards,
+        words.warnings,
+        listener,
+    )?;
     let source = NamedFile::at(rt, FileWord::Source, system_path(words.source));
     let written = NamedFile::at(rt, FileWord::Object, words.object);
     refuse_same_file(written, &[source])?;
-    Ok(named(FileWord::Object, write_bytes(rt, words.object, object))?)
+    Ok(named(
+        FileWord::Object,
+        write_bytes(rt, words.object, &object.bytes),
+    )?)
 }
 
 /// Compiles a source to an object file.

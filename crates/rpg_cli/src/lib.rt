@@ -17,7 +17,7 @@ mod told;
 pub use program::{main_with, run};
 pub use rpg_cli_answers::{Answer, Line, Listener, line};
 pub use rpg_cli_explain::all_pages;
-pub use rpg_cli_files::{FileFault, Reason, SourceCode, SourceFault, compile_to_bytes};
+pub use rpg_cli_files::{FileFault, Reason, SourceCode, SourceFault, compile_to_object};
 pub use rpg_cli_words::FileWord;
 pub use rpg_engine::{
     BrokenRule, Code, Halt, Job, JobEnd, ObjectFault, Report, RunFault, execute, run_records,

@@ -3,22 +3,36 @@
 ghost use Rattle.std.specs.Prelude.{◌≡◌, ◌<◌, None, IfErr, IfOk};
 ghost use Rattle.rpg_cli_files.specs.Spelling.{CompilesTo};
 ghost use Rattle.rpg_object.specs.Program.{first_fault};
-ghost use Rattle.rpg_faults.specs.Source.{IsSourceRefusal};
+ghost use Rattle.rpg_faults.specs.Source.{AreFaultless, IsSourceRefusal};
 
-use rpg_compile::{SourceFault, compile};
+use rpg_cards::SpecCard;
+use rpg_compile::{Compiled, SourceFault, compile_with_cards};
 use rpg_object::encode;
 use rpg_object::laws::a_spelling_is_read_again;
 use std::alloc::Global;
 
-/// The bytes of the object program that the source is compiled to.
-pub fn compile_to_bytes(alloc: Global, text: &[u8], allowance: u16) -> Result<Vec<u8>, SourceFault>
+/// The bytes of an object program, with the cards of the source that it is compiled from.
+#[derive(Drop)]
+pub struct CompiledObject {
+    pub cards: Vec<SpecCard>,
+    pub bytes: Vec<u8>,
+}
+
+/// The object program that the source is compiled to.
+pub fn compile_to_object(
+    alloc: Global,
+    text: &[u8],
+    allowance: u16,
+) -> Result<CompiledObject, SourceFault>
     requires { 0 < allowance }
     // The program keeps all rules, and what is read in the bytes is that very program.
-    ensures ok { IfOk result (λ bytes. CompilesTo text.now allowance bytes.items) }
+    ensures ok { IfOk result (λ object. CompilesTo text.now allowance object.bytes.items) }
+    ensures cards { IfOk result (λ object. AreFaultless text.now object.cards.items) }
     ensures refused { IfErr result (λ fault. IsSourceRefusal fault text.now) }
-    ensures faultless { IfOk result (λ bytes. first_fault bytes.items ≡ None) }
+    ensures faultless { IfOk result (λ object. first_fault object.bytes.items ≡ None) }
 {
     a_spelling_is_read_again();
-    let program = compile(alloc, text, allowance)?;
-    Ok(encode(alloc, &program)?)
+    let Compiled { cards, program } = compile_with_cards(alloc, text, allowance)?;
+    let bytes = encode(alloc, &program)?;
+    Ok(CompiledObject { cards, bytes })
 }

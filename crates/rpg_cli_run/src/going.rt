@@ -4,7 +4,7 @@ use crate::jobs::run_own;
 use crate::reading::source_bytes;
 use crate::refusing::tell_wanted;
 use crate::sources::{OwnSource, tell_faults};
-use crate::warned::judge_warnings;
+use crate::warned::deny_warnings;
 use rpg_cli_answers::{Answer, Listener, Stop, named};
 use rpg_cli_words::{FileWord, GoWords};
 use rpg_engine::Report;
@@ -20,7 +20,7 @@ fn deny_warned<L: Listener>(
     listener: &mut L,
 ) -> Result<(), Answer> {
     if words.warnings.denies {
-        judge_warnings(alloc, words.run.object, text, words.warnings, listener)
+        deny_warnings(alloc, words.run.object, text, words.warnings, listener)
     } else {
         Ok(())
     }

@@ -3,6 +3,7 @@
 ghost use Rattle.std.specs.Prelude.{IfErr, OnOk};
 ghost use Rattle.rpg_cli_run.specs.Warned.{IsDenied, PassesWarnings};
 
+use rpg_cards::SpecCard;
 use rpg_cli_answers::{Answer, Listener};
 use rpg_cli_warnings::{Warning, wanted_warnings, warning_messages};
 use rpg_cli_words::WarningWords;
@@ -29,18 +30,6 @@ fn judged(words: WarningWords, warnings: &[Warning]) -> Result<(), Answer>
     }
 }
 
-/// The warnings of a source without a fault that the words don't allow.
-fn warnings_of(
-    alloc: Global,
-    source: &[u8],
-    words: WarningWords,
-) -> Result<Vec<Warning>, AllocError> {
-    match faultless_cards(alloc, source) {
-        Ok(cards) => wanted_warnings(alloc, &cards, words.allowed),
-        Err(_) => Ok(Vec::new(alloc)),
-    }
-}
-
 /// Reports warnings. If there is no memory for them, nothing is printed.
 fn tell_warnings<L: Listener>(
     alloc: Global,
@@ -55,22 +44,37 @@ fn tell_warnings<L: Listener>(
     }
 }
 
-/// Reports the warnings of a source without a fault, and rejects it if it has one and the words deny it.
+/// Reports the warnings of a source without a fault, which has these cards, and rejects it if it has one and the words deny it.
 ///
 /// If there is no memory to look for them, the source is rejected only if the words deny warnings.
 pub fn judge_warnings<L: Listener>(
     alloc: Global,
     path: &str,
     source: &[u8],
+    cards: &[SpecCard],
     words: WarningWords,
     listener: &mut L,
 ) -> Result<(), Answer> {
-    match warnings_of(alloc, source, words) {
+    match wanted_warnings(alloc, cards, words.allowed) {
         Ok(warnings) => {
             tell_warnings(alloc, path, source, words, &warnings, listener);
             judged(words, &warnings)
         }
         Err(_) if words.denies => Err(Answer::NoMemory),
+        Err(_) => Ok(()),
+    }
+}
+
+/// The same for a source whose cards are still to be read. One with a fault has no warnings.
+pub(crate) fn deny_warnings<L: Listener>(
+    alloc: Global,
+    path: &str,
+    source: &[u8],
+    words: WarningWords,
+    listener: &mut L,
+) -> Result<(), Answer> {
+    match faultless_cards(alloc, source) {
+        Ok(cards) => judge_warnings(alloc, path, source, &cards, words, listener),
         Err(_) => Ok(()),
     }
 }
