@@ -8,7 +8,7 @@ use rpg_cli_answers::{Answer, Listener};
 use rpg_cli_warnings::{Warning, wanted_warnings, warning_messages};
 use rpg_cli_words::WarningWords;
 use rpg_faults::faultless_cards;
-use std::alloc::{AllocError, Global};
+use std::alloc::Global;
 
 /// Rejects a source that has these warnings, if the words deny them, by the first.
 fn judged(words: WarningWords, warnings: &[Warning]) -> Result<(), Answer>
