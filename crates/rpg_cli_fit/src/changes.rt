@@ -2,7 +2,7 @@
 
 use crate::sentence::{write_card, write_sentence};
 use rpg_cli_messages::{CardLines, write_picture};
-use rpg_cli_text::TextWriter;
+use rpg_cli_text::{Piece, TextWriter};
 use rpg_fit::{Card, Fitted, FittedDeck, Note, Refusal, Rule, Told, What};
 use std::alloc::{AllocError, Global};
 
@@ -33,7 +33,7 @@ pub fn change_messages(
 
 /// The code of a rule: `A6: `.
 fn write_rule(out: &mut TextWriter, rule: Rule) {
-    write!(out, "A{}: ", rule.number());
+    out.fill("A{}: ", &[Piece::from(rule.number())]);
 }
 
 /// Writes the changes of a card, and answers whether there are some.
@@ -64,31 +64,36 @@ fn is_changed(old: &Card, new: &Card, column: usize) -> bool {
     old.column(column) != new.column(column)
 }
 
+/// Whether some column of a card was changed.
+fn is_any_changed(old: &Card, new: &Card) -> bool {
+    for column in 1..=COLUMNS {
+        if is_changed(old, new, column) {
+            return true;
+        }
+    }
+    false
+}
+
 /// Writes marks under the columns of a card that are changed.
 fn write_marks(out: &mut TextWriter, fitted: &Fitted, card: usize, line: &[u8]) {
     let Some(new) = fitted.replacement(card) else {
         return;
     };
     let old = Card::of(line);
-    if !(1..=COLUMNS).any(|column| is_changed(&old, &new, column)) {
-        return;
+    if is_any_changed(&old, &new) {
+        out.write_str("      | ");
+        for column in 1..=COLUMNS {
+            let is_marked = is_changed(&old, &new, column);
+            out.write_char(if is_marked { '^' } else { ' ' });
+        }
+        out.end_line();
     }
-    out.write_str("      | ");
-    for column in 1..=COLUMNS {
-        let mark = if is_changed(&old, &new, column) {
-            '^'
-        } else {
-            ' '
-        };
-        out.write_char(mark);
-    }
-    out.end_line();
 }
 
 fn write_notes(out: &mut TextWriter, path: &str, source: &[u8], notes: &[Note]) {
     for note in notes {
         write_card(out, path, note.card);
-        write!(out, "note: {}\n", note.text);
+        out.fill("note: {}\n", &[Piece::Word(note.text)]);
         write_source_card(out, source, note.card);
     }
 }
@@ -121,6 +126,6 @@ pub fn refusal_message(
 pub fn too_many_message(alloc: Global, path: &str) -> Result<String, AllocError> {
     let mut out = TextWriter::new(alloc);
     out.write_shown(path.as_bytes());
-    out.write_str(": the new deck would have more than 2,000 cards\n");
+    out.write_str(": S6: the new deck would have more than 2,000 cards\n");
     out.finish()
 }
