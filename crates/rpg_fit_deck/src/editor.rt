@@ -8,12 +8,12 @@ ghost use Rattle.rpg_fit_deck.specs.Stopping.{IsOf, IsSource, StaysStopped, Stop
 use crate::card::Card;
 use crate::fitted::Fitted;
 use crate::here::Here;
-use crate::marks::{begins_data, ends_source};
+use crate::marks::ends_source;
 use crate::render::{RenderError, cards_that_are_not_told_are_kept, lines_of, render};
 use crate::sentence::{Refusal, Rule, Sentence, Told, What};
 use crate::slot::{Made, Slot, insert_made, set_made};
 use crate::stopped::Stopped;
-use crate::view::{Address, Seen, View};
+use crate::view::{Address, View};
 use std::alloc::{AllocError, Global};
 
 /// A deck while it is rewritten. It stops if memory runs out or a rule rejects the deck, and there is no new deck then.
@@ -170,18 +170,22 @@ impl<'a> Editor<'a> {
     /// Memory is refused.
     pub fn view(&self, alloc: Global) -> Result<View, AllocError> {
         let mut view = View::new(alloc, self.lines.len());
+        self.show(&mut view)?;
+        Ok(view)
+    }
+
+    /// Appends the cards as they are now, up to the one that ends the source.
+    fn show(&self, view: &mut View) -> Result<(), AllocError> {
         for (place, line) in self.lines.iter().enumerate() {
             if let Some(slot) = self.slots.get(place) {
                 if ends_source(line) {
-                    view.push_made(place, slot.before.as_slice())?;
                     view.end_at(place);
-                    return Ok(view);
+                    return view.push_made(place, slot.before.as_slice());
                 }
-                view.push_slot(place, line, slot, begins_data(line))?;
+                view.push_slot(place, line, slot)?;
             }
         }
-        view.push_made(self.lines.len(), self.end.as_slice())?;
-        Ok(view)
+        view.push_made(self.lines.len(), self.end.as_slice())
     }
 
     /// The deck as it was rewritten, and the new deck: `source`, from which the editor was made, as it is if no sentence names a card. Otherwise

@@ -64,6 +64,6 @@ impl Fitted {
                 before -= 1;
             }
         }
-        self.end.get(before).map(|made| made.from)
+        Some(self.end.get(before)?.from)
     }
 }

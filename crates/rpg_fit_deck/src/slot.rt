@@ -47,10 +47,13 @@ impl Slot {
 
     /// How many changes of the card have a sentence.
     pub fn changes(&self) -> usize {
-        self.told
-            .iter()
-            .filter(|told| matches!(told.what, What::Change(_)))
-            .count()
+        let mut changes: usize = 0;
+        for told in &self.told {
+            if matches!(told.what, What::Change(_)) {
+                changes = changes.saturating_add(1);
+            }
+        }
+        changes
     }
 
     /// Whether nothing stands in the card's place.
@@ -60,7 +63,12 @@ impl Slot {
 
     /// Whether a rule has a sentence about the card.
     fn is_told_by(&self, rule: Rule) -> bool {
-        self.told.iter().any(|told| told.rule == rule)
+        for told in &self.told {
+            if told.rule == rule {
+                return true;
+            }
+        }
+        false
     }
 
     /// Notes that the card is part of another one's change, unless the rule has a sentence about it.

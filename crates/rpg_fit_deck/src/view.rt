@@ -102,14 +102,13 @@ impl View {
         place: usize,
         line: &[u8],
         slot: &Slot,
-        begins_data: bool,
     ) -> Result<(), AllocError> {
         self.push_made(place, slot.before.as_slice())?;
         let at = Address {
             slot: place,
             made: 0,
         };
-        if begins_data {
+        if begins_data(line) {
             self.begin_data(at);
         }
         let (card, width) = match slot.here {
