@@ -4,7 +4,8 @@
 //! refused column on; without one anything does. Cards: `/` any, `H`, `F`, `E`, `T` record types, `I` input fields, `C`, `O` lines, `A` AND
 //! and OR cards of lines, `D` output fields, `?` another form type. Of two features that fit, the first is printed.
 
-const FEATURES: &str =
+/// The features, a line for each sentence and for each place.
+pub(crate) const FEATURES: &str =
     "/TITLE isn't read: put * in column 7, and the card is a comment (rpg2 fit rewrites it: A1)
  / 07-07 /TITLE
 /EJECT isn't read: put * in column 7, and the card is a comment (rpg2 fit rewrites it: A1)
@@ -192,8 +193,3 @@ end positions count from the start of the line, without a sign: a number that en
 packed and binary fields aren't written: blank column 44, and the field is put out as digits
  D 44-44 P
  D 44-44 B";
-
-/// The features, a line for each sentence and for each place.
-pub(crate) fn features() -> &'static str {
-    FEATURES
-}

@@ -2,7 +2,7 @@
 
 use crate::card::CardKind;
 use crate::pattern::{character_at, columns_at};
-use crate::sheets::{ranges_of, sentence_of};
+use crate::sheets::{sentence_of, sheet_of};
 use rpg_sheet::ColumnFault;
 
 /// A range of columns of a card, what it is called, and what may stand there.
@@ -60,7 +60,8 @@ fn is_sought(row: &str, sought: Sought) -> bool {
 
 /// The range of a card that is sought.
 pub(crate) fn range_of(kind: CardKind, sought: Sought) -> Option<Range> {
-    for row in ranges_of(kind).lines() {
+    let (_, ranges) = sheet_of(kind);
+    for row in ranges.lines() {
         if is_sought(row, sought) {
             return Some(range_in(row));
         }

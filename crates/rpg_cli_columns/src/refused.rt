@@ -17,9 +17,8 @@ const CAPITALS: &str = ", and letters are capitals";
 /// Writes what is wrong with column 6: a directive, a card of a sheet that isn't read, a card beside its columns, or a comment.
 pub fn write_form_type(out: &mut TextWriter, line: &[u8]) {
     let form = character_at(line, 6);
-    out.write_str("column 6 has \"");
-    out.write_shown(&[form]);
-    out.write_str("\": ");
+    let found = [form];
+    out.fill("column 6 has \"{}\": ", &[found.as_slice().into()]);
     if let Some(feature) = feature_at(line, FORM_TYPE) {
         out.write_shown(feature.sentence);
         return;
@@ -75,31 +74,30 @@ fn write_columns_found(
     range: Option<Range>,
 ) {
     match range {
-        Some(range) => {
-            out.write_str(range.name);
-            out.write_str(" (");
-            write_column_numbers(out, columns);
-            out.write_char(')');
-        }
-        None => {
-            out.write_str("column ");
-            write_column_numbers(out, columns);
-        }
+        Some(range) => out.fill("{} (", &[range.name.into()]),
+        None => out.write_str("column "),
     }
-    out.write_str(" has \"");
+    write_column_numbers(out, columns);
+    out.write_str(if range.is_some() {
+        ") has \""
+    } else {
+        " has \""
+    });
     write_columns(out, line, columns.column.into(), columns.last.into());
     out.write_str("\": ");
+}
+
+fn write_column_numbers(out: &mut TextWriter, columns: ColumnFault) {
+    let ColumnFault { column, last } = columns;
+    let sentence = if column < last { "{}-{}" } else { "{}" };
+    out.fill(sentence, &[column.into(), last.into()]);
 }
 
 /// Whether a small letter stands in columns, all of which are on the line.
 fn has_small_letter(line: &[u8], columns: ColumnFault) -> bool {
     let first = usize::from(columns.column.saturating_sub(1));
-    for byte in line.get(first..usize::from(columns.last)).unwrap_or(&[]) {
-        if byte.is_ascii_lowercase() {
-            return true;
-        }
-    }
-    false
+    let text = line.get(first..usize::from(columns.last)).unwrap_or(&[]);
+    text.iter().any(|byte| byte.is_ascii_lowercase())
 }
 
 /// What may stand there.
@@ -110,14 +108,6 @@ fn write_wanted(out: &mut TextWriter, line: &[u8], columns: ColumnFault, range: 
     }
     if has_small_letter(line, columns) {
         out.write_str(CAPITALS);
-    }
-}
-
-fn write_column_numbers(out: &mut TextWriter, columns: ColumnFault) {
-    let ColumnFault { column, last } = columns;
-    write!(out, "{column}");
-    if column < last {
-        write!(out, "-{last}");
     }
 }
 
@@ -134,25 +124,15 @@ fn is_full(line: &[u8], first: u8, last: u8) -> bool {
 /// Writes that a name right before these columns, which goes on in them, may be too long for its own.
 fn write_overlong(out: &mut TextWriter, line: &[u8], columns: ColumnFault) {
     let before = range_of(CardKind::of(line), Sought::NameBefore(columns.column));
-    let Some(
-        Range {
-            columns: own,
-            name,
-            ..
-        },
-    ) = before
-    else {
+    let Some(range) = before else {
         return;
     };
-    let ColumnFault {
-        column: first,
-        last,
-    } = own;
-    if is_full(line, first, columns.column) {
-        let length = columns.column.saturating_sub(first);
-        write!(
-            out,
-            "; or {name} ({first}-{last}) is longer than its {length} columns"
+    let ColumnFault { column, last } = range.columns;
+    if is_full(line, column, columns.column) {
+        let length = columns.column.saturating_sub(column);
+        out.fill(
+            "; or {} ({}-{}) is longer than its {} columns",
+            &[range.name.into(), column.into(), last.into(), length.into()],
         );
     }
 }

@@ -92,20 +92,21 @@ const OUTPUT_FIELD: &str = "23-25 C the first condition
 40-43 # the end position
 45-70 : the constant or edit word: a text between apostrophes from the first column on, or blank";
 
-/// The ranges of a card, a line each.
-pub(crate) fn ranges_of(kind: CardKind) -> &'static str {
+/// The letter of a kind of card in the table of features, and the ranges of its columns, a line each.
+pub(crate) fn sheet_of(kind: CardKind) -> (u8, &'static str) {
     match kind {
-        CardKind::Header | CardKind::Unknown => "",
-        CardKind::File => FILE,
-        CardKind::Extension => EXTENSION,
-        CardKind::ExtensionAlone => EXTENSION_ALONE,
-        CardKind::RecordType => RECORD_TYPE,
-        CardKind::RecordCodes => RECORD_CODES,
-        CardKind::InputField => INPUT_FIELD,
-        CardKind::Calculation => CALCULATION,
-        CardKind::Line => LINE,
-        CardKind::LineConditions => LINE_CONDITIONS,
-        CardKind::OutputField => OUTPUT_FIELD,
+        CardKind::Header => (b'H', ""),
+        CardKind::File => (b'F', FILE),
+        CardKind::Extension => (b'E', EXTENSION),
+        CardKind::ExtensionAlone => (b'E', EXTENSION_ALONE),
+        CardKind::RecordType => (b'T', RECORD_TYPE),
+        CardKind::RecordCodes => (b'T', RECORD_CODES),
+        CardKind::InputField => (b'I', INPUT_FIELD),
+        CardKind::Calculation => (b'C', CALCULATION),
+        CardKind::Line => (b'O', LINE),
+        CardKind::LineConditions => (b'A', LINE_CONDITIONS),
+        CardKind::OutputField => (b'D', OUTPUT_FIELD),
+        CardKind::Unknown => (b'?', ""),
     }
 }
 

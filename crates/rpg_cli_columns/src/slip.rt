@@ -25,11 +25,11 @@ struct Run {
     last: usize,
 }
 
-/// How a text is moved.
+/// How far a text is moved to the right, or to the left.
 #[derive(Clone, Copy)]
 struct Move {
-    is_right: bool,
-    by: usize,
+    right: usize,
+    left: usize,
 }
 
 impl Run {
@@ -40,31 +40,30 @@ impl Run {
 
 impl Move {
     fn right(by: usize) -> Self {
-        Move { is_right: true, by }
+        Move { right: by, left: 0 }
     }
 
     fn left(by: usize) -> Self {
-        Move {
-            is_right: false,
-            by,
-        }
+        Move { right: 0, left: by }
     }
 
     /// Where a column comes to.
     fn applied_to(self, column: usize) -> usize {
-        if self.is_right {
-            column.saturating_add(self.by)
-        } else {
-            column.saturating_sub(self.by)
-        }
+        column.saturating_add(self.right).saturating_sub(self.left)
     }
 
     /// Which column comes to this one.
     fn source_of(self, column: usize) -> usize {
-        if self.is_right {
-            column.saturating_sub(self.by)
-        } else {
-            column.saturating_add(self.by)
+        column.saturating_add(self.left).saturating_sub(self.right)
+    }
+
+    /// How far a text is moved, and which way.
+    fn words(self) -> &'static str {
+        match (self.right, self.left) {
+            (1, _) => "one column to the right",
+            (_, 1) => "one column to the left",
+            (_, 0) => "two columns to the right",
+            _ => "two columns to the left",
         }
     }
 }
@@ -93,29 +92,27 @@ fn moved_at(line: &[u8], run: Run, by: Move, column: usize) -> u8 {
     }
 }
 
-/// A card with a text moved.
-fn moved(line: &[u8], run: Run, by: Move) -> [u8; 80] {
-    let mut card = [b' '; 80];
-    for (place, byte) in card.iter_mut().enumerate() {
-        *byte = moved_at(line, run, by, place.saturating_add(1));
-    }
-    card
-}
-
-/// Whether a card can be read as one of the sheet that its column 6 names.
-fn is_readable(card: &[u8; 80]) -> bool {
-    if !has_only_characters(card) {
+/// Whether a card can be read, as one of the sheet that its column 6 names, once a text is moved.
+fn helps(line: &[u8], run: Run, by: Move) -> bool {
+    if !has_room(line, run, by) {
         return false;
     }
-    let card = Card::new(card);
+    let mut moved = [b' '; 80];
+    for (place, byte) in moved.iter_mut().enumerate() {
+        *byte = moved_at(line, run, by, place.saturating_add(1));
+    }
+    is_readable(&moved)
+}
+
+fn is_readable(line: &[u8; 80]) -> bool {
+    if !has_only_characters(line) {
+        return false;
+    }
+    let card = Card::new(line);
     match card.form_type() {
         Some(sheet) => !card.is_skipped() && card.read(sheet).is_ok(),
         None => false,
     }
-}
-
-fn helps(line: &[u8], run: Run, by: Move) -> bool {
-    has_room(line, run, by) && is_readable(&moved(line, run, by))
 }
 
 /// Whether a column is in a range of its card.
@@ -123,25 +120,12 @@ fn is_in_range(line: &[u8], column: usize) -> bool {
     range_of(CardKind::of(line), Sought::Around(column)).is_some()
 }
 
-/// Whether moving a text helps, and brings it to columns that have values of their own: in free ones anything can be read.
-fn helps_word(line: &[u8], run: Run, by: Move) -> bool {
+/// Whether moving a text helps, and brings it to columns that have values of their own: in free ones anything can be read. Of all that stands on
+/// a card only the first text has to.
+fn helps_run(line: &[u8], run: Run, by: Move, is_card: bool) -> bool {
     is_in_range(line, by.applied_to(run.first))
-        && is_in_range(line, by.applied_to(run.last))
+        && (is_card || is_in_range(line, by.applied_to(run.last)))
         && helps(line, run, by)
-}
-
-/// The same of all that stands on a card, of which the first text has columns of its own.
-fn helps_card(line: &[u8], run: Run, by: Move) -> bool {
-    is_in_range(line, by.applied_to(run.first)) && helps(line, run, by)
-}
-
-/// The one of the two moves by so many columns that helps.
-fn only_move(by: usize, right_helps: bool, left_helps: bool) -> Option<Move> {
-    match (right_helps, left_helps) {
-        (true, false) => Some(Move::right(by)),
-        (false, true) => Some(Move::left(by)),
-        (true, true) | (false, false) => None,
-    }
 }
 
 /// The text without a blank that a column is part of.
@@ -188,51 +172,28 @@ fn rest_from(line: &[u8], first: usize) -> Run {
     Run { first, last }
 }
 
-/// How far a text is moved, and which way.
-fn write_move(out: &mut TextWriter, by: Move) {
-    out.write_str(match by {
-        Move {
-            is_right: true,
-            by: 1,
-        } => "one column to the right",
-        Move {
-            is_right: false,
-            by: 1,
-        } => "one column to the left",
-        Move { is_right: true, .. } => "two columns to the right",
-        Move { .. } => "two columns to the left",
-    });
-}
-
-/// Writes how moving a text makes the card readable, if there is one way.
-fn write_word_slip(out: &mut TextWriter, line: &[u8], run: Run, by: usize) -> bool {
-    let right_helps = helps_word(line, run, Move::right(by));
-    let left_helps = helps_word(line, run, Move::left(by));
-    let Some(only) = only_move(by, right_helps, left_helps) else {
+/// Writes how moving a text, or all that stands on the card, makes the card readable, if there is one way.
+fn write_run_slip(out: &mut TextWriter, line: &[u8], run: Run, by: usize, is_card: bool) -> bool {
+    let right = helps_run(line, run, Move::right(by), is_card);
+    let left = helps_run(line, run, Move::left(by), is_card);
+    if right == left {
         return false;
+    }
+    let only = if right {
+        Move::right(by)
+    } else {
+        Move::left(by)
     };
-    out.write_str("; \"");
-    write_columns(out, line, run.first, run.last);
-    out.write_str("\" moved ");
-    write_move(out, only);
-    out.write_str(" can be read");
-    true
-}
-
-/// Writes how moving all that stands on the card makes it readable, if there is one way.
-fn write_card_slip(out: &mut TextWriter, line: &[u8], by: usize) -> bool {
-    let Some(first) = first_filled(line) else {
-        return false;
-    };
-    let run = rest_from(line, first);
-    let right_helps = helps_card(line, run, Move::right(by));
-    let left_helps = helps_card(line, run, Move::left(by));
-    let Some(only) = only_move(by, right_helps, left_helps) else {
-        return false;
-    };
-    out.write_str("; moved ");
-    write_move(out, only);
-    out.write_str(" the whole card can be read");
+    if is_card {
+        out.fill(
+            "; moved {} the whole card can be read",
+            &[only.words().into()],
+        );
+    } else {
+        out.write_str("; \"");
+        write_columns(out, line, run.first, run.last);
+        out.fill("\" moved {} can be read", &[only.words().into()]);
+    }
     true
 }
 
@@ -247,7 +208,7 @@ fn write_words_slip(out: &mut TextWriter, line: &[u8], refused: ColumnFault, by:
     let first = usize::from(refused.column);
     for column in first..=usize::from(refused.last) {
         if begins_word(line, first, column)
-            && write_word_slip(out, line, word_at(line, column), by)
+            && write_run_slip(out, line, word_at(line, column), by, false)
         {
             return true;
         }
@@ -259,8 +220,13 @@ fn write_words_slip(out: &mut TextWriter, line: &[u8], refused: ColumnFault, by:
 /// or where both ways do.
 pub(crate) fn write_slip(out: &mut TextWriter, line: &[u8], refused: ColumnFault, most: usize) {
     for by in 1..=most {
-        if write_words_slip(out, line, refused, by) || write_card_slip(out, line, by) {
+        if write_words_slip(out, line, refused, by) {
             return;
+        }
+        if let Some(first) = first_filled(line) {
+            if write_run_slip(out, line, rest_from(line, first), by, true) {
+                return;
+            }
         }
     }
 }
@@ -272,11 +238,11 @@ fn write_form_type_from(out: &mut TextWriter, line: &[u8], by: Move) -> bool {
     if is_in_word || !helps(line, rest_from(line, column), by) {
         return false;
     }
-    out.write_str("; ");
-    write_columns(out, line, column, column);
-    write!(out, " stands in column {column}: moved ");
-    write_move(out, by);
-    out.write_str(" the card can be read");
+    let form = char::from(character_at(line, column));
+    out.fill(
+        "; {} stands in column {}: moved {} the card can be read",
+        &[form.into(), column.into(), by.words().into()],
+    );
     true
 }
 

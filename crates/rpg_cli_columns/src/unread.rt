@@ -1,8 +1,9 @@
 //! What RPG II has on its sheets and this profile doesn't read.
 
 use crate::card::CardKind;
-use crate::features::features;
+use crate::features::FEATURES;
 use crate::pattern::{character_at, columns_at, is_at};
+use crate::sheets::sheet_of;
 use rpg_sheet::ColumnFault;
 
 /// The directives for a listing stand from here on, whatever column 6 has.
@@ -18,22 +19,6 @@ pub(crate) struct Unread {
     pub is_any: bool,
 }
 
-/// The letter of a kind of card.
-fn letter_of(kind: CardKind) -> u8 {
-    match kind {
-        CardKind::Header => b'H',
-        CardKind::File => b'F',
-        CardKind::Extension | CardKind::ExtensionAlone => b'E',
-        CardKind::RecordType | CardKind::RecordCodes => b'T',
-        CardKind::InputField => b'I',
-        CardKind::Calculation => b'C',
-        CardKind::Line => b'O',
-        CardKind::LineConditions => b'A',
-        CardKind::OutputField => b'D',
-        CardKind::Unknown => b'?',
-    }
-}
-
 /// Whether refused columns of a card are those of a place, and hold its pattern.
 fn fits(place: &[u8], letter: u8, line: &[u8], columns: ColumnFault) -> bool {
     let ColumnFault { column, last } = columns_at(place, 4);
@@ -47,7 +32,7 @@ fn fits(place: &[u8], letter: u8, line: &[u8], columns: ColumnFault) -> bool {
 /// The first feature that stands in columns of a card with this letter.
 fn first_at(letter: u8, line: &[u8], columns: ColumnFault) -> Option<Unread> {
     let mut sentence: &'static [u8] = &[];
-    for row in features().lines() {
+    for row in FEATURES.lines() {
         let row = row.as_bytes();
         if character_at(row, 1) != b' ' {
             sentence = row;
@@ -63,8 +48,9 @@ fn first_at(letter: u8, line: &[u8], columns: ColumnFault) -> Option<Unread> {
 
 /// What of RPG II stands in columns that were refused, and the way round; none where they hold no feature that is known here.
 pub(crate) fn feature_at(line: &[u8], columns: ColumnFault) -> Option<Unread> {
+    let (letter, _) = sheet_of(CardKind::of(line));
     match first_at(b'/', line, DIRECTIVE) {
         Some(directive) => Some(directive),
-        None => first_at(letter_of(CardKind::of(line)), line, columns),
+        None => first_at(letter, line, columns),
     }
 }
