@@ -1,7 +1,7 @@
 //! The cards of a source, each with its faults below it.
 
+use crate::chart::write_ruler;
 use crate::deck::Deck;
-use crate::words::write_ruler;
 use rpg_cards::IndexedCards;
 use rpg_cli_messages::{write_first, write_note};
 use rpg_cli_text::TextWriter;

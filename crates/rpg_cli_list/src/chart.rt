@@ -1,9 +1,7 @@
 //! A line or a record as it is drawn below a ruler.
 
-use crate::words::write_ruler;
 use rpg_cli_text::TextWriter;
 use rpg_text::trimmed;
-use std::alloc::{AllocError, Global};
 
 /// The most places that are drawn: a printed line has no more.
 pub(crate) const MOST_DRAWN: u16 = 132;
@@ -11,10 +9,20 @@ pub(crate) const MOST_DRAWN: u16 = 132;
 /// How many blanks stand before the first place.
 const MARGIN: &str = "          ";
 
+/// A ruler: a figure at each tenth place, a plus at each fifth.
+const RULER: &str =
+    "....+....1....+....2....+....3....+....4....+....5....+....6....+....7....+....8....+....9....+....0....+....1....+....2....+....3..";
+
+/// Writes a ruler over so many places, at most 132.
+pub(crate) fn write_ruler(out: &mut TextWriter, places: usize) {
+    out.write_str(RULER.get(..places).unwrap_or(RULER));
+}
+
 /// The places of a line, or the columns of a record.
-#[derive(Drop)]
+#[derive(Clone, Copy)]
 pub(crate) struct Chart {
-    places: Vec<u8>,
+    places: [u8; 132],
+    length: usize,
 }
 
 /// The places that a text takes which ends at one of them, the first being 1: none where it would begin before.
@@ -24,11 +32,11 @@ pub(crate) fn first_place(width: usize, end: u16) -> Option<usize> {
 
 impl Chart {
     /// So many places, and what stands where nothing is drawn.
-    pub fn new(alloc: Global, length: u16, empty: u8) -> Result<Self, AllocError> {
-        let places = usize::from(length.min(MOST_DRAWN));
-        Ok(Chart {
-            places: vec![in alloc; empty; places]?,
-        })
+    pub fn new(length: u16, empty: u8) -> Self {
+        Chart {
+            places: [empty; 132],
+            length: usize::from(length.min(MOST_DRAWN)),
+        }
     }
 
     /// Draws one character over the places from a first one to a last.
@@ -50,9 +58,9 @@ impl Chart {
 
     pub fn write(&self, out: &mut TextWriter) {
         out.write_str(MARGIN);
-        write_ruler(out, self.places.len());
+        write_ruler(out, self.length);
         out.write_char('\n');
-        let text = trimmed(&self.places);
+        let text = trimmed(self.places.get(..self.length).unwrap_or(&[]));
         if !text.is_empty() {
             out.write_str(MARGIN);
             out.write_shown(text);

@@ -1,9 +1,8 @@
 //! The files of a source.
 
-use indexmap::IndexMap;
-use rpg_cards::{FileUse, SpecCard, use_of};
-use rpg_cli_list_names::{Numbers, name_text};
-use rpg_cli_show_fields::Indicator;
+use rpg_cards::{FileUse, IndexedCards, SpecCard, use_of};
+use rpg_cli_list_names::{By, Mentions, overflow_of};
+use rpg_cli_show_fields::{name_text, write_named};
 use rpg_cli_text::TextWriter;
 use rpg_sheet_specs::{FileSpec, Word};
 use std::alloc::{AllocError, Global};
@@ -11,96 +10,30 @@ use std::alloc::{AllocError, Global};
 /// How many columns stand before the further cards that name a file.
 const NAMED: usize = 23;
 
-/// What the first F card of a file says of it.
-#[derive(Clone, Copy)]
-pub(crate) struct DescribedFile {
-    pub card: u16,
-    pub serves_as: FileUse,
-    pub record_length: u16,
-    pub overflow: Option<u8>,
-}
-
-/// The files by their names.
-#[derive(Drop)]
-pub(crate) struct FileIndex {
-    files: IndexMap<Word<8>, DescribedFile>,
-}
-
-fn overflow_of(file: &FileSpec) -> Option<u8> {
-    Some(file.overflow?.number())
-}
-
-fn described(card: u16, file: &FileSpec) -> DescribedFile {
-    DescribedFile {
-        card,
-        serves_as: use_of(file),
-        record_length: file.record_length,
-        overflow: overflow_of(file),
-    }
-}
-
-fn use_word(serves_as: FileUse) -> &'static str {
-    match serves_as {
-        FileUse::Primary => "input",
-        FileUse::Secondary => "secondary",
-        FileUse::Printer => "printer",
-        FileUse::Disk => "disk",
-    }
-}
-
 /// What a record of a file is made of.
-pub(crate) fn length_words(serves_as: FileUse) -> &'static str {
-    match serves_as {
+pub(crate) fn length_words(file: &FileSpec) -> &'static str {
+    match use_of(file) {
         FileUse::Primary | FileUse::Secondary | FileUse::Disk => "columns",
         FileUse::Printer => "places",
     }
 }
 
-impl FileIndex {
-    pub fn of(alloc: Global, cards: &[SpecCard]) -> Result<Self, AllocError> {
-        let mut files = FileIndex {
-            files: IndexMap::new(alloc),
-        };
-        for card in cards {
-            if let Some(file) = card.file() {
-                files.note(card.number, file)?;
-            }
-        }
-        Ok(files)
+/// What rows of the listing are, the file where a card names it, and the length of its records with the word for what it counts.
+pub(crate) fn write_heading(
+    out: &mut TextWriter,
+    rows: &str,
+    name: Option<&Word<8>>,
+    file: Option<&FileSpec>,
+    counted: &str,
+) {
+    out.fill("\n{}", &[rows.into()]);
+    if let Some(name) = name {
+        out.fill(" OF {}", &[name_text(name.as_slice()).into()]);
     }
-
-    fn note(&mut self, card: u16, file: &FileSpec) -> Result<(), AllocError> {
-        let name = Word::new(file.name.as_slice());
-        if self.files.contains_key(&name) {
-            return Ok(());
-        }
-        self.files.insert(name, described(card, file))?;
-        Ok(())
+    if let Some(file) = file {
+        out.fill(", {} {}", &[file.record_length.into(), counted.into()]);
     }
-
-    /// The entry of a file, by its name.
-    pub fn named(&self, name: &Word<8>) -> Option<DescribedFile> {
-        self.files.get(name).copied()
-    }
-
-    /// Writes a row for each file, with the cards of record types and lines that name it.
-    pub fn write(
-        &self,
-        alloc: Global,
-        out: &mut TextWriter,
-        cards: &[SpecCard],
-    ) -> Result<(), AllocError> {
-        if self.files.is_empty() {
-            return Ok(());
-        }
-        out.write_str("\nFILES\n");
-        for (name, file) in &self.files {
-            write_file(out, name_text(name.as_slice()), *file);
-            cards_with(alloc, cards, name)?.write_lines(out, NAMED);
-            out.write_char('\n');
-        }
-        Ok(())
-    }
+    out.write_char('\n');
 }
 
 /// The file that a record type or a line names.
@@ -113,28 +46,68 @@ fn named_on(card: &SpecCard) -> Option<&Word<8>> {
 }
 
 /// The cards of record types and lines that name a file.
-fn cards_with(alloc: Global, cards: &[SpecCard], name: &Word<8>) -> Result<Numbers, AllocError> {
-    let mut numbers = Numbers::new(alloc);
+fn cards_with(alloc: Global, cards: &[SpecCard], name: &Word<8>) -> Result<Mentions, AllocError> {
+    let mut mentions = Mentions::new(alloc);
     for card in cards {
         match named_on(card) {
-            Some(named) if named == name => numbers.note(card.number)?,
+            Some(named) if named == name => mentions.note(By::Using, card.number)?,
             _ => {}
         }
     }
-    Ok(numbers)
+    Ok(mentions)
 }
 
-fn write_file(out: &mut TextWriter, name: &str, file: DescribedFile) {
-    let serves = use_word(file.serves_as);
-    let words = length_words(file.serves_as);
+fn write_file(out: &mut TextWriter, card: u16, file: &FileSpec) {
+    let serves = match use_of(file) {
+        FileUse::Primary => "input",
+        FileUse::Secondary => "secondary",
+        FileUse::Printer => "printer",
+        FileUse::Disk => "disk",
+    };
+    let name = name_text(file.name.as_slice());
+    let words = length_words(file);
     out.fill("  {:<8}  {:<9}  ", &[name.into(), serves.into()]);
     out.fill(
         "{:>4} {}  card {}",
-        &[file.record_length.into(), words.into(), file.card.into()],
+        &[file.record_length.into(), words.into(), card.into()],
     );
-    if let Some(number) = file.overflow {
-        let name = Indicator(number).name();
-        out.fill(", turns on {} where a page is full", &[name.into()]);
-    }
+    write_named(out, ", turns on {} where a page is full", overflow_of(file));
     out.write_str(", named on ");
+}
+
+/// Whether a file is described on one of these cards.
+fn is_among(cards: &[SpecCard], name: &Word<8>) -> bool {
+    for card in cards {
+        match card.file() {
+            Some(file) if file.name == *name => return true,
+            _ => {}
+        }
+    }
+    false
+}
+
+/// Writes a row for each file, by the first card that describes it, with the cards of record types and lines that name it.
+pub(crate) fn write_files(
+    alloc: Global,
+    out: &mut TextWriter,
+    source: &IndexedCards,
+) -> Result<(), AllocError> {
+    let cards = source.as_slice();
+    let mut is_first = true;
+    for (place, card) in cards.iter().enumerate() {
+        let before = cards.get(..place).unwrap_or(&[]);
+        match card.file() {
+            Some(file) if !is_among(before, &file.name) => {
+                if is_first {
+                    out.write_str("\nFILES\n");
+                }
+                is_first = false;
+                write_file(out, card.number, file);
+                cards_with(alloc, cards, &file.name)?.write_lines(out, By::Using, NAMED);
+                out.write_char('\n');
+            }
+            _ => {}
+        }
+    }
+    Ok(())
 }

@@ -1,7 +1,6 @@
 //! A source as a person reads it: `rpg2 list`.
 #![tactic(auto)]
 
-mod blocks;
 mod cards;
 mod chart;
 mod deck;
@@ -11,6 +10,5 @@ mod listing;
 mod picture;
 mod records;
 mod tables;
-mod words;
 
 pub use listing::source_listing;

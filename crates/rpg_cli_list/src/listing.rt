@@ -1,42 +1,37 @@
 //! The listing of a source.
 
 use crate::cards::write_cards;
-use crate::deck::Deck;
-use crate::files::FileIndex;
+use crate::deck::{Deck, is_unread};
+use crate::files::write_files;
 use crate::lines::write_lines;
 use crate::records::write_records;
 use crate::tables::write_tables;
-use crate::words::counted;
-use rpg_cards::{IndexedCards, SpecCard};
-use rpg_cli_list_names::{Constants, Indicators, Labels, Names};
+use rpg_cards::IndexedCards;
+use rpg_cli_list_names::{Indicators, Labels, Names, write_constants};
 use rpg_cli_text::TextWriter;
-use rpg_faults::CardFault;
+use rpg_deck::Tree;
+use rpg_faults::{CardFault, source_faults};
 use std::alloc::{AllocError, Global};
 
 const UNREAD: &str =
     "{} card{} that can't be read\nthe tables are of the others; other checks run once all can be read\n";
 
-/// How many cards there are, and how many faults.
-fn write_head(out: &mut TextWriter, path: &str, deck: &Deck, faults: usize) {
-    let cards = deck.lines.len();
-    let sentence = match (deck.unread.is_empty(), faults) {
-        (false, _) => UNREAD,
-        (true, 0) => "no fault\n",
-        (true, _) => "{} fault{}\n",
-    };
-    out.write_shown(path.as_bytes());
-    out.fill(": {} card{}, ", &[cards.into(), counted(cards).into()]);
-    out.fill(sentence, &[faults.into(), counted(faults).into()]);
+/// The ending of a word, of which there are so many.
+fn counted(count: usize) -> &'static str {
+    if count == 1 { "" } else { "s" }
 }
 
-fn write_constants(
-    alloc: Global,
-    out: &mut TextWriter,
-    cards: &[SpecCard],
-    fields: u16,
-) -> Result<(), AllocError> {
-    Constants::of(alloc, cards)?.write(out, fields);
-    Ok(())
+/// How many cards there are, and how many faults.
+fn write_head(out: &mut TextWriter, path: &str, cards: usize, faults: &[CardFault]) {
+    let sentence = match faults.first() {
+        None => "no fault\n",
+        Some(fault) if is_unread(fault) => UNREAD,
+        Some(_) => "{} fault{}\n",
+    };
+    let count = faults.len();
+    out.write_shown(path.as_bytes());
+    out.fill(": {} card{}, ", &[cards.into(), counted(cards).into()]);
+    out.fill(sentence, &[count.into(), counted(count).into()]);
 }
 
 /// Writes the fields: names, and constants after them.
@@ -45,23 +40,9 @@ fn write_fields(
     out: &mut TextWriter,
     source: &IndexedCards,
 ) -> Result<(), AllocError> {
-    let names = Names::of(alloc, source.as_slice())?;
-    names.write(out, source);
+    let mut names = Names::of(alloc, source.as_slice())?;
+    names.write(out, source)?;
     write_constants(alloc, out, source.as_slice(), names.count())
-}
-
-fn write_labels(alloc: Global, out: &mut TextWriter, cards: &[SpecCard]) -> Result<(), AllocError> {
-    Labels::of(alloc, cards)?.write(out);
-    Ok(())
-}
-
-fn write_indicators(
-    alloc: Global,
-    out: &mut TextWriter,
-    cards: &[SpecCard],
-) -> Result<(), AllocError> {
-    Indicators::of(alloc, cards)?.write(out);
-    Ok(())
 }
 
 /// Writes what the cards describe and name; the data of tables begin on these cards.
@@ -72,14 +53,16 @@ fn write_contents(
     beginnings: &[u16],
 ) -> Result<(), AllocError> {
     let cards = source.as_slice();
-    let files = FileIndex::of(alloc, cards)?;
-    files.write(alloc, out, cards)?;
+    let sheets = rpg_deck::Deck::new(alloc, cards)?;
+    let tree = Tree::of(alloc, &sheets)?;
+    write_files(alloc, out, source)?;
     write_tables(out, cards, beginnings);
-    write_records(alloc, out, &files, cards)?;
+    write_records(out, source, &tree.types.groups);
     write_fields(alloc, out, source)?;
-    write_labels(alloc, out, cards)?;
-    write_indicators(alloc, out, cards)?;
-    write_lines(alloc, out, &files, source)
+    Labels::of(alloc, cards)?.write(out);
+    Indicators::of(alloc, cards)?.write(out);
+    write_lines(out, source, &tree.lines.groups);
+    Ok(())
 }
 
 fn deck_text(
@@ -90,7 +73,7 @@ fn deck_text(
 ) -> Result<String, AllocError> {
     let source = IndexedCards::new(alloc, &deck.cards)?;
     let mut out = TextWriter::new(alloc);
-    write_head(&mut out, path, deck, faults.len());
+    write_head(&mut out, path, deck.lines.len(), faults);
     write_cards(&mut out, deck, &source, faults);
     write_contents(alloc, &mut out, &source, &deck.beginnings)?;
     out.finish()
@@ -100,7 +83,9 @@ fn deck_text(
 /// fields; names, constants, labels and indicators with the cards that have them; and its lines as they are printed. Of cards that can't be read the
 /// listing has the faults alone, and `path` is how the source is called.
 pub fn source_listing(alloc: Global, path: &str, source: &[u8]) -> Result<String, AllocError> {
-    let deck = Deck::read(alloc, source)?;
-    let faults = deck.faults(alloc, source)?;
+    let Ok(faults) = source_faults(alloc, source) else {
+        return Err(AllocError);
+    };
+    let deck = Deck::read(alloc, source, &faults)?;
     deck_text(alloc, path, &deck, &faults)
 }

@@ -6,70 +6,70 @@ use rpg_edit::edit_at_end;
 use rpg_edit_widths::{EditWord, How, width};
 use rpg_effect::form::{FieldForm, Kind};
 use rpg_faults_operands::fill_in;
-use rpg_sheet_specs::{OutputField, TextLiteral};
-use std::alloc::{AllocError, Global};
+use rpg_sheet_specs::OutputField;
+
+/// The most characters that a field prints.
+const MOST: usize = 256;
 
 /// The number of nines alone that has most of them, below zero so that its sign shows.
 const NINES: i128 = -999_999_999_999_999;
 
+/// What a field prints, at the end of these characters.
+#[derive(Clone, Copy)]
+pub(crate) struct Picture {
+    characters: [u8; 256],
+    first: usize,
+}
+
+impl Picture {
+    pub fn text(&self) -> &[u8] {
+        self.characters.get(self.first..).unwrap_or(&[])
+    }
+
+    fn of(text: &[u8]) -> Self {
+        let mut characters = [b' '; 256];
+        let first = MOST.saturating_sub(text.len());
+        for (place, character) in characters.iter_mut().skip(first).zip(text) {
+            *place = *character;
+        }
+        Picture { characters, first }
+    }
+}
+
 /// What an output field prints: a constant's characters, an X for each character of a text, and a number whose digits are nines as it is
 /// edited, below zero where it is. Nothing where the name has no form, or the field isn't edited by what stands there.
-pub(crate) fn picture(
-    alloc: Global,
-    source: &IndexedCards,
-    field: &OutputField,
-) -> Result<Option<Vec<u8>>, AllocError> {
-    let Some(entry) = &field.operand else {
-        return constant_picture(alloc, &field.text);
-    };
-    match source.form_of_name(&entry.name) {
-        Defined::Good(form) => field_picture(alloc, form, field),
-        Defined::Missing | Defined::Bad => Ok(None),
-    }
-}
-
-fn constant_picture(
-    alloc: Global,
-    text: &Option<TextLiteral<24>>,
-) -> Result<Option<Vec<u8>>, AllocError> {
-    match text {
-        Some(text) => Ok(Some(Vec::from_slice(alloc, text.as_slice())?)),
-        None => Ok(None),
-    }
-}
-
-fn field_picture(
-    alloc: Global,
-    form: FieldForm,
-    field: &OutputField,
-) -> Result<Option<Vec<u8>>, AllocError> {
-    let length = form.length;
-    match form.kind {
-        Kind::Text => Ok(Some(vec![in alloc; b'X'; usize::from(length)]?)),
-        Kind::Number => match u8::try_from(length) {
-            Ok(length) => number_picture(alloc, length, form.decimals, field),
-            Err(_) => Ok(None),
+pub(crate) fn picture(source: &IndexedCards, field: &OutputField) -> Option<Picture> {
+    match &field.operand {
+        None => Some(Picture::of(field.text.as_ref()?.as_slice())),
+        Some(entry) => match source.form_of_name(&entry.name) {
+            Defined::Good(form) => field_picture(form, field),
+            Defined::Missing | Defined::Bad => None,
         },
     }
 }
 
-fn number_picture(
-    alloc: Global,
-    length: u8,
-    decimals: u8,
-    field: &OutputField,
-) -> Result<Option<Vec<u8>>, AllocError> {
-    if length < 1 || length > 15 || decimals > length {
-        return Ok(None);
+fn field_picture(form: FieldForm, field: &OutputField) -> Option<Picture> {
+    match form.kind {
+        Kind::Text => Some(Picture {
+            characters: [b'X'; 256],
+            first: MOST.saturating_sub(usize::from(form.length)),
+        }),
+        Kind::Number => number_picture(u8::try_from(form.length).ok()?, form.decimals, field),
     }
-    let Some(how) = how_of(field, length) else {
-        return Ok(None);
-    };
-    let places = width(length, decimals, &how);
-    let mut text = vec![in alloc; b' '; places]?;
+}
+
+fn number_picture(length: u8, decimals: u8, field: &OutputField) -> Option<Picture> {
+    if length < 1 || length > 15 || decimals > length {
+        return None;
+    }
+    let how = how_of(field, length)?;
+    if width(length, decimals, &how) > MOST {
+        return None;
+    }
+    let mut characters = [b' '; 256];
     let nines = fit(sign_of(&how), length);
-    edit_at_end(nines, length, decimals, &how, text.as_mut_slice());
-    Ok(Some(text))
+    let first = edit_at_end(nines, length, decimals, &how, &mut characters);
+    Some(Picture { characters, first })
 }
 
 /// A number without a code or a word shows no sign of its own, so it isn't below zero.

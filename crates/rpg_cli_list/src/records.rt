@@ -1,28 +1,36 @@
 //! Record types with their codes and fields.
 
-use crate::blocks::{cards_of_type, write_heading};
 use crate::chart::{Chart, MOST_DRAWN};
-use crate::files::{DescribedFile, FileIndex};
+use crate::files::write_heading;
 use crate::tables::write_decimals;
-use rpg_cards::{SpecCard, number_of};
-use rpg_cli_list_names::name_text;
-use rpg_cli_show_fields::{Indicator, write_quoted, write_shown};
+use rpg_cards::{IndexedCards, number_of, shows_of};
+use rpg_cli_show_fields::{name_text, write_named, write_quoted, write_shows};
 use rpg_cli_text::TextWriter;
-use rpg_sheet_specs::{InputField, InputSpec, RecordCode, RecordType, Three};
-use std::alloc::{AllocError, Global};
+use rpg_deck::{Card, Group};
+use rpg_sheet_specs::{FileSpec, InputField, InputSpec, RecordCode, RecordType, Three};
 
 /// Which type it is, and what it turns on.
 fn write_head(out: &mut TextWriter, card: u16, record_type: &RecordType) {
     let sequence = name_text(record_type.sequence.as_slice());
     out.fill("  type {}, card {}", &[sequence.into(), card.into()]);
-    if let Some(number) = number_of(record_type.indicator) {
-        out.fill(", turns on {}", &[Indicator(number).name().into()]);
-    }
+    write_named(out, ", turns on {}", number_of(record_type.indicator));
     out.write_char('\n');
 }
 
-fn has_codes(codes: &Three<Option<RecordCode>>) -> bool {
-    codes.first.is_some() || codes.second.is_some() || codes.third.is_some()
+/// Writes the codes of a card, and returns how many there are.
+fn write_codes(out: &mut TextWriter, card: u16, codes: &Three<Option<RecordCode>>) -> u64 {
+    for code in [codes.first, codes.second, codes.third] {
+        if let Some(code) = code {
+            let is = if code.negated { "isn't" } else { "is" };
+            out.fill(
+                "  {:>6}  column {} {} ",
+                &[card.into(), code.position.into(), is.into()],
+            );
+            write_quoted(out, &[code.character.number()]);
+            out.write_char('\n');
+        }
+    }
+    codes.filled()
 }
 
 /// Which records are of the type: the codes on its card and on AND cards.
@@ -30,37 +38,17 @@ fn write_all_codes(
     out: &mut TextWriter,
     card: u16,
     codes: &Three<Option<RecordCode>>,
-    behind: &[SpecCard],
+    followers: &[Card<&InputSpec>],
 ) {
-    write_codes(out, card, codes);
-    let mut is_any = !has_codes(codes);
-    for card in behind {
-        if let Some(InputSpec::And(codes)) = card.input() {
+    let mut is_any = write_codes(out, card, codes) == 0;
+    for card in followers {
+        if let InputSpec::And(codes) = card.spec {
             write_codes(out, card.number, codes);
             is_any = false;
         }
     }
     if is_any {
         out.write_str("          every record\n");
-    }
-}
-
-fn write_codes(out: &mut TextWriter, card: u16, codes: &Three<Option<RecordCode>>) {
-    write_code(out, card, codes.first);
-    write_code(out, card, codes.second);
-    write_code(out, card, codes.third);
-}
-
-fn write_code(out: &mut TextWriter, card: u16, code: Option<RecordCode>) {
-    if let Some(code) = code {
-        let sentence = if code.negated {
-            "  {:>6}  column {} isn't "
-        } else {
-            "  {:>6}  column {} is "
-        };
-        out.fill(sentence, &[card.into(), code.position.into()]);
-        write_quoted(out, &[code.character.number()]);
-        out.write_char('\n');
     }
 }
 
@@ -72,7 +60,11 @@ fn write_field(out: &mut TextWriter, card: u16, field: &InputField) {
         "  {:>6}  {:>4}-{:<4}  {:<6}  ",
         &[card.into(), from.into(), to.into(), name.into()],
     );
-    write_length(out, from, to);
+    if from > to {
+        out.write_str("     -");
+    } else {
+        out.fill("{:>6}", &[(usize::from(to - from) + 1).into()]);
+    }
     out.write_str("  ");
     write_decimals(out, field.decimals);
     if let Some(level) = field.level {
@@ -81,107 +73,67 @@ fn write_field(out: &mut TextWriter, card: u16, field: &InputField) {
     if let Some(level) = field.match_level {
         out.fill("  M{}", &[level.number().into()]);
     }
-    write_shown(out, "plus", number_of(field.indicators.first));
-    write_shown(out, "minus", number_of(field.indicators.second));
-    write_shown(out, "zero or blank", number_of(field.indicators.third));
+    write_shows(
+        out,
+        ["  plus {}", "  minus {}", "  zero or blank {}"],
+        shows_of(field.indicators),
+    );
     out.end_line();
 }
 
-/// How many columns lie from the first to the last: a dash where these are turned round.
-fn write_length(out: &mut TextWriter, from: u16, to: u16) {
-    if from > to {
-        out.write_str("     -");
-    } else {
-        let length = usize::from(to - from) + 1;
-        out.fill("{:>6}", &[length.into()]);
-    }
-}
-
-/// The character that stands for those of a field.
-fn letter_of(field: &InputField) -> u8 {
-    if field.decimals.is_some() { b'9' } else { b'X' }
-}
-
 /// Draws the record: an X for each character of a text, a 9 for each digit, a point in no field.
-fn write_layout(
-    alloc: Global,
-    out: &mut TextWriter,
-    length: u16,
-    behind: &[SpecCard],
-) -> Result<(), AllocError> {
-    let mut chart = Chart::new(alloc, length, b'.')?;
-    for card in behind {
-        if let Some(field) = card.input_field() {
-            chart.fill(field.from, field.to, letter_of(field));
+fn write_layout(out: &mut TextWriter, length: u16, followers: &[Card<&InputSpec>]) {
+    let mut chart = Chart::new(length, b'.');
+    for card in followers {
+        if let InputSpec::Field(field) = card.spec {
+            let letter = if field.decimals.is_some() { b'9' } else { b'X' };
+            chart.fill(field.from, field.to, letter);
         }
     }
     chart.write(out);
-    Ok(())
 }
 
-fn write_fields(out: &mut TextWriter, behind: &[SpecCard]) {
-    out.write_str("    card  columns    field   length  decimals\n");
-    for card in behind {
-        if let Some(field) = card.input_field() {
-            write_field(out, card.number, field);
-        }
-    }
-}
-
-fn has_fields(behind: &[SpecCard]) -> bool {
-    for card in behind {
-        if card.input_field().is_some() {
-            return true;
-        }
-    }
-    false
-}
-
-/// Writes a type with its fields.
-fn write_type(
-    alloc: Global,
-    out: &mut TextWriter,
-    file: Option<DescribedFile>,
-    card: u16,
-    record_type: &RecordType,
-    behind: &[SpecCard],
-) -> Result<(), AllocError> {
-    write_head(out, card, record_type);
-    write_all_codes(out, card, &record_type.codes, behind);
-    if has_fields(behind) {
-        match file {
-            Some(file) if file.record_length <= MOST_DRAWN => {
-                write_layout(alloc, out, file.record_length, behind)?;
+/// Writes the fields of a type below a heading, if it has some.
+fn write_fields(out: &mut TextWriter, file: Option<&FileSpec>, followers: &[Card<&InputSpec>]) {
+    let mut is_first = true;
+    for card in followers {
+        let InputSpec::Field(field) = card.spec else {
+            continue;
+        };
+        if is_first {
+            match file {
+                Some(file) if file.record_length <= MOST_DRAWN => {
+                    write_layout(out, file.record_length, followers);
+                }
+                _ => {}
             }
-            _ => {}
+            out.write_str("    card  columns    field   length  decimals\n");
         }
-        write_fields(out, behind);
+        is_first = false;
+        write_field(out, card.number, field);
     }
-    Ok(())
 }
 
 /// Writes the record types with their fields.
 pub(crate) fn write_records(
-    alloc: Global,
     out: &mut TextWriter,
-    files: &FileIndex,
-    cards: &[SpecCard],
-) -> Result<(), AllocError> {
+    source: &IndexedCards,
+    types: &[Group<InputSpec>],
+) {
     let mut file = None;
-    let mut is_first = true;
-    for (place, card) in cards.iter().enumerate() {
-        let Some(record_type) = card.record_type() else {
+    for (place, group) in types.iter().enumerate() {
+        let card = group.first.number;
+        let InputSpec::Type(record_type) = group.first.spec else {
             continue;
         };
         if let Some(name) = &record_type.file {
-            file = files.named(name);
+            file = source.file_named(name);
         }
-        if is_first || record_type.file.is_some() {
+        if place == 0 || record_type.file.is_some() {
             write_heading(out, "RECORDS", record_type.file.as_ref(), file, "columns");
         }
-        is_first = false;
-        let behind = cards_of_type(cards.get(place.saturating_add(1)..).unwrap_or(&[]));
-        write_type(alloc, out, file, card.number, record_type, behind)?;
+        write_head(out, card, record_type);
+        write_all_codes(out, card, &record_type.codes, group.followers);
+        write_fields(out, file, group.followers);
     }
-    Ok(())
 }

@@ -1,10 +1,14 @@
 //! Tables and arrays.
 
 use rpg_cards::{SpecCard, is_table};
-use rpg_cli_list_names::name_text;
+use rpg_cli_show_fields::name_text;
 use rpg_cli_text::TextWriter;
 use rpg_sheet_specs::{ExtensionSpec, TableSpec};
 
+const HEADING: &str =
+    "\nTABLES AND ARRAYS\n  card  name    is     entries  length  decimals  sequence   data\n";
+
+/// Writes a table or an array of an E card, whose data come after a card.
 fn write_table(
     out: &mut TextWriter,
     card: u16,
@@ -13,17 +17,24 @@ fn write_table(
     beginning: Option<u16>,
 ) {
     let name = name_text(table.name.as_slice());
-    let row = if is_table(&table.name) {
-        "table  {:>7}  {:>6}  "
+    let is = if is_table(&table.name) {
+        "table"
     } else {
-        "array  {:>7}  {:>6}  "
+        "array"
     };
-    out.fill("  {:>4}  {:<6}  ", &[card.into(), name.into()]);
-    out.fill(row, &[extension.entries.into(), table.length.into()]);
+    out.fill("  {:>4}  {:<6}  {}", &[card.into(), name.into(), is.into()]);
+    out.fill(
+        "  {:>7}  {:>6}  ",
+        &[extension.entries.into(), table.length.into()],
+    );
     write_decimals(out, table.decimals);
     let order = if table.ascending { "ascending" } else { "" };
     out.fill("  {:<9}  ", &[order.into()]);
-    write_data(out, extension);
+    match (extension.entries_per_card, &extension.alternating) {
+        (None, _) => out.write_str("no data"),
+        (Some(count), None) => out.fill("{} on a card", &[count.into()]),
+        (Some(count), Some(_)) => out.fill("{} pairs on a card", &[count.into()]),
+    }
     if let Some(beginning) = beginning {
         out.fill(", after card {}", &[beginning.into()]);
     }
@@ -38,48 +49,26 @@ pub(crate) fn write_decimals(out: &mut TextWriter, decimals: Option<u8>) {
     }
 }
 
-/// How the data stand on their cards.
-fn write_data(out: &mut TextWriter, extension: &ExtensionSpec) {
-    match (extension.entries_per_card, &extension.alternating) {
-        (None, _) => out.write_str("no data"),
-        (Some(count), None) => out.fill("{} on a card", &[count.into()]),
-        (Some(count), Some(_)) => out.fill("{} pairs on a card", &[count.into()]),
-    }
-}
-
-fn write_extension(
-    out: &mut TextWriter,
-    card: u16,
-    extension: &ExtensionSpec,
-    beginning: Option<u16>,
-) {
-    write_table(out, card, extension, &extension.table, beginning);
-    if let Some(table) = &extension.alternating {
-        write_table(out, card, extension, table, beginning);
-    }
-}
-
-/// The card after which the data of an E card come, if it has data; so many E cards before it have some.
-fn beginning_of(extension: &ExtensionSpec, beginnings: &[u16], before: usize) -> Option<u16> {
-    extension.entries_per_card?;
-    beginnings.get(before).copied()
-}
-
-/// Writes a row for each table and array of the E cards, whose data begin on these cards.
+/// Writes a row for each table and array of the E cards, whose data begin on these cards in the order of the E cards that have some.
 pub(crate) fn write_tables(out: &mut TextWriter, cards: &[SpecCard], beginnings: &[u16]) {
     let mut is_first = true;
     let mut with_data = 0usize;
     for card in cards {
-        if let Some(extension) = card.extension() {
-            if is_first {
-                out.write_str(
-                    "\nTABLES AND ARRAYS\n  card  name    is     entries  length  decimals  sequence   data\n",
-                );
-            }
-            is_first = false;
-            let beginning = beginning_of(extension, beginnings, with_data);
-            with_data = with_data.saturating_add(usize::from(beginning.is_some()));
-            write_extension(out, card.number, extension, beginning);
+        let Some(extension) = card.extension() else {
+            continue;
+        };
+        if is_first {
+            out.write_str(HEADING);
+        }
+        is_first = false;
+        let beginning = match extension.entries_per_card {
+            Some(_) => beginnings.get(with_data).copied(),
+            None => None,
+        };
+        with_data = with_data.saturating_add(usize::from(beginning.is_some()));
+        write_table(out, card.number, extension, &extension.table, beginning);
+        if let Some(table) = &extension.alternating {
+            write_table(out, card.number, extension, table, beginning);
         }
     }
 }

@@ -1,19 +1,12 @@
 //! The constants and edit words of a source.
 
-use crate::numbers::Numbers;
+use crate::mentions::{By, Mentions};
 use indexmap::IndexMap;
 use rpg_cards::{Constant, SpecCard};
 use rpg_cli_show_fields::{write_form, write_quoted, write_value};
 use rpg_cli_text::TextWriter;
 use rpg_effect::value::Value;
 use std::alloc::{AllocError, Global};
-
-/// The constants in the order of the cards, equal ones once.
-#[derive(Drop)]
-pub struct Constants {
-    alloc: Global,
-    constants: IndexMap<Constant, Numbers>,
-}
 
 /// How wide the column of forms is.
 const FORM: usize = 19;
@@ -24,54 +17,36 @@ const VALUE: usize = 26;
 /// How many columns stand before the cards of a constant.
 const CARDS: usize = 58;
 
-impl Constants {
-    pub fn of(alloc: Global, cards: &[SpecCard]) -> Result<Self, AllocError> {
-        let mut constants = Constants {
-            alloc,
-            constants: IndexMap::new(alloc),
-        };
-        for card in cards {
-            constants.note_card(card)?;
-        }
-        Ok(constants)
-    }
+const HEADING: &str =
+    "\nCONSTANTS AND EDIT WORDS\n  field  form                 value                       used on\n";
 
-    fn note_card(&mut self, card: &SpecCard) -> Result<(), AllocError> {
-        for constant in card.constants() {
-            self.note(card.number, constant)?;
-        }
-        Ok(())
+fn note_constants(
+    alloc: Global,
+    constants: &mut IndexMap<Constant, Mentions>,
+    card: &SpecCard,
+) -> Result<(), AllocError> {
+    for constant in card.constants() {
+        constants
+            .entry(constant)?
+            .or_insert(Mentions::new(alloc))
+            .note(By::Using, card.number)?;
     }
-
-    fn note(&mut self, card: u16, constant: Constant) -> Result<(), AllocError> {
-        if let Some(cards) = self.constants.get_mut(&constant) {
-            return cards.note(card);
-        }
-        let mut cards = Numbers::new(self.alloc);
-        cards.note(card)?;
-        self.constants.insert(constant, cards)?;
-        Ok(())
-    }
-
-    /// Writes a row for each constant; so many fields come before them.
-    pub fn write(&self, out: &mut TextWriter, fields: u16) {
-        if self.constants.is_empty() {
-            return;
-        }
-        out.write_str(
-            "\nCONSTANTS AND EDIT WORDS\n  field  form                 value                       used on\n",
-        );
-        let mut field = fields;
-        for (constant, cards) in &self.constants {
-            field = field.saturating_add(1);
-            write_constant(out, field, constant);
-            cards.write_lines(out, CARDS);
-            out.write_char('\n');
-        }
-    }
+    Ok(())
 }
 
-fn write_constant(out: &mut TextWriter, field: u16, constant: &Constant) {
+/// The constants in the order of the cards, equal ones once.
+fn constants_of(
+    alloc: Global,
+    cards: &[SpecCard],
+) -> Result<IndexMap<Constant, Mentions>, AllocError> {
+    let mut constants = IndexMap::new(alloc);
+    for card in cards {
+        note_constants(alloc, &mut constants, card)?;
+    }
+    Ok(constants)
+}
+
+fn write_constant(out: &mut TextWriter, field: usize, constant: &Constant) {
     out.fill("  #{:<4}  ", &[field.into()]);
     let end = out.len().saturating_add(FORM);
     write_form(out, constant.form());
@@ -86,4 +61,25 @@ fn write_constant(out: &mut TextWriter, field: u16, constant: &Constant) {
     }
     out.pad_to(end);
     out.write_str("  ");
+}
+
+/// Writes a row for each constant; so many fields come before them.
+pub fn write_constants(
+    alloc: Global,
+    out: &mut TextWriter,
+    cards: &[SpecCard],
+    fields: usize,
+) -> Result<(), AllocError> {
+    let constants = constants_of(alloc, cards)?;
+    let mut field = fields;
+    for (constant, cards) in &constants {
+        if field == fields {
+            out.write_str(HEADING);
+        }
+        field = field.saturating_add(1);
+        write_constant(out, field, constant);
+        cards.write_lines(out, By::Using, CARDS);
+        out.write_char('\n');
+    }
+    Ok(())
 }

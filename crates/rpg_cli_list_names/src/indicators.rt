@@ -1,12 +1,10 @@
 //! The indicators of a source: who turns them on and off, and who asks for them.
 
-use crate::turning::{By, Outcome, Turning, machine_words};
-use rpg_cards::{SpecCard, level};
+use crate::turning::{Turning, machine_words, results_of};
+use rpg_cards::{SpecCard, level, line_conditions_on, number_of};
 use rpg_cli_show_fields::Indicator;
-use rpg_cli_text::TextWriter;
-use rpg_sheet_specs::{
-    CalculationSpec, Condition, FileSpec, InputField, InputSpec, OutputSpec, Spec, Three,
-};
+use rpg_cli_text::{Piece, TextWriter};
+use rpg_sheet_specs::{CalculationSpec, Condition, FileSpec, InputField, InputSpec, Spec, Three};
 use std::alloc::{AllocError, Global};
 
 /// One more than the greatest number of an indicator.
@@ -23,6 +21,18 @@ const TURNED: usize = 40;
 
 /// How many cards that ask stand on a line.
 const ON_A_LINE: usize = 8;
+
+/// How an input field turns on its indicators.
+const SHOWN: [&str; 3] = [
+    "input field plus",
+    "input field minus",
+    "input field zero or blank",
+];
+
+/// The indicator that a full page of a file turns on.
+pub fn overflow_of(file: &FileSpec) -> Option<u8> {
+    Some(file.overflow?.number())
+}
 
 /// A card that asks for an indicator.
 #[derive(Clone, Copy, PartialEq, Eq)]
@@ -64,73 +74,84 @@ impl Indicators {
         Ok(indicators)
     }
 
-    fn turned(&mut self, number: u8, card: u16, by: By) -> Result<(), AllocError> {
+    /// Notes what turns an indicator on or off, if there is one.
+    fn turned(&mut self, indicator: Option<u8>, turning: Turning) -> Result<(), AllocError> {
+        let Some(number) = indicator else {
+            return Ok(());
+        };
         match self.uses.get_mut(usize::from(number)) {
-            Some(uses) => Ok(uses.turned.push(Turning { by, card })?),
+            Some(uses) => Ok(uses.turned.push(turning)?),
             None => Ok(()),
         }
     }
 
     fn asked(&mut self, number: u8, asking: Asking) -> Result<(), AllocError> {
-        let Some(uses) = self.uses.get_mut(usize::from(number)) else {
-            return Ok(());
-        };
-        if uses.asked.last().copied() == Some(asking) {
-            return Ok(());
+        if let Some(uses) = self.uses.get_mut(usize::from(number)) {
+            if uses.asked.last().copied() != Some(asking) {
+                uses.asked.push(asking)?;
+            }
         }
-        Ok(uses.asked.push(asking)?)
+        Ok(())
     }
 
     fn note_card(&mut self, card: &SpecCard) -> Result<(), AllocError> {
+        let number = card.number;
         match &card.spec {
-            Spec::File(file) => self.note_file(card.number, file),
-            Spec::Input(input) => self.note_input(card.number, input),
-            Spec::Calculation(calculation) => self.note_calculation(card.number, calculation),
-            Spec::Output(output) => self.note_output(card.number, output),
-            Spec::Header(_) | Spec::Extension(_) | Spec::Data(_) => Ok(()),
-        }
-    }
-
-    fn note_file(&mut self, card: u16, file: &FileSpec) -> Result<(), AllocError> {
-        match file.overflow {
-            Some(indicator) => self.turned(indicator.number(), card, By::FullPage),
-            None => Ok(()),
-        }
-    }
-
-    fn note_input(&mut self, card: u16, input: &InputSpec) -> Result<(), AllocError> {
-        match input {
-            InputSpec::Type(record_type) => {
-                self.note_turned(card, record_type.indicator, By::RecordType)
+            Spec::File(file) => {
+                self.turned(overflow_of(file), Turning::of("a full page", number))
             }
-            InputSpec::And(_) => Ok(()),
-            InputSpec::Field(field) => self.note_field(card, field),
+            Spec::Input(InputSpec::Type(record_type)) => {
+                let indicator = number_of(record_type.indicator);
+                self.turned(indicator, Turning::of("record type", number))
+            }
+            Spec::Input(InputSpec::Field(field)) => self.note_field(number, field),
+            Spec::Calculation(calculation) => self.note_calculation(number, calculation),
+            Spec::Output(output) => self.note_conditions(number, line_conditions_on(output)),
+            _ => Ok(()),
         }
     }
 
-    fn note_turned(
+    fn note_three(
         &mut self,
+        indicators: Three<Option<rpg_sheet_specs::Indicator>>,
+        sentences: [&'static str; 3],
+        piece: Piece<'static>,
         card: u16,
-        indicator: Option<rpg_sheet_specs::Indicator>,
-        by: By,
     ) -> Result<(), AllocError> {
-        match indicator {
-            Some(indicator) => self.turned(indicator.number(), card, by),
-            None => Ok(()),
+        let [first, second, third] = sentences;
+        for (indicator, sentence) in [
+            (indicators.first, first),
+            (indicators.second, second),
+            (indicators.third, third),
+        ] {
+            let turning = Turning {
+                sentence,
+                piece,
+                card,
+            };
+            self.turned(number_of(indicator), turning)?;
         }
+        Ok(())
     }
 
     fn note_field(&mut self, card: u16, field: &InputField) -> Result<(), AllocError> {
         if let Some(level) = field.level {
-            self.turned(level.number().saturating_add(100), card, By::ControlField)?;
+            let number = level.number().saturating_add(100);
+            self.turned(Some(number), Turning::of("control field", card))?;
         }
         if let Some(level) = field.match_level {
-            self.turned(MATCHING, card, By::MatchField(level.number()))?;
+            let sentence = "match field M{}";
+            let piece = Piece::from(level.number());
+            self.turned(
+                Some(MATCHING),
+                Turning {
+                    sentence,
+                    piece,
+                    card,
+                },
+            )?;
         }
-        let shown = field.indicators;
-        self.note_turned(card, shown.first, By::Field(Outcome::Plus))?;
-        self.note_turned(card, shown.second, By::Field(Outcome::Minus))?;
-        self.note_turned(card, shown.third, By::Field(Outcome::Zero))
+        self.note_three(field.indicators, SHOWN, Piece::Word(""), card)
     }
 
     fn note_calculation(
@@ -143,20 +164,8 @@ impl Indicators {
             self.asked(number, Asking { card, is_negated })?;
         }
         self.note_conditions(card, calculation.conditions)?;
-        let operation = calculation.operation;
-        let shown = calculation.resulting_indicators;
-        self.note_turned(card, shown.first, By::Result(operation, Outcome::Plus))?;
-        self.note_turned(card, shown.second, By::Result(operation, Outcome::Minus))?;
-        self.note_turned(card, shown.third, By::Result(operation, Outcome::Zero))
-    }
-
-    fn note_output(&mut self, card: u16, output: &OutputSpec) -> Result<(), AllocError> {
-        let conditions = match output {
-            OutputSpec::Record(record) => record.conditions,
-            OutputSpec::And(conditions) | OutputSpec::Or(conditions) => *conditions,
-            OutputSpec::Field(field) => field.conditions,
-        };
-        self.note_conditions(card, conditions)
+        let (sentences, piece) = results_of(calculation.operation);
+        self.note_three(calculation.resulting_indicators, sentences, piece, card)
     }
 
     fn note_conditions(
@@ -164,33 +173,20 @@ impl Indicators {
         card: u16,
         conditions: Three<Option<Condition>>,
     ) -> Result<(), AllocError> {
-        self.note_condition(card, conditions.first)?;
-        self.note_condition(card, conditions.second)?;
-        self.note_condition(card, conditions.third)
-    }
-
-    fn note_condition(
-        &mut self,
-        card: u16,
-        condition: Option<Condition>,
-    ) -> Result<(), AllocError> {
-        match condition {
-            Some(Condition { negated, indicator }) => self.asked(
-                indicator.number(),
-                Asking {
-                    card,
-                    is_negated: negated,
-                },
-            ),
-            None => Ok(()),
+        for condition in [conditions.first, conditions.second, conditions.third] {
+            if let Some(condition) = condition {
+                let is_negated = condition.negated;
+                self.asked(condition.indicator.number(), Asking { card, is_negated })?;
+            }
         }
+        Ok(())
     }
 
     /// Writes rows for each indicator that a card names.
     pub fn write(&self, out: &mut TextWriter) {
         let mut is_first = true;
         for (number, uses) in self.uses.iter().enumerate() {
-            if uses.are_some() {
+            if !uses.turned.is_empty() || !uses.asked.is_empty() {
                 if is_first {
                     out.write_str(HEADING);
                 }
@@ -202,16 +198,11 @@ impl Indicators {
 }
 
 impl IndicatorUses {
-    fn are_some(&self) -> bool {
-        !self.turned.is_empty() || !self.asked.is_empty()
-    }
-
-    /// What stands below the cards that turn it on or off: the machine where it does, or that nothing does.
+    /// What stands on a line below the cards that turn it on or off: the machine where it does, or that nothing does.
     fn last_words(&self, number: usize) -> Option<&'static str> {
         match machine_words(number) {
-            Some(words) => Some(words),
             None if self.turned.is_empty() => Some("nothing"),
-            None => None,
+            words => words,
         }
     }
 
@@ -221,8 +212,8 @@ impl IndicatorUses {
             .turned
             .len()
             .saturating_add(usize::from(last.is_some()));
-        let lines = (self.asked.len().saturating_add(ON_A_LINE - 1) / ON_A_LINE).max(turned);
-        for line in 0..lines {
+        let asked = self.asked.len().saturating_add(ON_A_LINE - 1) / ON_A_LINE;
+        for line in 0..asked.max(turned) {
             write_name(out, number, line);
             let end = out.len().saturating_add(TURNED);
             match (self.turned.get(line), last) {

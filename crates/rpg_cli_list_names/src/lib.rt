@@ -4,14 +4,12 @@
 mod constants;
 mod indicators;
 mod labels;
+mod mentions;
 mod names;
-mod numbers;
-mod operations;
 mod turning;
 
-pub use constants::Constants;
-pub use indicators::Indicators;
+pub use constants::write_constants;
+pub use indicators::{Indicators, overflow_of};
 pub use labels::Labels;
+pub use mentions::{By, Mentions};
 pub use names::Names;
-pub use numbers::Numbers;
-pub use rpg_cli_show_fields::name_text;

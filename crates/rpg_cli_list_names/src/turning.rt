@@ -1,82 +1,62 @@
 //! What turns indicators on and off.
 
-use crate::operations::letters;
-use rpg_cli_text::TextWriter;
+use rpg_cli_text::{Piece, TextWriter};
 use rpg_sheet_specs::Operation;
+use rpg_sheet_values::operation;
+use rpg_text::trimmed;
 
-/// Which of three resulting indicators it is.
-#[derive(Clone, Copy)]
-pub(crate) enum Outcome {
-    Plus,
-    Minus,
-    Zero,
-}
-
-/// What turns an indicator on or off.
-#[derive(Clone, Copy)]
-pub(crate) enum By {
-    RecordType,
-    ControlField,
-    /// A match field of a level, for MR.
-    MatchField(u8),
-    FullPage,
-    /// An input field that is so.
-    Field(Outcome),
-    /// The result of an operation that is so; none where the card has no operation.
-    Result(Option<Operation>, Outcome),
-}
-
-/// What turns an indicator on or off, with its card.
+/// What turns an indicator on or off: a card, in a sentence with a word or a number.
 #[derive(Clone, Copy)]
 pub(crate) struct Turning {
-    pub by: By,
+    pub sentence: &'static str,
+    pub piece: Piece<'static>,
     pub card: u16,
 }
 
-fn outcome_word(outcome: Outcome) -> &'static str {
-    match outcome {
-        Outcome::Plus => "plus",
-        Outcome::Minus => "minus",
-        Outcome::Zero => "zero",
-    }
-}
-
-fn compared_word(outcome: Outcome) -> &'static str {
-    match outcome {
-        Outcome::Plus => "high",
-        Outcome::Minus => "low",
-        Outcome::Zero => "equal",
-    }
-}
-
-fn write_result(out: &mut TextWriter, operation: Operation, outcome: Outcome) {
-    let (sentence, word) = match operation {
-        Operation::SetOn => ("{}", ""),
-        Operation::SetOff => ("off by {}", ""),
-        Operation::Compare | Operation::LookUp => ("{} {}", compared_word(outcome)),
-        _ => ("{} {}", outcome_word(outcome)),
-    };
-    out.fill(sentence, &[letters(operation).into(), word.into()]);
-}
-
-fn write_by(out: &mut TextWriter, by: By) {
-    match by {
-        By::RecordType => out.write_str("record type"),
-        By::ControlField => out.write_str("control field"),
-        By::MatchField(level) => out.fill("match field M{}", &[level.into()]),
-        By::FullPage => out.write_str("a full page"),
-        By::Field(Outcome::Zero) => out.write_str("input field zero or blank"),
-        By::Field(outcome) => out.fill("input field {}", &[outcome_word(outcome).into()]),
-        By::Result(None, outcome) => out.write_str(outcome_word(outcome)),
-        By::Result(Some(operation), outcome) => write_result(out, operation, outcome),
-    }
-}
-
 impl Turning {
+    /// A card with a sentence that has no word in it.
+    pub fn of(sentence: &'static str, card: u16) -> Self {
+        Turning {
+            sentence,
+            piece: Piece::Word(""),
+            card,
+        }
+    }
+
     pub fn write(self, out: &mut TextWriter) {
-        write_by(out, self.by);
+        out.fill(self.sentence, &[self.piece]);
         out.fill(", card {}", &[self.card.into()]);
     }
+}
+
+/// How the operations are written in their columns, a line each.
+const LETTERS: &str =
+    "ADD  \nSUB  \nMULT \nDIV  \nMVR  \nZ-ADD\nZ-SUB\nXFOOT\nCOMP \nLOKUP\nMOVE \nMOVEL\nSETON\nSETOF\nGOTO \nEXSR \nTAG  \nBEGSR\nENDSR\nEXCPT";
+
+/// An operation as it is written on cards.
+fn letters(wanted: Operation) -> &'static [u8] {
+    for word in LETTERS.lines() {
+        if operation(word.as_bytes()) == Some(wanted) {
+            return trimmed(word.as_bytes());
+        }
+    }
+    &[]
+}
+
+/// How a calculation turns on or off each of its resulting indicators, with the operation; none where the card has no operation.
+pub(crate) fn results_of(wanted: Option<Operation>) -> ([&'static str; 3], Piece<'static>) {
+    let sentences = match wanted {
+        None => ["plus", "minus", "zero"],
+        Some(Operation::SetOn) => ["{}", "{}", "{}"],
+        Some(Operation::SetOff) => ["off by {}", "off by {}", "off by {}"],
+        Some(Operation::Compare | Operation::LookUp) => ["{} high", "{} low", "{} equal"],
+        Some(_) => ["{} plus", "{} minus", "{} zero"],
+    };
+    let word = match wanted {
+        None => Piece::Word(""),
+        Some(wanted) => Piece::Outside(letters(wanted)),
+    };
+    (sentences, word)
 }
 
 /// What turns on an indicator without a card.

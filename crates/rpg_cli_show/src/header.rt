@@ -1,48 +1,59 @@
-//! What a program reads and prints, and whether it may be run.
+//! What a program reads and prints, and how much of each table it has.
 
-use crate::refusal::{Table, write_if_broken};
-use rpg_cli_show_fields::{Indicator, Layout};
+use crate::shown::{Shown, Table};
+use rpg_cli_show_fields::write_named;
 use rpg_cli_text::TextWriter;
 use rpg_object_program::row::Rows;
-use rpg_verify::BrokenRule;
-
-pub(crate) const VERSION: &str = "object program, version {}, {} bytes\n";
 
 const TABLES: &str =
     "  tables   fields {}, record types {}, lines {}, subroutines {},\n           instructions {} at detail time, {} at total time\n";
 
 const ALLOWANCE: &str = "  spends   a cycle may take {} branches back and calls\n";
 
-fn write_input(out: &mut TextWriter, rows: &Rows) {
-    let length = rows.record_length;
-    out.fill("  input    records of {} columns", &[length.into()]);
-    let secondary = rows.secondary_length;
-    if secondary > 0 {
-        out.fill(", of the secondary file {}", &[secondary.into()]);
+/// Writes a sentence about a file whose records have so many columns or places, or what is said where there is no such file.
+pub(crate) fn write_length(out: &mut TextWriter, sentence: &str, length: u16, none: &str) {
+    if length > 0 {
+        out.fill(sentence, &[length.into()]);
+    } else {
+        out.write_str(none);
     }
+}
+
+/// Writes the version of a program, and how many bytes it takes.
+pub(crate) fn write_version(out: &mut TextWriter, rows: &Rows, bytes: usize) {
+    let version = rows.version.number();
+    out.fill(
+        "object program, version {}, {} bytes\n",
+        &[version.into(), bytes.into()],
+    );
+}
+
+/// Writes the header after the version.
+pub(crate) fn write_header(out: &mut TextWriter, shown: Shown<'_>) {
+    let rows = shown.rows;
+    write_length(
+        out,
+        "  input    records of {} columns",
+        rows.record_length,
+        "",
+    );
+    write_length(out, ", of the secondary file {}", rows.secondary_length, "");
     out.write_char('\n');
-}
-
-fn write_printer(out: &mut TextWriter, rows: &Rows) {
-    match rows.printer_length {
-        0 => out.write_str("  printer  none"),
-        length => out.fill("  printer  lines of {} places", &[length.into()]),
-    }
-    if let Some(number) = rows.overflow {
-        let name = Indicator(number).name();
-        out.fill(", overflow indicator {}", &[name.into()]);
-    }
+    write_length(
+        out,
+        "  printer  lines of {} places",
+        rows.printer_length,
+        "  printer  none",
+    );
+    write_named(out, ", overflow indicator {}", rows.overflow);
     out.write_char('\n');
-}
-
-fn write_disk(out: &mut TextWriter, rows: &Rows) {
-    match rows.disk_length {
-        0 => out.write_str("  disk     none\n"),
-        length => out.fill("  disk     records of {} columns\n", &[length.into()]),
-    }
-}
-
-fn write_counts(out: &mut TextWriter, rows: &Rows) {
+    shown.write_broken(out, Table::Header, 0);
+    write_length(
+        out,
+        "  disk     records of {} columns\n",
+        rows.disk_length,
+        "  disk     none\n",
+    );
     out.fill(
         TABLES,
         &[
@@ -54,21 +65,5 @@ fn write_counts(out: &mut TextWriter, rows: &Rows) {
             rows.total.len().into(),
         ],
     );
-}
-
-/// Writes the header.
-pub(crate) fn write_header(
-    out: &mut TextWriter,
-    rows: &Rows,
-    layout: Layout,
-    broken: Option<BrokenRule>,
-) {
-    let version = rows.version.number();
-    out.fill(VERSION, &[version.into(), layout.end.into()]);
-    write_input(out, rows);
-    write_printer(out, rows);
-    write_if_broken(out, broken, Table::Header, 0);
-    write_disk(out, rows);
-    write_counts(out, rows);
     out.fill(ALLOWANCE, &[rows.allowance.into()]);
 }

@@ -1,28 +1,17 @@
 //! Instructions, as the calculation sheet has them: factor 1, operation, factor 2, result and indicators.
 
-use crate::bound::Costs;
-use crate::refusal::{Table, write_if_broken};
-use rpg_cli_show_fields::{
-    INSTRUCTION, Layout, NamedRows, SUBROUTINE, write_conditions, write_named, write_operand,
-    write_shown,
-};
+use crate::shown::{Shown, Table, write_offset};
+use rpg_cli_show_fields::{write_shows, write_when};
 use rpg_cli_text::TextWriter;
-use rpg_effect::condition::{Conditions, has_conditions};
-use rpg_effect::operation::{Action, Instruction, Operand, Shows};
-use rpg_effect::row::Use;
+use rpg_effect::operation::{Action, Instruction, Operand};
+use rpg_effect::row::{Marks, Use};
 use rpg_object_program::columns::row_of;
-use rpg_verify::BrokenRule;
 
-/// Instructions without operands, of which no column of factor 1 has something.
-const EXCEPT: &str = "               EXCPT";
+/// The bytes of an instruction.
+const INSTRUCTION: usize = 20;
 
-const JUMP: &str = "               JUMP   to {}";
-
-const SKIP: &str = "               SKIP   to {}";
-
-const CALL: &str = "               CALL   subroutine {}";
-
-const RETURN: &str = "               RET    subroutine {}";
+/// The bytes of a subroutine before its instructions.
+const SUBROUTINE: usize = 4;
 
 fn is_half_adjusted(action: Action<Operand<u16>>) -> bool {
     match action {
@@ -30,208 +19,139 @@ fn is_half_adjusted(action: Action<Operand<u16>>) -> bool {
         | Action::Divide { half, .. }
         | Action::Assign { half, .. }
         | Action::CrossFoot { half, .. } => half,
-        Action::TakeRemainder { .. }
-        | Action::Compare { .. }
-        | Action::LookUp { .. }
-        | Action::Move { .. }
-        | Action::SetIndicators { .. } => false,
+        _ => false,
     }
 }
 
-/// What is written before each of an operation's indicators.
-#[derive(Clone, Copy)]
-struct ShownWords {
-    plus: &'static str,
-    minus: &'static str,
-    zero: &'static str,
-}
-
-const RESULTS: ShownWords = ShownWords {
-    plus: "plus",
-    minus: "minus",
-    zero: "zero",
-};
-
-const ORDERS: ShownWords = ShownWords {
-    plus: "high",
-    minus: "low",
-    zero: "equal",
-};
-
-fn write_three(out: &mut TextWriter, words: ShownWords, shows: Shows) {
-    write_shown(out, words.plus, shows.plus);
-    write_shown(out, words.minus, shows.minus);
-    write_shown(out, words.zero, shows.zero);
-}
-
-fn write_all_named(out: &mut TextWriter, named: Shows) {
-    write_named(out, named.plus);
-    write_named(out, named.minus);
-    write_named(out, named.zero);
-}
-
-fn write_indicators(out: &mut TextWriter, action: Action<Operand<u16>>) {
+/// What is written of each of an operation's indicators.
+fn sentences_of(action: Action<Operand<u16>>) -> [&'static str; 3] {
     match action {
-        Action::Compute { shows, .. }
-        | Action::Divide { shows, .. }
-        | Action::Assign { shows, .. }
-        | Action::TakeRemainder { shows, .. }
-        | Action::CrossFoot { shows, .. } => write_three(out, RESULTS, shows),
-        Action::Compare { shows, .. } | Action::LookUp { shows, .. } => {
-            write_three(out, ORDERS, shows);
-        }
-        Action::SetIndicators { named, .. } => write_all_named(out, named),
-        Action::Move { .. } => {}
+        Action::Compare { .. } | Action::LookUp { .. } => ["  high {}", "  low {}", "  equal {}"],
+        Action::SetIndicators { .. } => ["  {}", "  {}", "  {}"],
+        _ => ["  plus {}", "  minus {}", "  zero {}"],
     }
 }
 
 /// Writes an operand, if there is one, in a column of so many characters and a blank.
 fn write_column(
     out: &mut TextWriter,
-    named: NamedRows<'_>,
+    shown: Shown<'_>,
     used: Option<Use<Operand<u16>>>,
     width: usize,
 ) {
     let end = out.len().saturating_add(width);
     if let Some(used) = used {
-        write_operand(out, named, used.operand);
+        shown.write_operand(out, used.operand);
     }
     out.pad_to(end);
     out.write_char(' ');
 }
 
-fn write_action(out: &mut TextWriter, named: NamedRows<'_>, action: Action<Operand<u16>>) {
-    let row = row_of(named.rows, action);
-    let result_width = if named.source.is_some() { 14 } else { 8 };
-    write_column(out, named, row.factor1, 14);
+fn write_action(out: &mut TextWriter, shown: Shown<'_>, action: Action<Operand<u16>>) {
+    let row = row_of(shown.rows, action);
+    let result_width = if shown.is_named { 14 } else { 8 };
+    write_column(out, shown, row.factor1, 14);
     out.fill("{:<6} ", &[action.name().into()]);
-    write_column(out, named, row.factor2, 14);
-    write_column(out, named, row.result, result_width);
+    write_column(out, shown, row.factor2, 14);
+    write_column(out, shown, row.result, result_width);
     out.write_char(if is_half_adjusted(action) { 'H' } else { ' ' });
-    write_indicators(out, action);
-}
-
-/// Writes where a branch leads, and under which conditions.
-fn write_branch(out: &mut TextWriter, is_taken_where: bool, conditions: Conditions, target: u16) {
-    let (sentence, when) = if is_taken_where {
-        (JUMP, ", when")
-    } else {
-        (SKIP, ", unless")
-    };
-    out.fill(sentence, &[target.into()]);
-    if has_conditions(conditions) {
-        out.write_str(when);
-        write_conditions(out, conditions);
-    }
-}
-
-fn write_instruction(out: &mut TextWriter, named: NamedRows<'_>, instruction: Instruction<u16>) {
-    match instruction {
-        Instruction::Act(action) => write_action(out, named, action),
-        Instruction::Except => out.write_str(EXCEPT),
-        Instruction::Branch {
-            is_taken_where,
-            conditions,
-            target,
-        } => write_branch(out, is_taken_where, conditions, target),
-        Instruction::Call { subroutine } => out.fill(CALL, &[subroutine.into()]),
-        Instruction::Return { subroutine } => out.fill(RETURN, &[subroutine.into()]),
-    }
-}
-
-/// Where a section begins: its first byte, and its first place.
-#[derive(Clone, Copy)]
-struct Begin {
-    at: usize,
-    place: usize,
-}
-
-/// What is known of all places.
-#[derive(Clone, Copy)]
-struct Known<'a> {
-    named: NamedRows<'a>,
-    costs: &'a Costs,
-    broken: Option<BrokenRule>,
-}
-
-/// Writes the column of the card that an instruction was made of; nothing where the source isn't known.
-fn write_card_column(out: &mut TextWriter, named: NamedRows<'_>, place: usize) {
-    if let Some(source) = named.source {
-        match source.place_card(place) {
-            Some(card) => out.fill("  {:>5}", &[card.into()]),
-            None => out.write_str("       "),
+    match row.marks {
+        Marks::Unmarked => {}
+        Marks::Shown(shows) | Marks::Wanted(shows) | Marks::Sought(shows) => {
+            write_shows(out, sentences_of(action), shows);
         }
     }
 }
 
-/// Writes the instructions of a section.
-fn write_section(out: &mut TextWriter, known: Known<'_>, begin: Begin, code: &[Instruction<u16>]) {
-    let Begin { mut at, mut place } = begin;
+fn write_instruction(out: &mut TextWriter, shown: Shown<'_>, instruction: Instruction<u16>) {
+    if !matches!(&instruction, Instruction::Act(_)) {
+        out.fill("               {:<6} ", &[instruction.name().into()]);
+    }
+    match instruction {
+        Instruction::Act(action) => write_action(out, shown, action),
+        Instruction::Except => {}
+        Instruction::Branch {
+            is_taken_where,
+            conditions,
+            target,
+        } => {
+            let when = if is_taken_where { ", when" } else { ", unless" };
+            out.fill("to {}", &[target.into()]);
+            write_when(out, when, conditions);
+        }
+        Instruction::Call { subroutine } | Instruction::Return { subroutine } => {
+            out.fill("subroutine {}", &[subroutine.into()]);
+        }
+    }
+}
+
+/// Writes the instructions of a section, of which the first has this place.
+fn write_section(
+    out: &mut TextWriter,
+    at: &mut usize,
+    shown: Shown<'_>,
+    first: usize,
+    code: &[Instruction<u16>],
+) {
+    let mut place = first;
     for instruction in code {
-        out.fill("{:>6} {:>5} ", &[at.into(), place.into()]);
-        known.costs.write_column(out, place);
-        write_card_column(out, known.named, place);
+        write_offset(out, at, INSTRUCTION);
+        out.fill(" {:>5} ", &[place.into()]);
+        match shown.costs.get(place) {
+            Some(cost) => out.fill("{:>6}", &[(*cost).into()]),
+            None => out.write_str("      "),
+        }
+        if shown.is_named {
+            match shown.source.place_card(place) {
+                Some(card) => out.fill("  {:>5}", &[card.into()]),
+                None => out.write_str("       "),
+            }
+        }
         out.write_str("  ");
-        write_instruction(out, known.named, *instruction);
+        write_instruction(out, shown, *instruction);
         out.end_line();
-        write_if_broken(out, known.broken, Table::Places, place);
-        at = at.saturating_add(INSTRUCTION);
+        shown.write_broken(out, Table::Places, place);
         place = place.saturating_add(1);
     }
 }
 
-fn write_heading(out: &mut TextWriter, named: NamedRows<'_>, name: &str, count: usize) {
-    let heading = match named.source {
-        _ if count == 0 => "\n        {}: none\n",
-        Some(_) => "\n    at place   path   card  {}\n",
-        None => "\n    at place   path  {}\n",
+fn write_heading(out: &mut TextWriter, shown: Shown<'_>, name: &str, count: usize) {
+    let heading = if count == 0 {
+        "\n        {}: none\n"
+    } else if shown.is_named {
+        "\n    at place   path   card  {}\n"
+    } else {
+        "\n    at place   path  {}\n"
     };
     out.fill(heading, &[name.into()]);
 }
 
-const SUBROUTINE_ROW: &str = "{:>6}               subroutine {}, level {}\n";
+const SUBROUTINE_ROW: &str = "               subroutine {}, level {}\n";
 
-/// Writes a subroutine's level and its instructions.
-fn write_subroutines(out: &mut TextWriter, known: Known<'_>, begin: Begin) {
-    let Begin { mut at, mut place } = begin;
-    for (number, subroutine) in known.named.rows.subroutines.iter().enumerate() {
-        let level = subroutine.level;
-        let code = &subroutine.instructions;
-        out.fill(SUBROUTINE_ROW, &[at.into(), number.into(), level.into()]);
-        write_if_broken(out, known.broken, Table::Subroutines, number);
-        at = at.saturating_add(SUBROUTINE);
-        write_section(out, known, Begin { at, place }, code);
-        at = at.saturating_add(code.len().saturating_mul(INSTRUCTION));
-        place = place.saturating_add(code.len());
+/// Writes each subroutine's level and its instructions.
+fn write_subroutines(out: &mut TextWriter, at: &mut usize, shown: Shown<'_>, first: usize) {
+    let mut place = first;
+    for (number, subroutine) in shown.rows.subroutines.iter().enumerate() {
+        write_offset(out, at, SUBROUTINE);
+        out.fill(SUBROUTINE_ROW, &[number.into(), subroutine.level.into()]);
+        shown.write_broken(out, Table::Subroutines, number);
+        write_section(out, at, shown, place, &subroutine.instructions);
+        place = place.saturating_add(subroutine.instructions.len());
     }
 }
 
 /// Writes the instructions of all sections.
-pub(crate) fn write_sections(
-    out: &mut TextWriter,
-    named: NamedRows<'_>,
-    layout: Layout,
-    costs: &Costs,
-    broken: Option<BrokenRule>,
-) {
-    let known = Known {
-        named,
-        costs,
-        broken,
-    };
-    let rows = named.rows;
-    let at = layout.detail;
-    write_heading(out, named, "DETAIL CALCULATIONS", rows.detail.len());
-    write_section(out, known, Begin { at, place: 0 }, &rows.detail);
-    let at = layout.total;
-    let place = rows.detail.len();
-    write_heading(out, named, "TOTAL CALCULATIONS", rows.total.len());
-    write_section(out, known, Begin { at, place }, &rows.total);
-    let at = layout.subroutines;
-    let place = place.saturating_add(rows.total.len());
-    write_heading(out, named, "SUBROUTINES", rows.subroutines.len());
+pub(crate) fn write_sections(out: &mut TextWriter, at: &mut usize, shown: Shown<'_>) {
+    let rows = shown.rows;
+    let total = rows.detail.len();
+    let subroutines = total.saturating_add(rows.total.len());
+    write_heading(out, shown, "DETAIL CALCULATIONS", rows.detail.len());
+    write_section(out, at, shown, 0, &rows.detail);
+    write_heading(out, shown, "TOTAL CALCULATIONS", rows.total.len());
+    write_section(out, at, shown, total, &rows.total);
+    write_heading(out, shown, "SUBROUTINES", rows.subroutines.len());
     if rows.subroutines.is_empty() {
-        write_if_broken(out, broken, Table::Subroutines, 0);
+        shown.write_broken(out, Table::Subroutines, 0);
     }
-    write_subroutines(out, known, Begin { at, place });
+    write_subroutines(out, at, shown, subroutines);
 }

@@ -2,13 +2,15 @@
 #![tactic(auto)]
 
 mod bound;
+mod fields;
 mod header;
 mod instructions;
 mod lines;
 mod overview;
 mod program;
-mod refusal;
+mod shown;
 mod types;
+mod uses;
 
 pub use overview::program_overview;
 pub use program::program_text;

@@ -1,22 +1,13 @@
 //! Output lines, with their conditions and their fields.
 
-use crate::refusal::{Table, write_if_broken};
+use crate::shown::{Shown, Table, write_offset};
 use rpg_cli_show_fields::{
-    LINE_FIELD, NamedRows, code_letter, fill_words, line_bytes, line_head_bytes, time_word,
-    write_card, write_condition, write_conditions, write_field, write_operand, write_spacing,
+    time_word, write_card, write_code, write_condition, write_spacing, write_when,
 };
 use rpg_cli_text::TextWriter;
-use rpg_effect::condition::{Condition, has_conditions};
+use rpg_effect::condition::Condition;
 use rpg_effect::line::{Editing, File, LineField, Source};
-use rpg_object_program::row::Line;
-use rpg_verify::BrokenRule;
-
-fn file_word(file: File) -> &'static str {
-    match file {
-        File::Printer => "printer",
-        File::Disk => "disk",
-    }
-}
+use rpg_effect::operation::{Index, Operand};
 
 /// Writes conditions that must all hold.
 fn write_alternative(out: &mut TextWriter, conditions: &[Condition]) {
@@ -28,95 +19,71 @@ fn write_alternative(out: &mut TextWriter, conditions: &[Condition]) {
     }
 }
 
-fn write_alternatives(out: &mut TextWriter, alternatives: &[Vec<Condition>]) {
+/// Writes the alternatives of a line, and goes on behind their bytes.
+fn write_alternatives(out: &mut TextWriter, at: &mut usize, alternatives: &[Vec<Condition>]) {
     for (i, conditions) in alternatives.iter().enumerate() {
         out.write_str(if i == 0 { ", when" } else { ", or" });
         write_alternative(out, conditions);
+        let bytes = conditions.len().saturating_add(1).saturating_mul(2);
+        *at = (*at).saturating_add(bytes);
     }
 }
 
-fn write_head(out: &mut TextWriter, at: usize, number: usize, line: &Line, card: Option<u16>) {
-    let file = file_word(line.file);
-    let time = time_word(line.time);
-    out.fill(
-        "{:>6}  line {}: {}, {}",
-        &[at.into(), number.into(), file.into(), time.into()],
-    );
-    write_spacing(out, line.spacing);
-    write_alternatives(out, &line.alternatives);
-    write_card(out, card);
-    out.write_char('\n');
-}
-
-fn write_editing(out: &mut TextWriter, named: NamedRows<'_>, field: LineField<u16>) {
-    match field.editing {
-        Editing::Plain => {}
-        Editing::Code(code) => {
-            let filled = fill_words(field.fill);
-            out.fill(" by code {}{}", &[code_letter(code).into(), filled.into()]);
-        }
-        Editing::Word(word) => {
-            out.write_str(" by word ");
-            write_field(out, named, word);
-        }
-    }
-}
-
-fn write_line_field(
-    out: &mut TextWriter,
-    named: NamedRows<'_>,
-    at: usize,
-    field: LineField<u16>,
-    card: Option<u16>,
-) {
-    out.fill("{:>6}    to place {:<4} ", &[at.into(), field.end.into()]);
+fn write_field(out: &mut TextWriter, at: &mut usize, shown: Shown<'_>, field: LineField<u16>) {
+    write_offset(out, at, 16);
+    out.fill("    to place {:<4} ", &[field.end.into()]);
     if let Source::Page = field.source {
         out.write_str("PAGE, one more in ");
     }
-    write_operand(out, named, field.operand);
-    write_editing(out, named, field);
+    shown.write_operand(out, field.operand);
+    match field.editing {
+        Editing::Plain => {}
+        Editing::Code(code) => write_code(out, code, field.fill),
+        Editing::Word(word) => {
+            out.write_str(" by word ");
+            let index = Index::Blank;
+            shown.write_operand(out, Operand { field: word, index });
+        }
+    }
     if field.is_blanked {
         out.write_str(", blank after");
     }
-    if has_conditions(field.conditions) {
-        out.write_str(", when");
-        write_conditions(out, field.conditions);
-    }
-    write_card(out, card);
-    out.write_char('\n');
+    write_when(out, ", when", field.conditions);
 }
 
-/// Writes the fields of a line, of which the first begins at a byte.
 fn write_line_fields(
     out: &mut TextWriter,
-    named: NamedRows<'_>,
-    begin: usize,
+    at: &mut usize,
+    shown: Shown<'_>,
     number: usize,
     fields: &[LineField<u16>],
 ) {
-    let mut at = begin;
     for (i, field) in fields.iter().enumerate() {
-        let card = named.line_field_card(number, i);
-        write_line_field(out, named, at, *field, card);
-        at = at.saturating_add(LINE_FIELD);
+        write_field(out, at, shown, *field);
+        write_card(out, shown.source.line_field_card(number, i));
+        out.write_char('\n');
     }
 }
 
-/// Writes all lines, of which the first begins at a byte.
-pub(crate) fn write_lines(
-    out: &mut TextWriter,
-    named: NamedRows<'_>,
-    begin: usize,
-    broken: Option<BrokenRule>,
-) {
+/// Writes all lines.
+pub(crate) fn write_lines(out: &mut TextWriter, at: &mut usize, shown: Shown<'_>) {
     out.write_str("\n    at  LINES\n");
-    let mut at = begin;
-    for (number, line) in named.rows.lines.iter().enumerate() {
-        let card = named.line_card(number);
-        write_head(out, at, number, line, card);
-        let fields = at.saturating_add(line_head_bytes(line));
-        write_line_fields(out, named, fields, number, &line.fields);
-        write_if_broken(out, broken, Table::Lines, number);
-        at = at.saturating_add(line_bytes(line));
+    for (number, line) in shown.rows.lines.iter().enumerate() {
+        let file = match line.file {
+            File::Printer => "printer",
+            File::Disk => "disk",
+        };
+        let time = time_word(line.time);
+        write_offset(out, at, 12);
+        out.fill(
+            "  line {}: {}, {}",
+            &[number.into(), file.into(), time.into()],
+        );
+        write_spacing(out, line.spacing);
+        write_alternatives(out, at, &line.alternatives);
+        write_card(out, shown.source.line_card(number));
+        out.write_char('\n');
+        write_line_fields(out, at, shown, number, &line.fields);
+        shown.write_broken(out, Table::Lines, number);
     }
 }

@@ -1,32 +1,53 @@
 //! A program as a text.
 
-use crate::bound::{Costs, write_bound};
-use crate::header::write_header;
+use crate::bound::{path_costs, write_bound};
+use crate::fields::{write_fields, write_first_values};
+use crate::header::{write_header, write_version};
 use crate::instructions::write_sections;
 use crate::lines::write_lines;
-use crate::refusal::{broken_by, write_refusal};
+use crate::shown::{Shown, broken_by, write_refusal};
 use crate::types::write_types;
-use rpg_cli_show_fields::{Layout, NamedRows, SourceRows, write_fields, write_first_values};
+use crate::uses::Uses;
+use rpg_cli_show_fields::SourceRows;
 use rpg_cli_text::TextWriter;
+use rpg_object::encode;
 use rpg_object_program::Program;
 use rpg_verify::{BrokenRule, Verified, verify};
 use std::alloc::{AllocError, Global};
 
+/// The bytes of a program before its fields.
+const HEADER: usize = 32;
+
 /// Writes the tables of a program.
-fn write_tables(
+fn write_tables(out: &mut TextWriter, shown: Shown<'_>, uses: &Uses) {
+    let mut at = HEADER;
+    write_fields(out, &mut at, shown, uses);
+    write_first_values(out, &mut at, shown);
+    write_types(out, &mut at, shown);
+    write_lines(out, &mut at, shown);
+    write_sections(out, &mut at, shown);
+}
+
+/// The text about a program: with its bound, if it is accepted.
+fn shown_text(
     alloc: Global,
-    out: &mut TextWriter,
-    named: NamedRows<'_>,
-    costs: &Costs,
-    broken: Option<BrokenRule>,
-) -> Result<(), AllocError> {
-    let layout = Layout::of(named.rows);
-    write_fields(alloc, out, named)?;
-    write_first_values(out, named, layout.values);
-    write_types(out, named, layout.types, broken);
-    write_lines(out, named, layout.lines, broken);
-    write_sections(out, named, layout, costs, broken);
-    Ok(())
+    program: &Program,
+    shown: Shown<'_>,
+    bound: Option<u64>,
+) -> Result<String, AllocError> {
+    let bytes = encode(alloc, program)?.len();
+    let uses = Uses::of(alloc, program)?;
+    let mut out = TextWriter::new(alloc);
+    write_version(&mut out, shown.rows, bytes);
+    write_header(&mut out, shown);
+    if let Some(bound) = bound {
+        write_bound(&mut out, shown.rows, bound, shown.costs);
+    }
+    if let Some(broken) = shown.broken {
+        write_refusal(&mut out, broken);
+    }
+    write_tables(&mut out, shown, &uses);
+    out.finish()
 }
 
 fn accepted_text(
@@ -34,14 +55,16 @@ fn accepted_text(
     verified: &Verified,
     source: Option<&SourceRows>,
 ) -> Result<String, AllocError> {
-    let rows = verified.program().rows();
-    let named = NamedRows { rows, source };
-    let costs = Costs::of(alloc, verified)?;
-    let mut out = TextWriter::new(alloc);
-    write_header(&mut out, rows, Layout::of(rows), None);
-    write_bound(&mut out, verified, &costs);
-    write_tables(alloc, &mut out, named, &costs, None)?;
-    out.finish()
+    let costs = path_costs(alloc, verified)?;
+    let unknown = SourceRows::none(alloc);
+    let shown = Shown {
+        rows: verified.program().rows(),
+        source: source.unwrap_or(&unknown),
+        is_named: source.is_some(),
+        costs: &costs,
+        broken: None,
+    };
+    shown_text(alloc, verified.program(), shown, Some(verified.bound()))
 }
 
 fn refused_text(
@@ -50,13 +73,15 @@ fn refused_text(
     source: Option<&SourceRows>,
     broken: BrokenRule,
 ) -> Result<String, AllocError> {
-    let rows = program.rows();
-    let named = NamedRows { rows, source };
-    let mut out = TextWriter::new(alloc);
-    write_header(&mut out, rows, Layout::of(rows), Some(broken));
-    write_refusal(&mut out, broken);
-    write_tables(alloc, &mut out, named, &Costs::none(alloc), Some(broken))?;
-    out.finish()
+    let unknown = SourceRows::none(alloc);
+    let shown = Shown {
+        rows: program.rows(),
+        source: source.unwrap_or(&unknown),
+        is_named: source.is_some(),
+        costs: &[],
+        broken: Some(broken),
+    };
+    shown_text(alloc, program, shown, None)
 }
 
 /// The whole text about a program: its header, its fields with their first values and their uses, its record types and lines,

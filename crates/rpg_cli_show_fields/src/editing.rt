@@ -1,43 +1,66 @@
-//! Edit codes as they are written on cards.
+//! Edit codes, when a line is put out, and how the form moves, as cards and listings have them.
 
+use rpg_cli_text::TextWriter;
 use rpg_edit_marks::{EditCode, Ending, Fill};
-
-/// The characters of the codes with and without commas and zeros, for an ending.
-fn code_letters(ending: Ending) -> [char; 4] {
-    match ending {
-        Ending::Unsigned => ['1', '2', '3', '4'],
-        Ending::Credit => ['A', 'B', 'C', 'D'],
-        Ending::Minus => ['J', 'K', 'L', 'M'],
-    }
-}
+use rpg_effect::line::{Spacing, Time};
 
 /// The character of an edit code.
-pub fn code_letter(code: EditCode) -> char {
+fn code_letter(code: EditCode) -> u8 {
     match code {
         EditCode::Combination {
             commas,
             zeros,
             ending,
         } => {
-            let [first, second, third, fourth] = code_letters(ending);
-            match (commas, zeros) {
-                (true, true) => first,
-                (true, false) => second,
-                (false, true) => third,
-                (false, false) => fourth,
-            }
+            let first: u8 = match ending {
+                Ending::Unsigned => b'1',
+                Ending::Credit => b'A',
+                Ending::Minus => b'J',
+            };
+            let column: u8 = match (commas, zeros) {
+                (true, true) => 0,
+                (true, false) => 1,
+                (false, true) => 2,
+                (false, false) => 3,
+            };
+            first.saturating_add(column)
         }
-        EditCode::X => 'X',
-        EditCode::Y => 'Y',
-        EditCode::Z => 'Z',
+        EditCode::X => b'X',
+        EditCode::Y => b'Y',
+        EditCode::Z => b'Z',
     }
 }
 
-/// What fills the places before a number, in words.
-pub fn fill_words(fill: Fill) -> &'static str {
-    match fill {
+/// Writes the edit code of a field, and what fills the places before its number.
+pub fn write_code(out: &mut TextWriter, code: EditCode, fill: Fill) {
+    let filled = match fill {
         Fill::Blank => "",
         Fill::Star => " filled with *",
         Fill::Dollar => " with $ before it",
+    };
+    let letter = char::from(code_letter(code));
+    out.fill(" by code {}{}", &[letter.into(), filled.into()]);
+}
+
+pub fn time_word(time: Time) -> &'static str {
+    match time {
+        Time::Heading => "heading",
+        Time::Detail => "detail",
+        Time::Total => "total",
+        Time::Exception => "exception",
+    }
+}
+
+/// Writes how the form moves before and after a line.
+pub fn write_spacing(out: &mut TextWriter, spacing: Spacing) {
+    for (sentence, lines) in [
+        (", skip to {} before", spacing.skip_before),
+        (", space {} before", spacing.space_before),
+        (", skip to {} after", spacing.skip_after),
+        (", space {} after", spacing.space_after),
+    ] {
+        if lines > 0 {
+            out.fill(sentence, &[lines.into()]);
+        }
     }
 }

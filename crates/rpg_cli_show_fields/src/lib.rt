@@ -1,32 +1,17 @@
-//! What the cards of a source say of the rows of its object program: the names of its fields, and the cards that its rows stand on.
-//! The fields of an object program as a text, and the words in which its other tables speak of them.
+//! What texts about object programs have in common: the words for fields, values, indicators and lines, and what the cards of a source say of
+//! the rows of its object program.
 #![tactic(auto)]
 
 mod editing;
-mod field_names;
-mod fields;
-mod groups;
-mod layout;
-mod named;
-mod names;
 mod operands;
-mod places;
-mod rows;
-mod spacing;
-mod uses;
+mod source_rows;
 mod values;
 mod words;
 
-pub use editing::{code_letter, fill_words};
-pub use fields::{write_fields, write_first_values, write_form};
-pub use layout::{
-    CODE, INPUT, INSTRUCTION, LEVEL, LINE_FIELD, Layout, SUBROUTINE, line_bytes, line_head_bytes,
-    type_bytes, type_head_bytes,
+pub use editing::{time_word, write_code, write_spacing};
+pub use operands::{constant_of, write_card_operand};
+pub use source_rows::SourceRows;
+pub use values::{is_empty, write_form, write_quoted, write_value};
+pub use words::{
+    Indicator, name_text, write_card, write_condition, write_named, write_shows, write_when,
 };
-pub use named::{NamedRows, write_card};
-pub use names::name_text;
-pub use operands::{write_card_operand, write_field, write_operand};
-pub use rows::SourceRows;
-pub use spacing::{time_word, write_spacing};
-pub use values::{write_quoted, write_value};
-pub use words::{Indicator, write_condition, write_conditions, write_named, write_shown};

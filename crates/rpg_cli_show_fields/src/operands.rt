@@ -1,25 +1,23 @@
 //! What stands in factors, results and output fields.
 
-use crate::named::NamedRows;
+use crate::source_rows::SourceRows;
 use crate::values::write_value;
-use crate::{SourceRows, name_text};
+use crate::words::name_text;
 use rpg_cli_text::TextWriter;
-use rpg_effect::form::Class;
+use rpg_effect::form::is_constant;
 use rpg_effect::operation::{Index, Operand};
 use rpg_effect::value::Value;
 use rpg_object_program::forms::form_at;
 use rpg_object_program::row::Rows;
 
 /// The value of a constant, and its decimals.
-fn constant_of(rows: &Rows, field: u16) -> Option<(&Value, u8)> {
+pub fn constant_of(rows: &Rows, field: u16) -> Option<(&Value, u8)> {
     let form = form_at(rows, field)?;
-    match form.class {
-        Class::Constant => {
-            let values = rows.values.get(usize::from(field).checked_sub(1)?)?;
-            Some((values.first()?, form.decimals))
-        }
-        Class::Plain | Class::Array | Class::Table | Class::Date => None,
+    if !is_constant(form.class) {
+        return None;
     }
+    let values = rows.values.get(usize::from(field).checked_sub(1)?)?;
+    Some((values.first()?, form.decimals))
 }
 
 /// Writes the name of a field; its number where it has none.
@@ -27,35 +25,6 @@ fn write_name(out: &mut TextWriter, source: &SourceRows, field: u16) {
     match source.field_name(field) {
         Some(name) => out.write_str(name_text(name)),
         None => out.fill("#{}", &[field.into()]),
-    }
-}
-
-/// Writes a field by its number, and where the source is known with its name behind; a constant with its value.
-pub fn write_field(out: &mut TextWriter, named: NamedRows<'_>, field: u16) {
-    let operand = Operand {
-        field,
-        index: Index::Blank,
-    };
-    write_operand(out, named, operand);
-}
-
-/// Writes a field with its index, if it has one. Where the source is known, what its cards have stands behind.
-pub fn write_operand(out: &mut TextWriter, named: NamedRows<'_>, operand: Operand<u16>) {
-    let NamedRows { rows, source } = named;
-    let constant = constant_of(rows, operand.field);
-    out.fill("#{}", &[operand.field.into()]);
-    if let Some((value, decimals)) = constant {
-        out.write_char('=');
-        write_value(out, value, decimals);
-    }
-    match operand.index {
-        Index::Blank => {}
-        Index::Literal(entry) => out.fill(",{}", &[entry.into()]),
-        Index::Field(field) => out.fill(",#{}", &[field.into()]),
-    }
-    if let (Some(source), None) = (source, constant) {
-        out.write_char(' ');
-        write_card_operand(out, rows, source, operand);
     }
 }
 

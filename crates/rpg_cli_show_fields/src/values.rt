@@ -1,6 +1,7 @@
-//! Values of fields.
+//! Values and forms of fields.
 
 use rpg_cli_text::TextWriter;
+use rpg_effect::form::{Class, FieldForm, Kind};
 use rpg_effect::value::Value;
 use rpg_text::{shown, trimmed};
 
@@ -18,18 +19,17 @@ pub fn write_quoted(out: &mut TextWriter, text: &[u8]) {
 
 /// Writes a number with its decimal point, and one digit at least before it.
 fn write_number(out: &mut TextWriter, number: i64, decimals: u8) {
-    let sign = if number < 0 { "-" } else { "" };
     let digits = number.unsigned_abs();
-    if decimals == 0 {
-        out.fill("{}{}", &[sign.into(), digits.into()]);
-        return;
+    let mut unit = 10u64.saturating_pow(u32::from(decimals)).max(1);
+    let sentence = if number < 0 { "-{}" } else { "{}" };
+    out.fill(sentence, &[(digits / unit).into()]);
+    if decimals > 0 {
+        out.write_char('.');
     }
-    let unit = 10u64.saturating_pow(u32::from(decimals)).max(1);
-    let whole = digits / unit;
-    let part = digits % unit;
-    let places = usize::from(decimals);
-    out.fill("{}{}.", &[sign.into(), whole.into()]);
-    write!(out, "{part:0places$}");
+    for _ in 0..decimals {
+        unit = (unit / 10).max(1);
+        out.fill("{}", &[(digits / unit % 10).into()]);
+    }
 }
 
 /// Whether a value is zero or blank.
@@ -40,19 +40,30 @@ pub fn is_empty(value: &Value) -> bool {
     }
 }
 
-pub fn are_empty(values: &[Value]) -> bool {
-    for value in values {
-        if !is_empty(value) {
-            return false;
-        }
-    }
-    true
-}
-
 /// Writes a value: a number with its decimals, a text between apostrophes.
 pub fn write_value(out: &mut TextWriter, value: &Value, decimals: u8) {
     match value {
         Value::Number(number) => write_number(out, *number, decimals),
         Value::Text(text) => write_quoted(out, text),
+    }
+}
+
+/// Writes a field's form: what it is for, digits and decimals of a number or characters of a text, and the order of entries.
+pub fn write_form(out: &mut TextWriter, form: FieldForm) {
+    let class = match form.class {
+        Class::Plain => "",
+        Class::Date => "date ",
+        Class::Constant => "constant ",
+        Class::Array => "array of {}: ",
+        Class::Table => "table of {}: ",
+    };
+    let kind = match form.kind {
+        Kind::Number => "number {}.{}",
+        Kind::Text => "text {}",
+    };
+    out.fill(class, &[form.entries.into()]);
+    out.fill(kind, &[form.length.into(), form.decimals.into()]);
+    if form.is_ascending {
+        out.write_str(", ascending");
     }
 }

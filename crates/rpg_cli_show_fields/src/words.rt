@@ -1,8 +1,14 @@
-//! Indicators and conditions as they are written on cards.
+//! Names, indicators and conditions as they are written on cards.
 
 use rpg_cli_text::{TextWriter, indicator_name};
-use rpg_effect::condition::{Condition, Conditions};
+use rpg_effect::condition::{Condition, Conditions, has_conditions};
+use rpg_effect::operation::Shows;
 use std::fmt;
+
+/// A name of a card as a text. Its characters are letters, digits, `$`, `#` and `@`.
+pub fn name_text(name: &[u8]) -> &str {
+    str::from_utf8(name).unwrap_or("")
+}
 
 /// An indicator, by its number from 1 to 129.
 #[derive(Clone, Copy)]
@@ -27,8 +33,11 @@ pub fn write_condition(out: &mut TextWriter, condition: Condition) {
     out.write_str(Indicator(condition.indicator).name());
 }
 
-/// Writes the conditions that are there.
-pub fn write_conditions(out: &mut TextWriter, conditions: Conditions) {
+/// Writes conditions after a word, if there are some.
+pub fn write_when(out: &mut TextWriter, word: &str, conditions: Conditions) {
+    if has_conditions(conditions) {
+        out.write_str(word);
+    }
     for condition in [conditions.first, conditions.second, conditions.third] {
         if let Some(condition) = condition {
             write_condition(out, condition);
@@ -36,16 +45,24 @@ pub fn write_conditions(out: &mut TextWriter, conditions: Conditions) {
     }
 }
 
-/// Writes an indicator, if there is one.
-pub fn write_named(out: &mut TextWriter, indicator: Option<u8>) {
+/// Writes a sentence with an indicator, if there is one.
+pub fn write_named(out: &mut TextWriter, sentence: &str, indicator: Option<u8>) {
     if let Some(number) = indicator {
-        out.fill("  {}", &[Indicator(number).name().into()]);
+        out.fill(sentence, &[Indicator(number).name().into()]);
     }
 }
 
-/// Writes an indicator behind what it shows, if there is one.
-pub fn write_shown(out: &mut TextWriter, word: &str, indicator: Option<u8>) {
-    if let Some(number) = indicator {
-        out.fill("  {} {}", &[word.into(), Indicator(number).name().into()]);
+/// Writes the indicators that are there, each in the sentence for what it shows.
+pub fn write_shows(out: &mut TextWriter, sentences: [&str; 3], shows: Shows) {
+    let [plus, minus, zero] = sentences;
+    write_named(out, plus, shows.plus);
+    write_named(out, minus, shows.minus);
+    write_named(out, zero, shows.zero);
+}
+
+/// Writes the card of a row behind it, where it is known.
+pub fn write_card(out: &mut TextWriter, card: Option<u16>) {
+    if let Some(card) = card {
+        out.fill(" (card {})", &[card.into()]);
     }
 }

@@ -16,8 +16,8 @@ loop-subroutine-init c =
       begins = sym (at_zero c.args.begin (map subroutine_row c.args.rows.now.subroutines.items));
     }
 
-pub push_subroutine-requires-clause-few : goal.push_subroutine-requires-clause-few
-push_subroutine-requires-clause-few c =
+pub push_section-requires-clause-few : goal.push_section-requires-clause-few
+push_section-requires-clause-few c =
     let subs = c.args.rows.now.subroutines.items in
     let i = c.loop-subroutine.subroutine-index in
     let s = c.subroutine-item.result in
@@ -29,8 +29,8 @@ push_subroutine-requires-clause-few c =
     let long : c.len-count.result ≡ length s.instructions.items = search rules in
     omega (arith, fewer, few, long)
 
-pub push_subroutine-requires-clause-first : goal.push_subroutine-requires-clause-first
-push_subroutine-requires-clause-first c =
+pub push_section-requires-clause-first : goal.push_section-requires-clause-first
+push_section-requires-clause-first c =
     let p = seen c.args.rows.now in
     let subs = c.args.rows.now.subroutines.items in
     let i = c.loop-subroutine.subroutine-index in
@@ -45,8 +45,8 @@ push_subroutine-requires-clause-first c =
     subst (λ n. f ≡ first_place c.args.verified.now (sections.Subroutine n)) (sym c.loop-subroutine.invariant.counted)
     (subst (λ q. f ≡ first_place q (sections.Subroutine i)) c.requires.same span.first)
 
-pub push_subroutine-requires-clause-end : goal.push_subroutine-requires-clause-end
-push_subroutine-requires-clause-end c =
+pub push_section-requires-clause-end : goal.push_section-requires-clause-end
+push_section-requires-clause-end c =
     let p = seen c.args.rows.now in
     let subs = c.args.rows.now.subroutines.items in
     let i = c.loop-subroutine.subroutine-index in

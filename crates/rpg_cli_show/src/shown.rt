@@ -1,0 +1,105 @@
+//! What the rows of a program are written from, and what they have in common.
+
+use rpg_cli_show_fields::{SourceRows, constant_of, name_text, write_card_operand, write_value};
+use rpg_cli_text::TextWriter;
+use rpg_effect::operation::{Index, Operand};
+use rpg_object_program::row::Rows;
+use rpg_verify::{BrokenRule, Rule, VerifyFault};
+use std::alloc::AllocError;
+
+/// A program's rows, and what is known of them besides.
+#[derive(Clone, Copy)]
+pub(crate) struct Shown<'a> {
+    pub rows: &'a Rows,
+    /// What the cards of the program's source say; nothing where that isn't known.
+    pub source: &'a SourceRows,
+    pub is_named: bool,
+    /// The path costs of the places; none of a rejected program.
+    pub costs: &'a [u64],
+    /// The rule that a rejected program breaks.
+    pub broken: Option<BrokenRule>,
+}
+
+/// A table of which a rule speaks.
+#[derive(Clone, Copy, PartialEq, Eq)]
+pub(crate) enum Table {
+    Header,
+    Types,
+    Lines,
+    Places,
+    Subroutines,
+}
+
+fn table_of(rule: Rule) -> Table {
+    match rule {
+        Rule::Overflow => Table::Header,
+        Rule::Type(_) => Table::Types,
+        Rule::Line(_) => Table::Lines,
+        Rule::Place(_) => Table::Places,
+        Rule::Subroutine(_) => Table::Subroutines,
+    }
+}
+
+const REFUSED: &str = "  refused  row {} by V{}: {}\n";
+
+/// Writes the row of a rule that is broken, the rule, and what is wrong.
+pub(crate) fn write_refusal(out: &mut TextWriter, broken: BrokenRule) {
+    let (number, sentence) = (broken.rule.number(), broken.rule.sentence());
+    out.fill(
+        REFUSED,
+        &[broken.row.into(), number.into(), sentence.into()],
+    );
+}
+
+/// The rule that a program breaks which isn't accepted.
+pub(crate) fn broken_by(fault: VerifyFault) -> Result<BrokenRule, AllocError> {
+    match fault {
+        VerifyFault::Refused { rule, row } => Ok(BrokenRule { rule, row }),
+        VerifyFault::NoMemory => Err(AllocError),
+    }
+}
+
+/// Writes the offset of a row of so many bytes, and goes on behind it.
+pub(crate) fn write_offset(out: &mut TextWriter, at: &mut usize, bytes: usize) {
+    out.fill("{:>6}", &[(*at).into()]);
+    *at = (*at).saturating_add(bytes);
+}
+
+impl Shown<'_> {
+    /// Writes the rule that is broken after the row that breaks it.
+    pub fn write_broken(self, out: &mut TextWriter, table: Table, row: usize) {
+        match self.broken {
+            Some(broken) if broken.row == row && table_of(broken.rule) == table => {
+                let (number, sentence) = (broken.rule.number(), broken.rule.sentence());
+                out.fill("        ^ V{}: {}\n", &[number.into(), sentence.into()]);
+            }
+            _ => {}
+        }
+    }
+
+    /// Writes the name of a field with a blank before it; nothing where it has none or the source isn't known.
+    pub fn write_name(self, out: &mut TextWriter, field: u16) {
+        if let Some(name) = self.source.field_name(field) {
+            out.fill(" {}", &[name_text(name).into()]);
+        }
+    }
+
+    /// Writes a field with its index, if it has one, and a constant with its value. Where the source is known, what its cards have stands behind.
+    pub fn write_operand(self, out: &mut TextWriter, operand: Operand<u16>) {
+        let constant = constant_of(self.rows, operand.field);
+        out.fill("#{}", &[operand.field.into()]);
+        if let Some((value, decimals)) = constant {
+            out.write_char('=');
+            write_value(out, value, decimals);
+        }
+        match operand.index {
+            Index::Blank => {}
+            Index::Literal(entry) => out.fill(",{}", &[entry.into()]),
+            Index::Field(field) => out.fill(",#{}", &[field.into()]),
+        }
+        if self.is_named && constant.is_none() {
+            out.write_char(' ');
+            write_card_operand(out, self.rows, self.source, operand);
+        }
+    }
+}

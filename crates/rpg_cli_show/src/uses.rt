@@ -1,0 +1,170 @@
+//! Where each field is used.
+
+use rpg_cli_text::TextWriter;
+use rpg_effect::line::Editing;
+use rpg_effect::operation::{Index, Instruction, Operand};
+use rpg_object_program::Program;
+use rpg_object_program::columns::columns_of;
+use rpg_object_program::row::{Line, RecordType, Rows};
+use rpg_refusal_causes::placed_at;
+use std::alloc::{AllocError, Global};
+
+/// The most numbers that are told of a kind of use.
+const MOST_TOLD: usize = 12;
+
+/// A way of using a field: a type reads columns into it, an instruction sets it or only uses it, a line has it.
+#[derive(Clone, Copy, PartialEq, Eq)]
+enum By {
+    Type,
+    Setting,
+    Using,
+    Line,
+}
+
+/// A row that uses a field.
+#[derive(Clone, Copy, PartialEq, Eq)]
+struct RowUse {
+    by: By,
+    row: usize,
+}
+
+/// What uses each field, by their numbers; the first list is of no field. What an instruction uses is noted before what it sets.
+#[derive(Drop)]
+pub(crate) struct Uses {
+    fields: Vec<Vec<RowUse>>,
+}
+
+/// Writes the rows that use a field in one way after the words for it, if there are some.
+fn write_rows(out: &mut TextWriter, words: &str, uses: &[RowUse], by: By) {
+    let mut count: usize = 0;
+    for used in uses {
+        if used.by == by {
+            if count == 0 {
+                out.write_str(words);
+            }
+            if count < MOST_TOLD {
+                out.fill(" {}", &[used.row.into()]);
+            }
+            count = count.saturating_add(1);
+        }
+    }
+    if count > MOST_TOLD {
+        out.fill(" and {} more", &[(count - MOST_TOLD).into()]);
+    }
+}
+
+impl Uses {
+    /// Notes a use of a field, if there is one of that number and the use isn't noted as its last one already.
+    fn note(&mut self, field: u16, by: By, row: usize) -> Result<(), AllocError> {
+        let used = RowUse { by, row };
+        if let Some(uses) = self.fields.get_mut(usize::from(field)) {
+            if uses.last().copied() != Some(used) {
+                uses.push(used)?;
+            }
+        }
+        Ok(())
+    }
+
+    /// Notes an operand. It uses its index, however it uses the field.
+    fn note_operand(
+        &mut self,
+        operand: Operand<u16>,
+        by: By,
+        row: usize,
+    ) -> Result<(), AllocError> {
+        if let Index::Field(index) = operand.index {
+            let index_by = if by == By::Setting { By::Using } else { by };
+            self.note(index, index_by, row)?;
+        }
+        self.note(operand.field, by, row)
+    }
+
+    fn note_inputs(&mut self, row: usize, record_type: &RecordType) -> Result<(), AllocError> {
+        for input in &record_type.inputs {
+            self.note(input.field, By::Type, row)?;
+        }
+        Ok(())
+    }
+
+    fn note_line(&mut self, row: usize, line: &Line) -> Result<(), AllocError> {
+        for field in &line.fields {
+            self.note_operand(field.operand, By::Line, row)?;
+            if let Editing::Word(word) = field.editing {
+                self.note(word, By::Line, row)?;
+            }
+        }
+        Ok(())
+    }
+
+    fn note_instruction(
+        &mut self,
+        rows: &Rows,
+        place: usize,
+        instruction: Instruction<u16>,
+    ) -> Result<(), AllocError> {
+        let row = columns_of(rows, instruction);
+        for (used, by) in [
+            (row.factor1, By::Using),
+            (row.factor2, By::Using),
+            (row.result, By::Setting),
+        ] {
+            if let Some(used) = used {
+                self.note_operand(used.operand, by, place)?;
+            }
+        }
+        Ok(())
+    }
+
+    fn note_places(&mut self, program: &Program) -> Result<(), AllocError> {
+        for place in 0..usize::from(u16::MAX) {
+            let Some(placed) = placed_at(program, place) else {
+                break;
+            };
+            self.note_instruction(program.rows(), place, placed.instruction)?;
+        }
+        Ok(())
+    }
+
+    fn note_types(&mut self, types: &[RecordType]) -> Result<(), AllocError> {
+        for (row, record_type) in types.iter().enumerate() {
+            self.note_inputs(row, record_type)?;
+        }
+        Ok(())
+    }
+
+    fn note_lines(&mut self, lines: &[Line]) -> Result<(), AllocError> {
+        for (row, line) in lines.iter().enumerate() {
+            self.note_line(row, line)?;
+        }
+        Ok(())
+    }
+
+    /// What uses each field of a program.
+    pub fn of(alloc: Global, program: &Program) -> Result<Self, AllocError> {
+        let mut uses = Uses {
+            fields: Vec::new(alloc),
+        };
+        uses.note_program(alloc, program)?;
+        Ok(uses)
+    }
+
+    fn note_program(&mut self, alloc: Global, program: &Program) -> Result<(), AllocError> {
+        let rows = program.rows();
+        for _ in 0..=rows.fields.len() {
+            self.fields.push(Vec::new(alloc))?;
+        }
+        self.note_types(&rows.types)?;
+        self.note_lines(&rows.lines)?;
+        self.note_places(program)
+    }
+
+    /// Writes what uses a field.
+    pub fn write(&self, out: &mut TextWriter, field: u16) {
+        if let Some(uses) = self.fields.get(usize::from(field)) {
+            write_rows(out, "  from type", uses, By::Type);
+            write_rows(out, "  set at", uses, By::Setting);
+            write_rows(out, "  used at", uses, By::Using);
+            write_rows(out, "  on line", uses, By::Line);
+        }
+    }
+}

@@ -1,0 +1,189 @@
+//! What the cards of a source say about the rows of its object program: the names of its fields, and the cards of its rows.
+
+ghost use Rattle.std.specs.Prelude.{◌≤◌, length};
+
+use rpg_cards::{IndexedCards, SpecCard, has_instruction, joins, level, test};
+use rpg_sheet_specs::{CalculationSpec, InputSpec, OutputSpec, Spec, Word};
+use std::alloc::{AllocError, Global};
+
+/// A name, and the card that defines it first. Every program has UDATE and PAGE, which no card has to define.
+#[derive(Drop)]
+struct NamedField {
+    name: Word<6>,
+    card: Option<u16>,
+}
+
+/// The card that a record type or a line begins with, or that of one of its fields.
+#[derive(Clone, Copy)]
+struct RowCard {
+    row: usize,
+    card: u16,
+}
+
+/// What the cards of a source say about the rows of its object program. Rows and places are counted from 0, the fields of a program from 1.
+#[derive(Drop)]
+pub struct SourceRows {
+    fields: Vec<NamedField>,
+    types: Vec<RowCard>,
+    lines: Vec<RowCard>,
+    places: Vec<u16>,
+}
+
+/// How many instructions a card becomes: one for the indicator that its calculation waits for, one for its conditions, one for its operation.
+fn instruction_count(calculation: &CalculationSpec) -> usize {
+    let level = usize::from(level(calculation.control_level).is_some());
+    let test = usize::from(test(calculation).is_some());
+    level + test + usize::from(has_instruction(calculation))
+}
+
+/// Notes the card of a further row, or of a field of the last one.
+fn note(cards: &mut Vec<RowCard>, card: u16, is_first: bool) -> Result<(), AllocError> {
+    let row = match cards.last() {
+        Some(last) => last.row.saturating_add(usize::from(is_first)),
+        None => 0,
+    };
+    Ok(cards.push(RowCard { row, card })?)
+}
+
+/// The card of a row, whose place is 0, or of one of its fields.
+fn card_at(cards: &[RowCard], row: usize, place: usize) -> Option<u16> {
+    let first = cards.iter().position(|it| it.row == row)?;
+    let found = cards.get(first.checked_add(place)?)?;
+    if found.row == row {
+        Some(found.card)
+    } else {
+        None
+    }
+}
+
+impl SourceRows {
+    /// What is said where the source isn't known.
+    pub fn none(alloc: Global) -> Self {
+        SourceRows {
+            fields: Vec::new(alloc),
+            types: Vec::new(alloc),
+            lines: Vec::new(alloc),
+            places: Vec::new(alloc),
+        }
+    }
+
+    /// What the cards of a source without a fault say.
+    pub fn of_cards(alloc: Global, cards: &[SpecCard]) -> Result<Self, AllocError> {
+        let source = IndexedCards::new(alloc, cards)?;
+        let mut rows = SourceRows::none(alloc);
+        rows.note_cards(&source)?;
+        Ok(rows)
+    }
+
+    fn note_cards(&mut self, source: &IndexedCards) -> Result<(), AllocError> {
+        let mut definitions = 0;
+        let mut places = 0;
+        self.note_name(b"UDATE", None)?;
+        self.note_name(b"PAGE", None)?;
+        for card in source.as_slice() {
+            definitions = self.note_names(source, card, definitions)?;
+            places = self.note_row(card, places)?;
+        }
+        self.places.truncate(places);
+        Ok(())
+    }
+
+    fn note_name(&mut self, name: &[u8], card: Option<u16>) -> Result<(), AllocError>
+        requires { length name.now ≤ 6 }
+    {
+        let name = Word::new(name);
+        Ok(self.fields.push(NamedField { name, card })?)
+    }
+
+    /// Notes the names that a card defines first, and returns how many definitions there are up to it.
+    fn note_names(
+        &mut self,
+        source: &IndexedCards,
+        card: &SpecCard,
+        before: usize,
+    ) -> Result<usize, AllocError> {
+        let mut place = before;
+        for definition in card.definitions() {
+            if source.is_new_name(place, &definition.name) {
+                self.note_name(definition.name.as_slice(), Some(card.number))?;
+            }
+            place = place.saturating_add(1);
+        }
+        Ok(place)
+    }
+
+    /// Notes the row or the instructions of a card. So many places are those of calculations that are done with.
+    fn note_row(&mut self, card: &SpecCard, places: usize) -> Result<usize, AllocError> {
+        let number = card.number;
+        match &card.spec {
+            Spec::Input(InputSpec::Type(_)) => note(&mut self.types, number, true)?,
+            Spec::Input(InputSpec::Field(_)) => note(&mut self.types, number, false)?,
+            Spec::Output(OutputSpec::Record(_)) => note(&mut self.lines, number, true)?,
+            Spec::Output(OutputSpec::Field(_)) => note(&mut self.lines, number, false)?,
+            Spec::Calculation(calculation) => {
+                return self.note_places(number, calculation, places);
+            }
+            _ => {}
+        }
+        Ok(places)
+    }
+
+    /// Notes the instructions of a card. A calculation whose operation becomes none has none for its indicator and its conditions either.
+    fn note_places(
+        &mut self,
+        card: u16,
+        calculation: &CalculationSpec,
+        places: usize,
+    ) -> Result<usize, AllocError> {
+        if !joins(calculation) {
+            self.places.truncate(places);
+        }
+        for _ in 0..instruction_count(calculation) {
+            self.places.push(card)?;
+        }
+        Ok(if has_instruction(calculation) {
+            self.places.len()
+        } else {
+            places
+        })
+    }
+
+    fn field(&self, number: u16) -> Option<&NamedField> {
+        self.fields.get(usize::from(number).checked_sub(1)?)
+    }
+
+    /// The name of a field. Constants have none.
+    pub fn field_name(&self, number: u16) -> Option<&[u8]> {
+        Some(self.field(number)?.name.as_slice())
+    }
+
+    /// The card that defines a field first. None defines UDATE and PAGE, nor constants.
+    pub fn field_card(&self, number: u16) -> Option<u16> {
+        self.field(number)?.card
+    }
+
+    /// The card that a record type begins with.
+    pub fn type_card(&self, row: usize) -> Option<u16> {
+        card_at(&self.types, row, 0)
+    }
+
+    /// The card of an input field of a record type.
+    pub fn input_card(&self, row: usize, input: usize) -> Option<u16> {
+        card_at(&self.types, row, input.saturating_add(1))
+    }
+
+    /// The card that a line begins with.
+    pub fn line_card(&self, row: usize) -> Option<u16> {
+        card_at(&self.lines, row, 0)
+    }
+
+    /// The card of a field of a line.
+    pub fn line_field_card(&self, row: usize, field: usize) -> Option<u16> {
+        card_at(&self.lines, row, field.saturating_add(1))
+    }
+
+    /// The card that an instruction comes from, by its place in the whole program.
+    pub fn place_card(&self, place: usize) -> Option<u16> {
+        self.places.get(place).copied()
+    }
+}
