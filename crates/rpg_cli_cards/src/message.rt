@@ -13,7 +13,9 @@ pub fn line_message(
 ) -> Result<String, AllocError> {
     let mut out = TextWriter::new(alloc);
     let sentence = fault.sentence();
-    out.write_shown(path.as_bytes());
-    write!(out, ":{line}: {sentence}\n");
+    out.fill(
+        "{}:{}: {}\n",
+        &[path.as_bytes().into(), line.into(), sentence.into()],
+    );
     out.finish()
 }

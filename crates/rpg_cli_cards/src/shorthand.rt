@@ -19,82 +19,8 @@ const COLUMNS: usize = 80;
 /// The place of the form type, the first being 0.
 const FORM_TYPE: usize = 5;
 
-/// What the writer of a card is inside of.
-#[derive(Clone, Copy)]
-enum Within {
-    Columns,
-    /// A text between apostrophes.
-    Text,
-    Comment,
-}
-
-/// What the writer of a card is inside of, and whether an item is open there.
-#[derive(Clone, Copy)]
-struct Open {
-    item: bool,
-    within: Within,
-}
-
-impl Within {
-    /// What a card begins with.
-    fn of(line: &[u8]) -> Self {
-        match line.get(FORM_TYPE.saturating_add(1)) {
-            Some(b'*') => Within::Comment,
-            _ => Within::Columns,
-        }
-    }
-
-    fn behind(self, character: u8) -> Self {
-        match (self, character) {
-            (Within::Columns, b'\'') => Within::Text,
-            (Within::Text, b'\'') => Within::Columns,
-            _ => self,
-        }
-    }
-
-    fn is_columns(self) -> bool {
-        matches!(self, Within::Columns)
-    }
-}
-
-/// Whether a blank is in no item. In a text or a comment it is, unless what follows would be taken for an item.
-fn ends_item(open: Open, behind: &[u8]) -> bool {
-    !open.item || open.within.is_columns() || column_at(behind).is_some()
-}
-
-/// Whether a character begins an item.
-fn begins_item(open: Open, line: &[u8], place: usize) -> bool {
-    let column = place.saturating_add(1);
-    !open.item || (open.within.is_columns() && begins_range(line, column))
-}
-
-/// Writes a character of a card, and returns what is open after it.
-fn write_character(
-    out: &mut TextWriter,
-    open: Open,
-    line: &[u8],
-    place: usize,
-    character: u8,
-) -> Open {
-    let column = place.saturating_add(1);
-    let behind = line.get(column..).unwrap_or(&[]);
-    if place == FORM_TYPE || (character == b' ' && ends_item(open, behind)) {
-        return Open {
-            item: false,
-            ..open
-        };
-    }
-    if begins_item(open, line, place) {
-        write!(out, " {column}=");
-    }
-    out.write_char(char::from(character));
-    Open {
-        item: true,
-        within: open.within.behind(character),
-    }
-}
-
-/// Writes a card as a line of shorthand. A comment is one text.
+/// Writes a card as a line of shorthand. A blank ends an item, but for one in a text between apostrophes or in a comment, unless what follows it
+/// would be taken for an item.
 fn write_shorthand(out: &mut TextWriter, line: &[u8]) {
     let text = trimmed(line);
     if text.is_empty() {
@@ -102,12 +28,23 @@ fn write_shorthand(out: &mut TextWriter, line: &[u8]) {
     }
     let form = text.get(FORM_TYPE).copied().unwrap_or(b' ');
     out.write_char(char::from(form));
-    let mut open = Open {
-        item: false,
-        within: Within::of(text),
-    };
+    let is_comment = text.get(FORM_TYPE.saturating_add(1)) == Some(&b'*');
+    let mut in_item = false;
+    let mut in_text = is_comment;
     for (place, character) in text.iter().enumerate() {
-        open = write_character(out, open, text, place, *character);
+        let column = place.saturating_add(1);
+        let after = text.get(column..).unwrap_or(&[]);
+        let is_between = *character == b' ' && (!in_item || !in_text || column_at(after).is_some());
+        if place == FORM_TYPE || is_between {
+            in_item = false;
+            continue;
+        }
+        if !in_item || (!in_text && begins_range(text, column)) {
+            out.fill(" {}=", &[column.into()]);
+        }
+        out.write_char(char::from(*character));
+        in_item = true;
+        in_text = is_comment || in_text != (*character == b'\'');
     }
 }
 
