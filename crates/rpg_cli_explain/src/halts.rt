@@ -35,12 +35,12 @@ const HALT_6: &str = "alone\
 const HALT_7: &str = "alone\
     %- a record that is longer than the record length on the F card\n- a byte that is not one from blank to ~, as a tab, or a letter with an accent\
     %- a shorter record: it is padded with blanks\n- a line feed, or carriage return and line feed, after each record\
-    %the message names the column, the byte and the command that mends it; over standard\ninput, and of two files, the record isn't read again. docs/OLD_PROGRAMS.md converts EBCDIC";
+    %the message names the column, the byte and the command that mends it, but not over\nstandard input, which isn't read again. docs/OLD_PROGRAMS.md converts EBCDIC";
 
 const HALT_8: &str = "alone\
     %- a record with match fields whose value is lower than that of the record before it in its\n  file, as B1 and then A1 by a match field of columns 1 to 2\
     %- both files sorted by their match fields, equal values side by side\
-    %sort the file by its match fields, M9 before M8 and so on, in the order that\ndocs/format/MACHINE.md has for characters. In its file the record comes after the one whose\ndetail lines were put out last";
+    %sort the file by its match fields, M9 before M8 and so on, in the order that\ndocs/format/MACHINE.md has for characters. The message has both match values, each from M9 down to\nM1, and the number of the record that the lower one comes after";
 
 /// The page of a code.
 pub(crate) fn halt_page(halt: Halt) -> &'static str {

@@ -1,13 +1,11 @@
 //! The columns of a record that spell no number.
 
-use rpg_cycle_records::{fill, identify, is_good, type_at};
+use crate::again::HaltedRecord;
 use rpg_decimal::read_zoned;
 use rpg_effect::form::Kind;
-use rpg_effect::input::{InputField, InputFile};
+use rpg_effect::input::InputField;
 use rpg_object_program::forms::{form_at, kind_of};
 use rpg_object_program::row::Rows;
-use rpg_verify::Verified;
-use std::alloc::{AllocError, Global};
 
 /// The columns of an input field, the first of a record being 1, and the one of these whose character is no digit.
 #[derive(Clone, Copy)]
@@ -68,27 +66,16 @@ fn bad_columns_of(rows: &Rows, text: &[u8], input: InputField<u16>) -> Option<Ba
 }
 
 /// The first columns of a record that are to be a number and spell none, by the input fields of its type.
-pub(crate) fn bad_columns(
-    alloc: Global,
-    program: &Verified,
-    text: &[u8],
-) -> Result<Option<BadInput>, AllocError> {
-    if !is_good(program, InputFile::Primary, text) {
-        return Ok(None);
-    }
-    let mut record = Vec::new(alloc);
-    fill(&mut record, program, InputFile::Primary, text)?;
-    let Some(row) = identify(program, InputFile::Primary, &record).row else {
-        return Ok(None);
-    };
-    for (number, input) in type_at(program, row).inputs.iter().enumerate() {
-        if let Some(columns) = bad_columns_of(program.program().rows(), &record, *input) {
-            return Ok(Some(BadInput {
+pub(crate) fn bad_columns(rows: &Rows, record: &HaltedRecord) -> Option<BadInput> {
+    let row = record.row?;
+    for (number, input) in rows.types.get(row)?.inputs.iter().enumerate() {
+        if let Some(columns) = bad_columns_of(rows, record.filled(), *input) {
+            return Some(BadInput {
                 columns,
                 row,
                 input: number,
-            }));
+            });
         }
     }
-    Ok(None)
+    None
 }

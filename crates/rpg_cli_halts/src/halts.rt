@@ -1,5 +1,6 @@
 //! Halts.
 
+use crate::again::{HaltedRecord, Lower};
 use crate::columns::{BadColumns, BadInput, bad_columns};
 use crate::lines::write_indexed_fields;
 use crate::record::BadRecord;
@@ -21,17 +22,9 @@ pub struct HaltedCycle {
 }
 
 impl HaltedCycle {
-    /// Whether the text of a record shows what was wrong: columns that were no number when its fields were filled, or its length or a byte of it.
-    pub fn is_of_columns(self) -> bool {
-        self.place.is_none() && matches!(self.halt, Halt::BadDigit | Halt::BadRecord)
-    }
-
-    /// The record that the halt is about, where it is known. Each cycle before has taken one; the fields of a record are filled, and detail
-    /// calculations done, in the cycle that takes it. With two files, the cycles don't show how many records were taken from each.
-    pub fn record(self, program: &Verified) -> Option<u64> {
-        if has_two_files(program) {
-            return None;
-        }
+    /// How many cycles took a record, up to the one that the halt is about, where it is known. The fields of a record are filled, and detail
+    /// calculations done, in the cycle that takes it.
+    fn cycles_of_records(self) -> Option<u64> {
         match self.place {
             Some(place) => match place.section {
                 Section::Detail => Some(self.cycles),
@@ -44,6 +37,24 @@ impl HaltedCycle {
                 Halt::IndicatorOn => self.cycles.checked_sub(1),
                 Halt::ZeroDivisor | Halt::BadIndex | Halt::AllowanceSpent => None,
             },
+        }
+    }
+
+    /// Whether the text of a record shows what was wrong with it.
+    fn is_of_text(self) -> bool {
+        self.place.is_none()
+            && matches!(
+                self.halt,
+                Halt::BadDigit | Halt::BadRecord | Halt::OutOfSequence
+            )
+    }
+
+    /// How many cycles' records have to be read once more, so that the halt can be told in full: of one file only if its text is needed.
+    pub fn cycles_again(self, program: &Verified) -> Option<u64> {
+        if has_two_files(program) || self.is_of_text() {
+            self.cycles_of_records()
+        } else {
+            None
         }
     }
 }
@@ -61,62 +72,53 @@ fn has_two_files(program: &Verified) -> bool {
     program.program().rows().has_file(InputFile::Secondary)
 }
 
-/// The names of all input files of the program.
-fn write_names(out: &mut TextWriter, program: &Verified, names: InputNames<'_>) {
-    out.write_shown(names.primary.as_bytes());
-    match names.secondary {
-        Some(secondary) if has_two_files(program) => {
-            out.write_str(" and ");
-            out.write_shown(secondary.as_bytes());
+impl<'a> InputNames<'a> {
+    /// The name of a file that is read.
+    fn of(self, file: InputFile) -> &'a str {
+        match (file, self.secondary) {
+            (InputFile::Secondary, Some(secondary)) => secondary,
+            (InputFile::Primary, _) | (InputFile::Secondary, None) => self.primary,
         }
-        _ => {}
     }
 }
 
-/// What stands in the columns that spell no number.
-fn write_columns(out: &mut TextWriter, bad: BadColumns, text: &[u8]) {
-    let BadColumns {
-        from,
-        to,
-        column,
-        ..
-    } = bad;
-    write!(out, ": columns {from} to {to} are \"");
-    out.write_shown(bad.of(text));
-    out.write_str("\", and ");
-    if let Some(character) = text.get(column.saturating_sub(1)) {
-        out.write_shown(&[*character]);
-    }
-    write!(out, " in column {column} is no digit");
+/// A halt of a job, with what is known of its record.
+#[derive(Clone, Copy)]
+struct Told<'a> {
+    names: InputNames<'a>,
+    program: &'a Verified,
+    halted: HaltedCycle,
+    /// The file of the record and its number there, the first being 1.
+    record: Option<(InputFile, u64)>,
+    found: Found<'a>,
 }
 
-/// What the text of a record shows about its halt.
+/// What is wrong with the record of a halt.
 #[derive(Clone, Copy)]
 enum Found<'a> {
     Nothing,
-    /// Columns that are to be a number.
+    /// Columns of its text that are to be a number.
     Input(BadInput, &'a [u8]),
-    /// Its length, or a byte of it.
+    /// Its length, or a byte of its text.
     Record(BadRecord, &'a [u8]),
+    /// Its match value.
+    Lower(Lower<'a>),
 }
 
 impl<'a> Found<'a> {
-    fn of(
-        alloc: Global,
-        program: &Verified,
-        halt: Halt,
-        text: &'a [u8],
-    ) -> Result<Self, AllocError> {
-        Ok(match halt {
-            Halt::BadRecord => match BadRecord::of(program, text) {
-                Some(bad) => Found::Record(bad, text),
-                None => Found::Nothing,
-            },
-            _ => match bad_columns(alloc, program, text)? {
-                Some(bad) => Found::Input(bad, text),
-                None => Found::Nothing,
-            },
-        })
+    fn of(program: &'a Verified, halted: HaltedCycle, record: &'a HaltedRecord) -> Option<Self> {
+        match (halted.place, halted.halt) {
+            (None, Halt::BadRecord) => {
+                let text = record.text();
+                Some(Found::Record(BadRecord::of(program, record.file, text)?, text))
+            }
+            (None, Halt::BadDigit) => {
+                let bad = bad_columns(program.program().rows(), record)?;
+                Some(Found::Input(bad, record.filled()))
+            }
+            (None, Halt::OutOfSequence) => Some(Found::Lower(record.lower(program)?)),
+            _ => None,
+        }
     }
 
     /// The first column that it is about, counted from 1.
@@ -125,104 +127,174 @@ impl<'a> Found<'a> {
             Found::Nothing => None,
             Found::Input(bad, _) => Some(bad.columns.from),
             Found::Record(bad, _) => Some(bad.column()),
+            Found::Lower(lower) => Some(lower.column),
         }
     }
 
     fn input(self) -> Option<BadInput> {
         match self {
             Found::Input(bad, _) => Some(bad),
-            Found::Nothing | Found::Record(_, _) => None,
+            Found::Nothing | Found::Record(_, _) | Found::Lower(_) => None,
         }
     }
 }
 
-/// Which instruction halted; where none did, what was wrong with the record or which output fields it may have been.
-fn write_place(out: &mut TextWriter, program: &Verified, halted: HaltedCycle, found: Found<'_>) {
-    match (halted.place, halted.halt, found) {
-        (Some(place), _, _) => {
-            out.write_str(": ");
-            write_instruction_at(out, program.program(), usize::from(place.number));
-        }
-        (None, Halt::BadIndex, _) => write_indexed_fields(out, program.program().rows()),
-        (None, _, Found::Input(bad, text)) => write_columns(out, bad.columns, text),
-        (None, _, Found::Record(_, _) | Found::Nothing) => {}
-    }
+/// What stands in the columns that spell no number.
+fn write_columns(out: &mut TextWriter, bad: BadColumns, text: &[u8]) {
+    let place = bad.column.saturating_sub(1);
+    out.fill(
+        ": columns {} to {} are \"{}\", and {} in column {} is no digit",
+        &[
+            bad.from.into(),
+            bad.to.into(),
+            bad.of(text).into(),
+            text.get(place..bad.column).unwrap_or(&[]).into(),
+            bad.column.into(),
+        ],
+    );
 }
 
-/// Which record it was, or what the cycle does.
-fn write_cycle(out: &mut TextWriter, program: &Verified, halted: HaltedCycle) {
-    let cycles = halted.cycles;
-    if has_two_files(program) {
-        write!(out, "it was cycle {cycles}");
-        return;
-    }
-    match (halted.record(program), halted.halt) {
-        (Some(record), Halt::IndicatorOn) => write!(out, "record {record} was the last one"),
-        (Some(record), _) => write!(out, "it was record {record}"),
-        (None, _) => write_between(out, cycles),
-    }
+/// How a match value is lower than the one before.
+fn write_lower(out: &mut TextWriter, lower: Lower<'_>) {
+    out.fill(
+        "match value \"{}\" is lower than \"{}\" of record {}",
+        &[
+            lower.value.into(),
+            lower.before.into(),
+            lower.follows.into(),
+        ],
+    );
 }
 
 /// What a cycle does that isn't of one record.
-fn write_between(out: &mut TextWriter, cycles: u64) {
-    match cycles.saturating_sub(1) {
-        0 => out.write_str("it was the first cycle, which takes record 1"),
-        before => write!(
-            out,
-            "it was cycle {cycles}, which puts out the detail lines of record {before} and then takes record {cycles}, or comes to the end of the input"
-        ),
+const BETWEEN: &str =
+    "it was cycle {}, which puts out the detail lines of record {} and then takes record {}, or comes to the end of the input";
+
+impl Told<'_> {
+    /// The name of the record's file; of all input files of the program if it isn't known.
+    fn write_names(self, out: &mut TextWriter) {
+        let InputNames { primary, secondary } = self.names;
+        match (self.record, secondary) {
+            (Some((file, _)), _) => out.write_shown(self.names.of(file).as_bytes()),
+            (None, Some(secondary)) if has_two_files(self.program) => out.fill(
+                "{} and {}",
+                &[primary.as_bytes().into(), secondary.as_bytes().into()],
+            ),
+            (None, _) => out.write_shown(primary.as_bytes()),
+        }
+    }
+
+    /// Where it halted: the file, with record and column as far as they are known.
+    fn write_spot(self, out: &mut TextWriter) {
+        self.write_names(out);
+        if let Some((_, record)) = self.record {
+            out.fill(":{}", &[record.into()]);
+        }
+        if let Some(column) = self.found.column() {
+            out.fill(":{}", &[column.into()]);
+        }
+    }
+
+    /// What was wrong.
+    fn write_sentence(self, out: &mut TextWriter) {
+        out.fill(": halt {}: ", &[self.halted.halt.number().into()]);
+        match self.found {
+            Found::Record(bad, text) => bad.write(out, text),
+            Found::Lower(lower) => write_lower(out, lower),
+            Found::Input(_, _) | Found::Nothing => out.write_str(self.halted.halt.sentence()),
+        }
+    }
+
+    /// Which instruction halted; where none did, which columns of the record, or which output fields it may have been.
+    fn write_place(self, out: &mut TextWriter) {
+        let program = self.program.program();
+        match (self.halted.place, self.halted.halt, self.found) {
+            (Some(place), _, _) => {
+                out.write_str(": ");
+                write_instruction_at(out, program, usize::from(place.number));
+            }
+            (None, Halt::BadIndex, _) => write_indexed_fields(out, program.rows()),
+            (None, _, Found::Input(bad, text)) => write_columns(out, bad.columns, text),
+            (None, _, _) => {}
+        }
+    }
+
+    /// Which record it was, or what the cycle does.
+    fn write_cycle(self, out: &mut TextWriter) {
+        let cycles = self.halted.cycles;
+        match (self.record, self.halted.halt) {
+            (Some((_, record)), Halt::IndicatorOn) => {
+                out.fill("record {} was the last one", &[record.into()]);
+            }
+            (Some((_, record)), _) => out.fill("it was record {}", &[record.into()]),
+            (None, _) if has_two_files(self.program) => {
+                out.fill("it was cycle {}", &[cycles.into()]);
+            }
+            (None, _) => match cycles.saturating_sub(1) {
+                0 => out.write_str("it was the first cycle, which takes record 1"),
+                before => out.fill(BETWEEN, &[cycles.into(), before.into(), cycles.into()]),
+            },
+        }
+    }
+
+    /// How many cycles were done before.
+    fn write_before(self, out: &mut TextWriter) {
+        match self.halted.cycles.saturating_sub(1) {
+            0 => out.write_str("; no cycle was done before\n"),
+            1 => out.write_str("; 1 cycle was done before, and what was put out stays\n"),
+            before => out.fill(
+                "; {} cycles were done before, and what was put out stays\n",
+                &[before.into()],
+            ),
+        }
     }
 }
 
-/// How many cycles were done before.
-fn write_before(out: &mut TextWriter, cycles: u64) {
-    match cycles.saturating_sub(1) {
-        0 => out.write_str("; no cycle was done before"),
-        1 => out.write_str("; 1 cycle was done before, and what was put out stays"),
-        before => write!(
-            out,
-            "; {before} cycles were done before, and what was put out stays"
-        ),
+/// The record that a halt is about, and its number: of one file the cycles tell it, of two the files themselves.
+fn place_of(
+    program: &Verified,
+    halted: HaltedCycle,
+    record: Option<&HaltedRecord>,
+) -> Option<(InputFile, u64)> {
+    match record {
+        Some(record) => Some((record.file, record.number)),
+        None if has_two_files(program) => None,
+        None => Some((InputFile::Primary, halted.cycles_of_records()?)),
     }
 }
 
-/// The diagnostic for a halt of a job by this program over the records of these files. The record that the halt is about makes it known which of
-/// its columns were no number, and the program's source which card it was.
+/// The diagnostic for a halt of a job by this program over the records of these files. The record that the halt is about makes it known what was wrong
+/// with it, and of two files which it came from; the program's source, which card it was.
 pub fn halt_message(
     alloc: Global,
     names: InputNames<'_>,
     program: &Verified,
     halted: HaltedCycle,
-    record: Option<&[u8]>,
+    record: Option<&HaltedRecord>,
     source: Option<HaltedSource<'_>>,
 ) -> Result<String, AllocError> {
     let found = match record {
-        Some(text) if halted.is_of_columns() => Found::of(alloc, program, halted.halt, text)?,
-        _ => Found::Nothing,
+        Some(record) => Found::of(program, halted, record).unwrap_or(Found::Nothing),
+        None => Found::Nothing,
+    };
+    let told = Told {
+        names,
+        program,
+        halted,
+        record: place_of(program, halted, record),
+        found,
     };
     let mut out = TextWriter::new(alloc);
-    write_names(&mut out, program, names);
-    if let Some(record) = halted.record(program) {
-        write!(out, ":{record}");
-    }
-    if let Some(column) = found.column() {
-        write!(out, ":{column}");
-    }
-    let number = halted.halt.number();
-    write!(out, ": halt {number}: ");
-    match found {
-        Found::Record(bad, text) => bad.write(&mut out, text),
-        Found::Input(_, _) | Found::Nothing => out.write_str(halted.halt.sentence()),
-    }
-    write_place(&mut out, program, halted, found);
+    told.write_spot(&mut out);
+    told.write_sentence(&mut out);
+    told.write_place(&mut out);
     out.write_char('\n');
     if let Some(source) = source {
         write_source(&mut out, program, halted, found.input(), source);
     }
-    write_names(&mut out, program, names);
+    told.write_names(&mut out);
     out.write_str(": ");
-    write_cycle(&mut out, program, halted);
-    write_before(&mut out, halted.cycles);
-    out.write_char('\n');
+    told.write_cycle(&mut out);
+    told.write_before(&mut out);
     out.finish()
 }

@@ -29,12 +29,12 @@ fn bad_byte(text: &[u8]) -> Option<usize> {
 }
 
 impl BadRecord {
-    /// What is wrong with a record of the primary file, if anything is.
-    pub fn of(program: &Verified, text: &[u8]) -> Option<Self> {
+    /// What is wrong with a record of a file, if anything is.
+    pub fn of(program: &Verified, file: InputFile, text: &[u8]) -> Option<Self> {
         if let Some(place) = bad_byte(text) {
             return Some(BadRecord::Byte(place));
         }
-        let length = usize::from(program.program().rows().input_length(InputFile::Primary));
+        let length = usize::from(program.program().rows().input_length(file));
         if text.len() > length {
             Some(BadRecord::TooLong(length))
         } else {
