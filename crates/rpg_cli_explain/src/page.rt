@@ -1,8 +1,11 @@
 //! What a page says of a code.
 
-/// A page of a code, without its heading. Cards stand in it as they are, each in a line of its own.
+/// A page of a code. Cards stand in it as they are, each in a line of its own.
 #[derive(Clone, Copy)]
 pub(crate) struct Page {
+    pub code: &'static str,
+    /// What is wrong, or what a rule does.
+    pub sentence: &'static str,
     /// Of which names, files or fields its examples speak.
     pub given: &'static str,
     /// What breaks the rule.
@@ -25,25 +28,39 @@ const ROWS: &str =
 const ANEW: &str =
     "compile the source again, or ask who made the object program. What rpg2 compile\nmakes is never refused, so its bytes were changed, or something else made it";
 
-/// A part of a text whose parts have `%` between them.
-fn part_of(text: &'static str, number: usize) -> &'static str {
-    text.split('%').nth(number).unwrap_or("")
+/// A part of a text, the first being 0; nothing where the text has fewer.
+fn part_of(text: &'static str, separator: char, number: usize) -> &'static str {
+    let mut rest = text;
+    for _ in 0..number {
+        match rest.split_once(separator) {
+            Some((_, behind)) => rest = behind,
+            None => return "",
+        }
+    }
+    match rest.split_once(separator) {
+        Some((part, _)) => part,
+        None => rest,
+    }
 }
 
 impl Page {
-    /// The page of a text with four parts: the word `cards`, `rows` or `alone` for what its examples are given, what breaks the rule, what keeps it,
-    /// and what to do, or the word `anew`.
-    pub fn of(text: &'static str) -> Self {
+    /// A page of a text of pages, the first being 0, with `@` between them. A page has `%` between its parts: the code, the sentence, the word `cards`
+    /// or `rows` for what its examples are given or no word, what breaks the rule, what keeps it, and what to do, if that isn't to compile anew. After
+    /// the last page all parts are empty.
+    pub fn of(pages: &'static str, number: usize) -> Self {
+        let text = part_of(pages, '@', number);
         Page {
-            given: match part_of(text, 0) {
+            code: part_of(text, '%', 0),
+            sentence: part_of(text, '%', 1),
+            given: match part_of(text, '%', 2) {
                 "cards" => CARDS,
                 "rows" => ROWS,
                 _ => "",
             },
-            breaks: part_of(text, 1),
-            keeps: part_of(text, 2),
-            advice: match part_of(text, 3) {
-                "anew" => ANEW,
+            breaks: part_of(text, '%', 3),
+            keeps: part_of(text, '%', 4),
+            advice: match part_of(text, '%', 5) {
+                "" => ANEW,
                 advice => advice,
             },
         }

@@ -1,34 +1,13 @@
 //! Pages as text.
 
 use crate::page::Page;
-use crate::topic::{FAMILIES, Family, Topic};
+use crate::topic::{FAMILIES, Topic};
 use rpg_cli_text::TextWriter;
 use std::alloc::{AllocError, Global};
 
 /// What stands before all pages.
 const TITLE: &str =
     "# What rpg2's codes mean\n\nrpg2 explain CODE prints one code of this list, as F16, S5, V21, B5 or halt 4; rpg2 explain prints them\nall. Cards stand below a ruler, which is a comment card: column 1 is the first of the line.\n";
-
-fn write_code(out: &mut TextWriter, topic: Topic) {
-    match topic {
-        Topic::Sheet(code) => out.write_str(code.text().as_str()),
-        Topic::Fault(code) => out.write_str(code.text().as_str()),
-        Topic::Warning(code) => out.write_str(code.text()),
-        Topic::Halt(halt) => {
-            let number = halt.number();
-            write!(out, "halt {number}");
-        }
-        Topic::Rule(rule) => {
-            let number = rule.number();
-            write!(out, "V{number}");
-        }
-        Topic::Bytes(code) => out.write_str(code.text()),
-        Topic::Rewriting(rule) => {
-            let number = rule.number();
-            write!(out, "A{number}");
-        }
-    }
-}
 
 /// What stands above cards: a ruler, which is a card itself, as `rpg2 cards --ruler` prints it.
 const RULER: &str =
@@ -40,8 +19,8 @@ const FENCE: &str = "```\n";
 /// What stands above the examples of a page.
 const fn headings(topic: Topic) -> (&'static str, &'static str) {
     match topic {
-        Topic::Rewriting(_) => ("Before", "After"),
-        _ => ("Breaks it", "Keeps it"),
+        Topic::Rewriting(_) => ("\nBefore:\n\n", "\nAfter:\n\n"),
+        _ => ("\nBreaks it:\n\n", "\nKeeps it:\n\n"),
     }
 }
 
@@ -69,92 +48,51 @@ fn write_examples(out: &mut TextWriter, text: &str) {
     }
 }
 
-/// Writes what breaks the rule, or keeps it, below its heading.
-fn write_part(out: &mut TextWriter, heading: &str, examples: &str) {
-    out.fill("\n{}:\n\n", &[heading.into()]);
-    write_examples(out, examples);
-}
-
 fn write_page(out: &mut TextWriter, topic: Topic) {
-    let Page {
-        given,
-        breaks,
-        keeps,
-        advice,
-    } = topic.page();
-    let sentence = topic.sentence();
-    let behind = topic.behind();
-    out.write_str("## ");
-    write_code(out, topic);
-    write!(out, ": {sentence}\n");
-    if !given.is_empty() {
-        write!(out, "\n{given}\n");
+    let page = topic.page();
+    out.fill("## {}: {}\n", &[page.code.into(), page.sentence.into()]);
+    if !page.given.is_empty() {
+        out.fill("\n{}\n", &[page.given.into()]);
     }
     let (bad, good) = headings(topic);
-    write_part(out, bad, breaks);
-    write_part(out, good, keeps);
-    write!(out, "\nWhat to do: {advice}.\n\nThen: {behind}.\n");
+    out.write_str(bad);
+    write_examples(out, page.breaks);
+    out.write_str(good);
+    write_examples(out, page.keeps);
+    out.fill(
+        "\nWhat to do: {}.\n\nThen: {}.\n",
+        &[page.advice.into(), topic.behind().into()],
+    );
 }
 
 /// The pages of codes, one after another.
 pub fn pages_text(alloc: Global, topics: &[Topic]) -> Result<String, AllocError> {
     let mut out = TextWriter::new(alloc);
-    let mut is_first = true;
-    for topic in topics {
-        if !is_first {
+    for (place, topic) in topics.iter().enumerate() {
+        if place > 0 {
             out.write_char('\n');
         }
-        is_first = false;
         write_page(&mut out, *topic);
     }
     out.finish()
 }
 
-/// What is written of each code.
-#[derive(Clone, Copy)]
-enum Form {
-    /// Its page, after an empty line.
-    Page,
-    /// The code and its sentence in a line.
-    Line,
-}
-
-/// The column in which sentences begin.
-const SENTENCES: usize = 8;
-
-fn write_line(out: &mut TextWriter, topic: Topic) {
-    let end = out.len().saturating_add(SENTENCES);
-    write_code(out, topic);
-    out.pad_to(end);
-    out.write_str(topic.sentence());
-    out.write_char('\n');
-}
-
-fn write_next(out: &mut TextWriter, form: Form, topic: Topic) {
-    match form {
-        Form::Page => {
-            out.write_char('\n');
-            write_page(out, topic);
-        }
-        Form::Line => write_line(out, topic),
-    }
-}
-
 /// More than the codes of any family.
 const MOST: usize = 99;
 
-fn write_family(out: &mut TextWriter, form: Form, family: Family) {
-    for at in 0..MOST {
-        let Some(topic) = family.topic(at) else {
+/// Writes the pages of a family, each after an empty line; or a line for each, with the code and its sentence.
+fn write_family(out: &mut TextWriter, family: Topic, has_pages: bool) {
+    for number in 1..MOST {
+        let Some(topic) = family.sibling_if_any(number) else {
             break;
         };
-        write_next(out, form, topic);
-    }
-}
-
-fn write_all(out: &mut TextWriter, form: Form) {
-    for family in FAMILIES {
-        write_family(out, form, family);
+        if has_pages {
+            out.write_char('\n');
+            write_page(out, topic);
+        } else {
+            let Page { code, sentence, .. } = topic.page();
+            out.fill("{:<8}{}\n", &[code.into(), sentence.into()]);
+        }
     }
 }
 
@@ -162,13 +100,17 @@ fn write_all(out: &mut TextWriter, form: Form) {
 pub fn all_pages(alloc: Global) -> Result<String, AllocError> {
     let mut out = TextWriter::new(alloc);
     out.write_str(TITLE);
-    write_all(&mut out, Form::Page);
+    for family in FAMILIES {
+        write_family(&mut out, family, true);
+    }
     out.finish()
 }
 
 /// A line for each code: the code and its sentence.
 pub fn list_text(alloc: Global) -> Result<String, AllocError> {
     let mut out = TextWriter::new(alloc);
-    write_all(&mut out, Form::Line);
+    for family in FAMILIES {
+        write_family(&mut out, family, false);
+    }
     out.finish()
 }

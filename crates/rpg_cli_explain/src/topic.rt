@@ -1,151 +1,99 @@
-//! What a page is about.
+//! Codes, and their pages.
 
-use crate::bytes::byte_page;
-use crate::faults::fault_page;
-use crate::halts::halt_page;
+use crate::bytes::BYTES;
+use crate::faults::FAULTS;
+use crate::halts::HALTS as HALT_PAGES;
 use crate::page::Page;
-use crate::rewriting::{rewriting_page, rewriting_sentence};
-use crate::rules::rule_page;
-use crate::sheets::sheet_page;
-use crate::warnings::warning_page;
-use rpg_effect::halt::Halt;
-use rpg_faults::FaultCode;
-use rpg_fit_deck::Rule as Rewriting;
-use rpg_object_format::fault::Code;
-use rpg_sheet::SheetCode;
-use rpg_verify_rules::{RULES, Rule};
-use rpg_warning_codes::WarningCode;
+use crate::rewriting::REWRITINGS;
+use crate::rules::RULES;
+use crate::sheets::SHEETS;
+use crate::warnings::WARNINGS;
 
-/// A code that is explained.
+/// A code that is explained, by its number, the first of a family being 1.
 #[derive(Clone, Copy)]
 pub enum Topic {
-    Sheet(SheetCode),
-    Fault(FaultCode),
-    Warning(WarningCode),
-    Halt(Halt),
-    Rule(Rule),
-    Bytes(Code),
+    Sheet(usize),
+    Fault(usize),
+    Warning(usize),
+    Halt(usize),
+    Rule(usize),
+    Bytes(usize),
     /// A rule by which old decks are rewritten.
-    Rewriting(Rewriting),
+    Rewriting(usize),
 }
 
-/// The codes of one kind. Each has one letter or word, and numbers from 1.
-#[derive(Clone, Copy)]
-pub(crate) enum Family {
-    Sheets,
-    Faults,
-    Warnings,
-    Halts,
-    Rules,
-    Bytes,
-    Rewritings,
-}
+/// The numbers of halts.
+pub const HALTS: [usize; 8] = [1, 2, 3, 4, 5, 6, 7, 8];
 
-/// All families, in the order of their pages.
-pub(crate) const FAMILIES: [Family; 7] = [
-    Family::Sheets,
-    Family::Faults,
-    Family::Warnings,
-    Family::Halts,
-    Family::Rules,
-    Family::Bytes,
-    Family::Rewritings,
-];
-
-const SHEETS: [SheetCode; 6] = [
-    SheetCode::S1,
-    SheetCode::S2,
-    SheetCode::S3,
-    SheetCode::S4,
-    SheetCode::S5,
-    SheetCode::S6,
-];
-
-const WARNINGS: [WarningCode; 6] = [
-    WarningCode::W1,
-    WarningCode::W2,
-    WarningCode::W3,
-    WarningCode::W4,
-    WarningCode::W5,
-    WarningCode::W6,
-];
-
-/// The halts, in the order of their numbers.
-pub const HALTS: [Halt; 8] = [
-    Halt::ZeroDivisor,
-    Halt::BadIndex,
-    Halt::NoRecordType,
-    Halt::BadDigit,
-    Halt::AllowanceSpent,
-    Halt::IndicatorOn,
-    Halt::BadRecord,
-    Halt::OutOfSequence,
-];
-
-const BYTES: [Code; 7] = [
-    Code::NoObject,
-    Code::Version,
-    Code::CutShort,
-    Code::LeftOver,
-    Code::NotAllowed,
-    Code::Unused,
-    Code::PastLimit,
-];
-
-/// The rules by which old decks are rewritten.
-const REWRITINGS: [Rewriting; 21] = [
-    Rewriting::Comments,
-    Rewriting::Columns,
-    Rewriting::Switches,
-    Rewriting::Forms,
-    Rewriting::Tables,
-    Rewriting::OrTypes,
-    Rewriting::Sequence,
-    Rewriting::NumberedPages,
-    Rewriting::OrSpaces,
-    Rewriting::Figures,
-    Rewriting::Moves,
-    Rewriting::InputArrays,
-    Rewriting::WholeCalculations,
-    Rewriting::WholeOutputs,
-    Rewriting::Places,
-    Rewriting::Pages,
-    Rewriting::Words,
-    Rewriting::Dollars,
-    Rewriting::Fetch,
-    Rewriting::Dates,
-    Rewriting::Disks,
+/// The codes of one kind: the first of each, in the order of their pages.
+pub(crate) const FAMILIES: [Topic; 7] = [
+    Topic::Sheet(1),
+    Topic::Fault(1),
+    Topic::Warning(1),
+    Topic::Halt(1),
+    Topic::Rule(1),
+    Topic::Bytes(1),
+    Topic::Rewriting(1),
 ];
 
 impl Topic {
-    /// What is wrong, in a sentence.
-    pub fn sentence(self) -> &'static str {
+    /// What the codes of its family begin with.
+    const fn letters(self) -> &'static str {
         match self {
-            Topic::Sheet(code) => code.sentence(),
-            Topic::Fault(code) => code.sentence(),
-            Topic::Warning(code) => code.sentence(),
-            Topic::Halt(halt) => halt.sentence(),
-            Topic::Rule(rule) => rule.sentence(),
-            Topic::Bytes(code) => code.sentence(),
-            Topic::Rewriting(rule) => rewriting_sentence(rule),
+            Topic::Sheet(_) => "S",
+            Topic::Fault(_) => "F",
+            Topic::Warning(_) => "W",
+            Topic::Halt(_) => "halt",
+            Topic::Rule(_) => "V",
+            Topic::Bytes(_) => "B",
+            Topic::Rewriting(_) => "A",
         }
+    }
+
+    /// The code of its family with this number.
+    const fn sibling(self, number: usize) -> Topic {
+        match self {
+            Topic::Sheet(_) => Topic::Sheet(number),
+            Topic::Fault(_) => Topic::Fault(number),
+            Topic::Warning(_) => Topic::Warning(number),
+            Topic::Halt(_) => Topic::Halt(number),
+            Topic::Rule(_) => Topic::Rule(number),
+            Topic::Bytes(_) => Topic::Bytes(number),
+            Topic::Rewriting(_) => Topic::Rewriting(number),
+        }
+    }
+
+    /// The code of its family with this number, if there is one.
+    pub(crate) fn sibling_if_any(self, number: usize) -> Option<Topic> {
+        let topic = self.sibling(number);
+        if number == 0 || topic.page().code.is_empty() {
+            None
+        } else {
+            Some(topic)
+        }
+    }
+
+    pub(crate) fn page(self) -> Page {
+        let (pages, number) = match self {
+            Topic::Sheet(number) => (SHEETS, number),
+            Topic::Fault(number) => (FAULTS, number),
+            Topic::Warning(number) => (WARNINGS, number),
+            Topic::Halt(number) => (HALT_PAGES, number),
+            Topic::Rule(number) => (RULES, number),
+            Topic::Bytes(number) => (BYTES, number),
+            Topic::Rewriting(number) => (REWRITINGS, number),
+        };
+        Page::of(pages, number.saturating_sub(1))
+    }
+
+    /// What is wrong, or what a rule does, in a sentence.
+    pub fn sentence(self) -> &'static str {
+        self.page().sentence
     }
 
     /// What to do.
     pub fn advice(self) -> &'static str {
         self.page().advice
-    }
-
-    pub(crate) fn page(self) -> Page {
-        Page::of(match self {
-            Topic::Sheet(code) => sheet_page(code),
-            Topic::Fault(code) => fault_page(code),
-            Topic::Warning(code) => warning_page(code),
-            Topic::Halt(halt) => halt_page(halt),
-            Topic::Rule(rule) => rule_page(rule),
-            Topic::Bytes(code) => byte_page(code),
-            Topic::Rewriting(rule) => rewriting_page(rule),
-        })
     }
 
     /// What happens then: when it is reported, what becomes of the work, and the exit status.
@@ -176,50 +124,20 @@ impl Topic {
     }
 }
 
-impl Family {
-    /// What a code of the family begins with.
-    const fn letters(self) -> &'static str {
-        match self {
-            Family::Sheets => "S",
-            Family::Faults => "F",
-            Family::Warnings => "W",
-            Family::Halts => "halt",
-            Family::Rules => "V",
-            Family::Bytes => "B",
-            Family::Rewritings => "A",
-        }
-    }
-
-    /// The topic of a code, the first of the family being 0.
-    pub fn topic(self, at: usize) -> Option<Topic> {
-        Some(match self {
-            Family::Sheets => Topic::Sheet(*SHEETS.get(at)?),
-            Family::Faults => Topic::Fault(*FaultCode::all().get(at)?),
-            Family::Warnings => Topic::Warning(*WARNINGS.get(at)?),
-            Family::Halts => Topic::Halt(*HALTS.get(at)?),
-            Family::Rules => Topic::Rule(*RULES.get(at)?),
-            Family::Bytes => Topic::Bytes(*BYTES.get(at)?),
-            Family::Rewritings => Topic::Rewriting(*REWRITINGS.get(at)?),
-        })
-    }
-}
-
 /// The number after a family's letters, whatever their case: 16 of `f16` for `F`, 4 of `Halt 4` for `halt`.
 fn number_behind(code: &str, letters: &str) -> Option<usize> {
     let given = code.get(..letters.len())?;
     if !given.eq_ignore_ascii_case(letters) {
         return None;
     }
-    let digits = code.get(letters.len()..)?;
-    let number: usize = digits.trim().parse().ok()?;
-    number.checked_sub(1)
+    code.get(letters.len()..)?.trim().parse().ok()
 }
 
 /// What the code of a person is about, as `F16`, `s5` or `halt 4`.
 pub fn topic_of(code: &str) -> Option<Topic> {
     for family in FAMILIES {
-        if let Some(at) = number_behind(code, family.letters()) {
-            return family.topic(at);
+        if let Some(number) = number_behind(code, family.letters()) {
+            return family.sibling_if_any(number);
         }
     }
     None

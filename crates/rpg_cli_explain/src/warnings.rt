@@ -1,45 +1,28 @@
 //! The pages of W1 to W6.
 
-use rpg_warning_codes::WarningCode;
-
-const W1: &str = "cards\
+/// The pages, in the order of their codes, each as [`crate::page::Page`] reads it.
+pub(crate) const WARNINGS: &str = "\
+    W1%an indicator is asked for, and nothing turns it on%cards\
     %- where no card turns on 02, a line that is never put out:\n\n     OPRINT   D        02\
     %- an indicator that a record type, an input field, a result, SETON or a full page turns on:\n\n     IINPUT   AA  01\n     OPRINT   D        01\n\n- L0 to L9, LR and 1P, which the machine turns on\
-    %look for the card that was to turn it on: a record type (19-20), an input field\n(65-70), a result (54-59), or the F card of the printer (33-34). SETOF turns none on";
-
-const W2: &str = "cards\
+    %look for the card that was to turn it on: a record type (19-20), an input field\n(65-70), a result (54-59), or the F card of the printer (33-34). SETOF turns none on\
+    @W2%an indicator is turned on, and no card asks for it%cards\
     %- where no card asks for 30:\n\n     C           AMT       COMP 100                  30\
     %- record types, control levels, a full page, LR and H1 to H9, and the indicator of LOKUP, which\n  has to have one: nobody need ask for these\
-    %take it away, or look for the condition that was to ask for it";
-
-const W3: &str = "cards\
+    %take it away, or look for the condition that was to ask for it\
+    @W3%a field lies over another of the same line%cards\
     %- TOT takes places 6 to 10 of the line, and AMT 10 to 12:\n\n     O                         TOT       10\n     O                         AMT       12\
     %- fields side by side; a field with conditions (23-31) may stand where another does:\n\n     O                         TOT       10\n     O                         AMT       13\n     O                 30                13 'OUT'\
-    %count the places: a number takes one for each digit, and what its edit code or word\nadds. rpg2 list draws each line with its places";
-
-const W4: &str = "cards\
+    %count the places: a number takes one for each digit, and what its edit code or word\nadds. rpg2 list draws each line with its places\
+    @W4%a result has fewer digits before its point than a factor%cards\
     %- TOT has 5 digits before its point, and SUM 4:\n\n     C           TOT       MULT AMT       SUM     40\
     %- a result with as many as the longer factor. So may a sum be, and a product with a number that\n  has none before its point may be shorter:\n\n     C           TOT       MULT AMT       SUM     80\n     C           TOT       ADD  AMT       TOT\n     C           TOT       MULT .05       TAX     42\
-    %give the result field more digits (49-51); a product can have as many as both\nfactors together. Digits on the left that have no place are lost, and nothing halts";
-
-const W5: &str = "cards\
+    %give the result field more digits (49-51); a product can have as many as both\nfactors together. Digits on the left that have no place are lost, and nothing halts\
+    @W5%a control level is asked for, and no field has it%cards\
     %- where no input field has L2 in 59-60:\n\n     OPRINT   T        L2\
     %- a level that an input field has, or that a record type, a result or SETON turns on:\n\n     I                                        1   3 REGIONL2\n     OPRINT   T        L2\
-    %write the level into 59-60 of its control field, or take the condition away. A level\nwithout a field is on where a higher one breaks, and at the end";
-
-const W6: &str = "cards\
+    %write the level into 59-60 of its control field, or take the condition away. A level\nwithout a field is on where a higher one breaks, and at the end\
+    @W6%PAGE has conditions, and isn't set back to 1%cards\
     %- a page number with a condition of its own (23-31):\n\n     O                 01      PAGE      10\
     %- PAGE without conditions, on a line with conditions:\n\n     OPRINT   H  1     1P\n     O       OR        OF\n     O                         PAGE      10\
     %where the page is to begin with 1 again, Z-ADD 0 to PAGE in the calculations, and take\nthe condition away. Here it decides whether PAGE is printed, and counted";
-
-/// The page of a code.
-pub(crate) fn warning_page(code: WarningCode) -> &'static str {
-    match code {
-        WarningCode::W1 => W1,
-        WarningCode::W2 => W2,
-        WarningCode::W3 => W3,
-        WarningCode::W4 => W4,
-        WarningCode::W5 => W5,
-        WarningCode::W6 => W6,
-    }
-}
