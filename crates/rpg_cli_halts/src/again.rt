@@ -160,7 +160,7 @@ enum Step {
 }
 
 /// Takes records in, and selects one; nothing where none is left.
-fn step<R: BufRead>(
+fn take_step<R: BufRead>(
     program: &Verified,
     primary: &mut Again<R>,
     secondary: &mut Again<R>,
@@ -198,7 +198,7 @@ pub fn record_again<R: BufRead + Drop>(
     };
     let mut found = None;
     for cycle in 1..=cycles {
-        match step(program, &mut primary, &mut secondary)? {
+        match take_step(program, &mut primary, &mut secondary)? {
             Step::Halts(_) if cycle < cycles => return None,
             Step::Halts(file) | Step::Selects(file) => found = Some(file),
         }

@@ -2,7 +2,7 @@
 
 use crate::chart::{Chart, first_place};
 use crate::files::{length_words, write_heading};
-use crate::picture::picture;
+use crate::picture::picture_of;
 use rpg_cards::{FileUse, IndexedCards, in_places, time_of, use_of};
 use rpg_cli_show_fields::{
     name_text, time_word, write_code, write_quoted, write_spacing, write_when,
@@ -87,7 +87,7 @@ fn write_chart(
 }
 
 fn draw_field(chart: &mut Chart, source: &IndexedCards, field: &OutputField) {
-    if let Some(picture) = picture(source, field) {
+    if let Some(picture) = picture_of(source, field) {
         let text = picture.text();
         if let Some(first) = first_place(text.len(), field.end) {
             chart.draw(first, text);
@@ -98,7 +98,7 @@ fn draw_field(chart: &mut Chart, source: &IndexedCards, field: &OutputField) {
 /// The places of a field: its end alone where it isn't known how wide it is.
 fn write_places(out: &mut TextWriter, source: &IndexedCards, field: &OutputField) {
     let end = field.end;
-    let first = match picture(source, field) {
+    let first = match picture_of(source, field) {
         Some(picture) => first_place(picture.text().len(), end),
         None => None,
     };

@@ -38,7 +38,7 @@ impl Picture {
 
 /// What an output field prints: a constant's characters, an X for each character of a text, and a number whose digits are nines as it is
 /// edited, below zero where it is. Nothing where the name has no form, or the field isn't edited by what stands there.
-pub(crate) fn picture(source: &IndexedCards, field: &OutputField) -> Option<Picture> {
+pub(crate) fn picture_of(source: &IndexedCards, field: &OutputField) -> Option<Picture> {
     match &field.operand {
         None => Some(Picture::of(field.text.as_ref()?.as_slice())),
         Some(entry) => match source.form_of_name(&entry.name) {
