@@ -51,6 +51,15 @@ fn first_column(fields: &[ControlField]) -> usize {
     usize::from(column)
 }
 
+/// A line without its end.
+fn text_of(line: &[u8]) -> &[u8] {
+    if line.is_empty() {
+        line
+    } else {
+        first_line(line).0
+    }
+}
+
 impl HaltedRecord {
     fn unread(alloc: Global, program: &Verified, file: InputFile) -> Result<Self, AllocError> {
         Ok(HaltedRecord {
@@ -66,7 +75,7 @@ impl HaltedRecord {
 
     /// The record as it stands in its file.
     pub(crate) fn text(&self) -> &[u8] {
-        first_line(&self.line).0
+        text_of(&self.line)
     }
 
     /// The record, filled with blanks to its length, if it is one of characters and not too long.
@@ -87,7 +96,7 @@ impl HaltedRecord {
 
     /// Lets the record wait. Returns whether its job goes on.
     fn wait(&mut self, program: &Verified) -> Result<bool, AllocError> {
-        let text = first_line(&self.line).0;
+        let text = text_of(&self.line);
         if !is_good(program, self.file, text) {
             return Ok(false);
         }
