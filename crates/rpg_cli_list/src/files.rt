@@ -66,11 +66,11 @@ fn write_file(out: &mut TextWriter, card: u16, file: &FileSpec) {
     };
     let name = name_text(file.name.as_slice());
     let words = length_words(file);
-    out.fill("  {:<8}  {:<9}  ", &[name.into(), serves.into()]);
-    out.fill(
-        "{:>4} {}  card {}",
-        &[file.record_length.into(), words.into(), card.into()],
-    );
+    out.fill("  {:<8}  ", &[name.into()]);
+    out.fill("{:<9}  ", &[serves.into()]);
+    out.fill("{:>4} ", &[file.record_length.into()]);
+    out.fill("{}  ", &[words.into()]);
+    out.fill("card {}", &[card.into()]);
     write_named(out, ", turns on {} where a page is full", overflow_of(file));
     out.write_str(", named on ");
 }

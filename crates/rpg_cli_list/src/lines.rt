@@ -3,12 +3,11 @@
 use crate::chart::{Chart, first_place};
 use crate::files::{length_words, write_heading};
 use crate::picture::picture_of;
-use rpg_cards::{FileUse, IndexedCards, in_places, time_of, use_of};
+use rpg_cards::{FileUse, IndexedCards, SpecCard, in_places, time_of, use_of};
 use rpg_cli_show_fields::{
     name_text, time_word, write_code, write_quoted, write_spacing, write_when,
 };
 use rpg_cli_text::TextWriter;
-use rpg_deck::{Card, Group};
 use rpg_edit_marks::Fill;
 use rpg_effect::line::Spacing;
 use rpg_faults_operands::fill_in;
@@ -49,7 +48,7 @@ fn write_head(
     card: u16,
     record: &OutputRecord,
     file: Option<&FileSpec>,
-    followers: &[Card<&OutputSpec>],
+    followers: &[SpecCard],
 ) {
     let time = time_word(time_of(record.time));
     out.fill("  line, card {}: {}", &[card.into(), time.into()]);
@@ -61,9 +60,9 @@ fn write_head(
     }
     write_when(out, ", when", in_places(record.conditions));
     for card in followers {
-        match card.spec {
-            OutputSpec::And(conditions) => write_when(out, " and", in_places(*conditions)),
-            OutputSpec::Or(conditions) => write_when(out, ", or", in_places(*conditions)),
+        match card.output() {
+            Some(OutputSpec::And(conditions)) => write_when(out, " and", in_places(*conditions)),
+            Some(OutputSpec::Or(conditions)) => write_when(out, ", or", in_places(*conditions)),
             _ => {}
         }
     }
@@ -71,15 +70,10 @@ fn write_head(
 }
 
 /// Draws the fields of a line.
-fn write_chart(
-    out: &mut TextWriter,
-    source: &IndexedCards,
-    length: u16,
-    followers: &[Card<&OutputSpec>],
-) {
+fn write_chart(out: &mut TextWriter, source: &IndexedCards, length: u16, followers: &[SpecCard]) {
     let mut chart = Chart::new(length, b' ');
     for card in followers {
-        if let OutputSpec::Field(field) = card.spec {
+        if let Some(field) = card.output_field() {
             draw_field(&mut chart, source, field);
         }
     }
@@ -149,14 +143,14 @@ fn write_line(
     out: &mut TextWriter,
     source: &IndexedCards,
     file: Option<&FileSpec>,
-    followers: &[Card<&OutputSpec>],
+    followers: &[SpecCard],
 ) {
     if let Some(file) = file {
         write_chart(out, source, file.record_length, followers);
     }
     let mut is_first = true;
     for card in followers {
-        if let OutputSpec::Field(field) = card.spec {
+        if let Some(field) = card.output_field() {
             if is_first {
                 out.write_str("    card  places     printed\n");
             }
@@ -166,28 +160,38 @@ fn write_line(
     }
 }
 
+/// Those of these cards before the next line.
+fn before_line(cards: &[SpecCard]) -> &[SpecCard] {
+    for (place, card) in cards.iter().enumerate() {
+        if card.line().is_some() {
+            return cards.get(..place).unwrap_or(&[]);
+        }
+    }
+    cards
+}
+
 /// Writes all lines as they are put out.
-pub(crate) fn write_lines(
-    out: &mut TextWriter,
-    source: &IndexedCards,
-    lines: &[Group<OutputSpec>],
-) {
+pub(crate) fn write_lines(out: &mut TextWriter, source: &IndexedCards) {
+    let cards = source.as_slice();
     let mut file = None;
-    for (place, group) in lines.iter().enumerate() {
-        let OutputSpec::Record(record) = group.first.spec else {
+    let mut is_first = true;
+    for (place, card) in cards.iter().enumerate() {
+        let Some(record) = card.line() else {
             continue;
         };
         if let Some(name) = &record.file {
             file = source.file_named(name);
         }
-        if place == 0 || record.file.is_some() {
+        if is_first || record.file.is_some() {
             let counted = match file {
                 Some(file) => length_words(file),
                 None => "",
             };
             write_heading(out, "LINES", record.file.as_ref(), file, counted);
         }
-        write_head(out, group.first.number, record, file, group.followers);
-        write_line(out, source, file, group.followers);
+        is_first = false;
+        let followers = before_line(cards.get(place + 1..).unwrap_or(&[]));
+        write_head(out, card.number, record, file, followers);
+        write_line(out, source, file, followers);
     }
 }

@@ -9,7 +9,6 @@ use crate::tables::write_tables;
 use rpg_cards::IndexedCards;
 use rpg_cli_list_names::{Indicators, Labels, Names, write_constants};
 use rpg_cli_text::TextWriter;
-use rpg_deck::Tree;
 use rpg_faults::{CardFault, source_faults};
 use std::alloc::{AllocError, Global};
 
@@ -53,15 +52,13 @@ fn write_contents(
     beginnings: &[u16],
 ) -> Result<(), AllocError> {
     let cards = source.as_slice();
-    let sheets = rpg_deck::Deck::new(alloc, cards)?;
-    let tree = Tree::of(alloc, &sheets)?;
     write_files(alloc, out, source)?;
     write_tables(out, cards, beginnings);
-    write_records(out, source, &tree.types.groups);
+    write_records(out, source);
     write_fields(alloc, out, source)?;
     Labels::of(alloc, cards)?.write(out);
     Indicators::of(alloc, cards)?.write(out);
-    write_lines(out, source, &tree.lines.groups);
+    write_lines(out, source);
     Ok(())
 }
 
