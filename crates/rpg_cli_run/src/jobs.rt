@@ -224,7 +224,7 @@ pub(crate) struct Devices<F: Drop, S: Drop, P: Drop> {
 }
 
 /// What reads and writes the files of a run.
-fn devices<R: Files + Input + Print>(
+fn devices_of<R: Files + Input + Print>(
     rt: &R,
     files: RunFiles<R::File>,
 ) -> Devices<R::File, R::Reader, Printer<'_, R>> {
@@ -360,7 +360,7 @@ fn run_opened<'a, R: Files + Input + Print + AllocGlobal, L: Listener>(
     let files = open_files(rt, words, wanted, kept)?;
     empty_files(rt, words, &files, kept)?;
     match accepted {
-        Ok(runnable) => run_as_asked(rt.alloc(), words, runnable, devices(rt, files), listener),
+        Ok(runnable) => run_as_asked(rt.alloc(), words, runnable, devices_of(rt, files), listener),
         Err(fault) => Err(Answer::Object(fault).into()),
     }
 }
