@@ -12,7 +12,7 @@ pub enum Halt {
     BadIndex,
     /// A record that is of no type.
     NoRecordType,
-    /// A digit of a number that is none.
+    /// A numeric field that holds a character that is no digit.
     BadDigit,
     /// A branch back or a call for which the cycle has no allowance left.
     AllowanceSpent,
@@ -47,7 +47,7 @@ impl Halt {
             Halt::ZeroDivisor => "a calculation divides by zero",
             Halt::BadIndex => "an index is no entry of its table or array",
             Halt::NoRecordType => "the record is of no type",
-            Halt::BadDigit => "a digit of a number is none",
+            Halt::BadDigit => "a numeric field holds a character that isn't a digit",
             Halt::AllowanceSpent => "the cycle has no allowance left for a branch back or a call",
             Halt::IndicatorOn => "a halt indicator is on",
             Halt::BadRecord => "the record is too long, or a byte of it is no character",
