@@ -2,7 +2,7 @@
 """Tries the wrong bodies of crates/NAME/refused/*.edit against the contracts, those of a crate in one check.
 
 usage, at the top of the repository, after `rt ci` (or `rt all check`), which builds the libraries:
-    tests/edits.py [--jobs N] [--log FILE] [CRATE..]
+    tests/edits.py [--jobs N] [--log FILE] [--controls] [CRATE..]
 
 An edit file has lines 'file: PATH', 'old: TEXT', 'new: TEXT'; further pairs apply to what the earlier ones made. It turns the body of the
 function that has its first text, or of the one that a line 'fn: PATH' names. The edits of a crate are tried together, in as few
@@ -12,6 +12,8 @@ An edit is refused where the prover names a goal of its function that it did not
 longer (which is a weaker result: a harmless change of form can do that too). Where the prover reports of a function only that it calls a
 turned one, its edit goes into a later round. All else fails: an edit that is still proved, one that doesn't compile, and one that is
 refused only since a proof names what the edit took away.
+
+With --controls the same functions are tried as they are: each must be proved, or the refusals show nothing.
 
 The last line is 'N passed, M failed'.
 """
@@ -29,9 +31,14 @@ from dataclasses import dataclass
 from enum import Enum
 from pathlib import Path
 
-from functions import function_at
+from functions import function_at, plain_functions
 
 KIT = Path(os.path.realpath(shutil.which("rt") or sys.exit("there is no rt"))).parent.parent
+HOLE = """use Rattle.{crate}.proofs.{path}.Statement.{{statement}}
+
+pub {name}_spec : {{M : Type 1}} → statement M
+{name}_spec = ?
+"""
 NO_SUCH_NAME = re.compile(r"has no field|is not in scope|has no `|was not admitted|which was rejected")
 
 
@@ -41,7 +48,7 @@ class Verdict(Enum):
     REFUSED = "refused"
     BY_PROOF = "refused by its function's written proof"
     BY_NAME = "REFUSED BY NAMES ALONE: change a value, and keep the names"
-    PROVED = "NOT REFUSED: its function is still proved"
+    PROVED = "its function is proved"
     UNKNOWN = "NOT TRIED"
 
     @property
@@ -142,17 +149,36 @@ def read_edit(crate, path):
     return Edit(path, tuple(dict.fromkeys(functions or own)), tuple(cuts))
 
 
-def spoiled(crate, edits, room):
-    """Copies the crate into the room, with the edits applied."""
+def copied(crate, room):
+    """Copies the crate into the room."""
     for part in ("src", "specs", "proofs"):
         if (crate.folder / part).is_dir():
             shutil.copytree(crate.folder / part, room / part)
+
+
+def spoil(edits, room):
+    """Applies the edits to the copy in the room."""
     for cut in sorted((it for edit in edits for it in edit.cuts), key=lambda it: it.start, reverse=True):
         text = (room / cut.file).read_text(encoding="utf-8")
         (room / cut.file).write_text(text[: cut.start] + cut.new + text[cut.end :], encoding="utf-8")
 
 
-def words_of(crate, edits, kept):
+def with_holes(crate, edits, room):
+    """Puts a hole in the place of the proof of each function that no edit turns, but for those whose theorems have parameters of types."""
+    turned = {it for edit in edits for it in edit.functions}
+    sources = {str(it.relative_to(room)): it.read_text(encoding="utf-8") for it in sorted(room.glob("src/**/*.rt"))}
+    for path in plain_functions(sources):
+        if any(path == it or path.endswith(f"::{it}") for it in turned):
+            continue
+        folder = room / "proofs" / path.replace("::", "/")
+        folder.mkdir(parents=True, exist_ok=True)
+        for file in ("Answers.antt", "Invariants.antt"):
+            (folder / file).unlink(missing_ok=True)
+        hole = HOLE.format(crate=crate.name, path=path.replace("::", "."), name=path.split("::")[-1])
+        (folder / "Proof.antt").write_text(hole, encoding="utf-8")
+
+
+def words_of(crate, edits):
     """The words of rattle's check of the functions that these edits turn."""
     rlib = lambda it: Path("crates", it, "out/rlib", f"{it}.rlib").absolute() if it in crate.below else KIT / "rlibs" / f"{it}.rlib"
     words = ["--crate-name", crate.name, "src/lib.rt", "--jobs", "1", "--links", f"{crate.name}="]
@@ -161,22 +187,21 @@ def words_of(crate, edits, kept):
     for folder in (KIT / "rlibs", *(rlib(it).parent for it in crate.below)):
         words += ["-L", f"dependency={folder}"]
     words += ["--antt-project", KIT / "rattle/logic/antt-project.json", "--logic-built", KIT / "logic_built"]
-    if kept:
-        words += ["--incremental", kept]
+    words += ["--allow-holes"]
     for function in sorted({it for edit in edits for it in edit.functions}):
         words += ["--only", function]
     return words
 
 
-def check(crate, edits):
-    """What rattle prints for the crate with these edits. It begins with what `rt check` kept of the crate, where it kept something."""
-    kept = crate.folder / "out/incremental"
+def check(crate, edits, controls):
+    """What rattle prints for the crate with these edits, or for their functions as they are."""
     with tempfile.TemporaryDirectory(prefix="edits-") as name:
         room = Path(name)
-        spoiled(crate, edits, room)
-        if kept.is_dir():
-            shutil.copytree(kept, room / "kept")
-        words = words_of(crate, edits, room / "kept" if kept.is_dir() else None)
+        copied(crate, room)
+        if not controls:
+            spoil(edits, room)
+        with_holes(crate, edits, room)
+        words = words_of(crate, edits)
         how = {"stdin": subprocess.DEVNULL, "stdout": subprocess.PIPE, "stderr": subprocess.STDOUT}
         printed = subprocess.run([KIT / "bin/rattle", "check", *words], cwd=room, text=True, errors="replace", check=False, **how).stdout
     if re.search(r"module .Rattle-\w+-.*Run the lower steps again", printed):
@@ -198,7 +223,7 @@ def verdict(crate, edit, printed):
         if states[-1].startswith("not proved") and errors:
             by_name = all(NO_SUCH_NAME.search(it) for it in errors)
             found = Verdict.BY_NAME if by_name and found is None else Verdict.BY_PROOF
-    return found or (Verdict.PROVED if all(it == "proved" for it in states) else None)
+    return found or (Verdict.PROVED if all(it.startswith(("no holes", "depends on a hole")) for it in states) else None)
 
 
 def rounds_of(edits):
@@ -226,13 +251,13 @@ def rounds_left(crate, taken, left, printed):
     return [*([others] if others else []), *([it] for it in alone)]
 
 
-def tried(crate, log):
-    """Tries a crate's edits, and gives each with its verdict."""
+def tried(crate, log, controls=False):
+    """Tries a crate's edits, or their functions as they are, and gives the verdicts."""
     rounds = rounds_of([read_edit(crate, it) for it in sorted((crate.folder / "refused").glob("*.edit"))])
     found = []
     while rounds:
         taken, left = rounds.pop(0), []
-        printed = check(crate, taken)
+        printed = check(crate, taken, controls)
         if log:
             with log.open("a", encoding="utf-8") as file:
                 file.write(f"===== {crate.name}, {len(taken)} edits\n{printed}\n")
@@ -254,15 +279,17 @@ def main():
     parser.add_argument("crates", nargs="*", metavar="CRATE", help="the crates whose edits are tried; all where none is named")
     parser.add_argument("--jobs", type=int, default=len(os.sched_getaffinity(0)), help="how many crates are tried side by side")
     parser.add_argument("--log", type=Path, help="a file for what rattle prints")
+    parser.add_argument("--controls", action="store_true", help="try the functions as they are, which must all be proved")
     words = parser.parse_args()
     crates = crates_of(Path("crates.txt").read_text(encoding="utf-8"))
     # the longest checks first
     size = lambda it: sum(file.stat().st_size for file in it.folder.glob("src/**/*.rt"))
     with_edits = [it for it in crates.values() if (it.folder / "refused").is_dir() and it.name in (words.crates or crates)]
     with ThreadPoolExecutor(words.jobs) as pool:
-        found = [it for of in pool.map(lambda it: tried(it, words.log), sorted(with_edits, key=size, reverse=True)) for it in of]
-    passed = sum(it.is_good for it in found)
-    print(f"{sum(it is Verdict.BY_PROOF for it in found)} of the {passed} refused edits are refused by a written proof")
+        found = [it for of in pool.map(lambda it: tried(it, words.log, words.controls), sorted(with_edits, key=size, reverse=True)) for it in of]
+    passed = sum(it is Verdict.PROVED if words.controls else it.is_good for it in found)
+    if not words.controls:
+        print(f"{sum(it is Verdict.BY_PROOF for it in found)} of the {passed} refused edits are refused by a written proof")
     print(f"{passed} passed, {len(found) - passed} failed")
     return 0 if found and passed == len(found) else 1
 

@@ -75,15 +75,19 @@ def items(text):
             yield Item(it[1], name, it.start(), at, closed(code, at))
 
 
+def modules_of(place):
+    """The modules that a source is, by its path in the crate's folder."""
+    modules = [it for it in place.removeprefix("src/").removesuffix(".rt").split("/") if it != "mod"]
+    return [] if modules in (["lib"], ["main"]) else modules
+
+
 def function_at(place, text, at):
     """The path below the crate of the function whose body has this place, or None. `place` is the source's path in the crate's folder."""
     around = [it for it in items(text) if it.start <= at < it.end]
     inner = next((it for it in around if it.kind == "fn" and at > it.body), None)
     if inner is None:
         return None
-    modules = [it for it in place.removeprefix("src/").removesuffix(".rt").split("/") if it != "mod"]
-    if modules in (["lib"], ["main"]) or is_of_another_file(around, text):
-        modules = []
+    modules = [] if is_of_another_file(around, text) else modules_of(place)
     return "::".join([*modules, *(it.name for it in around if it.kind != "fn"), inner.name])
 
 
@@ -93,3 +97,28 @@ def is_of_another_file(around, text):
     if impl is None or " for " in text[impl.start : impl.body]:
         return False
     return not re.search(rf"\b(?:struct|enum|union|trait)\s+{impl.name}\b", text)
+
+
+def takes_types(around, text):
+    """Whether a function, its impl or its trait has parameters of types, so that its theorem has them too."""
+    for it in around:
+        head = text[it.start : it.body]
+        named = re.match(r"[^<(]*<((?:[^<>]|<[^<>]*>)*)>", head) if it.kind != "impl" else re.match(r"\s*impl\s*<((?:[^<>]|<[^<>]*>)*)>", head)
+        given = [one.strip() for one in named[1].split(",")] if named else []
+        if it.kind == "trait" or "impl Fn" in head or any(not one.startswith(("'", "const ")) for one in given if one):
+            return True
+    return False
+
+
+def plain_functions(sources):
+    """The paths of a crate's functions without parameters of types. `sources` has the texts by their paths in the crate's folder."""
+    homes = {it[1]: modules_of(place) for place, text in sources.items() for it in re.finditer(r"\b(?:struct|enum)\s+(\w+)", code_of(text))}
+    for place, text in sources.items():
+        found = list(items(text))
+        for function in found:
+            around = [it for it in found if it.start <= function.start and function.end <= it.end]
+            if function.kind != "fn" or takes_types(around, text):
+                continue
+            path = function_at(place, text, function.body + 1)
+            home = homes.get(path.split("::")[0], []) if is_of_another_file(around, text) else []
+            yield "::".join([*home, path])
