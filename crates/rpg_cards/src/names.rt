@@ -60,7 +60,7 @@ pub fn field_form(field: &InputField) -> Option<FieldForm>
 pub fn is_table(name: &Name) -> bool
     ensures { result ≡ names.is_table_name name.now }
 {
-    name.as_slice().starts_with(b"TAB")
+    matches!(name.as_slice(), [b'T', b'A', b'B', ..])
 }
 
 /// The form of an array or a table of so many entries.
