@@ -219,20 +219,12 @@ fn up_to_last_file(cards: &[SpecCard]) -> &[SpecCard]
 fn defined_first(first: Option<FirstDefinition>) -> Defined
     ensures { result ≡ defined_first first }
 {
-    match first {
-        None => Defined::Missing,
-        Some(
-            FirstDefinition {
-                place: _,
-                form: None,
-            },
-        ) => Defined::Bad,
-        Some(
-            FirstDefinition {
-                place: _,
-                form: Some(form),
-            },
-        ) => Defined::Good(form),
+    let Some(first) = first else {
+        return Defined::Missing;
+    };
+    match first.form {
+        None => Defined::Bad,
+        Some(form) => Defined::Good(form),
     }
 }
 

@@ -85,92 +85,47 @@ pub const fn columns(operation: Operation) -> OperationColumns
 {
     let blank = Column::Blank;
     let value = Column::Must(Content::Value);
+    let label = Column::Must(Content::Label);
+    let subroutine = Column::Must(Content::Subroutine);
+    let unused = Shown::Unused;
     match operation {
-        Operation::Add | Operation::Subtract | Operation::Multiply | Operation::Divide => row(
-            Column::May(Content::Value),
-            value,
-            value,
-            true,
-            Shown::Any,
-            Kinds::Numbers,
-            true,
-        ),
+        Operation::Add | Operation::Subtract | Operation::Multiply | Operation::Divide => {
+            let first = Column::May(Content::Value);
+            row(first, value, value, true, Shown::Any, Kinds::Numbers, true)
+        }
         Operation::ZeroAdd | Operation::ZeroSubtract => {
             row(blank, value, value, true, Shown::Any, Kinds::Numbers, true)
         }
         Operation::MoveRemainder => {
             row(blank, blank, value, false, Shown::Any, Kinds::Numbers, true)
         }
-        Operation::CrossFoot => row(
-            blank,
-            Column::Must(Content::WholeArray),
-            value,
-            true,
-            Shown::Any,
-            Kinds::Numbers,
-            true,
-        ),
+        Operation::CrossFoot => {
+            let array = Column::Must(Content::WholeArray);
+            row(blank, array, value, true, Shown::Any, Kinds::Numbers, true)
+        }
         Operation::Move | Operation::MoveLeft => {
-            row(blank, value, value, false, Shown::Unused, Kinds::Any, true)
+            row(blank, value, value, false, unused, Kinds::Any, true)
         }
         Operation::Compare => row(value, value, blank, false, Shown::Some, Kinds::Alike, true),
-        Operation::LookUp => row(
-            value,
-            Column::Must(Content::Searched),
-            Column::May(Content::Table),
-            false,
-            Shown::Search,
-            Kinds::Alike,
-            true,
-        ),
+        Operation::LookUp => {
+            let searched = Column::Must(Content::Searched);
+            let table = Column::May(Content::Table);
+            let shown = Shown::Search;
+            row(value, searched, table, false, shown, Kinds::Alike, true)
+        }
         Operation::SetOn | Operation::SetOff => {
             row(blank, blank, blank, false, Shown::Some, Kinds::Any, true)
         }
-        Operation::GoTo => row(
-            blank,
-            Column::Must(Content::Label),
-            blank,
-            false,
-            Shown::Unused,
-            Kinds::Any,
-            true,
-        ),
-        Operation::Call => row(
-            blank,
-            Column::Must(Content::Subroutine),
-            blank,
-            false,
-            Shown::Unused,
-            Kinds::Any,
-            true,
-        ),
-        Operation::Label => row(
-            Column::Must(Content::Label),
-            blank,
-            blank,
-            false,
-            Shown::Unused,
-            Kinds::Any,
-            false,
-        ),
-        Operation::BeginSubroutine => row(
-            Column::Must(Content::Subroutine),
-            blank,
-            blank,
-            false,
-            Shown::Unused,
-            Kinds::Any,
-            false,
-        ),
-        Operation::EndSubroutine => row(
-            Column::May(Content::Label),
-            blank,
-            blank,
-            false,
-            Shown::Unused,
-            Kinds::Any,
-            false,
-        ),
-        Operation::Except => row(blank, blank, blank, false, Shown::Unused, Kinds::Any, true),
+        Operation::GoTo => row(blank, label, blank, false, unused, Kinds::Any, true),
+        Operation::Call => row(blank, subroutine, blank, false, unused, Kinds::Any, true),
+        Operation::Label => row(label, blank, blank, false, unused, Kinds::Any, false),
+        Operation::BeginSubroutine => {
+            row(subroutine, blank, blank, false, unused, Kinds::Any, false)
+        }
+        Operation::EndSubroutine => {
+            let label = Column::May(Content::Label);
+            row(label, blank, blank, false, unused, Kinds::Any, false)
+        }
+        Operation::Except => row(blank, blank, blank, false, unused, Kinds::Any, true),
     }
 }
