@@ -2,6 +2,7 @@
 
 ghost use Rattle.std.specs.Prelude.{◌≡◌, ◌+◌, ◌-◌, ◌≤◌, ◌++◌, length, take, replicate, position, IsTrue};
 ghost use Rattle.std.specs.List.{list_all};
+ghost use Rattle.rpg_sheet.specs.Ranges.{AreColumns};
 ghost use Rattle.rpg_sheet_specs.specs.Columns.{cols, is_filled, fault_if_some};
 ghost use Rattle.rpg_text.specs.Texts.{is_character};
 
@@ -50,9 +51,7 @@ impl Card {
 
     /// The columns from `first` to `last`, counted from 1.
     pub(crate) fn columns(&self, first: u8, last: u8) -> &[u8]
-        requires within { last ≤ 80 }
-        requires counted { 1 ≤ first }
-        requires ordered { first ≤ last }
+        requires columns { AreColumns first last }
         ensures value { result.now ≡ cols first last self.now }
         ensures len { length result.now ≡ last + 1 - first }
         ensures characters { IsTrue (list_all is_character result.now) }
@@ -62,9 +61,7 @@ impl Card {
 
     /// The columns from `first` to `last` have no value of their own.
     pub(crate) fn blank(&self, first: u8, last: u8) -> Result<(), ColumnFault>
-        requires within { last ≤ 80 }
-        requires counted { 1 ≤ first }
-        requires ordered { first ≤ last }
+        requires columns { AreColumns first last }
         ensures { result ≡ fault_if_some first (position is_filled (cols first last self.now)) }
     {
         match first_filled(self.columns(first, last)) {

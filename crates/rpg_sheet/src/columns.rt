@@ -1,9 +1,12 @@
 //! What ranges of columns hold, each range read by one call. An error names the range's first column.
+#![tactic(auto, unfolding(rpg_sheet_specs::specs::Values::blank_or))]
 
-ghost use Rattle.std.specs.Prelude.{◌≡◌, ◌+◌, ◌≤◌, ok_or};
+ghost use Rattle.std.specs.Prelude.{◌≡◌, ◌+◌, ◌≤◌, None, Some, ok_or, option_map, if◌then◌else◌};
+ghost use Rattle.rpg_sheet.specs.Ranges.{AreColumns};
 ghost use Rattle.rpg_sheet_specs.specs.Columns.{cols, column_fault};
 ghost use Rattle.rpg_sheet_specs.specs.Tables as tables;
 ghost use Rattle.rpg_sheet_specs.specs.Values as values;
+ghost use Rattle.rpg_text.specs.Texts.{all_blank};
 
 use crate::card::Card;
 use rpg_sheet_specs::{
@@ -11,8 +14,11 @@ use rpg_sheet_specs::{
     Three, Within, Word,
 };
 
+/// What columns mean, or that they have a bad value.
+pub(crate) type Read<T> = Result<T, ColumnFault>;
+
 /// The value of the columns from `first` to `last`.
-pub(crate) fn at<T>(first: u8, last: u8, value: Option<T>) -> Result<T, ColumnFault>
+pub(crate) fn at<T>(first: u8, last: u8, value: Option<T>) -> Read<T>
     ensures { result ≡ ok_or value (column_fault first last) }
 {
     value.ok_or(ColumnFault {
@@ -21,346 +27,202 @@ pub(crate) fn at<T>(first: u8, last: u8, value: Option<T>) -> Result<T, ColumnFa
     })
 }
 
+/// Blank, or the value of the text in these columns.
+#[inline(always)]
+fn optional<T: Drop>(first: u8, last: u8, text: &[u8], value: Option<T>) -> Read<Option<T>>
+    ensures { result ≡ ok_or (if all_blank text.now then Some None else option_map Some value) (column_fault first last) }
+{
+    at(first, last, rpg_sheet_values::blank_or(text, value))
+}
+
 impl Card {
     /// Blank: a value that isn't read yet.
-    pub(crate) fn unused(&self, first: u8, last: u8) -> Result<(), ColumnFault>
-        requires within { last ≤ 80 }
-        requires counted { 1 ≤ first }
-        requires ordered { first ≤ last }
+    pub(crate) fn unused(&self, first: u8, last: u8) -> Read<()>
+        requires columns { AreColumns first last }
         ensures { result ≡ ok_or (values.unused (cols first last self.now)) (column_fault first last) }
     {
-        at(
-            first,
-            last,
-            rpg_sheet_values::unused(self.columns(first, last)),
-        )
+        let value = rpg_sheet_values::unused(self.columns(first, last));
+        at(first, last, value)
     }
 
     /// A name of at most `N` characters.
-    pub(crate) fn name<const N: usize>(&self, first: u8, last: u8) -> Result<Word<N>, ColumnFault>
-        requires within { last ≤ 80 }
-        requires counted { 1 ≤ first }
-        requires ordered { first ≤ last }
+    pub(crate) fn name<const N: usize>(&self, first: u8, last: u8) -> Read<Word<N>>
+        requires columns { AreColumns first last }
         ensures { result ≡ ok_or (values.name N (cols first last self.now)) (column_fault first last) }
     {
-        at(
-            first,
-            last,
-            rpg_sheet_values::name(self.columns(first, last)),
-        )
+        let value = rpg_sheet_values::name(self.columns(first, last));
+        at(first, last, value)
     }
 
     /// Blank or a name.
-    #[tactic(auto, unfolding(rpg_sheet_specs::specs::Values::blank_or))]
-    pub(crate) fn optional_name<const N: usize>(
-        &self,
-        first: u8,
-        last: u8,
-    ) -> Result<Option<Word<N>>, ColumnFault>
-        requires within { last ≤ 80 }
-        requires counted { 1 ≤ first }
-        requires ordered { first ≤ last }
+    pub(crate) fn optional_name<const N: usize>(&self, first: u8, last: u8) -> Read<Option<Word<N>>>
+        requires columns { AreColumns first last }
         ensures { result ≡ ok_or (values.blank_or (values.name N) (cols first last self.now)) (column_fault first last) }
     {
         let text = self.columns(first, last);
-        at(
-            first,
-            last,
-            rpg_sheet_values::blank_or(text, rpg_sheet_values::name(text)),
-        )
+        optional(first, last, text, rpg_sheet_values::name(text))
     }
 
     /// Blank or a factor.
-    #[tactic(auto, unfolding(rpg_sheet_specs::specs::Values::blank_or))]
-    pub(crate) fn optional_factor(&self, first: u8, last: u8) -> Result<Option<Factor>, ColumnFault>
-        requires within { last ≤ 80 }
-        requires counted { 1 ≤ first }
-        requires ordered { first ≤ last }
+    pub(crate) fn optional_factor(&self, first: u8, last: u8) -> Read<Option<Factor>>
+        requires columns { AreColumns first last }
         requires short { last ≤ first + 9 }
         ensures { result ≡ ok_or (values.blank_or values.factor (cols first last self.now)) (column_fault first last) }
     {
         let text = self.columns(first, last);
-        at(
-            first,
-            last,
-            rpg_sheet_values::blank_or(text, rpg_sheet_values::factor_of(text)),
-        )
+        optional(first, last, text, rpg_sheet_values::factor_of(text))
     }
 
     /// Right-aligned digits after blanks.
-    pub(crate) fn number(&self, first: u8, last: u8) -> Result<u16, ColumnFault>
-        requires within { last ≤ 80 }
-        requires counted { 1 ≤ first }
-        requires ordered { first ≤ last }
+    pub(crate) fn number(&self, first: u8, last: u8) -> Read<u16>
+        requires columns { AreColumns first last }
         requires short { last ≤ first + 3 }
         ensures { result ≡ ok_or (values.number (cols first last self.now)) (column_fault first last) }
     {
-        at(
-            first,
-            last,
-            rpg_sheet_values::number(self.columns(first, last)),
-        )
+        let value = rpg_sheet_values::number(self.columns(first, last));
+        at(first, last, value)
     }
 
     /// Blank or a number.
-    #[tactic(auto, unfolding(rpg_sheet_specs::specs::Values::blank_or))]
-    pub(crate) fn optional_number(&self, first: u8, last: u8) -> Result<Option<u16>, ColumnFault>
-        requires within { last ≤ 80 }
-        requires counted { 1 ≤ first }
-        requires ordered { first ≤ last }
+    pub(crate) fn optional_number(&self, first: u8, last: u8) -> Read<Option<u16>>
+        requires columns { AreColumns first last }
         requires short { last ≤ first + 3 }
         ensures { result ≡ ok_or (values.blank_or values.number (cols first last self.now)) (column_fault first last) }
     {
         let text = self.columns(first, last);
-        at(
-            first,
-            last,
-            rpg_sheet_values::blank_or(text, rpg_sheet_values::number(text)),
-        )
+        optional(first, last, text, rpg_sheet_values::number(text))
     }
 
     /// Blank or a digit.
-    #[tactic(auto, unfolding(rpg_sheet_specs::specs::Values::blank_or))]
-    pub(crate) fn optional_digit(&self, first: u8, last: u8) -> Result<Option<u8>, ColumnFault>
-        requires within { last ≤ 80 }
-        requires counted { 1 ≤ first }
-        requires ordered { first ≤ last }
+    pub(crate) fn optional_digit(&self, first: u8, last: u8) -> Read<Option<u8>>
+        requires columns { AreColumns first last }
         requires one { last ≡ first }
         ensures { result ≡ ok_or (values.blank_or values.digits (cols first last self.now)) (column_fault first last) }
     {
         let text = self.columns(first, last);
-        at(
-            first,
-            last,
-            rpg_sheet_values::blank_or(text, rpg_sheet_values::digit(text)),
-        )
+        optional(first, last, text, rpg_sheet_values::digit(text))
     }
 
     /// Blank or an indicator.
-    #[tactic(auto, unfolding(rpg_sheet_specs::specs::Values::blank_or))]
-    pub(crate) fn optional_indicator(
-        &self,
-        first: u8,
-        last: u8,
-    ) -> Result<Option<Indicator>, ColumnFault>
-        requires within { last ≤ 80 }
-        requires counted { 1 ≤ first }
-        requires ordered { first ≤ last }
+    pub(crate) fn optional_indicator(&self, first: u8, last: u8) -> Read<Option<Indicator>>
+        requires columns { AreColumns first last }
         ensures { result ≡ ok_or (values.blank_or values.indicator (cols first last self.now)) (column_fault first last) }
     {
         let text = self.columns(first, last);
-        at(
-            first,
-            last,
-            rpg_sheet_values::blank_or(text, rpg_sheet_values::indicator(text)),
-        )
+        optional(first, last, text, rpg_sheet_values::indicator(text))
     }
 
     /// Blank or a condition.
-    #[tactic(auto, unfolding(rpg_sheet_specs::specs::Values::blank_or))]
-    pub(crate) fn optional_condition(
-        &self,
-        first: u8,
-        last: u8,
-    ) -> Result<Option<Condition>, ColumnFault>
-        requires within { last ≤ 80 }
-        requires counted { 1 ≤ first }
-        requires ordered { first ≤ last }
+    pub(crate) fn optional_condition(&self, first: u8, last: u8) -> Read<Option<Condition>>
+        requires columns { AreColumns first last }
         requires three { last ≡ first + 2 }
         ensures { result ≡ ok_or (values.blank_or values.condition (cols first last self.now)) (column_fault first last) }
     {
         let text = self.columns(first, last);
-        at(
-            first,
-            last,
-            rpg_sheet_values::blank_or(text, rpg_sheet_values::condition(text)),
-        )
+        optional(first, last, text, rpg_sheet_values::condition(text))
     }
 
     /// Blank or an operation.
-    #[tactic(auto, unfolding(rpg_sheet_specs::specs::Values::blank_or))]
-    pub(crate) fn optional_operation(
-        &self,
-        first: u8,
-        last: u8,
-    ) -> Result<Option<Operation>, ColumnFault>
-        requires within { last ≤ 80 }
-        requires counted { 1 ≤ first }
-        requires ordered { first ≤ last }
+    pub(crate) fn optional_operation(&self, first: u8, last: u8) -> Read<Option<Operation>>
+        requires columns { AreColumns first last }
         ensures { result ≡ ok_or (values.blank_or tables.operation (cols first last self.now)) (column_fault first last) }
     {
         let text = self.columns(first, last);
-        at(
-            first,
-            last,
-            rpg_sheet_values::blank_or(text, rpg_sheet_values::operation(text)),
-        )
+        optional(first, last, text, rpg_sheet_values::operation(text))
     }
 
     /// Blank or an entry.
-    #[tactic(auto, unfolding(rpg_sheet_specs::specs::Values::blank_or))]
-    pub(crate) fn optional_entry(&self, first: u8, last: u8) -> Result<Option<Entry>, ColumnFault>
-        requires within { last ≤ 80 }
-        requires counted { 1 ≤ first }
-        requires ordered { first ≤ last }
+    pub(crate) fn optional_entry(&self, first: u8, last: u8) -> Read<Option<Entry>>
+        requires columns { AreColumns first last }
         ensures { result ≡ ok_or (values.blank_or values.entry (cols first last self.now)) (column_fault first last) }
     {
         let text = self.columns(first, last);
-        at(
-            first,
-            last,
-            rpg_sheet_values::blank_or(text, rpg_sheet_values::entry(text)),
-        )
+        optional(first, last, text, rpg_sheet_values::entry(text))
     }
 
     /// Blank or an indicator with a number in these bounds.
-    #[tactic(auto, unfolding(rpg_sheet_specs::specs::Values::blank_or))]
     pub(crate) fn optional_indicator_within<const FIRST: u8, const LAST: u8>(
         &self,
         first: u8,
         last: u8,
-    ) -> Result<Option<Within<FIRST, LAST>>, ColumnFault>
-        requires within { last ≤ 80 }
-        requires counted { 1 ≤ first }
-        requires ordered { first ≤ last }
+    ) -> Read<Option<Within<FIRST, LAST>>>
+        requires columns { AreColumns first last }
         ensures { result ≡ ok_or (values.blank_or (values.indicator_within FIRST LAST) (cols first last self.now)) (column_fault first last) }
     {
         let text = self.columns(first, last);
-        at(
-            first,
-            last,
-            rpg_sheet_values::blank_or(text, rpg_sheet_values::indicator_within(text)),
-        )
+        optional(first, last, text, rpg_sheet_values::indicator_within(text))
     }
 
     /// Blank or a level after its letter.
-    #[tactic(auto, unfolding(rpg_sheet_specs::specs::Values::blank_or))]
     pub(crate) fn optional_level(
         &self,
         letter: u8,
         first: u8,
         last: u8,
-    ) -> Result<Option<Within<1, 9>>, ColumnFault>
-        requires within { last ≤ 80 }
-        requires counted { 1 ≤ first }
-        requires ordered { first ≤ last }
+    ) -> Read<Option<Within<1, 9>>>
+        requires columns { AreColumns first last }
         ensures { result ≡ ok_or (values.blank_or (values.level letter) (cols first last self.now)) (column_fault first last) }
     {
         let text = self.columns(first, last);
-        at(
-            first,
-            last,
-            rpg_sheet_values::blank_or(text, rpg_sheet_values::level(letter, text)),
-        )
+        optional(first, last, text, rpg_sheet_values::level(letter, text))
     }
 
     /// Blank or a record code.
-    #[tactic(auto, unfolding(rpg_sheet_specs::specs::Values::blank_or))]
-    pub(crate) fn optional_record_code(
-        &self,
-        first: u8,
-        last: u8,
-    ) -> Result<Option<RecordCode>, ColumnFault>
-        requires within { last ≤ 80 }
-        requires counted { 1 ≤ first }
-        requires ordered { first ≤ last }
+    pub(crate) fn optional_record_code(&self, first: u8, last: u8) -> Read<Option<RecordCode>>
+        requires columns { AreColumns first last }
         requires seven { last ≡ first + 6 }
         ensures { result ≡ ok_or (values.blank_or values.record_code (cols first last self.now)) (column_fault first last) }
     {
         let text = self.columns(first, last);
-        at(
-            first,
-            last,
-            rpg_sheet_values::blank_or(text, rpg_sheet_values::record_code(text)),
-        )
+        optional(first, last, text, rpg_sheet_values::record_code(text))
     }
 
     /// Blank or how many lines the form spaces.
-    #[tactic(auto, unfolding(rpg_sheet_specs::specs::Values::blank_or))]
-    pub(crate) fn optional_space(
-        &self,
-        first: u8,
-        last: u8,
-    ) -> Result<Option<Within<0, 3>>, ColumnFault>
-        requires within { last ≤ 80 }
-        requires counted { 1 ≤ first }
-        requires ordered { first ≤ last }
+    pub(crate) fn optional_space(&self, first: u8, last: u8) -> Read<Option<Within<0, 3>>>
+        requires columns { AreColumns first last }
         ensures { result ≡ ok_or (values.blank_or tables.space (cols first last self.now)) (column_fault first last) }
     {
         let text = self.columns(first, last);
-        at(
-            first,
-            last,
-            rpg_sheet_values::blank_or(text, rpg_sheet_values::space(text)),
-        )
+        optional(first, last, text, rpg_sheet_values::space(text))
     }
 
     /// Blank or the line that the form skips to.
-    #[tactic(auto, unfolding(rpg_sheet_specs::specs::Values::blank_or))]
-    pub(crate) fn optional_skip(
-        &self,
-        first: u8,
-        last: u8,
-    ) -> Result<Option<Within<1, 66>>, ColumnFault>
-        requires within { last ≤ 80 }
-        requires counted { 1 ≤ first }
-        requires ordered { first ≤ last }
+    pub(crate) fn optional_skip(&self, first: u8, last: u8) -> Read<Option<Within<1, 66>>>
+        requires columns { AreColumns first last }
         requires two { last ≡ first + 1 }
         ensures { result ≡ ok_or (values.blank_or tables.skip (cols first last self.now)) (column_fault first last) }
     {
         let text = self.columns(first, last);
-        at(
-            first,
-            last,
-            rpg_sheet_values::blank_or(text, rpg_sheet_values::skip(text)),
-        )
+        optional(first, last, text, rpg_sheet_values::skip(text))
     }
 
     /// Blank or an edit code.
-    #[tactic(auto, unfolding(rpg_sheet_specs::specs::Values::blank_or))]
-    pub(crate) fn optional_edit_code(
-        &self,
-        first: u8,
-        last: u8,
-    ) -> Result<Option<EditCode>, ColumnFault>
-        requires within { last ≤ 80 }
-        requires counted { 1 ≤ first }
-        requires ordered { first ≤ last }
+    pub(crate) fn optional_edit_code(&self, first: u8, last: u8) -> Read<Option<EditCode>>
+        requires columns { AreColumns first last }
         ensures { result ≡ ok_or (values.blank_or values.edit_code (cols first last self.now)) (column_fault first last) }
     {
         let text = self.columns(first, last);
-        at(
-            first,
-            last,
-            rpg_sheet_values::blank_or(text, rpg_sheet_values::edit_code(text)),
-        )
+        optional(first, last, text, rpg_sheet_values::edit_code(text))
     }
 
     /// Blank or a text.
-    #[tactic(auto, unfolding(rpg_sheet_specs::specs::Values::blank_or))]
     pub(crate) fn optional_text<const N: usize>(
         &self,
         first: u8,
         last: u8,
-    ) -> Result<Option<TextLiteral<N>>, ColumnFault>
-        requires within { last ≤ 80 }
-        requires counted { 1 ≤ first }
-        requires ordered { first ≤ last }
+    ) -> Read<Option<TextLiteral<N>>>
+        requires columns { AreColumns first last }
         requires short { last ≤ first + N + 1 }
         ensures { result ≡ ok_or (values.blank_or values.quoted (cols first last self.now)) (column_fault first last) }
     {
         let text = self.columns(first, last);
-        at(
-            first,
-            last,
-            rpg_sheet_values::blank_or(text, rpg_sheet_values::quoted(text)),
-        )
+        optional(first, last, text, rpg_sheet_values::quoted(text))
     }
 }
 
 /// Three conditions.
 #[tactic(auto, unfolding(rpg_sheet_specs::specs::Tables::conditions, rpg_sheet_specs::specs::Columns::values, rpg_sheet_specs::specs::Columns::at_with, rpg_sheet_specs::specs::Columns::also))]
-pub(crate) fn conditions(card: &Card, first: u8) -> Result<Three<Option<Condition>>, ColumnFault>
+pub(crate) fn conditions(card: &Card, first: u8) -> Read<Three<Option<Condition>>>
     requires counted { 1 ≤ first }
     requires within { first ≤ 72 }
     ensures { result ≡ (tables.conditions first (first + 2) (first + 3) (first + 5) (first + 6) (first + 8)).reading card.now }
@@ -377,7 +239,7 @@ pub(crate) fn conditions(card: &Card, first: u8) -> Result<Three<Option<Conditio
 
 /// Three indicators.
 #[tactic(auto, unfolding(rpg_sheet_specs::specs::Tables::indicators, rpg_sheet_specs::specs::Columns::values, rpg_sheet_specs::specs::Columns::at_with, rpg_sheet_specs::specs::Columns::also))]
-pub(crate) fn indicators(card: &Card, first: u8) -> Result<Three<Option<Indicator>>, ColumnFault>
+pub(crate) fn indicators(card: &Card, first: u8) -> Read<Three<Option<Indicator>>>
     requires counted { 1 ≤ first }
     requires within { first ≤ 75 }
     ensures { result ≡ (tables.indicators first (first + 1) (first + 2) (first + 3) (first + 4) (first + 5)).reading card.now }

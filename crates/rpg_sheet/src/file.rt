@@ -101,18 +101,10 @@ fn role(card: &Card) -> Option<FileRole>
 fn role_by(is_read: bool, text: &[u8]) -> Option<FileRole>
     ensures { result ≡ values.one_of (if is_read then (codes "P", roles.Primary) ∷ (codes "S", roles.Secondary) ∷ [] else (codes " ", roles.Output) ∷ []) text.now }
 {
-    if !is_read {
-        return if text == b" ".as_slice() {
-            Some(FileRole::Output)
-        } else {
-            None
-        };
-    }
-    if text == b"P".as_slice() {
-        Some(FileRole::Primary)
-    } else if text == b"S".as_slice() {
-        Some(FileRole::Secondary)
-    } else {
-        None
+    match (is_read, text) {
+        (true, b"P") => Some(FileRole::Primary),
+        (true, b"S") => Some(FileRole::Secondary),
+        (false, b" ") => Some(FileRole::Output),
+        _ => None,
     }
 }
