@@ -1,15 +1,14 @@
 //! The codes of what a card breaks.
 
-ghost use Rattle.std.specs.Prelude.{◌≡◌, ◌≤◌, length, Some};
+ghost use Rattle.std.specs.Prelude.{◌≡◌, ◌≤◌, length};
 ghost use Rattle.rpg_faults.specs.Codes as codes;
 ghost use Rattle.rpg_faults.specs.Faults as faults;
 
 use arrayvec::ArrayString;
 use itoa::Buffer;
-use std::fmt;
 
 /// A rule that a card breaks. Of two codes the one with the lower number is the lesser.
-#[derive(Clone, Copy, Debug, PartialEq, Eq)]
+#[derive(Clone, Copy)]
 pub enum FaultCode {
     /// A name isn't defined.
     F1 = 1,
@@ -131,13 +130,5 @@ impl FaultCode {
                 "a table's data are missing, too few, too many, bad or out of sequence"
             }
         }
-    }
-}
-
-impl fmt::Display for FaultCode {
-    ghost output = { λ code. Some (codes.fault_code_text code) };
-
-    fn fmt<W: fmt::Write>(&self, f: &mut fmt::Formatter<W>) -> fmt::Result {
-        f.write_str(self.text().as_str())
     }
 }

@@ -8,14 +8,12 @@ use crate::FaultCode;
 use arrayvec::ArrayString;
 use rpg_sheet::{ColumnFault, SheetCode, SheetFault};
 use std::alloc::AllocError;
-use thiserror::Error;
+use std::fmt;
 
 /// What is wrong with a card: as a card of its sheet, or among the others.
-#[derive(Clone, Copy, Debug, PartialEq, Eq, Error)]
+#[derive(Clone, Copy)]
 pub enum SourceCode {
-    #[error("{0}")]
     Sheet(SheetCode),
-    #[error("{0}")]
     Fault(FaultCode),
 }
 
@@ -41,7 +39,7 @@ impl SourceCode {
 }
 
 /// A fault of a source at a card.
-#[derive(Clone, Copy, Debug, PartialEq, Eq)]
+#[derive(Clone, Copy)]
 pub struct CardFault {
     /// Cards are numbered from 1. Card 0 is the source as a whole.
     pub card: u16,
@@ -51,17 +49,28 @@ pub struct CardFault {
 }
 
 /// What is wrong with a source.
-#[derive(Clone, Copy, Debug, PartialEq, Eq, Error)]
+#[derive(Clone, Copy)]
 pub enum SourceFault {
     /// Cards are numbered from 1. Card 0 is the source as a whole. The columns are those of the least bad value, with S5 alone.
-    #[error("card {card}: {code}")]
     At {
         card: u16,
         code: SourceCode,
         columns: Option<ColumnFault>,
     },
-    #[error("no memory")]
     NoMemory,
+}
+
+impl fmt::Display for SourceFault {
+    fn fmt<W: fmt::Write>(&self, f: &mut fmt::Formatter<W>) -> fmt::Result {
+        match self {
+            SourceFault::At { card, code, .. } => {
+                let text = code.text();
+                let code = text.as_str();
+                write!(f, "card {card}: {code}")
+            }
+            SourceFault::NoMemory => f.write_str("no memory"),
+        }
+    }
 }
 
 impl From<SheetFault> for SourceFault {

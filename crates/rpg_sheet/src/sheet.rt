@@ -14,9 +14,7 @@ use arrayvec::ArrayString;
 use itoa::Buffer;
 use rpg_sheet_specs::{ColumnFault, DataCard, DataSpec, FormType, Spec};
 use std::alloc::AllocFailed;
-use std::fmt;
 use std::marker::Model;
-use thiserror::Error;
 
 /// A sheet's place among the sheets of a source.
 pub fn sheet_place(sheet: FormType) -> u8
@@ -34,7 +32,7 @@ pub fn sheet_place(sheet: FormType) -> u8
 }
 
 /// What is wrong with a card.
-#[derive(Clone, Copy, Debug, PartialEq, Eq)]
+#[derive(Clone, Copy)]
 pub enum SheetCode {
     /// The card has more than 80 characters.
     S1 = 1,
@@ -83,14 +81,6 @@ impl SheetCode {
     }
 }
 
-impl fmt::Display for SheetCode {
-    ghost output = { λ code. Some (codes.sheet_code_text code) };
-
-    fn fmt<W: fmt::Write>(&self, f: &mut fmt::Formatter<W>) -> fmt::Result {
-        f.write_str(self.text().as_str())
-    }
-}
-
 /// What is wrong with a card, and with S5 in which columns.
 #[derive(Clone, Copy)]
 pub(crate) struct CardFault {
@@ -121,16 +111,14 @@ impl From<ColumnFault> for CardFault {
 }
 
 /// Why a source has no cards.
-#[derive(Clone, Copy, Debug, PartialEq, Eq, Error)]
+#[derive(Clone, Copy)]
 pub enum SheetFault {
     /// Cards are numbered from 1. The columns are those of the leftmost bad value, only with S5.
-    #[error("card {card}: {code}")]
     At {
         card: u16,
         code: SheetCode,
         columns: Option<ColumnFault>,
     },
-    #[error("no memory")]
     NoMemory,
 }
 
