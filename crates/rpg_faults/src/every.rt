@@ -25,16 +25,28 @@ pub fn all_faults(alloc: Global, cards: &[SpecCard]) -> Result<Vec<CardFault>, A
 {
     let source = IndexedCards::new(alloc, cards)?;
     let labels = Labels::new(alloc, cards)?;
-    let mut faults = Vec::new(alloc);
-    put_fault_of_whole(&mut faults, &source)?;
-    put_faults(&mut faults, &source, &labels)?;
+    faults_in(alloc, &source, &labels)
+}
+
+fn faults_in(
+    alloc: Global,
+    source: &IndexedCards,
+    labels: &Labels,
+) -> Result<Vec<CardFault>, AllocError>
+    requires labels { labels.now ≡ source.now }
+    requires few { length source.now ≤ 2000 }
+    ensures { IfOk result (λ faults. faults.items ≡ told.told_faults source.now) }
+{
+    let mut faults = faults_of_whole(alloc, source)?;
+    put_faults(&mut faults, source, labels)?;
     Ok(faults)
 }
 
-/// Appends what the source as a whole breaks.
-fn put_fault_of_whole(faults: &mut Vec<CardFault>, source: &IndexedCards) -> Result<(), AllocError>
-    ensures { OnOk result (faults.new.items ≡ faults.old.items ++ told.told_of_whole source.now) }
+/// What the source as a whole breaks.
+fn faults_of_whole(alloc: Global, source: &IndexedCards) -> Result<Vec<CardFault>, AllocError>
+    ensures { IfOk result (λ faults. faults.items ≡ told.told_of_whole source.now) }
 {
+    let mut faults = Vec::new(alloc);
     if lacks_input(source) {
         faults.push(CardFault {
             card: 0,
@@ -42,7 +54,7 @@ fn put_fault_of_whole(faults: &mut Vec<CardFault>, source: &IndexedCards) -> Res
             columns: None,
         })?;
     }
-    Ok(())
+    Ok(faults)
 }
 
 /// Appends what the cards break, card by card.

@@ -1,12 +1,13 @@
-use Rattle.std.proofs.Common.{◌∙◌, [], ◌++◌, ap, subst, List, sym}
-use Rattle.rpg_faults.specs.Told.{AreFaultsOf, told_faults, told_from, told_of_whole}
-use Rattle.rpg_faults.specs.declared.source_fault.CardFault.{CardFault}
+use Rattle.std.proofs.Common.{◌≡◌, ap, subst, sym, ◌∙◌}
+use Rattle.std.proofs.lemmas.Result.{IfOk-weaker}
+use Rattle.rpg_faults.specs.Told.{AreFaultsOf, told_faults}
 use Rattle.rpg_faults.proofs.ToldLemmas.{told}
 use Rattle.rpg_faults.proofs.every.all_faults.Goals as goal
 
 pub returns : goal.returns
 returns c =
+    let cards = c.args.cards.now in
     let source = c.in_ok-source.source in
-    let whole = c.in_ok-put_fault_of_whole.ensures ∙ ap (λ (fs : List CardFault). fs ++ told_of_whole source) c.new-faults.ensures.items in
-    let all = c.in_ok-put_faults.ensures ∙ ap (λ (fs : List CardFault). fs ++ told_from [] source) whole ∙ ap told_faults c.in_ok-source.ensures in
-    subst (AreFaultsOf c.args.cards.now) (sym all) (told c.args.cards.now c.requires.numbered)
+    IfOk-weaker c.faults_in.result (λ faults. faults.items ≡ told_faults source) (λ faults. AreFaultsOf cards faults.items)
+    (λ faults are. subst (AreFaultsOf cards) (sym (are ∙ ap told_faults c.in_ok-source.ensures)) (told cards c.requires.numbered))
+    c.faults_in.ensures
