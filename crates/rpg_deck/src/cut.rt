@@ -10,23 +10,23 @@ use std::alloc::{AllocError, Global};
 
 /// A card that begins a group, and the cards after it up to the next that begins one.
 #[derive(Drop)]
-pub struct Group<'a, X> {
-    pub first: &'a Card<&'a X>,
-    pub followers: &'a [Card<&'a X>],
+pub struct Group<'deck, 'source, X> {
+    pub first: &'deck Card<&'source X>,
+    pub followers: &'deck [Card<&'source X>],
 }
 
 /// The cards of a sheet: those before the first group, and the groups.
 #[derive(Drop)]
-pub struct Sheet<'a, X> {
-    pub strays: &'a [Card<&'a X>],
-    pub groups: Vec<Group<'a, X>>,
+pub struct Sheet<'deck, 'source, X> {
+    pub strays: &'deck [Card<&'source X>],
+    pub groups: Vec<Group<'deck, 'source, X>>,
 }
 
 /// The cards of a sheet, cut.
-pub(crate) fn sheet_of<'a, X: Grouped>(
+pub(crate) fn sheet_of<'deck, 'source, X: Grouped>(
     alloc: Global,
-    cards: &'a [Card<&'a X>],
-) -> Result<Sheet<'a, X>, AllocError>
+    cards: &'deck [Card<&'source X>],
+) -> Result<Sheet<'deck, 'source, X>, AllocError>
     ensures { IfOk result (λ s. sheet_at s ≡ spec.sheet_of (λ c. X.begins c.spec.now) cards.now) }
 {
     let (strays, rest) = cards.split_at(stray_count(cards));
@@ -35,10 +35,10 @@ pub(crate) fn sheet_of<'a, X: Grouped>(
 }
 
 /// The groups of cards of which the first begins one, whatever it is.
-pub(crate) fn groups_of<'a, X: Grouped>(
+pub(crate) fn groups_of<'deck, 'source, X: Grouped>(
     alloc: Global,
-    cards: &'a [Card<&'a X>],
-) -> Result<Vec<Group<'a, X>>, AllocError>
+    cards: &'deck [Card<&'source X>],
+) -> Result<Vec<Group<'deck, 'source, X>>, AllocError>
     ensures { IfOk result (λ gs. map group_at gs.items ≡ spec.all_groups (λ c. X.begins c.spec.now) cards.now) }
 {
     let mut groups = Vec::new(alloc);

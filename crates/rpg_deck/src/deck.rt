@@ -13,18 +13,18 @@ use std::alloc::{AllocError, Global};
 
 /// The cards of each sheet, in the order of the source.
 #[derive(Drop)]
-pub struct Deck<'a> {
-    pub headers: Vec<Card<&'a HeaderSpec>>,
-    pub files: Vec<Card<&'a FileSpec>>,
-    pub tables: Vec<Card<&'a ExtensionSpec>>,
-    pub inputs: Vec<Card<&'a InputSpec>>,
-    pub calculations: Vec<Card<&'a CalculationSpec>>,
-    pub outputs: Vec<Card<&'a OutputSpec>>,
-    pub decks: Vec<Card<&'a DataSpec>>,
+pub struct Deck<'source> {
+    pub headers: Vec<Card<&'source HeaderSpec>>,
+    pub files: Vec<Card<&'source FileSpec>>,
+    pub tables: Vec<Card<&'source ExtensionSpec>>,
+    pub inputs: Vec<Card<&'source InputSpec>>,
+    pub calculations: Vec<Card<&'source CalculationSpec>>,
+    pub outputs: Vec<Card<&'source OutputSpec>>,
+    pub decks: Vec<Card<&'source DataSpec>>,
 }
 
-impl<'a> Deck<'a> {
-    pub fn new(alloc: Global, cards: &'a [SpecCard]) -> Result<Self, AllocError>
+impl<'source> Deck<'source> {
+    pub fn new(alloc: Global, cards: &'source [SpecCard]) -> Result<Self, AllocError>
         ensures { IfOk result (IsDeckOf cards.now) }
     {
         let mut deck = Deck {
@@ -43,7 +43,7 @@ impl<'a> Deck<'a> {
     }
 
     /// One more card.
-    fn add(&mut self, card: &'a SpecCard) -> Result<(), AllocError>
+    fn add(&mut self, card: &'source SpecCard) -> Result<(), AllocError>
         ensures { OnOk result ((before : List SpecCard) → IsDeckOf before self.old → IsDeckOf (before ++ card.now ∷ []) self.new) }
     {
         let number = card.number;

@@ -12,9 +12,9 @@ use std::alloc::{AllocError, Global};
 
 /// A calculation, and where it stands.
 #[derive(Clone, Copy)]
-pub struct Step<'a> {
+pub struct Step<'tree, 'deck, 'source> {
     pub section: Section,
-    pub group: &'a Group<'a, CalculationSpec>,
+    pub group: &'tree Group<'deck, 'source, CalculationSpec>,
 }
 
 /// After some calculations: how many subroutines are begun, and the one that is open.
@@ -25,7 +25,9 @@ struct Place {
 }
 
 /// The card of a calculation that has the operation.
-pub fn last_card<'a>(group: &Group<'a, CalculationSpec>) -> &'a Card<&'a CalculationSpec>
+pub fn last_card<'deck, 'source>(
+    group: &Group<'deck, 'source, CalculationSpec>,
+) -> &'deck Card<&'source CalculationSpec>
     ensures { seen result.now ≡ spec.last_card (group_in group.now) }
 {
     let Some(last) = group.followers.last() else {
@@ -90,10 +92,10 @@ impl Place {
 }
 
 /// Each calculation with its section.
-pub fn steps_of<'a>(
+pub fn steps_of<'tree, 'deck, 'source>(
     alloc: Global,
-    groups: &'a [Group<'a, CalculationSpec>],
-) -> Result<Vec<Step<'a>>, AllocError>
+    groups: &'tree [Group<'deck, 'source, CalculationSpec>],
+) -> Result<Vec<Step<'tree, 'deck, 'source>>, AllocError>
     requires { length groups.now ≤ 2000 }
     ensures { IfOk result (λ v. map step_in v.items ≡ spec.steps (map group_in groups.now)) }
 {

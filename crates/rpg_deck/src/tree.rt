@@ -15,22 +15,22 @@ use std::alloc::{AllocError, Global};
 
 /// The cards of a source, sheet by sheet; cards that go together are a group.
 #[derive(Drop)]
-pub struct Tree<'a> {
-    pub headers: &'a [Card<&'a HeaderSpec>],
-    pub files: &'a [Card<&'a FileSpec>],
-    pub tables: &'a [Card<&'a ExtensionSpec>],
+pub struct Tree<'deck, 'source> {
+    pub headers: &'deck [Card<&'source HeaderSpec>],
+    pub files: &'deck [Card<&'source FileSpec>],
+    pub tables: &'deck [Card<&'source ExtensionSpec>],
     /// A record type with its AND cards and its fields.
-    pub types: Sheet<'a, InputSpec>,
+    pub types: Sheet<'deck, 'source, InputSpec>,
     /// A C card with its AN and OR cards.
-    pub calculations: Vec<Group<'a, CalculationSpec>>,
+    pub calculations: Vec<Group<'deck, 'source, CalculationSpec>>,
     /// A line with its AND and OR cards and its fields.
-    pub lines: Sheet<'a, OutputSpec>,
+    pub lines: Sheet<'deck, 'source, OutputSpec>,
     /// A `**` card with its data.
-    pub decks: Sheet<'a, DataSpec>,
+    pub decks: Sheet<'deck, 'source, DataSpec>,
 }
 
-impl<'a> Tree<'a> {
-    pub fn of(alloc: Global, deck: &'a Deck<'a>) -> Result<Self, AllocError>
+impl<'deck, 'source> Tree<'deck, 'source> {
+    pub fn of(alloc: Global, deck: &'deck Deck<'source>) -> Result<Self, AllocError>
         ensures { IfOk result (λ t. (cards : List SpecCard) → IsDeckOf cards deck.now → tree_in t ≡ spec.tree cards) }
     {
         let headers = deck.headers.as_slice();
