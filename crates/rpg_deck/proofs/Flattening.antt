@@ -17,10 +17,10 @@ use Rattle.rpg_sheet_specs.specs.declared.spec.Spec.{Spec}
 use Rattle.rpg_sheet_specs.specs.declared.spec.Spec.TheVariants as spec
 
 -- the cards of a sheet
-abbrev sheet : {X : Type 0} → (Spec → Option X) → (X → Spec) → List SpecCard → List SpecCard
+abbrev pub sheet : {X : Type 0} → (Spec → Option X) → (X → Spec) → List SpecCard → List SpecCard
 sheet on make cards = back make (cards_on on cards)
 
-abbrev joined : List SpecCard → List SpecCard
+abbrev pub joined : List SpecCard → List SpecCard
 joined cards =
     sheet header_on spec.Header cards ++ (sheet file_on spec.File cards ++ (sheet extension_on spec.Extension cards
     ++ (sheet input_on spec.Input cards ++ (sheet calculation_on spec.Calculation cards
@@ -126,7 +126,7 @@ module _ (n : ℕ) (cs : List SpecCard) where
       (past (sheet calculation_on spec.Calculation cs) _ _ _ (none calculation_on spec.Calculation 4 no_calculation 6 cs (omega arith) ordered)
       (past (sheet output_on spec.Output cs) _ _ _ (none output_on spec.Output 5 no_output 6 cs (omega arith) ordered) refl)))))
 
-in_order : (low : ℕ) (cards : List SpecCard) → IsInOrder low cards → joined cards ≡ cards
+pub in_order : (low : ℕ) (cards : List SpecCard) → IsInOrder low cards → joined cards ≡ cards
 in_order low [] ordered = refl
 in_order low (c ∷ cs) ordered = first c.number cs c.spec ordered.1 ∙ ap (λ ds. c ∷ ds) (in_order (place c.spec) cs ordered.1)
 

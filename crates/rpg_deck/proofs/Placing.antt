@@ -22,13 +22,13 @@ use Rattle.rpg_sheet_specs.specs.declared.calculation.ControlLevel.TheVariants a
 
 -- ---- the operation
 
-same_deed : (g : CalculationGroup) → (calculation_in g).deed ≡ group_deed g
+pub same_deed : (g : CalculationGroup) → (calculation_in g).deed ≡ group_deed g
 same_deed g = ap deed_of (ap (λ o. unwrap_or o g.first.spec) (last_map (λ c. c.spec) g.followers None) ∙ unwrap_map (λ c. c.spec) (last_or None g.followers) g.first)
 
-same_begins : (g : CalculationGroup) → begins_subroutine (calculation_in g) ≡ new.begins g
+pub same_begins : (g : CalculationGroup) → begins_subroutine (calculation_in g) ≡ new.begins g
 same_begins g = ap (λ d. is_subroutine g.first.spec.control_level && is_begsr d) (same_deed g)
 
-same_ends : (g : CalculationGroup) → ends (calculation_in g) ≡ new.ends g
+pub same_ends : (g : CalculationGroup) → ends (calculation_in g) ≡ new.ends g
 same_ends g = ap (λ d. is_subroutine g.first.spec.control_level && old.is_endsr d) (same_deed g)
 
 -- ---- what is carried
@@ -37,7 +37,7 @@ last_push : {X : Type 0} (xs : List X) (x : X) (d : Option X) → last_or d (xs 
 last_push [] x d = refl
 last_push (y ∷ ys) x d = last_push ys x (Some y)
 
-inside_push : (before : List (Calculation Key)) (g : Calculation Key) → is_inside_subroutine (before ++ g ∷ []) ≡ cond (begins_subroutine g || ends g) (begins_subroutine g) (is_inside_subroutine before)
+pub inside_push : (before : List (Calculation Key)) (g : Calculation Key) → is_inside_subroutine (before ++ g ∷ []) ≡ cond (begins_subroutine g || ends g) (begins_subroutine g) (is_inside_subroutine before)
 inside_push before g = ap (λ gs. option_map_or begins_subroutine (last_or None gs) false) (filter-append (λ h. begins_subroutine h || ends h) before (g ∷ [])) ∙ by (begins_subroutine g || ends g)
   where
     by : (b : Bool) → option_map_or begins_subroutine (last_or None (brackets before ++ cond b (g ∷ []) [])) false ≡ cond b (begins_subroutine g) (is_inside_subroutine before)
@@ -56,14 +56,14 @@ begun_push (h ∷ hs) g = by (begins_subroutine h) (begins_subroutine g) (begun_
     by false false more = more
 
 -- the open subroutine, if one is open after so many
-abbrev open_one : ℕ → Bool → Option ℕ
+abbrev pub open_one : ℕ → Bool → Option ℕ
 open_one n inside = cond inside (Some (n - 1)) None
 
-record Matches (p : Place) (before : List (Calculation Key)) : Type 0 where
+pub record Matches (p : Place) (before : List (Calculation Key)) : Type 0 where
   pub begun : p.begun ≡ begun_count before
   pub own : p.own ≡ open_one (begun_count before) (is_inside_subroutine before)
 
-matches_next : (p : Place) (before : List (Calculation Key)) (g : CalculationGroup) → Matches p before → Matches (place_after p g) (before ++ calculation_in g ∷ [])
+pub matches_next : (p : Place) (before : List (Calculation Key)) (g : CalculationGroup) → Matches p before → Matches (place_after p g) (before ++ calculation_in g ∷ [])
 matches_next p before g m = record {
   begun = by_begun (new.begins g) (new.ends g) ∙ sym (begun_push before (calculation_in g) ∙ ap (λ b. cond b (suc (begun_count before)) (begun_count before)) (same_begins g));
   own = by_own (new.begins g) (new.ends g)
@@ -86,7 +86,7 @@ matches_next p before g m = record {
 
 -- ---- sections
 
-same_section : (p : Place) (before : List (Calculation Key)) (g : CalculationGroup) → Matches p before → section_of before (calculation_in g) ≡ new.section_of p g
+pub same_section : (p : Place) (before : List (Calculation Key)) (g : CalculationGroup) → Matches p before → section_of before (calculation_in g) ≡ new.section_of p g
 same_section p before g m = ap (λ d. old.section_by before (is_subroutine g.first.spec.control_level && is_begsr d) g.first.spec.control_level) (same_deed g) ∙ by g.first.spec.control_level (is_begsr (group_deed g))
   where
     inside : (i : Bool) (o : Option ℕ) → o ≡ open_one (begun_count before) i → cond i (Subroutine (begun_count before - 1)) Outside ≡ option_map_or Subroutine o Outside
