@@ -9,7 +9,7 @@ use Rattle.rpg_cards.specs.Files.{file_by}
 use Rattle.rpg_cards.specs.Groups.{Group, followers, following, groups, groups_from, input_card_role, input_role, open_file, opening, output_role, role_on}
 use Rattle.rpg_cards.specs.Levels.{is_at, match_level}
 use Rattle.rpg_cards.specs.declared.spec_card.SpecCard.{SpecCard}
-use Rattle.rpg_causes.proofs.LimitRule.{if_some, or_some}
+use Rattle.rpg_faults_limits.proofs.LimitRule.{if_some, or_some}
 use Rattle.rpg_causes.specs.JoinSums.{any_bad, good_lengths}
 use Rattle.rpg_causes.specs.Joins.{apart, behind_last, first_cause, first_matched, first_on, join_cause, length_at, level_cause, long_level, long_matches, match_cause, matched, matched_on, matches_at, of_lengths, of_level, of_match, of_matches, on_input, open_cards, other_length, other_matches}
 use Rattle.rpg_causes.specs.Places.{is_outside}

@@ -3,10 +3,10 @@ use Rattle.std.specs.Prelude.{ℕ, ◌==◌, List, [], ◌∷◌, ◌++◌, Bool
 use Rattle.std.specs.Option.{option_map, option_or}
 use Rattle.rpg_cards.specs.Cards.{output_record_on}
 use Rattle.rpg_cards.specs.declared.spec_card.SpecCard.{SpecCard}
+use Rattle.rpg_causes.specs.Data.{data_cause}
 use Rattle.rpg_causes.specs.Editing.{editing_cause}
 use Rattle.rpg_causes.specs.Files.{file_cause}
 use Rattle.rpg_causes.specs.Joins.{join_cause}
-use Rattle.rpg_causes.specs.Limits.{limit_cause}
 use Rattle.rpg_causes.specs.Movements.{moved_disk}
 use Rattle.rpg_causes.specs.Places.{outside}
 use Rattle.rpg_causes.specs.declared.cause.Cause.{Cause}
@@ -25,6 +25,7 @@ use Rattle.rpg_causes_operands.specs.Operands.{operand_cause}
 use Rattle.rpg_causes_operands.specs.Sizes.{size_cause}
 use Rattle.rpg_faults.specs.Rules.{rule}
 use Rattle.rpg_faults_flow.specs.Kept.{Rule}
+use Rattle.rpg_faults_limits.specs.Causes.{limit_cause}
 use Rattle.rpg_faults.specs.declared.code.FaultCode.{FaultCode}
 use Rattle.rpg_faults.specs.declared.code.FaultCode.TheVariants.{F1, F2, F3, F4, F5, F6, F7, F8, F9, F10, F11, F12, F13, F14, F15, F16, F17, F18}
 
@@ -64,7 +65,7 @@ explained_rule F14 before c after = is_some (target (before ++ c ∷ after) c af
 explained_rule F15 before c after = rule F15 before c after
 explained_rule F16 before c after = rule F16 before c after
 explained_rule F17 before c after = rule F17 before c after
-explained_rule F18 before c after = false
+explained_rule F18 before c after = rule F18 before c after
 
 -- why a card breaks the rule of a code
 unfoldable pub cause_of : FaultCode → List SpecCard → SpecCard → List SpecCard → Option Cause
@@ -85,16 +86,18 @@ cause_of F14 before c after = option_map cause.Recursion (target (before ++ c �
 cause_of F15 before c after = option_map cause.Rounding (rounding_cause before c after)
 cause_of F16 before c after = misplaced before c after
 cause_of F17 before c after = option_map cause.Editing (editing_cause (before ++ c ∷ after) c)
-cause_of F18 before c after = None
+cause_of F18 before c after = option_map cause.Data (data_cause (before ++ c ∷ after) before c)
 
 -- ---- of a source
 
 -- the cause at the first card with this number
 abbrev pub cause_at : List SpecCard → List SpecCard → ℕ → FaultCode → Option Cause
 cause_at before [] number code = None
-cause_at before (c ∷ after) number code = if c.number == number then cause_of code before c after else cause_at (before ++ c ∷ []) after number code
+cause_at before (c ∷ after) number code =
+    if c.number == number then cause_of code before c after else cause_at (before ++ c ∷ []) after number code
 
 -- the first card with this number breaks that rule
 abbrev pub is_broken_at : List SpecCard → List SpecCard → ℕ → FaultCode → Bool
 is_broken_at before [] number code = false
-is_broken_at before (c ∷ after) number code = if c.number == number then explained_rule code before c after else is_broken_at (before ++ c ∷ []) after number code
+is_broken_at before (c ∷ after) number code =
+    if c.number == number then explained_rule code before c after else is_broken_at (before ++ c ∷ []) after number code

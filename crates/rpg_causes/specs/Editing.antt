@@ -56,4 +56,5 @@ editing_of cards f e = record { name = e.name; misfit = misfit (form_in (form_of
 
 -- F17 of a card
 abbrev pub editing_cause : List SpecCard → SpecCard → Option EditingCause
-editing_cause cards c = if bad_editing cards c then option_and_then (λ (f : OutputField). option_map (editing_of cards f) f.operand) (output_field_on c.spec) else None
+editing_cause cards c =
+    if bad_editing cards c then option_and_then (λ (f : OutputField). option_map (editing_of cards f) f.operand) (output_field_on c.spec) else None

@@ -1,9 +1,8 @@
 pub mod Causes
-pub mod Counts
+pub mod Data
 pub mod Editing
 pub mod Files
 pub mod JoinSums
 pub mod Joins
-pub mod Limits
 pub mod Movements
 pub mod Places

@@ -5,11 +5,12 @@ ghost use Rattle.rpg_cards.specs.Sheets.{AreSheets};
 ghost use Rattle.rpg_causes.specs.Causes as causes;
 ghost use Rattle.rpg_faults.specs.Rules as rules;
 ghost use Rattle.rpg_faults.specs.declared.code.FaultCode.TheVariants.{F9, F12, F16};
+ghost use Rattle.rpg_faults_limits.specs.State.{AreLimits};
 
+use crate::data::{DataCause, data_cause};
 use crate::editing::{EditingCause, editing_cause};
 use crate::files::{FileCause, FileOnCard, file_cause, moved_disk};
 use crate::joins::{JoinCause, join_cause};
-use crate::limits::{LimitCause, limit_cause};
 use crate::places::{PlaceCause, outside_cause};
 use rpg_cards::{IndexedCards, Sheets, SpecCard};
 use rpg_causes_flow::{
@@ -23,6 +24,7 @@ use rpg_causes_operands::{
     with_card,
 };
 use rpg_faults::FaultCode;
+use rpg_faults_limits::{LimitCause, Limits, limit_cause};
 use rpg_symbols::Name;
 
 /// Why a card has a fault.
@@ -70,22 +72,26 @@ pub enum Cause {
     Join(JoinCause),
     /// F17
     Editing(EditingCause),
+    /// F18
+    Data(DataCause),
 }
 
-/// Why the first card with a number breaks the rule of a code; nothing where it doesn't, and for a code whose causes aren't given here.
+/// Why the first card with a number breaks the rule of a code; nothing where it doesn't.
 pub fn fault_cause(source: &IndexedCards, number: u16, code: FaultCode) -> Option<Cause>
     requires { length source.now ≤ 2000 }
     ensures cause { result ≡ causes.cause_at [] source.now number code }
     ensures rule { is_some result ≡ causes.is_broken_at [] source.now number code }
 {
     let mut sheets = Sheets::none();
+    let mut limits = Limits::nothing(source);
     let mut before = no_cards(source);
     let mut rest = source.as_slice();
     while let Some((card, after)) = rest.split_first() {
         if card.number == number {
-            return cause_of(source, &sheets, before, card, after, code);
+            return cause_of(source, &sheets, &limits, before, card, after, code);
         }
         sheets = sheets.with(source, before, card);
+        limits = limits.with(source, before, card, after);
         before = with_card(source, before, card, after);
         rest = after;
     }
@@ -102,6 +108,7 @@ fn no_cards<'a>(source: &IndexedCards<'a>) -> &'a [SpecCard]
 fn cause_of(
     source: &IndexedCards,
     sheets: &Sheets,
+    limits: &Limits,
     before: &[SpecCard],
     card: &SpecCard,
     after: &[SpecCard],
@@ -110,6 +117,7 @@ fn cause_of(
     requires split { source.now ≡ before.now ++ card.now ∷ after.now }
     requires few { length source.now ≤ 2000 }
     requires sheets { AreSheets source.now before.now sheets.now }
+    requires limits { AreLimits source.now before.now (card.now ∷ after.now) limits.now }
     ensures cause { result ≡ causes.cause_of code before.now card.now after.now }
     ensures rule { is_some result ≡ causes.explained_rule code before.now card.now after.now }
 {
@@ -119,7 +127,9 @@ fn cause_of(
         FaultCode::F3 => Some(Cause::Size(size_cause(card)?)),
         FaultCode::F4 => Some(Cause::Operand(operand_cause(source, card, after)?)),
         FaultCode::F5 => Some(Cause::Index(index_cause(source, card, after)?)),
-        FaultCode::F6 => Some(Cause::Limit(limit_cause(source, sheets, before, card, after)?)),
+        FaultCode::F6 => Some(Cause::Limit(limit_cause(
+            source, sheets, limits, before, card, after,
+        )?)),
         FaultCode::F7 => Some(Cause::File(file_cause(source, sheets, before, card)?)),
         FaultCode::F8 => Some(Cause::Indicator(indicator_cause(source, card)?)),
         FaultCode::F9 => missing(source, before, card, after),
@@ -131,7 +141,7 @@ fn cause_of(
         FaultCode::F15 => Some(Cause::Rounding(rounding_cause(before, card, after)?)),
         FaultCode::F16 => misplaced(source, before, card, after),
         FaultCode::F17 => Some(Cause::Editing(editing_cause(source, card)?)),
-        FaultCode::F18 => None,
+        FaultCode::F18 => Some(Cause::Data(data_cause(source, before, card)?)),
     }
 }
 

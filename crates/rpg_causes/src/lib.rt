@@ -2,20 +2,19 @@
 #![tactic(auto)]
 
 mod cause;
+mod data;
 mod editing;
+mod entries;
 mod files;
 mod joins;
-mod limits;
-mod line_counts;
 mod places;
-mod totals;
-mod type_counts;
 
 pub use cause::{Cause, fault_cause};
+pub use data::{DataCause, Need};
 pub use editing::{EditingCause, Misfit};
+pub use entries::{EntryCause, EntryFault};
 pub use files::{FileCause, FileOnCard, FileUser};
 pub use joins::JoinCause;
-pub use limits::{Limit, LimitCause};
 pub use places::PlaceCause;
 pub use rpg_causes_flow::{
     ColumnCause, Giver, NowhereCause, OrderCause, RoundingCause, StrayCause, Target, TwiceCause,
@@ -23,3 +22,4 @@ pub use rpg_causes_flow::{
 pub use rpg_causes_operands::{
     FieldCause, IndexCause, IndicatorCause, OperandCause, Redefined, SizeCause, TextField,
 };
+pub use rpg_faults_limits::{Limit, LimitCause};

@@ -77,7 +77,9 @@ any_given before c after ds = list_any (λ (d : Definition). is_some (label_name
 
 -- F11 of a card
 abbrev pub twice : List SpecCard → SpecCard → List SpecCard → Option TwiceCause
-twice before c after = option_or (option_and_then (of_given before c after) (given_on c after)) (first_some (of_definition before c after) (definitions_on c.spec))
+twice before c after =
+    option_or (option_and_then (of_given before c after) (given_on c after))
+    (first_some (of_definition before c after) (definitions_on c.spec))
 
 -- ---- F13, F14: the label or the subroutine that a card names
 

@@ -32,7 +32,9 @@ unless_behind false behind = if behind then None else Some NoDivision
 
 -- MVR that has no remainder
 abbrev pub of_remainder : List SpecCard → CalculationSpec → Option CalculationSpec → Option RoundingCause
-of_remainder before k last = if option_map_or (operation_passes is_remainder) last false then unless_behind (joins k.control_level) (is_behind_division before) else None
+of_remainder before k last =
+    if option_map_or (operation_passes is_remainder) last false
+    then unless_behind (joins k.control_level) (is_behind_division before) else None
 
 -- F15 of a calculation card
 abbrev pub of_calculation : List SpecCard → CalculationSpec → Option CalculationSpec → Option RoundingCause

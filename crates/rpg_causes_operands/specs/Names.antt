@@ -49,7 +49,8 @@ undefined_name cards c after = first_some (undefined_in cards) (operands_on c af
 
 -- a name that is defined as something else, with its form here, its first form and the card that has that
 abbrev pub redefined_as : List SpecCard → List ℕ → FieldForm → FieldForm → Option Redefined
-redefined_as cards name here first = if same_form first here then None else Some (record { name = name; here = here; first = first; definer = definer name cards })
+redefined_as cards name here first =
+    if same_form first here then None else Some (record { name = name; here = here; first = first; definer = definer name cards })
 
 -- a definition whose name has another form by those before it
 abbrev pub redefined_by : List SpecCard → List Definition → Definition → Option Redefined

@@ -121,7 +121,8 @@ entry_name e = option_map (λ (x : Entry). x.name) e
 
 -- what a factor holds
 abbrev pub held_factor : List SpecCard → ColumnRange → Column → Option Factor → Held
-held_factor cards at column f = record { at = at; content = field_content column; name = entry_name (option_and_then factor_entry f); form = factor_form cards column f }
+held_factor cards at column f =
+    record { at = at; content = field_content column; name = entry_name (option_and_then factor_entry f); form = factor_form cards column f }
 
 -- what the result field holds
 abbrev pub held_result : List SpecCard → Column → Option Entry → Held
@@ -130,7 +131,9 @@ held_result cards column e = record { at = range.ResultName; content = field_con
 -- F4 of a calculation with these columns
 abbrev pub by_columns : List SpecCard → CalculationSpec → OperationColumns → Option OperandCause
 by_columns cards k t =
-    of_operands cards t.kinds (held_factor cards range.FirstFactor t.factor_1 k.factor_1) (held_factor cards range.SecondFactor t.factor_2 k.factor_2) (held_result cards t.result_field k.result_field)
+    of_operands cards t.kinds (held_factor cards range.FirstFactor t.factor_1 k.factor_1)
+    (held_factor cards range.SecondFactor t.factor_2 k.factor_2)
+    (held_result cards t.result_field k.result_field)
 
 -- F4 of a calculation, by the columns of its operation
 abbrev pub in_calculation : List SpecCard → CalculationSpec → Option OperandCause
@@ -149,4 +152,6 @@ in_output cards f = option_and_then (λ (e : Entry). option_and_then (as_output 
 
 -- F4 of the operation that ends on the card, or of an output field
 abbrev pub operand_cause : List SpecCard → SpecCard → List SpecCard → Option OperandCause
-operand_cause cards c after = option_or (option_and_then (in_calculation cards) (card_ending c after)) (option_and_then (in_output cards) (output_field_on c.spec))
+operand_cause cards c after =
+    option_or (option_and_then (in_calculation cards) (card_ending c after))
+    (option_and_then (in_output cards) (output_field_on c.spec))

@@ -43,7 +43,8 @@ fn bad_data(decks: Decks, extension: &ExtensionSpec) -> bool
     }
 }
 
-fn has_table(extension: &ExtensionSpec) -> bool
+/// Whether one of a card's names is a table's.
+pub fn has_table(extension: &ExtensionSpec) -> bool
     ensures { result ≡ rules.has_table extension.now }
 {
     is_table(&extension.table.name)

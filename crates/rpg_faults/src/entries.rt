@@ -12,7 +12,7 @@ use rpg_sheet_specs::{DataSpec, TableSpec};
 
 /// Where the entries of a table stand on each card of its deck.
 #[derive(Clone, Copy)]
-pub(crate) struct Layout {
+pub struct Layout {
     pub per_card: usize,
     /// How many columns each takes, with that of an alternating table.
     pub width: usize,
@@ -28,7 +28,7 @@ impl Layout {
     ghost use Rattle.rpg_faults.specs.Data.{entry_on};
 
     /// The entry with this number on a card, from 0.
-    fn entry(self, card: &[u8], number: usize) -> &[u8]
+    pub fn entry(self, card: &[u8], number: usize) -> &[u8]
         requires card { length card.now ≡ 80 }
         requires number { number < self.per_card }
         ensures value { result.now ≡ entry_on self.width self.from self.length card.now number }
@@ -70,7 +70,7 @@ pub(crate) fn bad_entries(
 }
 
 /// The last of so many entries of a card, else the one before them.
-fn last_entry<'a>(
+pub fn last_entry<'a>(
     before: Option<&'a [u8]>,
     number: usize,
     layout: Layout,
@@ -128,14 +128,16 @@ fn is_wrong(table: &TableSpec, before: Option<&[u8]>, entry: &[u8]) -> bool
     }
 }
 
-fn is_bad(decimals: Option<u8>, entry: &[u8]) -> bool
+/// Whether an entry should be a number, and is none.
+pub fn is_bad(decimals: Option<u8>, entry: &[u8]) -> bool
     requires { HasNumberSize decimals (length entry.now) }
     ensures { result ≡ rules.is_bad decimals entry.now }
 {
     decimals.is_some() && read_zoned(entry).is_err()
 }
 
-fn is_lower(decimals: Option<u8>, entry: &[u8], other: &[u8]) -> bool
+/// Whether an entry is lower than another: a text by the collating sequence, a number by its value.
+pub fn is_lower(decimals: Option<u8>, entry: &[u8], other: &[u8]) -> bool
     requires entry { HasNumberSize decimals (length entry.now) }
     requires other { HasNumberSize decimals (length other.now) }
     ensures { result ≡ rules.is_lower decimals entry.now other.now }

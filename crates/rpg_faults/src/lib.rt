@@ -24,8 +24,9 @@ mod state;
 
 pub use code::FaultCode;
 pub use columns::misplaces;
-pub use data::{breaks_data, data_cards, data_columns, has_forms};
+pub use data::{breaks_data, data_cards, data_columns, has_forms, has_table};
 pub use decks::{begins_deck, behind_next, wants_data};
+pub use entries::{Layout, is_bad, is_lower, last_entry};
 pub use every::all_faults;
 pub use every_source::source_faults;
 pub use fault::Fault;

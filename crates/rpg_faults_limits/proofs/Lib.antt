@@ -1,3 +1,4 @@
 pub mod CalculationLemmas
+pub mod LimitRule
 pub mod NameLemmas
 pub mod TotalLemmas

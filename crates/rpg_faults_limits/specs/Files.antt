@@ -39,7 +39,11 @@ ends_apart before f = option_map_or (ends_unlike f) (option_and_then (λ u. file
 
 -- one file of each use; no two of one name
 abbrev pub bad_file : List SpecCard → FileSpec → Bool
-bad_file before f = is_some (file_named f.name before) || is_some (file_for (file_use f) before) || ends_apart before f || not (is_between 1 (longest_in_file (file_use f)) f.record_length)
+bad_file before f =
+    is_some (file_named f.name before)
+    || is_some (file_for (file_use f) before)
+    || ends_apart before f
+    || not (is_between 1 (longest_in_file (file_use f)) f.record_length)
 
 -- A card names a file of this use. Only after another card of its kind may it leave the name out.
 abbrev pub lacks_file : List SpecCard → (FileUse → Bool) → Bool → Option (List ℕ) → Bool

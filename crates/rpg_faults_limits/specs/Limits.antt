@@ -128,7 +128,9 @@ calculation_count cards = count_by (λ c. is_some (calculation_on c.spec)) cards
 
 -- the calculation that ends on the card is BEGSR of an SR card, and there are 100 before it
 abbrev pub passes_subroutines : List SpecCard → SpecCard → List SpecCard → Bool
-passes_subroutines before c after = begun_count (calculations_before before (c ∷ after)) == 100 && option_map_or begins_subroutine (calculation_ending before c after) false
+passes_subroutines before c after =
+    begun_count (calculations_before before (c ∷ after)) == 100
+    && option_map_or begins_subroutine (calculation_ending before c after) false
 
 -- 1,000 calculation cards, 100 subroutines
 abbrev pub passes_on_calculations : List SpecCard → SpecCard → List SpecCard → Bool

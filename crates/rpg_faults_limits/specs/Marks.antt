@@ -54,11 +54,15 @@ redefined_columns before c = if redefines_first before c then name_columns c.spe
 abbrev pub size_range : ColumnRange → ColumnRange → ℕ → Option ℕ → ColumnRange
 size_range length decimals len d = if is_some (sized_form len (option_map (λ n. 0) d)) then decimals else length
 
+-- the size of an alternating table
+abbrev pub size_of_alternating : TableSpec → ColumnRange
+size_of_alternating t = size_range range.AlternatingLength range.AlternatingDecimals t.length t.decimals
+
 -- F3 of an E card: the sizes of its table, else of the alternating one
 abbrev pub size_of_tables : ExtensionSpec → ColumnRange
 size_of_tables e =
     if bad_size_of_table e.table then size_range range.EntryLength range.EntryDecimals e.table.length e.table.decimals
-    else option_map_or (λ (t : TableSpec). size_range range.AlternatingLength range.AlternatingDecimals t.length t.decimals) e.alternating range.AlternatingLength
+    else option_map_or size_of_alternating e.alternating range.AlternatingLength
 
 -- decimals without a length
 abbrev pub size_of_result : CalculationSpec → ColumnRange

@@ -55,9 +55,13 @@ pub record HasFewOnLine (n : ℕ) (l : OpenLine) : Type 0 where
 abbrev pub is_of_subroutine : calculations.CalculationGroup → Bool
 is_of_subroutine g = is_subroutine g.first.control_level
 
+-- there is a group, and it is of an SR card
+abbrev pub is_open_subroutine : Option calculations.CalculationGroup → Bool
+is_open_subroutine o = option_map_or is_of_subroutine o false
+
 -- the group that the card right before belongs to is of an SR card
 abbrev pub is_in_subroutine : List SpecCard → Bool
-is_in_subroutine before = option_map_or is_of_subroutine (calculations.open_calculation_group before) false
+is_in_subroutine before = is_open_subroutine (calculations.open_calculation_group before)
 
 -- the counts are those of the C cards before
 pub record AreCalculations (before rest : List SpecCard) (k : Calculations) : Type 0 where

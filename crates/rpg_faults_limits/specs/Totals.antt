@@ -33,3 +33,7 @@ HasConstants items t = HasTotals Constant is_same constant_size [] items t
 -- these cards come before a card, and their items have been counted
 abbrev pub SeenBefore : {X : Type 0} → (List X → Totals → Type 0) → (List SpecCard → List X) → List SpecCard → SpecCard → Totals → List SpecCard → Type 0
 SeenBefore Has items cards c t before = BeginsWith cards (before ++ c ∷ []) × Has (items before) t
+
+-- the totals with the card, whichever cards come before it
+abbrev pub CountsCard : {X : Type 0} → (List X → Totals → Type 0) → (List SpecCard → List X) → List SpecCard → SpecCard → Totals → Totals → Type 0
+CountsCard Has items cards c old new = (before : List SpecCard) → SeenBefore Has items cards c old before → Has (items (before ++ c ∷ [])) new

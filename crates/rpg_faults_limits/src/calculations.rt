@@ -4,7 +4,7 @@ ghost use Rattle.std.specs.Prelude.{◌≡◌, [], ◌∷◌, ◌++◌, ◌≤�
 ghost use Rattle.std.specs.Option.{option_map_or};
 ghost use Rattle.rpg_cards.specs.Calculations.{CalculationGroup, calculation_ending, group_with};
 ghost use Rattle.rpg_cards.specs.Labels.{begins_subroutine};
-ghost use Rattle.rpg_faults_limits.specs.State.{AreCalculations, is_in_subroutine, is_of_subroutine};
+ghost use Rattle.rpg_faults_limits.specs.State.{AreCalculations, is_in_subroutine, is_of_subroutine, is_open_subroutine};
 
 use crate::filled::one_if;
 use rpg_cards::{SpecCard, begins_subroutine, is_subroutine, joins, last_card};
@@ -66,7 +66,7 @@ impl Calculations {
 
     /// Whether the group that the card continues or begins is of an SR card.
     fn is_subroutine_with(self, calculation: &CalculationSpec) -> bool
-        ensures { (g : Option CalculationGroup) → self.is_subroutine ≡ option_map_or is_of_subroutine g false → result ≡ is_of_subroutine (group_with g calculation.now) }
+        ensures { (g : Option CalculationGroup) → self.is_subroutine ≡ is_open_subroutine g → result ≡ is_of_subroutine (group_with g calculation.now) }
     {
         if joins(calculation) {
             self.is_subroutine

@@ -10,7 +10,8 @@ ghost use Rattle.rpg_faults_limits.specs.Files as files;
 use rpg_cards::{FileUse, IndexedCards, Sheets, SpecCard, file_for, file_named, use_of};
 use rpg_sheet_specs::{FileSpec, Movement, OutputRecord, Word};
 
-/// F7, on a card: an F card whose name or use was given before, whose column 17 isn't that of the other input file, or whose records are too long; a type or record card without a file of its use.
+/// F7, on a card: an F card whose name or use was given before, whose column 17 isn't that of the other
+/// input file, or whose records are too long; a type or record card without a file of its use.
 pub fn breaks_files(
     source: &IndexedCards,
     sheets: &Sheets,

@@ -9,6 +9,7 @@ mod indicators;
 mod limits;
 mod lines;
 mod marks;
+mod measures;
 mod names;
 mod order;
 mod state;
@@ -19,10 +20,11 @@ mod types;
 pub use files::{breaks_files, lacks_input, moves_disk};
 pub use indicator_marks::indicator_columns;
 pub use indicators::bad_indicator;
-pub use limits::passes_limit;
+pub use limits::{limit_cause, passes_limit};
 pub use marks::{
     file_columns, limit_columns, movement_columns, redefined_columns, size_columns, stray_columns,
 };
+pub use measures::{Limit, LimitCause};
 pub use names::{bad_size, redefines};
 pub use order::strays;
 pub use state::Limits;

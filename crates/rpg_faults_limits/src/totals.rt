@@ -6,7 +6,7 @@ ghost use Rattle.rpg_cards.specs.Constants.{constants_in};
 ghost use Rattle.rpg_cards.specs.Names.{definitions};
 ghost use Rattle.rpg_cards.specs.declared.spec_card.SpecCard.{SpecCard};
 ghost use Rattle.rpg_effect.specs.Forms.{size_of};
-ghost use Rattle.rpg_faults_limits.specs.Totals.{HasConstants, HasNames, SeenBefore};
+ghost use Rattle.rpg_faults_limits.specs.Totals.{CountsCard, HasConstants, HasNames, SeenBefore};
 
 use rpg_cards::{Constant, Definition, IndexedCards, SpecCard};
 use rpg_effect::form::FieldForm;
@@ -70,7 +70,7 @@ pub(crate) fn names_of(source: &IndexedCards) -> Totals
 pub(crate) fn names_with(names: Totals, source: &IndexedCards, card: &SpecCard) -> Totals
     requires few { length source.now ≤ 2000 }
     requires seen { (before : List SpecCard) × SeenBefore HasNames definitions source.now card.now names before }
-    ensures { (before : List SpecCard) → SeenBefore HasNames definitions source.now card.now names before → HasNames (definitions (before ++ card.now ∷ [])) result }
+    ensures { CountsCard HasNames definitions source.now card.now names result }
 {
     let defined = card.definitions();
     let items = defined.as_slice();
@@ -103,7 +103,7 @@ fn form_bytes(form: Option<FieldForm>) -> u32
 pub(crate) fn constants_with(constants: Totals, source: &IndexedCards, card: &SpecCard) -> Totals
     requires few { length source.now ≤ 2000 }
     requires seen { (before : List SpecCard) × SeenBefore HasConstants constants_in source.now card.now constants before }
-    ensures { (before : List SpecCard) → SeenBefore HasConstants constants_in source.now card.now constants before → HasConstants (constants_in (before ++ card.now ∷ [])) result }
+    ensures { CountsCard HasConstants constants_in source.now card.now constants result }
 {
     let written = card.constants();
     let items = written.as_slice();
