@@ -26,11 +26,11 @@ CONTRACTS = {
     "execute": ("crates/rpg_engine/src/engine.rt", "execute", ()),
     "compile": ("crates/rpg_compile/src/source.rt", "compile", ()),
     "meaning": ("crates/rpg_source_run/src/run.rt", "run_source", ("headline", "report", "early")),
-    "operations": ("crates/rpg_operation_laws/src/laws.rt", "operations_do", ()),
+    "operations": ("crates/rpg_meaning/src/operation_laws.rt", "operations_do", ()),
 }
 # the program that is compiled, and what its run is compared with
 PROGRAM = [(("rpg_compile_program", "Program"), "program_of")]
-MEANING = [(("rpg_meaning", "Sources"), "job_of"), (("rpg_meaning", "Start"), "IsStart"), (("rpg_meaning", "Runs"), "IsMeantRun")]
+MEANING = [(("rpg_meaning", "Jobs.Sources"), "job_of"), (("rpg_meaning", "Jobs.Start"), "IsStart"), (("rpg_meaning", "Jobs.Runs"), "IsMeantRun")]
 USE = re.compile(r"^\s*(?:ghost )?(?:pub )?use Rattle\.(\w+)\.specs\.([\w.]+?)(?:\.\{(.*)\}|\s+as\s+(\S+?))?;?\s*$")
 WORD = re.compile(r"[^\s(){}\[\],;λ→:]+")
 
@@ -165,10 +165,15 @@ def printed(name, definitions):
             print(f"| {crate} | {', '.join(it[1] for it in in_order(own))} | {len(here)} | {lines(here)} |")
 
 
+def modules_of(crate):
+    specs = Path("crates", crate, "specs")
+    return [(crate, ".".join(path.relative_to(specs).with_suffix("").parts)) for path in sorted(specs.rglob("*.antt"))]
+
+
 def bookkeeping():
     needed = set().union(*(reached(roots(*contract)) for contract in CONTRACTS.values()))
     for crate in all_crates():
-        modules = [(crate, path.stem) for path in sorted(Path("crates", crate, "specs").glob("*.antt")) if path.stem != "Lib"]
+        modules = [it for it in modules_of(crate) if module_at(it).own]
         left = {it: [name for name in module_at(it).own if (it, name) not in needed] for it in modules}
         apart = [it[1] for it in modules if len(left[it]) == len(module_at(it).own)]
         among = [f"{it[1]} ({', '.join(left[it])})" for it in modules if left[it] and it[1] not in apart]

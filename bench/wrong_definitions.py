@@ -27,15 +27,18 @@ CRATE = "wrong_definitions"
 # the definitions that may be wrong, or that stand above such a one
 DEFINITIONS = (
     "rpg_effect", "rpg_cards", "rpg_symbols", "rpg_faults_flow", "rpg_faults_operands", "rpg_faults_limits", "rpg_faults", "rpg_compile_program",
-    "rpg_job", "rpg_meaning_calculations", "rpg_operation_laws",
+    "rpg_job", "rpg_meaning",
 )
 # the proofs of the equations
 EQUATIONS = {
-    "rpg_meaning_calculations": ("MeantLists", "MeantFiles", "MeantConstants", "MeantSections", "MeantForms", "MeantLines", "MeantCalculations"),
-    "rpg_meaning": ("MeantTypes", "MeantFirst"),
-    "rpg_operation_laws": ("Done",),
+    "rpg_meaning": (
+        "Calculations.MeantLists", "Calculations.MeantFiles", "Calculations.MeantConstants", "Calculations.MeantSections", "Calculations.MeantForms",
+        "Calculations.MeantLines", "Calculations.MeantCalculations", "Jobs.MeantTypes", "Jobs.MeantFirst", "Operations.Done",
+    ),
 }
-USE = re.compile(r"^(?:pub )?use Rattle\.(\w+)\.(specs|proofs)\.(\w+)\b", re.M)
+# a file's name, after that of the tree that it is in
+NAME = r"Rattle\.(\w+)\.(specs|proofs)\.((?:[A-Z]\w*\.)?\w+)\b"
+USE = re.compile(rf"^(?:pub )?use {NAME}", re.M)
 
 
 @dataclass(frozen=True)
@@ -48,11 +51,11 @@ class Module:
 
     @property
     def path(self):
-        return Path("crates", self.crate, self.part, f"{self.name}.antt")
+        return Path("crates", self.crate, self.part, *self.name.split(".")).with_suffix(".antt")
 
     def copy(self, wrong):
         """The name of its copy for a wrong definition."""
-        return "".join(word.capitalize() for word in self.crate.split("_")) + self.name + wrong
+        return "".join(word.capitalize() for word in self.crate.split("_")) + self.name.replace(".", "") + wrong
 
 
 @dataclass(frozen=True)
@@ -82,9 +85,14 @@ def wrong_definitions(text):
             yield Wrong(name, what, Module(lines[1].split()[0], "specs", lines[1].split()[1]), tuple(zip(olds, news, strict=True)))
 
 
+def names_in(folder):
+    """The names of a folder's files, each after that of the tree that it is in."""
+    return [".".join(path.relative_to(folder).with_suffix("").parts) for path in folder.rglob("*.antt")]
+
+
 def modules():
     """All modules that may be copied, with those of them that each uses."""
-    every = {Module(crate, "specs", path.stem) for crate in DEFINITIONS for path in Path("crates", crate, "specs").glob("*.antt")}
+    every = {Module(crate, "specs", name) for crate in DEFINITIONS for name in names_in(Path("crates", crate, "specs"))}
     every |= {Module(crate, "proofs", name) for crate, names in EQUATIONS.items() for name in names}
     return {it: {Module(*found) for found in USE.findall(it.path.read_text(encoding="utf-8"))} & every for it in every}
 
@@ -117,7 +125,7 @@ def written(wrong, uses, room):
     for it in copies:
         text = it.path.read_text(encoding="utf-8")
         text = wrong.applied(text) if it == wrong.module else text
-        text = re.sub(r"\bRattle\.(\w+)\.(specs|proofs)\.(\w+)\b", renamed, text)
+        text = re.sub(rf"\b{NAME}", renamed, text)
         (room / it.part / f"{it.copy(wrong.name)}.antt").write_text(text, encoding="utf-8")
 
 

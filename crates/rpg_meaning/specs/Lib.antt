@@ -1,7 +1,4 @@
-pub mod Cycle
-pub mod Job
-pub mod Meant
-pub mod Phases
-pub mod Runs
-pub mod Sources
-pub mod Start
+pub mod Calculations
+pub mod Calls
+pub mod Jobs
+pub mod Operations

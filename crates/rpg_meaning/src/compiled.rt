@@ -2,7 +2,7 @@
 
 ghost use Rattle.std.specs.Prelude.{◌<◌, IfErr, IfOk};
 ghost use Rattle.rpg_compile.specs.Compile.{Compiles};
-ghost use Rattle.rpg_meaning.specs.Meant.{DoesAsMeant};
+ghost use Rattle.rpg_meaning.specs.Jobs.Meant.{DoesAsMeant};
 ghost use Rattle.rpg_faults.specs.Source.{IsSourceRefusal, cards_in};
 
 use crate::laws::compiled_programs_do_as_meant;

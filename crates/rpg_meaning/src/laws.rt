@@ -1,12 +1,12 @@
 //! Laws of what is compiled. The functions do nothing: each is called for its contract alone.
 ghost use Rattle.rpg_compile.specs.Compile.{Compiles};
-ghost use Rattle.rpg_meaning.specs.Meant.{DoesAsMeant};
+ghost use Rattle.rpg_meaning.specs.Jobs.Meant.{DoesAsMeant};
 ghost use Rattle.rpg_faults.specs.Source.{cards_in};
 
 use rpg_object_program::Program;
 
 /// A compiled program does what the cards of its text mean.
-#[tactic(auto, using(crate::proofs::CompiledMeant::does_as_meant))]
+#[tactic(auto, using(crate::proofs::Jobs::CompiledMeant::does_as_meant))]
 pub fn compiled_programs_do_as_meant(text: &[u8], allowance: u16, program: &Program)
     requires { Compiles text.now allowance program.now }
     ensures { DoesAsMeant (cards_in text.now) allowance program.now }

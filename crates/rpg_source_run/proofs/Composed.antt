@@ -11,10 +11,10 @@ use Rattle.rpg_engine.specs.Inputs.{records_of}
 use Rattle.rpg_engine.specs.Reporting.{Reports, SendsFirstParts}
 use Rattle.rpg_engine.specs.declared.fault.RunFault.{RunFault}
 use Rattle.rpg_engine.specs.declared.report.Report.{Report}
-use Rattle.rpg_meaning.proofs.OneRun.{runs_are_one}
-use Rattle.rpg_meaning.specs.Meant.{DoesAsMeant}
-use Rattle.rpg_meaning.specs.Runs.{MeantCourse}
-use Rattle.rpg_meaning.specs.Sources.{job_of}
+use Rattle.rpg_meaning.proofs.Jobs.OneRun.{runs_are_one}
+use Rattle.rpg_meaning.specs.Jobs.Meant.{DoesAsMeant}
+use Rattle.rpg_meaning.specs.Jobs.Runs.{MeantCourse}
+use Rattle.rpg_meaning.specs.Jobs.Sources.{job_of}
 use Rattle.rpg_object_program.specs.Object.{Object}
 use Rattle.rpg_source_run.specs.Printing.{OnlyRun, PrintsAsMeant, SendsPartsAsMeant}
 

@@ -12,7 +12,7 @@ use Rattle.rpg_engine.specs.declared.fault.RunFault.{RunFault}
 use Rattle.rpg_engine.specs.declared.report.Report.{Report}
 use Rattle.rpg_faults.specs.Source.{cards_in}
 use Rattle.rpg_job.specs.Files.{length_of}
-use Rattle.rpg_meaning_calculations.proofs.MeantFiles.{secondary_is_meant}
+use Rattle.rpg_meaning.proofs.Calculations.MeantFiles.{secondary_is_meant}
 use Rattle.rpg_object_program.specs.Object.{Object}
 use Rattle.rpg_source_run.specs.Printing.{PrintsAsMeant, SendsPartsAsMeant}
 use Rattle.rpg_source_run.specs.Running.{HasNoSecondary, IsFaultless}

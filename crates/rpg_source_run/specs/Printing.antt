@@ -12,9 +12,9 @@ use Rattle.rpg_engine.specs.Inputs.{records_of}
 use Rattle.rpg_engine.specs.Reporting.{HasParts}
 use Rattle.rpg_engine.specs.declared.fault.RunFault.{RunFault}
 use Rattle.rpg_engine.specs.declared.report.Report.{Report}
-use Rattle.rpg_meaning.specs.Runs.{IsMeantRun, MeantCourse}
-use Rattle.rpg_meaning.specs.Sources.{job_of}
-use Rattle.rpg_meaning.specs.Start.{IsStart}
+use Rattle.rpg_meaning.specs.Jobs.Runs.{IsMeantRun, MeantCourse}
+use Rattle.rpg_meaning.specs.Jobs.Sources.{job_of}
+use Rattle.rpg_meaning.specs.Jobs.Start.{IsStart}
 
 module _ (cards : List SpecCard) (allowance : ℕ) (day : ℤ) where
   -- a run of the cards over the records of both inputs, on a day

@@ -3,7 +3,7 @@
 ghost use Rattle.std.specs.Prelude.{◌≡◌, ◌<◌, IfErr, IfOk};
 ghost use Rattle.rpg_compile.specs.Compile.{Compiles};
 ghost use Rattle.rpg_faults.specs.Source.{IsSourceRefusal, cards_in};
-ghost use Rattle.rpg_meaning.specs.Meant.{DoesAsMeant};
+ghost use Rattle.rpg_meaning.specs.Jobs.Meant.{DoesAsMeant};
 ghost use Rattle.rpg_object_program.specs.Kept.{IsProgram};
 
 use rpg_compile::SourceFault;

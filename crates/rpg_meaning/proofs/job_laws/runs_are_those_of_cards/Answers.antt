@@ -1,4 +1,4 @@
-use Rattle.rpg_meaning.proofs.Meant.{has_start, runs_are_meant}
+use Rattle.rpg_meaning.proofs.Jobs.Meant.{has_start, runs_are_meant}
 use Rattle.rpg_meaning.proofs.job_laws.runs_are_those_of_cards.Goals as goal
 
 pub returns-clause-runs : goal.returns-clause-runs

@@ -2,7 +2,7 @@ use Rattle.std.proofs.Common.{refl}
 use Rattle.rpg_cycle.specs.Job.{first_fields}
 use Rattle.rpg_cycle.specs.Starting.{job_first_world}
 use Rattle.rpg_faults.specs.Source.{cards_in}
-use Rattle.rpg_meaning.proofs.CompiledMeant.{does_as_meant}
+use Rattle.rpg_meaning.proofs.Jobs.CompiledMeant.{does_as_meant}
 use Rattle.rpg_source_run.proofs.Composed.{only_run, prints, sends_parts}
 use Rattle.rpg_source_run.proofs.law.source_to_print.Goals as goal
 

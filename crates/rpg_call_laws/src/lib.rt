@@ -1,4 +1,0 @@
-//! Calls of subroutines by subroutines, all by one relation.
-#![tactic(auto)]
-
-pub mod laws;

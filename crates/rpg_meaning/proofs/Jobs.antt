@@ -1,0 +1,14 @@
+pub mod CompiledMeant
+pub mod Constants
+pub mod Cycling
+pub mod Following
+pub mod Meant
+pub mod MeantFirst
+pub mod MeantStart
+pub mod MeantTypes
+pub mod OneRun
+pub mod ProgramOf
+pub mod Selecting
+pub mod Starting
+pub mod Steps
+pub mod TakenStart

@@ -1,0 +1,11 @@
+use Rattle.rpg_meaning.proofs.Calculations.Accepted.{orderly_of}
+use Rattle.rpg_meaning.proofs.Calculations.Runs.{meaning_kept}
+use Rattle.rpg_meaning.proofs.Calculations.Sources.{meant_world, translates}
+use Rattle.rpg_meaning.proofs.calculation_laws.compiled_cards_keep_meaning.Goals as goal
+use Rattle.rpg_compile_program.specs.Program.{program_of}
+
+pub returns-clause-meaning : goal.returns-clause-meaning
+returns-clause-meaning c = λ cards allowance program accepted kept. meaning_kept (orderly_of (program_of cards allowance) program accepted) (translates cards allowance kept)
+
+pub returns-clause-worlds : goal.returns-clause-worlds
+returns-clause-worlds c = meant_world

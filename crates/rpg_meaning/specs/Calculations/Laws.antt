@@ -1,0 +1,63 @@
+-- What it is that a program keeps the meaning of calculation cards.
+use Rattle.std.specs.Prelude.{◌≡◌, ℕ, Bool, true, false, [], Some, slice_get}
+use Rattle.std.specs.FinMap as map
+use Rattle.rpg_cards.specs.Deeds.{Acts, Begins, Calculation, Deed, Ends, Executes, GoesTo, Marks, Nothing, PutsOut}
+use Rattle.rpg_cards.specs.Keys.{Key, key_cmp}
+use Rattle.rpg_effect.specs.Ends.{End, GoesOn, Halt}
+use Rattle.rpg_effect.specs.World.{World}
+use Rattle.rpg_machine.specs.Config.{Config, Output}
+use Rattle.rpg_machine.specs.Laws.{FitsIn}
+use Rattle.rpg_machine.specs.Run.{RunsTo}
+use Rattle.rpg_meaning.specs.Calculations.Agreement.{AgreeAt, AgreeEnded, MachineFollows, part_section}
+use Rattle.rpg_meaning.specs.Calculations.Meaning.{CardsCome, MeantOutcome, On, Over, Source, State, Stops, cards_step, part_has_end}
+use Rattle.rpg_meaning.specs.Calculations.Parts.{Part, calculations_in}
+use Rattle.rpg_meaning.specs.Calculations.Sections.{AreOpen, Meets}
+use Rattle.rpg_object_program.specs.Object.{Object}
+use Rattle.rpg_effect_renaming.specs.Naming.{Agree}
+
+-- every deed but EXSR and ENDSR
+abbrev pub stays_in_part : Deed Key → Bool
+stays_in_part (Marks l) = true
+stays_in_part (Begins n) = true
+stays_in_part Nothing = true
+stays_in_part (Acts a) = true
+stays_in_part PutsOut = true
+stays_in_part (GoesTo l) = true
+stays_in_part (Executes n) = false
+stays_in_part (Ends l) = false
+
+-- One calculation: from where they agree its code comes to where the cards come, or halts where they halt, and then they agree.
+abbrev pub KeepsCalculations : Object → Source → (Key → ℕ) → Type 0
+KeepsCalculations p source number =
+    (s : State) (d : Config) (g : Calculation Key) → slice_get (calculations_in source.sections s.part) s.next ≡ Some g → stays_in_part g.deed ≡ true
+    → AgreeAt p source number s d → MachineFollows p source number d (cards_step source s)
+
+-- Whole sections, from anywhere in them: the cards come to an end, and the section comes to the same.
+abbrev pub KeepsSections : Object → Source → (Key → ℕ) → Type 0
+KeepsSections p source number =
+    (s : State) (d : Config) → AgreeAt p source number s d → AreOpen p source.sections d.cells s.part s.back
+    → (e : MeantOutcome) × CardsCome source s e × Meets p source number d e
+
+-- what the cards come to is what the section came to
+abbrev pub EndsAs : Object → Source → (Key → ℕ) → MeantOutcome → End → Config → Output → Type 0
+EndsAs p source number (On t o) e d out = (e ≡ GoesOn) × (out ≡ o) × AgreeEnded p source number t d
+EndsAs p source number (Stops k t o) e d out = (e ≡ Halt k) × (out ≡ o) × AgreeEnded p source number t d
+EndsAs p source number Over e d out = ⊥
+
+-- before the first calculation of a part
+abbrev pub part_begun : Part → World key_cmp → ℕ → State
+part_begun part w allowance = record { world = w; part = part; next = 0; back = []; allowance = allowance }
+
+-- Runs of the machine: whatever a run of the detail or total section comes to, the cards come to from a world that agrees.
+abbrev pub KeepsRuns : Object → Source → (Key → ℕ) → Type 0
+KeepsRuns p source number =
+    (part : Part) → part_has_end part ≡ true
+    → (v : World key_cmp) (c : Config) → Agree source.forms number v c.world → FitsIn p.fields c.world → c.cells ≡ map.empty
+    → (e : End) (d : Config) (out : Output) → RunsTo p (part_section source.sections part) c e d out
+    → (x : MeantOutcome) × CardsCome source (part_begun part v c.allowance) x × EndsAs p source number x e d out
+
+-- a program that does what its source's calculations mean
+pub record KeepsMeaning (p : Object) (source : Source) (number : Key → ℕ) : Type 0 where
+  pub calculations : KeepsCalculations p source number
+  pub sections : KeepsSections p source number
+  pub runs : KeepsRuns p source number

@@ -1,6 +1,0 @@
-use Rattle.rpg_meaning_calculations.proofs.Accepted.{orderly_of}
-use Rattle.rpg_meaning_calculations.proofs.Runs.{meaning_kept}
-use Rattle.rpg_meaning_calculations.proofs.laws.accepted_programs_keep_meaning.Goals as goal
-
-pub returns : goal.returns
-returns c = λ p program accepted source number is. meaning_kept (orderly_of p program accepted) is
