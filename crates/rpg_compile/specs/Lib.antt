@@ -1,1 +1,9 @@
+pub mod CallLevels
+pub mod Called
 pub mod Compile
+pub mod Limits
+pub mod Marked
+pub mod Numbers
+pub mod Steps
+pub mod Tests
+pub mod Walk

@@ -4,8 +4,8 @@ ghost use Rattle.std.specs.Prelude.{◌<◌, IfOk, IfErr};
 ghost use Rattle.rpg_compile.specs.Compile.{Compiles};
 ghost use Rattle.rpg_faults.specs.Source.{AreFaultless, IsSourceRefusal};
 
+use crate::program::translate;
 use rpg_cards::SpecCard;
-use rpg_compile_translator::translate;
 use rpg_faults::{SourceFault, faultless_cards};
 use rpg_object_program::Program;
 use std::alloc::Global;

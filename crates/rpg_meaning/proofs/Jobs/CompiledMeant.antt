@@ -1,6 +1,6 @@
 -- A compiled program does what the cards of its text mean.
 use Rattle.std.proofs.Common.{ℕ, List, subst, sym}
-use Rattle.rpg_compile_translator.proofs.Kept.{keeps_rules}
+use Rattle.rpg_compile.proofs.Kept.{keeps_rules}
 use Rattle.rpg_cards.specs.declared.spec_card.SpecCard.{SpecCard}
 use Rattle.rpg_faults.specs.Faults.{Faultless}
 use Rattle.rpg_meaning.proofs.Jobs.Constants.{constants_begin, constants_stay}

@@ -1,0 +1,78 @@
+-- Sections and subroutines, a group at a time.
+use Rattle.std.proofs.Common.{◌≡◌, true, false, cond, List, [], ◌∷◌, Option, None, refl, ap, ◌∙◌}
+use Rattle.rpg_cards.specs.Calculations.{calculations}
+use Rattle.rpg_cards.specs.Deeds.{Acts, Begins, Calculation, Deed, Ends, Executes, GoesTo, Marks, Nothing, PutsOut}
+use Rattle.rpg_cards.specs.Keys.{Key, Name}
+use Rattle.rpg_cards.specs.Labels.{is_begsr}
+use Rattle.rpg_cards.specs.Sections.{begun_by, is_subroutine, of_control, subroutines_of, unless_begun, up_to_begin, with_begun}
+use Rattle.rpg_cards.specs.declared.spec_card.SpecCard.{SpecCard}
+use Rattle.rpg_compile.specs.Walk.{belongs, ends_before, part_cards, section_in, subroutines_in}
+use Rattle.rpg_compile.specs.declared.part.Part.{Part}
+use Rattle.rpg_compile.specs.declared.part.Part.TheVariants.{Detail, Total, Body}
+
+not_begun : (d : Deed Key) → is_begsr d ≡ false → begun_by d ≡ None
+not_begun (Acts a) e = refl
+not_begun PutsOut e = refl
+not_begun (GoesTo l) e = refl
+not_begun (Executes n) e = refl
+not_begun (Marks l) e = refl
+not_begun (Begins n) e = absurd cc
+not_begun (Ends l) e = refl
+not_begun Nothing e = refl
+
+begun_stops : (d : Deed Key) (gs : List (Calculation Key)) → is_begsr d ≡ true → unless_begun (begun_by d) gs ≡ []
+begun_stops (Acts a) gs e = absurd cc
+begun_stops PutsOut gs e = absurd cc
+begun_stops (GoesTo l) gs e = absurd cc
+begun_stops (Executes n) gs e = absurd cc
+begun_stops (Marks l) gs e = absurd cc
+begun_stops (Begins n) gs e = refl
+begun_stops (Ends l) gs e = absurd cc
+begun_stops Nothing gs e = absurd cc
+
+-- ---- one group
+
+goes_on : (part : Part) (g : Calculation Key) (gs : List (Calculation Key)) → ends_before part g.deed ≡ false → part_cards part (g ∷ gs) ≡ g ∷ part_cards part gs
+goes_on Detail g gs e = refl
+goes_on Total g gs e = refl
+goes_on Body g gs e = ap (λ o. unless_begun o (g ∷ up_to_begin gs)) (not_begun g.deed e)
+
+stops : (part : Part) (g : Calculation Key) (gs : List (Calculation Key)) → ends_before part g.deed ≡ true → part_cards part (g ∷ gs) ≡ []
+stops Detail g gs e = absurd cc
+stops Total g gs e = absurd cc
+stops Body g gs e = begun_stops g.deed (g ∷ up_to_begin gs) e
+
+module _ (g : Calculation Key) (rest behind : List SpecCard) (split : calculations rest ≡ g ∷ calculations behind) where
+  pub section_other : (part : Part) → belongs part g.control ≡ false → section_in part rest ≡ section_in part behind
+  section_other part other =
+      ap (λ gs. part_cards part (of_control (belongs part) gs)) split
+      ∙ ap (λ b. part_cards part (cond b (g ∷ of_control (belongs part) (calculations behind)) (of_control (belongs part) (calculations behind)))) other
+
+  in_section : (part : Part) → belongs part g.control ≡ true → section_in part rest ≡ part_cards part (g ∷ of_control (belongs part) (calculations behind))
+  in_section part own =
+      ap (λ gs. part_cards part (of_control (belongs part) gs)) split
+      ∙ ap (λ b. part_cards part (cond b (g ∷ of_control (belongs part) (calculations behind)) (of_control (belongs part) (calculations behind)))) own
+
+  pub section_next : (part : Part) → belongs part g.control ≡ true → ends_before part g.deed ≡ false → section_in part rest ≡ g ∷ section_in part behind
+  section_next part own more = in_section part own ∙ goes_on part g (of_control (belongs part) (calculations behind)) more
+
+  pub section_end : (part : Part) → belongs part g.control ≡ true → ends_before part g.deed ≡ true → section_in part rest ≡ []
+  section_end part own end = in_section part own ∙ stops part g (of_control (belongs part) (calculations behind)) end
+
+  -- ---- subroutines
+
+  pub subroutines_other : is_subroutine g.control ≡ false → subroutines_in rest ≡ subroutines_in behind
+  subroutines_other other =
+      ap (λ gs. subroutines_of (of_control is_subroutine gs)) split
+      ∙ ap (λ b. subroutines_of (cond b (g ∷ of_control is_subroutine (calculations behind)) (of_control is_subroutine (calculations behind)))) other
+
+  in_subroutines : is_subroutine g.control ≡ true → subroutines_in rest ≡ with_begun (begun_by g.deed) (section_in Body behind) (subroutines_in behind)
+  in_subroutines own =
+      ap (λ gs. subroutines_of (of_control is_subroutine gs)) split
+      ∙ ap (λ b. subroutines_of (cond b (g ∷ of_control is_subroutine (calculations behind)) (of_control is_subroutine (calculations behind)))) own
+
+  pub subroutines_within : is_subroutine g.control ≡ true → is_begsr g.deed ≡ false → subroutines_in rest ≡ subroutines_in behind
+  subroutines_within own within = in_subroutines own ∙ ap (λ o. with_begun o (section_in Body behind) (subroutines_in behind)) (not_begun g.deed within)
+
+  pub subroutines_next : (name : Option Name) → is_subroutine g.control ≡ true → g.deed ≡ Begins name → subroutines_in rest ≡ record { name = name; body = section_in Body behind } ∷ subroutines_in behind
+  subroutines_next name own begins = in_subroutines own ∙ ap (λ d. with_begun (begun_by d) (section_in Body behind) (subroutines_in behind)) begins

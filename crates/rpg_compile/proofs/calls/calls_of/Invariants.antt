@@ -1,0 +1,14 @@
+use Rattle.std.proofs.Common.{◌≡◌, ◌+◌, ◌++◌, length}
+use Rattle.rpg_compile.proofs.calls.calls_of.Given as goal
+use Rattle.rpg_compile.specs.Called.{numbered_calls_from}
+use Rattle.rpg_compile.specs.Numbers.{number_by}
+use Rattle.rpg_compile.specs.Walk.{subroutines_in}
+
+abbrev pub invariant-loop-behind : goal.invariant-loop-behind
+invariant-loop-behind l = record {
+  count : l.caller + length (subroutines_in l.rest) ≡ length (subroutines_in l.cards);
+  so_far : l.calls.items ++ numbered_calls_from (number_by l.subroutines) l.caller (subroutines_in l.rest) ≡ numbered_calls_from (number_by l.subroutines) 0 (subroutines_in l.cards);
+}
+
+abbrev pub decreases-loop-behind : goal.decreases-loop-behind
+decreases-loop-behind l = length l.rest

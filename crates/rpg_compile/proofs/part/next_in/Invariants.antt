@@ -1,0 +1,12 @@
+use Rattle.std.proofs.Common.{◌≡◌, ◌≤◌, length}
+use Rattle.rpg_compile.proofs.part.next_in.Given as goal
+use Rattle.rpg_compile.specs.Walk.{section_in}
+
+abbrev pub invariant-loop-group : goal.invariant-loop-group
+invariant-loop-group l = record {
+  same : section_in l.part l.cards ≡ section_in l.part l.rest;
+  within : length l.rest ≤ length l.cards;
+}
+
+abbrev pub decreases-loop-group : goal.decreases-loop-group
+decreases-loop-group l = length l.rest

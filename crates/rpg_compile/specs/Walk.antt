@@ -1,0 +1,70 @@
+-- Groups of C cards, one after another.
+use Rattle.std.specs.Prelude.{◌≡◌, ℕ, suc, ◌+◌, length, Bool, false, List, [], ◌∷◌, Option, None, Some, drop, if◌then◌else◌}
+use Rattle.rpg_cards.specs.Calculations.{CalculationGroup, awaited_level, calculations, goes_on, last_card}
+use Rattle.rpg_cards.specs.Deeds.{Calculation, Deed}
+use Rattle.rpg_cards.specs.Keys.{Key}
+use Rattle.rpg_cards.specs.Labels.{is_begsr}
+use Rattle.rpg_cards.specs.Sections.{Subroutine, is_detail, is_subroutine, is_total, of_control, subroutines_of, up_to_begin}
+use Rattle.rpg_cards.specs.Cards.{calculation_on, calculation_specs_in}
+use Rattle.rpg_cards.specs.declared.spec_card.SpecCard.{SpecCard}
+use Rattle.rpg_compile_program.specs.Code.{waits}
+use Rattle.rpg_compile.specs.Tests.{tests_in}
+use Rattle.rpg_compile.specs.declared.part.Part.{Part}
+use Rattle.rpg_compile.specs.declared.part.Part.TheVariants.{Detail, Total, Body}
+use Rattle.rpg_sheet_specs.specs.declared.calculation.CalculationSpec.{CalculationSpec}
+use Rattle.rpg_sheet_specs.specs.declared.calculation.ControlLevel.{ControlLevel}
+
+-- ---- groups
+
+-- the card in front, where it is a C card
+abbrev pub first_calculation : List SpecCard → Option CalculationSpec
+first_calculation [] = None
+first_calculation (c ∷ cs) = calculation_on c.spec
+
+-- how many AN and OR cards there are at the front
+abbrev pub joining : List SpecCard → ℕ
+joining [] = 0
+joining (c ∷ cs) = if goes_on (c ∷ cs) then suc (joining cs) else 0
+
+-- the group of these cards, of which that is the first
+abbrev pub group_of : CalculationSpec → List SpecCard → CalculationGroup
+group_of first cards = record { first = first; followers = calculation_specs_in (drop 1 cards) }
+
+-- the first and the last card of the group at the front of these cards
+pub record IsGroup (first last : CalculationSpec) (cards : List SpecCard) : Type 0 where
+  pub first_is : first_calculation cards ≡ Some first
+  pub last_is : last ≡ last_card (group_of first cards)
+
+-- ---- sections
+
+-- what a group of a section has in columns 7 and 8 of its first card
+abbrev pub belongs : Part → ControlLevel → Bool
+belongs Detail level = is_detail level
+belongs Total level = is_total level
+belongs Body level = is_subroutine level
+
+-- a subroutine's section ends before the next BEGSR
+abbrev pub ends_before : Part → Deed Key → Bool
+ends_before Detail d = false
+ends_before Total d = false
+ends_before Body d = is_begsr d
+
+-- the groups of a section; of a subroutine those up to the next BEGSR
+abbrev pub part_cards : Part → List (Calculation Key) → List (Calculation Key)
+part_cards Detail gs = gs
+part_cards Total gs = gs
+part_cards Body gs = up_to_begin gs
+
+-- the calculations of a section, from the cards on at which it begins
+abbrev pub section_in : Part → List SpecCard → List (Calculation Key)
+section_in part cards = part_cards part (of_control (belongs part) (calculations cards))
+
+-- the subroutines of these cards
+abbrev pub subroutines_in : List SpecCard → List (Subroutine Key)
+subroutines_in cards = subroutines_of (of_control is_subroutine (calculations cards))
+
+-- ---- sizes
+
+-- how many instructions a group becomes that has one for its operation
+abbrev pub size_with : CalculationSpec → List SpecCard → ℕ
+size_with first cards = waits (awaited_level first.control_level) + length (tests_in cards) + 1

@@ -1,0 +1,170 @@
+//! Operations on fields, from C cards.
+
+ghost use Rattle.std.specs.Prelude.{◌≡◌, IfSome, unwrap_or};
+ghost use Rattle.std.specs.Option.{option_map};
+ghost use Rattle.rpg_cards.specs.Deeds as deeds;
+ghost use Rattle.rpg_cards.specs.Keys as keys;
+ghost use Rattle.rpg_effect.specs.declared.operation.Action.TheVariants as actions;
+ghost use Rattle.rpg_compile.specs.Marked.{IsMarkedAction};
+ghost use Rattle.rpg_compile.specs.Steps.{action_in};
+ghost use Rattle.rpg_effect_renaming.specs.Naming.{renamed_action, renamed_operand};
+ghost use Rattle.rpg_compile_program.specs.Table.{key_number};
+
+use rpg_cards::shows_of;
+use rpg_compile_layouts::FieldTable;
+use rpg_effect::operation::{Action, Index, Operand, Operator, Side};
+use rpg_sheet_specs::{CalculationSpec, Entry, Factor, Operation};
+
+/// What an operation does to fields: nothing where it only transfers control.
+pub(crate) fn action_of(
+    table: &FieldTable,
+    calculation: &CalculationSpec,
+    operation: Operation,
+) -> Option<Action<Operand<u16>>>
+    ensures value { result ≡ option_map (renamed_action (key_number table.now)) (action_in (deeds.deed_by calculation.now operation)) }
+    ensures kept { IfSome result IsMarkedAction }
+{
+    let half = calculation.half_adjust;
+    let shows = shows_of(calculation.resulting_indicators);
+    let result = result_of(table, &calculation.result_field);
+    Some(match operation {
+        Operation::Add => compute(Operator::Add, table, calculation),
+        Operation::Subtract => compute(Operator::Subtract, table, calculation),
+        Operation::Multiply => compute(Operator::Multiply, table, calculation),
+        Operation::Divide => Action::Divide {
+            half,
+            factor1: first_or_result(table, calculation),
+            factor2: factor_of(table, &calculation.factor_2),
+            result,
+            shows,
+        },
+        Operation::ZeroAdd => assign(false, table, calculation),
+        Operation::ZeroSubtract => assign(true, table, calculation),
+        Operation::MoveRemainder => Action::TakeRemainder { result, shows },
+        Operation::CrossFoot => Action::CrossFoot {
+            half,
+            factor2: factor_of(table, &calculation.factor_2),
+            result,
+            shows,
+        },
+        Operation::Compare => Action::Compare {
+            factor1: factor_of(table, &calculation.factor_1),
+            factor2: factor_of(table, &calculation.factor_2),
+            shows,
+        },
+        Operation::LookUp => Action::LookUp {
+            factor1: factor_of(table, &calculation.factor_1),
+            factor2: factor_of(table, &calculation.factor_2),
+            result: given_result(table, &calculation.result_field),
+            shows,
+        },
+        Operation::Move => moved(Side::Right, table, calculation),
+        Operation::MoveLeft => moved(Side::Left, table, calculation),
+        Operation::SetOn => Action::SetIndicators {
+            is_on: true,
+            named: shows,
+        },
+        Operation::SetOff => Action::SetIndicators {
+            is_on: false,
+            named: shows,
+        },
+        Operation::GoTo
+        | Operation::Call
+        | Operation::Label
+        | Operation::BeginSubroutine
+        | Operation::EndSubroutine
+        | Operation::Except => return None,
+    })
+}
+
+/// ADD, SUB and MULT.
+fn compute(
+    operator: Operator,
+    table: &FieldTable,
+    calculation: &CalculationSpec,
+) -> Action<Operand<u16>>
+    ensures value { result ≡ renamed_action (key_number table.now) (actions.Compute operator calculation.now.half_adjust (deeds.first_or_result calculation.now) (deeds.second calculation.now) (deeds.result calculation.now) (deeds.resulting_shows calculation.now)) }
+    ensures kept { IsMarkedAction result }
+{
+    Action::Compute {
+        operator,
+        half: calculation.half_adjust,
+        factor1: first_or_result(table, calculation),
+        factor2: factor_of(table, &calculation.factor_2),
+        result: result_of(table, &calculation.result_field),
+        shows: shows_of(calculation.resulting_indicators),
+    }
+}
+
+/// Z-ADD and Z-SUB.
+fn assign(
+    is_negated: bool,
+    table: &FieldTable,
+    calculation: &CalculationSpec,
+) -> Action<Operand<u16>>
+    ensures value { result ≡ renamed_action (key_number table.now) (actions.Assign is_negated calculation.now.half_adjust (deeds.second calculation.now) (deeds.result calculation.now) (deeds.resulting_shows calculation.now)) }
+    ensures kept { IsMarkedAction result }
+{
+    Action::Assign {
+        is_negated,
+        half: calculation.half_adjust,
+        factor2: factor_of(table, &calculation.factor_2),
+        result: result_of(table, &calculation.result_field),
+        shows: shows_of(calculation.resulting_indicators),
+    }
+}
+
+/// MOVE and MOVEL.
+fn moved(side: Side, table: &FieldTable, calculation: &CalculationSpec) -> Action<Operand<u16>>
+    ensures value { result ≡ renamed_action (key_number table.now) (actions.Move side (deeds.second calculation.now) (deeds.result calculation.now)) }
+    ensures kept { IsMarkedAction result }
+{
+    Action::Move {
+        side,
+        factor2: factor_of(table, &calculation.factor_2),
+        result: result_of(table, &calculation.result_field),
+    }
+}
+
+/// Field 0 where the column is blank.
+fn factor_of(table: &FieldTable, factor: &Option<Factor>) -> Operand<u16>
+    ensures { result ≡ renamed_operand (key_number table.now) (unwrap_or (option_map keys.factor_operand factor.now) keys.nowhere) }
+{
+    match factor {
+        None => NOWHERE,
+        Some(factor) => table.operand_of(factor),
+    }
+}
+
+fn result_of(table: &FieldTable, entry: &Option<Entry>) -> Operand<u16>
+    ensures { result ≡ renamed_operand (key_number table.now) (unwrap_or (option_map keys.entry_operand entry.now) keys.nowhere) }
+{
+    match entry {
+        None => NOWHERE,
+        Some(entry) => table.entry_of(entry),
+    }
+}
+
+fn given_result(table: &FieldTable, entry: &Option<Entry>) -> Option<Operand<u16>>
+    ensures { result ≡ option_map (renamed_operand (key_number table.now)) (option_map keys.entry_operand entry.now) }
+{
+    match entry {
+        None => None,
+        Some(entry) => Some(table.entry_of(entry)),
+    }
+}
+
+/// A blank factor 1 is the result field.
+fn first_or_result(table: &FieldTable, calculation: &CalculationSpec) -> Operand<u16>
+    ensures { result ≡ renamed_operand (key_number table.now) (deeds.first_or_result calculation.now) }
+{
+    match &calculation.factor_1 {
+        None => result_of(table, &calculation.result_field),
+        Some(factor) => table.operand_of(factor),
+    }
+}
+
+const NOWHERE: Operand<u16> = Operand {
+    field: 0,
+    index: Index::Blank,
+};

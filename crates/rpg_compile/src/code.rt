@@ -1,0 +1,51 @@
+//! Instructions as they are written.
+
+ghost use Rattle.std.specs.Prelude.{◌≡◌, ◌++◌, ◌∷◌, [], All, OnOk};
+ghost use Rattle.rpg_compile.specs.Marked.{IsMarked};
+
+use rpg_effect::operation::Instruction;
+use std::alloc::{AllocError, Global};
+use std::marker::Model;
+
+/// Instructions whose indicators and numbers are in their ranges.
+#[derive(Drop)]
+pub struct Code {
+    instructions: Vec<Instruction<u16>>,
+}
+
+impl Model for Code {
+    ghost use Rattle.std.specs.Prelude.{ℕ, List, All};
+    ghost use Rattle.rpg_effect.specs.declared.operation.Instruction.{Instruction};
+    ghost use Rattle.rpg_compile.specs.Marked.{IsMarked};
+
+    ghost Value = { List (Instruction ℕ) };
+
+    ghost view = { λ c. c.instructions.items };
+
+    ghost invariant = { λ c. All IsMarked c.instructions.items };
+}
+
+impl Code {
+    pub fn new(alloc: Global) -> Self
+        ensures { result ≡ [] }
+    {
+        Code {
+            instructions: Vec::new(alloc),
+        }
+    }
+
+    pub(crate) fn push(&mut self, instruction: Instruction<u16>) -> Result<(), AllocError>
+        requires { IsMarked instruction }
+        ensures { OnOk result (self.new ≡ self.old ++ instruction ∷ []) }
+    {
+        self.instructions.push(instruction)?;
+        Ok(())
+    }
+
+    pub fn into_vec(self) -> Vec<Instruction<u16>>
+        ensures value { result.items ≡ self }
+        ensures kept { All IsMarked result.items }
+    {
+        self.instructions
+    }
+}

@@ -1,0 +1,112 @@
+//! The program of cards.
+
+ghost use Rattle.std.specs.Prelude.{◌≡◌, ◌<◌, ◌≤◌, length, is_some, option_copied, IfOk};
+ghost use Rattle.std.specs.Option.{option_and_then};
+ghost use Rattle.rpg_faults.specs.Faults.{Faultless};
+ghost use Rattle.rpg_faults_flow.specs.Kept.{KeepsRule};
+ghost use Rattle.rpg_faults_limits.specs.Names.{bad_size};
+ghost use Rattle.rpg_object_program.specs.Kept.{AreValuesOf};
+ghost use Rattle.rpg_compile.specs.Limits.{KeepsLimits};
+ghost use Rattle.rpg_verify_rules.specs.Accepted.{IsAccepted};
+ghost use Rattle.rpg_compile_program.specs.Data.{values_of};
+ghost use Rattle.rpg_compile_program.specs.Lines as lines;
+ghost use Rattle.rpg_compile_program.specs.Program as programs;
+ghost use Rattle.rpg_compile_program.specs.Table.{forms, table_of};
+
+use crate::rows::{SectionRows, section_rows};
+use crate::{
+    faultless_sources_are_accepted, faultless_sources_fill_their_fields,
+    faultless_sources_keep_limits,
+};
+use rpg_cards::{FileUse, IndexedCards, SpecCard, file_for};
+use rpg_compile_layouts::{Fields, fields_of, lines_of, types_of};
+use rpg_object_program::Program;
+use rpg_object_program::row::{Rows, Version};
+use rpg_sheet_specs::FileSpec;
+use std::alloc::{AllocError, Global};
+
+/// The program of cards without a fault. `allowance` is what it may spend in a cycle on backward branches and calls. It fails only
+/// when memory runs out.
+pub fn translate(alloc: Global, cards: &[SpecCard], allowance: u16) -> Result<Program, AllocError>
+    requires allowed { 0 < allowance }
+    requires few { length cards.now ≤ 2000 }
+    requires faultless { Faultless cards.now }
+    ensures program { IfOk result (λ p. p ≡ programs.program_of cards.now allowance) }
+    ensures accepted { IfOk result (λ p. IsAccepted p) }
+{
+    faultless_sources_are_accepted(cards);
+    faultless_sources_keep_limits(cards);
+    faultless_sources_fill_their_fields(cards);
+    program_of(alloc, cards, allowance)
+}
+
+/// The program of cards that keep its limits.
+fn program_of(alloc: Global, cards: &[SpecCard], allowance: u16) -> Result<Program, AllocError>
+    requires allowed { 0 < allowance }
+    requires few { length cards.now ≤ 2000 }
+    requires limits { KeepsLimits cards.now }
+    requires sizes { KeepsRule (λ before c after. bad_size c) cards.now }
+    requires values { AreValuesOf (forms (table_of cards.now)) (values_of cards.now) }
+    requires accepted { IsAccepted (programs.program_of cards.now allowance) }
+    ensures { IfOk result (λ p. p ≡ programs.program_of cards.now allowance) }
+{
+    let source = IndexedCards::new(alloc, cards)?;
+    let Fields {
+        table,
+        forms: fields,
+        values,
+    } = fields_of(alloc, cards)?;
+    let types = types_of(alloc, &table, &source)?;
+    let lines = lines_of(alloc, &table, &source)?;
+    let SectionRows {
+        detail,
+        total,
+        subroutines,
+    } = section_rows(alloc, &table, cards)?;
+    let secondary = file_for(FileUse::Secondary, cards);
+    let printer = file_for(FileUse::Printer, cards);
+    Ok(Program::build(Rows {
+        version: version_for(secondary, source.has_match_field()),
+        allowance,
+        record_length: length_of(file_for(FileUse::Primary, cards)),
+        secondary_length: length_of(secondary),
+        printer_length: length_of(printer),
+        disk_length: length_of(file_for(FileUse::Disk, cards)),
+        overflow: overflow_of(printer),
+        fields,
+        values,
+        types,
+        lines,
+        detail,
+        total,
+        subroutines,
+    }))
+}
+
+/// The version of a program with a secondary file or match fields, or without.
+fn version_for(secondary: Option<&FileSpec>, has_match_field: bool) -> Version
+    ensures { result ≡ programs.version_with (is_some (option_copied secondary.entry)) has_match_field }
+{
+    match secondary {
+        Some(_) => Version::Two,
+        None if has_match_field => Version::Two,
+        None => Version::One,
+    }
+}
+
+/// The record length of a file, 0 where there is none.
+fn length_of(file: Option<&FileSpec>) -> u16
+    ensures { result ≡ lines.record_length_of (option_copied file.entry) }
+{
+    match file {
+        Some(file) => file.record_length,
+        None => 0,
+    }
+}
+
+/// The indicator that a full page of the file turns on.
+fn overflow_of(file: Option<&FileSpec>) -> Option<u8>
+    ensures { result ≡ option_and_then (λ f. f.overflow) (option_copied file.entry) }
+{
+    file?.overflow.map(|indicator| indicator.number())
+}

@@ -1,0 +1,138 @@
+//! The instructions of all sections.
+
+ghost use Rattle.std.specs.Prelude.{◌≡◌, ◌+◌, ◌<◌, ◌≤◌, ℕ, All, length, map, IfOk};
+ghost use Rattle.rpg_cards.specs.Calculations.{calculations};
+ghost use Rattle.rpg_cards.specs.Plain.{ArePlain};
+ghost use Rattle.rpg_cards.specs.Sections.{sections_of};
+ghost use Rattle.rpg_compile_program.specs.Code as code_of;
+ghost use Rattle.rpg_compile_program.specs.Levels.{subroutine_level};
+ghost use Rattle.rpg_compile_program.specs.Whole as whole;
+ghost use Rattle.rpg_compile.specs.Called.{level_at};
+ghost use Rattle.rpg_compile.specs.Marked.{IsMarked, IsMarkedRow};
+ghost use Rattle.rpg_compile.specs.Numbers.{body_sizes, number_by};
+ghost use Rattle.rpg_compile.specs.Walk.{section_in, subroutines_in};
+ghost use Rattle.rpg_object_program.specs.Object.{subroutine_row};
+ghost use Rattle.rpg_compile_program.specs.Table.{key_number};
+
+use crate::calls::levels_of;
+use crate::code::Code;
+use crate::instruction::Section;
+use crate::numbers::NameNumbers;
+use crate::part::{Part, next_subroutine};
+use crate::section::push_section;
+use rpg_cards::SpecCard;
+use rpg_compile_layouts::FieldTable;
+use rpg_effect::operation::Instruction;
+use rpg_object_program::row::Subroutine;
+use std::alloc::{AllocError, Global};
+
+/// The instructions of detail calculations, of total calculations and of each subroutine.
+#[derive(Drop)]
+pub struct SectionRows {
+    pub detail: Vec<Instruction<u16>>,
+    pub total: Vec<Instruction<u16>>,
+    pub subroutines: Vec<Subroutine>,
+}
+
+/// What the cards become, whose names are numbered by the table.
+pub fn section_rows(
+    alloc: Global,
+    table: &FieldTable,
+    cards: &[SpecCard],
+) -> Result<SectionRows, AllocError>
+    requires few { length cards.now ≤ 2000 }
+    requires plain { ArePlain (sections_of (calculations cards.now)) }
+    ensures detail { IfOk result (λ r. r.detail.items ≡ whole.detail_code (key_number table.now) (sections_of (calculations cards.now))) }
+    ensures total { IfOk result (λ r. r.total.items ≡ whole.total_code (key_number table.now) (sections_of (calculations cards.now))) }
+    ensures subroutines { IfOk result (λ r. map subroutine_row r.subroutines.items ≡ whole.subroutine_rows (key_number table.now) (subroutine_level (subroutines_in cards.now)) (sections_of (calculations cards.now))) }
+    ensures detail_kept { IfOk result (λ r. All IsMarked r.detail.items) }
+    ensures total_kept { IfOk result (λ r. All IsMarked r.total.items) }
+    ensures subroutines_kept { IfOk result (λ r. All IsMarkedRow (map subroutine_row r.subroutines.items)) }
+{
+    let subroutines = NameNumbers::of_subroutines(alloc, cards)?;
+    let levels = levels_of(alloc, &subroutines, cards)?;
+    let mut writer = Writer {
+        alloc,
+        table,
+        labels: NameNumbers::new(alloc),
+        subroutines,
+    };
+    let (detail, end) = writer.section(0, Part::Detail, cards, 0)?;
+    let (total, end) = writer.section(0, Part::Total, cards, end)?;
+    let subroutines = writer.subroutines(&levels, cards, end)?;
+    Ok(SectionRows {
+        detail,
+        total,
+        subroutines,
+    })
+}
+
+/// What all sections are written with.
+#[derive(Drop)]
+struct Writer<'a> {
+    alloc: Global,
+    table: &'a FieldTable,
+    /// Those of the section that is written.
+    labels: NameNumbers,
+    subroutines: NameNumbers,
+}
+
+impl Writer<'_> {
+    /// A section that begins at this place, and the place after it. `own` is the number of the subroutine.
+    fn section(
+        &mut self,
+        own: u16,
+        part: Part,
+        cards: &[SpecCard],
+        first: u16,
+    ) -> Result<(Vec<Instruction<u16>>, u16), AllocError>
+        requires { first + code_of.sizes (section_in part cards.now) < 65536 }
+        ensures code { IfOk result (λ r. r.0.items ≡ code_of.section_code (key_number self.old.table.now) (number_by self.old.subroutines) own first (section_in part cards.now)) }
+        ensures kept { IfOk result (λ r. All IsMarked r.0.items) }
+        ensures end { IfOk result (λ r. r.1 ≡ first + code_of.sizes (section_in part cards.now)) }
+        ensures table { self.new.table ≡ self.old.table }
+        ensures subroutines { self.new.subroutines ≡ self.old.subroutines }
+    {
+        let end = self.labels.note_section(part, cards, first)?;
+        let section = Section {
+            table: self.table,
+            labels: &self.labels,
+            subroutines: &self.subroutines,
+            own,
+        };
+        let mut code = Code::new(self.alloc);
+        push_section(&mut code, &section, part, cards, first)?;
+        Ok((code.into_vec(), end))
+    }
+
+    /// The subroutines, which begin at this place.
+    fn subroutines(
+        &mut self,
+        levels: &[u16],
+        cards: &[SpecCard],
+        first: u16,
+    ) -> Result<Vec<Subroutine>, AllocError>
+        requires few { length levels.now ≤ 100 }
+        requires levels { length levels.now ≡ length (subroutines_in cards.now) }
+        requires places { first + body_sizes (subroutines_in cards.now) < 65536 }
+        ensures rows { IfOk result (λ v. map subroutine_row v.items ≡ code_of.subroutines_code (key_number self.old.table.now) (number_by self.old.subroutines) (level_at levels.now) 0 first (subroutines_in cards.now)) }
+        ensures kept { IfOk result (λ v. All IsMarkedRow (map subroutine_row v.items)) }
+    {
+        let mut rows = Vec::new(self.alloc);
+        let mut own = 0;
+        let mut place = first;
+        let mut rest = cards;
+        while let Some((_, behind)) = next_subroutine(rest) {
+            let (instructions, end) = self.section(own, Part::Body, behind, place)?;
+            let level = levels[own as usize];
+            rows.push(Subroutine {
+                level,
+                instructions,
+            })?;
+            own += 1;
+            place = end;
+            rest = behind;
+        }
+        Ok(rows)
+    }
+}

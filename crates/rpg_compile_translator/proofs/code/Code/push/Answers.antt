@@ -1,8 +1,0 @@
-use Rattle.std.proofs.Common.{subst, sym}
-use Rattle.std.proofs.lemmas.List.Elements.{All-push}
-use Rattle.std.specs.Prelude.{All}
-use Rattle.rpg_compile_translator.specs.Marked.{IsMarked}
-use Rattle.rpg_compile_translator.proofs.code.Code.push.Goals as goal
-
-pub invariant_of-self-2 : goal.invariant_of-self-2
-invariant_of-self-2 c = subst (λ is. All IsMarked is) (sym c.in_ok-push.ensures.items) (All-push IsMarked _ _ c.self.invariant c.requires)

@@ -1,5 +1,0 @@
-use Rattle.rpg_compile_translator.proofs.Kept.{keeps_rules}
-use Rattle.rpg_compile_translator.proofs.program.translate.Goals as goal
-
-pub program_of-requires-clause-sizes : goal.program_of-requires-clause-sizes
-program_of-requires-clause-sizes c = (keeps_rules c.args.cards.now c.requires.faultless).f3

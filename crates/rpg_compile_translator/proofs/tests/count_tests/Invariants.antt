@@ -1,6 +1,0 @@
-use Rattle.std.proofs.Common.{◌≡◌, ◌+◌, length, drop}
-use Rattle.rpg_compile_translator.specs.Tests.{tests_in}
-use Rattle.rpg_compile_translator.proofs.tests.count_tests.Given as goal
-
-abbrev pub invariant-loop-card : goal.invariant-loop-card
-invariant-loop-card l = l.count + length (tests_in (drop l.card-index l.cards)) ≡ length (tests_in l.cards)
