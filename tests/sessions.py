@@ -73,7 +73,7 @@ class Session:
         does = getattr(self, f"do_{verb}", None)
         if does is None:
             return b"no such command\n"
-        if verb in ("text", "hex", "prompt", "grows"):
+        if verb in ("text", "times", "hex", "prompt", "grows"):
             return does(rest, command.lines)
         return does(*rest.split())
 
@@ -183,6 +183,14 @@ class Session:
 
     def do_text(self, name: str, lines: list[str]) -> bytes:
         self.path(name).write_bytes(text_of(lines))
+        return b""
+
+    def do_times(self, words: str, lines: list[str]) -> bytes:
+        """Appends lines to a file, so many times; `@@@@` in them is which time it is, in four digits."""
+        name, _, count = words.partition(" ")
+        with open(self.path(name), "ab") as file:
+            for time_of_it in range(1, int(count) + 1):
+                file.write(text_of([it.replace("@@@@", f"{time_of_it:04}") for it in lines]))
         return b""
 
     def do_hex(self, name: str, lines: list[str]) -> bytes:
