@@ -9,7 +9,7 @@ pub(crate) const FAULTS: &str = "\
     @F2%a name is defined again in another form%cards\
     %     C                     ADD  AMT       TOT     60\n     C                     Z-ADDAMT       UDATE   60\
     %     C                     ADD  AMT       TOT     50\n     C                     ADD  AMT       TOT\
-    %give the length on one card alone, or the same length and decimals on all of them.\nUDATE is there without being defined\
+    %give the length on one card alone, or the same length and decimals on all of them.\nUDATE is predefined\
     @F3%a length or decimals are past their limit, or decimals have no length%cards\
     %- 16 digits; 10 decimals; decimals without a length:\n\n     C                     Z-ADDAMT       TOT    160\n     C                     ADD  AMT       TOT      0\
     %- a number of 1 to 15 digits, decimals among them, of which there are at most 9; a text of 1 to\n  256 characters:\n\n     C                     Z-ADDAMT       TOT    150\n     C                     ADD  AMT       TOT\
@@ -17,9 +17,9 @@ pub(crate) const FAULTS: &str = "\
     @F4%an operand is of the wrong kind, a result can't be written, or LOKUP's result has too few entries%cards\
     %- a text in arithmetic, a result that is UDATE, an edit code beside a text:\n\n     C                     ADD  AMT       WORD    5\n     C                     ADD  TOT       UDATE\
     %- numbers in arithmetic, one kind in COMP and LOKUP, anything in MOVE and MOVEL:\n\n     C                     ADD  AMT       TOT\n     C                     MOVE AMT       WORD    5\
-    %an input field without a digit in column 52 is a text, also where it has digits\nalone: for a whole number put 0 there. A result with a length and without decimals is a text\ntoo\
+    %an input field without a digit in column 52 is a text, even if it holds only\ndigits: for a whole number put 0 there. A result with a length and without decimals is a text\ntoo\
     @F5%an index is missing, not allowed, out of range, or no plain whole number that is long enough%cards\
-    %- an array without an index, entry 6 of 5, an index on something that is no array:\n\n     C                     Z-ADD1         AR\n     C                     Z-ADD1         AR,6\n     C                     Z-ADD1         TOT,1\
+    %- an array without an index, entry 6 of 5, an index on something that isn't an array:\n\n     C                     Z-ADD1         AR\n     C                     Z-ADD1         AR,6\n     C                     Z-ADD1         TOT,1\
     %- a number from 1 to the entries, or the name of a number without decimals:\n\n     C                     Z-ADD1         AR,5\n     C                     Z-ADD1         AR,TOT\
     %write a comma and the index right after the name. Whole arrays are allowed in XFOOT and\nLOKUP only\
     @F6%a limit is passed%\
@@ -31,17 +31,17 @@ pub(crate) const FAULTS: &str = "\
     %- one primary file, and at most one secondary file, one printer and one disk file; record types\n  name the input files and lines the others, the first of each by its name:\n\n     FPRINT   O   F     132            PRINTER\n     OPRINT   D        01\
     %compare the name with the F cards. Card 0 means that no F card is a primary file, as\nin an empty source. Of two input files both have E in 17 or neither\
     @F8%an indicator isn't allowed%cards\
-    %- a record type that turns on L0, a result that turns on 1P, a line that asks MR where no field\n  has a match level:\n\n     IINPUT   AA  L0\n     C                     ADD  AMT       TOT        1P\n     OPRINT   D        MR\
-    %- record types turn on 01 to 99, L1 to L9, LR or H1 to H9, calculations all but L0, 1P and MR;\n  calculations ask all but 1P, lines all, MR where a field has a match level (M1 to M9):\n\n     IINPUT   AA  01\n     C                     ADD  AMT       TOT        LR\n     OPRINT   D        1P\
-    %take one of 01 to 99. A text field has an indicator for blanks (69-70) alone\
+    %- a record type that turns on L0, a result that turns on 1P, a line that tests MR where no field\n  has a match level:\n\n     IINPUT   AA  L0\n     C                     ADD  AMT       TOT        1P\n     OPRINT   D        MR\
+    %- record types turn on 01 to 99, L1 to L9, LR or H1 to H9, calculations all but L0, 1P and MR;\n  calculations test all but 1P, lines all, MR where a field has a match level (M1 to M9):\n\n     IINPUT   AA  01\n     C                     ADD  AMT       TOT        LR\n     OPRINT   D        1P\
+    %take one of 01 to 99. A text field can have an indicator only for blanks (69-70)\
     @F9%a column is missing or isn't allowed%cards\
-    %- no operation, a factor 2 that is missing, a factor that the operation does not have, a length\n  without a result:\n\n     C           TOT            AMT       TOT\n     C                     ADD            TOT\n     C           TOT       Z-ADDAMT       TOT\
+    %- no operation, a factor 2 that is missing, a factor that the operation doesn't take, a length\n  without a result:\n\n     C           TOT            AMT       TOT\n     C                     ADD            TOT\n     C           TOT       Z-ADDAMT       TOT\
     %     C           TOT       ADD  AMT       TOT\n     C                     Z-ADDAMT       TOT\
     %docs/MESSAGES.md has a table of what each operation has on its card. Lines for the\ndisk file have nothing in 17-22, and an output field has a name or a constant\
     @F10%a label or a subroutine is missing%cards\
     %     C                     GOTO AWAY\n     C                     EXSR NOSUB\
     %     C                     GOTO NEXT\n     C           NEXT      TAG\
-    %give the label by a TAG card, the subroutine by BEGSR. GOTO leads to labels alone,\nEXSR to subroutines alone\
+    %define the label on a TAG card, and the subroutine on a BEGSR card. GOTO goes to labels\nonly, EXSR to subroutines only\
     @F11%a label's or a subroutine's name is given twice, or is a field's too%cards\
     %- a label that is given twice, or that has the name of a field:\n\n     C           NEXT      TAG\n     C           TOT       TAG\
     %- each label and each subroutine once, under a name of its own:\n\n     C           NEXT      TAG\n     C           NEXT2     TAG\
@@ -49,15 +49,15 @@ pub(crate) const FAULTS: &str = "\
     @F12%sections are out of order, BEGSR and ENDSR aren't paired, or a card needs one before it%cards\
     %- a detail calculation after a total one or a subroutine; BEGSR without ENDSR; a field before\n  its record type or line:\n\n     CL1                   Z-ADDAMT       TOT\n     C                     ADD  AMT       TOT\
     %- detail calculations, then total calculations (L0 to L9, LR in 7-8), then subroutines (SR),\n  each from BEGSR to ENDSR:\n\n     C                     ADD  AMT       TOT\n     CL1                   Z-ADDAMT       TOT\
-    %move the card. AN and OR cards go on with the calculation right before them, AND and\nOR cards of I and O with the type or line right before them\
+    %move the card. AN and OR cards continue the calculation right before them; AND and OR\ncards of I and O continue the type or line right before them\
     @F13%GOTO leads to another section%cards\
     %- out of the detail calculations into a subroutine:\n\n     C                     GOTO OUT\n     CSR         OUT       ENDSR\
     %- a GOTO leads to a label of its own section: the detail calculations, the total calculations,\n  or one subroutine:\n\n     C                     GOTO OUT\n     C           OUT       TAG\
-    %set an indicator before the end of the section, and ask it where you want to go on.\nInto a subroutine leads EXSR\
+    %set an indicator before the end of the section, and test it where you want to go on.\nUse EXSR to enter a subroutine\
     @F14%a subroutine calls itself, maybe through others%cards\
-    %- a subroutine that does itself, maybe through others:\n\n     CSR         SUB       BEGSR\n     CSR                   EXSR SUB\n     CSR                   ENDSR\
-    %- subroutines may do others, as long as none leads back to itself\
-    %go back to the subroutine's beginning by GOTO and a label in place of EXSR\
+    %- a subroutine that calls itself, maybe through others:\n\n     CSR         SUB       BEGSR\n     CSR                   EXSR SUB\n     CSR                   ENDSR\
+    %- subroutines may call others, as long as none leads back to itself\
+    %go back to the subroutine's beginning with GOTO and a label in place of EXSR\
     @F15%H isn't allowed, or MVR doesn't follow a division without H%cards\
     %- H beside an operation that is not rounded; MVR after a DIV with H, or after anything else:\n\n     C           AMT       DIV  3         TOT       H\n     C                     MVR            REM     30\
     %- H beside ADD, SUB, MULT, DIV, Z-ADD, Z-SUB and XFOOT; MVR on the calculation card right after\n  a DIV without H:\n\n     C           AMT       DIV  3         TOT\n     C                     MVR            REM     30\
@@ -67,10 +67,10 @@ pub(crate) const FAULTS: &str = "\
     %     I                                       78  800AMT\n     O                         TOT      120\n     O                         TOT        5\
     %look at the record length (24-27) on the F card first: of the input file for I\ncards, of the printer for O cards. A number takes a place for each digit, and what its edit code\nor word adds. Control fields of one level have the same length in all record types, and so have\nmatch fields, of which each type has the same levels or none, a level once, 256 columns in all\
     @F17%an edit code or an edit word doesn't fit%cards\
-    %- code Y on a number that has not 6 digits, a fill beside Y, an edit word of 3 places for 5\n  digits:\n\n     O                         TOT   Y   10\n     O                         TOT       10 '   '\
+    %- code Y on a number that doesn't have 6 digits, a fill beside Y, an edit word of 3 places for 5\n  digits:\n\n     O                         TOT   Y   10\n     O                         TOT       10 '   '\
     %- an edit word has a blank, 0 or * for each digit, and no $ right before its stop:\n\n     O                         UDATE Y   10\n     O                         TOT       10 '     '\
     %the message says how many digits the code or word takes, and how many the number has.\ndocs/EDITING.md shows what each code and word makes of a number\
     @F18%a table's data are missing, too few, too many, bad or out of sequence%\
     %- an E card with entries a card (33-35), and no ** card for it; too few or too many entries;\n  letters in a number; with A in 45 a later entry that is lower:\n\n     E                    TABA    3   3  2 0A\n**\n100530\
     %     E                    TABA    3   3  2 0A\n**\n102030\
-    %the message says how many cards of data are needed and how many there are, or\nwhich entry is wrong. The data come after the sheets, each table's after a ** card, in the\norder of the E cards. Fewer entries than 33-35 says stand on the last card alone";
+    %the message says how many cards of data are needed and how many there are, or\nwhich entry is wrong. The data come after the sheets, each table's after a ** card, in the\norder of the E cards. Only the last card may have fewer entries than 33-35 say";

@@ -11,7 +11,7 @@ pub(crate) const HALTS: &str = "\
     %- an X from 1 to the entries\
     %see where X is set; rpg2 run with --source SRC shows the card that has AR,X. On a\nline it is looked up when the line is put out, which for a detail line is in the cycle after\nits record\
     @halt 3%the record is of no type%\
-    %- where all record types have codes, a record that no type's codes fit, as a blank line\
+    %- where all record types have codes, a record that no type's codes fit, such as a blank line\
     %- a last record type without codes takes every record\
     %look at the record in the message, or add a record type without codes and without\nlines\
     @halt 4%a numeric field holds a character that isn't a digit%\
@@ -27,7 +27,7 @@ pub(crate) const HALTS: &str = "\
     %- indicators 01 to 99\
     %the program asked for it: its cards say at which record it turns H1 to H9 on. The\nhalt comes after the lines of that record\
     @halt 7%the record is too long, or a byte of it is no character%\
-    %- a record that is longer than the record length on the F card\n- a byte that is not one from blank to ~, as a tab, or a letter with an accent\
+    %- a record that is longer than the record length on the F card\n- a byte outside blank to ~, such as a tab or a letter with an accent\
     %- a shorter record: it is padded with blanks\n- a line feed, or carriage return and line feed, after each record\
     %the message names the column, the byte and the command that mends it, but not over\nstandard input, which isn't read again. docs/OLD_PROGRAMS.md converts EBCDIC\
     @halt 8%the record's match value is lower than the last one of its file%\

@@ -5,11 +5,11 @@ pub(crate) const WARNINGS: &str = "\
     W1%an indicator is asked for, and nothing turns it on%cards\
     %- where no card turns on 02, a line that is never put out:\n\n     OPRINT   D        02\
     %- an indicator that a record type, an input field, a result, SETON or a full page turns on:\n\n     IINPUT   AA  01\n     OPRINT   D        01\n\n- L0 to L9, LR and 1P, which the machine turns on\
-    %look for the card that was to turn it on: a record type (19-20), an input field\n(65-70), a result (54-59), or the F card of the printer (33-34). SETOF turns none on\
+    %look for the card that should turn it on: a record type (19-20), an input field\n(65-70), a result (54-59), or the F card of the printer (33-34). SETOF turns none on\
     @W2%an indicator is turned on, and no card asks for it%cards\
     %- where no card asks for 30:\n\n     C           AMT       COMP 100                  30\
-    %- record types, control levels, a full page, LR and H1 to H9, and the indicator of LOKUP, which\n  has to have one: nobody need ask for these\
-    %take it away, or look for the condition that was to ask for it\
+    %- record types, control levels, a full page, LR and H1 to H9, and the indicator of LOKUP, which\n  has to have one: no card need test these\
+    %take it away, or look for the condition that should test it\
     @W3%a field lies over another of the same line%cards\
     %- TOT takes places 6 to 10 of the line, and AMT 10 to 12:\n\n     O                         TOT       10\n     O                         AMT       12\
     %- fields side by side; a field with conditions (23-31) may stand where another does:\n\n     O                         TOT       10\n     O                         AMT       13\n     O                 30                13 'OUT'\
@@ -25,4 +25,4 @@ pub(crate) const WARNINGS: &str = "\
     @W6%PAGE has conditions, and isn't set back to 1%cards\
     %- a page number with a condition of its own (23-31):\n\n     O                 01      PAGE      10\
     %- PAGE without conditions, on a line with conditions:\n\n     OPRINT   H  1     1P\n     O       OR        OF\n     O                         PAGE      10\
-    %where the page is to begin with 1 again, Z-ADD 0 to PAGE in the calculations, and take\nthe condition away. Here it decides whether PAGE is printed, and counted";
+    %where page numbers should start again, Z-ADD 0 to PAGE in the calculations, and take\nthe condition away. Here it decides whether PAGE is printed, and counted";
