@@ -1,6 +1,8 @@
-//! The words of the command line, read by clap.
+//! The commands of `rpg2` and their words, as data and as clap knows them, and what a command line asks for.
 #![tactic(auto)]
 
+mod building;
+mod commands;
 mod dates;
 mod fitting;
 mod format;

@@ -2,6 +2,7 @@
 
 ghost use Rattle.std.specs.Prelude.{◌<◌, ◌≤◌, IfSome};
 
+use crate::building::{fault, matches_of};
 use crate::dates::DateWord;
 use crate::fitting::{self, FitWords, fit_words};
 use crate::format::{Format, format_of};
@@ -12,7 +13,6 @@ use crate::records::{RecordsWords, fault_of, records_words};
 use crate::warned::{WarningWords, texts, warning_words};
 use clap::error::ErrorKind;
 use clap::{ArgMatches, Error};
-use rpg_cli_commands::{fault, matches_of};
 use std::alloc::{AllocError, Global};
 
 /// What the words ask for.

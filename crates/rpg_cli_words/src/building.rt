@@ -2,7 +2,7 @@
 //!
 //! Each step of clap's builder is in a function of its own: the proof of a chain of them grows with its length.
 
-use crate::words::{COMMANDS, CommandRow, Word};
+use crate::commands::{COMMANDS, CommandRow, Word};
 use clap::error::ErrorKind;
 use clap::{Arg, ArgMatches, Command, Error};
 use std::alloc::{AllocError, Global};
@@ -119,12 +119,12 @@ fn command<'a>(alloc: Global, lines: &'static str) -> Result<Command<'a>, AllocE
 }
 
 /// What the words say, or what clap says in place of that. The first word is the program's name.
-pub fn matches_of<'a>(alloc: Global, words: &'a [String]) -> Result<ArgMatches<'a>, Error> {
+pub(crate) fn matches_of<'a>(alloc: Global, words: &'a [String]) -> Result<ArgMatches<'a>, Error> {
     command(alloc, lines_of(words))?.try_get_matches_from(words)
 }
 
 /// A fault of the command line that clap doesn't see, in clap's form, where the program has this name.
-pub fn fault(
+pub(crate) fn fault(
     alloc: Global,
     program: &str,
     kind: ErrorKind,
