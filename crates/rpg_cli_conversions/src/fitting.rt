@@ -1,8 +1,9 @@
 //! The command that rewrites an old deck.
 
+use crate::changes::{change_messages, refusal_message, too_many_message};
+use crate::new_deck::new_deck_messages;
 use rpg_cli_answers::{Answer, Listener, NamedFile, Stop, named, refuse_same_file};
 use rpg_cli_files::{FileFault, Opened, Reason, SourceCode, file_bytes, lines, write_bytes};
-use rpg_cli_fit::{change_messages, new_deck_messages, refusal_message, too_many_message};
 use rpg_cli_words::{FileWord, FitWords, is_standard};
 use rpg_faults::{CardFault, SourceFault};
 use rpg_fit::{FitFault, FittedDeck, Settings, Switches, TableFile, fit};

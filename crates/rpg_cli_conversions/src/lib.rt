@@ -1,8 +1,14 @@
-//! The commands that convert what a shop has: old decks, and the records of another machine.
+//! The commands that convert what a shop has, old decks and the records of another machine, with their diagnostics.
 #![tactic(auto)]
 
+mod changes;
 mod fitting;
+mod law;
+mod new_deck;
 mod records;
+mod refused;
+mod sentence;
 
 pub use fitting::fit_file;
+pub use law::cards_say_the_output;
 pub use records::records_file;

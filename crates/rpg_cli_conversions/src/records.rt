@@ -1,14 +1,15 @@
 //! The command that makes lines of a shop's records, and records of such lines.
 
+use crate::refused::{deck_message, record_message};
 use rpg_cli_answers::{Answer, Listener, NamedFile, Stop, named, refuse_same_file};
 use rpg_cli_files::{
     FileFault, KeptFile, LineTarget, Opened, Pending, Reason, RecordSource, file_bytes, input_file,
     kept_file, lines, records, write_bytes,
 };
-use rpg_cli_records::{DeckFault, DeckWords, deck_message, fitted_deck, layout_of, record_message};
 use rpg_cli_words::{
     FileWord, RecordFraming, RecordsWay, RecordsWords, SameFile, Shared, is_standard,
 };
+use rpg_record_decks::{DeckFault, DeckWords, fitted_deck, layout_of};
 use rpg_record_lines::{
     ConversionFault, Counts, Framing, Layout, Page, RecordFormat, lines_to_records,
     records_to_lines,

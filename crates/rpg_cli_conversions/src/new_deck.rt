@@ -11,7 +11,7 @@ const MOST: u16 = 20;
 
 /// What a person reads of the faults of a new deck, which `new_path` names, and for each of its cards with a fault the card of the source, which
 /// `path` names. Nothing where it has no fault.
-pub fn new_deck_messages(
+pub(crate) fn new_deck_messages(
     alloc: Global,
     new_path: &str,
     path: &str,

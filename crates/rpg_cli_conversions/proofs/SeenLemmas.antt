@@ -27,7 +27,7 @@ use Rattle.rpg_record_lines.specs.declared.conversion.RecordFormat.{RecordFormat
 use Rattle.rpg_record_lines.specs.declared.fault.RecordFault.{RecordFault}
 use Rattle.rpg_record_lines.specs.declared.fault.RecordFault.TheVariants as faults
 use Rattle.rpg_record_lines.specs.declared.frames.Framing.TheVariants as framings
-use Rattle.rpg_cli_records.specs.Laws.{CardsSayTheOutput}
+use Rattle.rpg_cli_conversions.specs.Laws.{CardsSayTheOutput}
 
 then_same : (o : Outcome) (f g : List ℕ → Outcome) → ((text : List ℕ) → f text ≡ g text) → and_then o f ≡ and_then o g
 then_same (Ok text) f g h = h text

@@ -1,6 +1,6 @@
 //! What the output of `rpg2 records` is a function of.
 
-ghost use Rattle.rpg_cli_records.specs.Laws.{CardsSayTheOutput};
+ghost use Rattle.rpg_cli_conversions.specs.Laws.{CardsSayTheOutput};
 
 /// A law of the definitions: OUT is the function of IN and the cards. It does nothing.
 ///

@@ -50,7 +50,11 @@ fn write_card_fault(out: &mut TextWriter, fault: CardFault) {
 }
 
 /// What is wrong with the deck that `path` names.
-pub fn deck_message(alloc: Global, path: &str, fault: DeckFault) -> Result<String, AllocError> {
+pub(crate) fn deck_message(
+    alloc: Global,
+    path: &str,
+    fault: DeckFault,
+) -> Result<String, AllocError> {
     let mut out = TextWriter::new(alloc);
     out.write_shown(path.as_bytes());
     match fault {
@@ -128,7 +132,7 @@ fn write_record_fault(out: &mut TextWriter, fault: RecordFault) {
 }
 
 /// What is wrong with a record, or a line, of the file that `path` names. Records are numbered from 1, bytes from 0.
-pub fn record_message(
+pub(crate) fn record_message(
     alloc: Global,
     path: &str,
     number: u64,

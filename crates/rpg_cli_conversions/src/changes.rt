@@ -11,7 +11,7 @@ const COLUMNS: usize = 80;
 
 /// What a person reads of the changes of a deck, which `path` names: for each card the changes, and the card with a mark under the columns that
 /// are changed; then what is noted of cards that stay.
-pub fn change_messages(
+pub(crate) fn change_messages(
     alloc: Global,
     path: &str,
     source: &[u8],
@@ -106,7 +106,7 @@ fn write_source_card(out: &mut TextWriter, source: &[u8], card: usize) {
 }
 
 /// Why a deck, which `path` names, can't be rewritten.
-pub fn refusal_message(
+pub(crate) fn refusal_message(
     alloc: Global,
     path: &str,
     source: &[u8],
@@ -123,7 +123,7 @@ pub fn refusal_message(
 }
 
 /// That a deck has too many cards, or would have.
-pub fn too_many_message(alloc: Global, path: &str) -> Result<String, AllocError> {
+pub(crate) fn too_many_message(alloc: Global, path: &str) -> Result<String, AllocError> {
     let mut out = TextWriter::new(alloc);
     out.write_shown(path.as_bytes());
     out.write_str(": S6: the new deck would have more than 2,000 cards\n");
