@@ -8,11 +8,11 @@ use Rattle.rpg_text.specs.Texts.{trimmed}
 use Rattle.rpg_records.specs.declared.digits.NumberFault.{NumberFault}
 use Rattle.rpg_records.specs.declared.translation.Page.{Page}
 use Rattle.rpg_records.specs.declared.translation.Page.TheVariants as pages
-use Rattle.rpg_record_layouts.specs.Seen.{LayoutSeen, NumberSeen, TypeSeen, columns_seen, digits_seen, layout_seen, number_seen, type_seen}
-use Rattle.rpg_record_layouts.specs.Sizes.{columns_of, counted, field_digits, field_size}
-use Rattle.rpg_record_layouts.specs.declared.layout.Layout.{Layout}
-use Rattle.rpg_record_layouts.specs.declared.layout.NumberField.{NumberField}
-use Rattle.rpg_record_layouts.specs.declared.layout.RecordType.{RecordType}
+use Rattle.rpg_records.specs.Seen.{LayoutSeen, NumberSeen, TypeSeen, columns_seen, digits_seen, layout_seen, number_seen, type_seen}
+use Rattle.rpg_records.specs.Sizes.{columns_of, counted, field_digits, field_size}
+use Rattle.rpg_records.specs.declared.layout.Layout.{Layout}
+use Rattle.rpg_records.specs.declared.layout.NumberField.{NumberField}
+use Rattle.rpg_records.specs.declared.layout.RecordType.{RecordType}
 use Rattle.rpg_record_decks.proofs.SeenLemmas.{columns_are_seen}
 use Rattle.rpg_record_lines.specs.Conversions.{Made, Way, conversion}
 use Rattle.rpg_record_lines.specs.Lines.{characters_of, line_after, line_of, of_type, other_line, whole_line_of}

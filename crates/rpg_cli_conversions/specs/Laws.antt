@@ -2,8 +2,8 @@
 use Rattle.std.specs.Prelude.{◌≡◌, ℕ, List, Ok}
 use Rattle.rpg_record_decks.specs.Layouts.{layout_by}
 use Rattle.rpg_record_decks.specs.declared.deck.DeckWords.{DeckWords}
-use Rattle.rpg_record_layouts.specs.Seen.{layout_seen}
-use Rattle.rpg_record_layouts.specs.declared.layout.Layout.{Layout}
+use Rattle.rpg_records.specs.Seen.{layout_seen}
+use Rattle.rpg_records.specs.declared.layout.Layout.{Layout}
 use Rattle.rpg_record_lines.specs.Conversions.{conversion}
 use Rattle.rpg_record_lines.specs.Ways.{to_lines, to_records}
 use Rattle.rpg_record_lines.specs.declared.conversion.RecordFormat.{RecordFormat}

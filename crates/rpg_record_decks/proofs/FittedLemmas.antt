@@ -7,7 +7,7 @@ use Rattle.std.proofs.lemmas.Grind.{common_steps}
 use Rattle.std.proofs.lemmas.List.Splits.{length-slice_split, slice_split_first, slice_split_none}
 use Rattle.std.proofs.lemmas.List.Sums.{prefix_len_passes}
 use Rattle.rpg_text.specs.Lines.{is_line_feed}
-use Rattle.rpg_record_layouts.specs.Seen.{LayoutSeen, columns_seen}
+use Rattle.rpg_records.specs.Seen.{LayoutSeen, columns_seen}
 use Rattle.rpg_record_decks.specs.Edits.{number_columns}
 use Rattle.rpg_record_decks.specs.Fitted.{Change, all_digits, change_of, changed, digits_change, fitted_from}
 use Rattle.rpg_record_decks.specs.declared.fitted.DigitColumns.{DigitColumns}

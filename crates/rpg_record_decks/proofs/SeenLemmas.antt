@@ -1,10 +1,10 @@
 -- The columns of a layout are those that are seen of it.
 use Rattle.std.proofs.Common.{◌≡◌, ℕ, ◌+◌, max, List, [], ◌∷◌, refl, ap, ap₂, fold, sum_by, map}
-use Rattle.rpg_record_layouts.specs.Seen.{NumberSeen, columns_seen, digits_seen, layout_seen, most_seen, number_seen, type_seen}
-use Rattle.rpg_record_layouts.specs.Sizes.{columns_of, counted, field_digits, most_digits}
-use Rattle.rpg_record_layouts.specs.declared.layout.Layout.{Layout}
-use Rattle.rpg_record_layouts.specs.declared.layout.NumberField.{NumberField}
-use Rattle.rpg_record_layouts.specs.declared.layout.RecordType.{RecordType}
+use Rattle.rpg_records.specs.Seen.{NumberSeen, columns_seen, digits_seen, layout_seen, most_seen, number_seen, type_seen}
+use Rattle.rpg_records.specs.Sizes.{columns_of, counted, field_digits, most_digits}
+use Rattle.rpg_records.specs.declared.layout.Layout.{Layout}
+use Rattle.rpg_records.specs.declared.layout.NumberField.{NumberField}
+use Rattle.rpg_records.specs.declared.layout.RecordType.{RecordType}
 
 same_sum : (n : ℕ) (fs : List NumberField) → fold (λ (a : ℕ) (f : NumberField). a + field_digits f) n fs ≡ fold (λ (a : ℕ) (f : NumberSeen). a + digits_seen f) n (map number_seen fs)
 same_sum n [] = refl

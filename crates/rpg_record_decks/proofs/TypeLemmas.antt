@@ -2,8 +2,8 @@
 use Rattle.std.proofs.Common.{◌≡◌, ℕ, ◌+◌, ◌<◌, ◌++◌, Bool, true, false, List, [], ◌∷◌, drop, get_or, length, map, refl, sym, ap, subst, ◌∙◌, append_assoc, Option, Some, None, Result, Ok, Err}
 use Rattle.std.proofs.lemmas.List.{at_drop_more}
 use Rattle.rpg_sheet_specs.specs.declared.input.InputSpec.{InputSpec}
-use Rattle.rpg_record_layouts.specs.Seen.{number_seen}
-use Rattle.rpg_record_layouts.specs.declared.layout.NumberField.{NumberField}
+use Rattle.rpg_records.specs.Seen.{number_seen}
+use Rattle.rpg_records.specs.declared.layout.NumberField.{NumberField}
 use Rattle.rpg_record_decks.proofs.OutcomeLemmas.{fault_onto, fault_then, onto-nil, onto-onto}
 use Rattle.rpg_record_decks.specs.Outcomes.{IsFaultOf, and_then, at_card, onto}
 use Rattle.rpg_record_decks.specs.Reading.{type_read}

@@ -4,8 +4,8 @@ use Rattle.std.specs.List.{flat_map, join_with_byte, slice_split}
 use Rattle.std.specs.Option.{option_map}
 use Rattle.std.specs.Str.Lines.{strip_carriage_return}
 use Rattle.rpg_text.specs.Lines.{is_line_feed}
-use Rattle.rpg_record_layouts.specs.Seen.{LayoutSeen, NumberSeen, columns_seen, digits_seen}
-use Rattle.rpg_record_layouts.specs.Sizes.{counted}
+use Rattle.rpg_records.specs.Seen.{LayoutSeen, NumberSeen, columns_seen, digits_seen}
+use Rattle.rpg_records.specs.Sizes.{counted}
 use Rattle.rpg_record_decks.specs.Cards.{max_cards}
 use Rattle.rpg_record_decks.specs.Edits.{number_columns, with_columns}
 use Rattle.rpg_record_decks.specs.declared.fitted.DigitColumns.{DigitColumns}

@@ -3,7 +3,7 @@ use Rattle.std.specs.Prelude.{ℕ, ◌-◌, ◌==◌, List, map, Bool, ◌&&◌,
 use Rattle.std.specs.List.{list_any, range_with_len}
 use Rattle.rpg_records.specs.declared.column.Column.{Column}
 use Rattle.rpg_records.specs.declared.column.Column.TheVariants as columns
-use Rattle.rpg_record_layouts.specs.Seen.{TypeSeen}
+use Rattle.rpg_records.specs.Seen.{TypeSeen}
 use Rattle.rpg_text.specs.Texts.{is_between}
 use Rattle.rpg_record_decks.specs.Types.{TypeRead}
 use Rattle.rpg_record_decks.specs.declared.fields.FieldColumns.{FieldColumns}

@@ -1,7 +1,7 @@
 -- What is known of types while cards are read.
 use Rattle.std.specs.Prelude.{◌≡◌, ℕ, List, map, Option, Result}
 use Rattle.std.specs.Option.{option_map}
-use Rattle.rpg_record_layouts.specs.Seen.{number_seen}
+use Rattle.rpg_records.specs.Seen.{number_seen}
 use Rattle.rpg_sheet_specs.specs.declared.input.InputSpec.{InputSpec}
 use Rattle.rpg_record_decks.specs.Outcomes.{onto}
 use Rattle.rpg_record_decks.specs.Types.{TypeRead, type_after, types_after}

@@ -12,11 +12,11 @@ use Rattle.rpg_sheet_specs.specs.declared.input.InputSpec.{InputSpec}
 use Rattle.rpg_sheet_specs.specs.declared.input.InputSpec.TheVariants as input
 use Rattle.rpg_sheet_specs.specs.declared.input.RecordCode.{RecordCode}
 use Rattle.rpg_text.specs.Texts.{is_between}
-use Rattle.rpg_record_layouts.specs.Fields.{is_field_size}
-use Rattle.rpg_record_layouts.specs.Seen.{NumberSeen}
-use Rattle.rpg_record_layouts.specs.declared.layout.Code.{Code}
-use Rattle.rpg_record_layouts.specs.declared.layout.NumberForm.{NumberForm}
-use Rattle.rpg_record_layouts.specs.declared.layout.NumberForm.TheVariants as forms
+use Rattle.rpg_records.specs.Fields.{is_field_size}
+use Rattle.rpg_records.specs.Seen.{NumberSeen}
+use Rattle.rpg_records.specs.declared.layout.Code.{Code}
+use Rattle.rpg_records.specs.declared.layout.NumberForm.{NumberForm}
+use Rattle.rpg_records.specs.declared.layout.NumberForm.TheVariants as forms
 use Rattle.rpg_record_decks.specs.Edits.{with_columns}
 use Rattle.rpg_record_decks.specs.Files.{file_name, or_columns}
 use Rattle.rpg_record_decks.specs.Outcomes.{and_then, at_card, onto, unless}

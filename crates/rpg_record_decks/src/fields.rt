@@ -2,11 +2,11 @@
 
 ghost use Rattle.std.specs.Prelude.{◌≡◌, ◌&&◌, ◌≤◌, IfErr, IfOk, None, Some};
 ghost use Rattle.std.specs.List.{list_any};
-ghost use Rattle.rpg_record_layouts.specs.Seen.{number_seen};
+ghost use Rattle.rpg_records.specs.Seen.{number_seen};
 ghost use Rattle.rpg_record_decks.specs.Types.{differ, field_columns, is_inside, number_fault, number_of, overlaps};
 
 use crate::fault::CardFault;
-use rpg_record_layouts::{NumberField, NumberForm};
+use rpg_records::{NumberField, NumberForm};
 use rpg_sheet::InputField;
 
 /// The columns of a field, and what stands there.

@@ -3,13 +3,13 @@
 ghost use Rattle.std.specs.Prelude.{◌≡◌, ◌<◌, ◌∷◌, ◌++◌, drop, find, IfOk, IfSome, length, map, OnOk, position, Some, ◌==◌, ◌≤◌};
 ghost use Rattle.std.specs.Str.Lines.{strip_carriage_return};
 ghost use Rattle.rpg_text.specs.Lines.{is_line_feed};
-ghost use Rattle.rpg_record_layouts.specs.Seen.{layout_seen, number_seen};
+ghost use Rattle.rpg_records.specs.Seen.{layout_seen, number_seen};
 ghost use Rattle.rpg_record_decks.specs.Edits.{number_columns, with_columns};
 ghost use Rattle.rpg_record_decks.specs.Fitted.{all_digits, change_of, changed, digits_after, fitted};
 
 use crate::columns::{number_columns, with_columns};
 use crate::deck::LAST_CARD;
-use rpg_record_layouts::{Layout, NumberField};
+use rpg_records::{Layout, NumberField};
 use std::alloc::{AllocError, Global};
 
 /// Where the digits of a card's field stand, in columns from 1.

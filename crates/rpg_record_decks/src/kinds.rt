@@ -2,13 +2,13 @@
 
 ghost use Rattle.std.specs.Prelude.{◌≡◌, ℕ, Bool, IfOk, length, map, vec_len, ◌+◌, ◌==◌, ◌≤◌};
 ghost use Rattle.std.specs.List.{list_any, range_with_len};
-ghost use Rattle.rpg_record_layouts.specs.Seen.{type_seen};
+ghost use Rattle.rpg_records.specs.Seen.{type_seen};
 ghost use Rattle.rpg_record_decks.specs.Kinds.{covers, hides, is_code, kind_of, shows, type_by};
 ghost use Rattle.rpg_record_decks.specs.Reading.{type_read};
 
 use crate::fields::FieldColumns;
 use crate::types::TypeCards;
-use rpg_record_layouts::{Code, Column, RecordType};
+use rpg_records::{Code, Column, RecordType};
 use std::alloc::{AllocError, Global};
 
 impl FieldColumns {

@@ -2,7 +2,7 @@
 
 ghost use Rattle.std.specs.Prelude.{◌≡◌, List, [], Err, IfErr, IfOk, Ok, OnOk, Some, map};
 ghost use Rattle.std.specs.List.{flat_map};
-ghost use Rattle.rpg_record_layouts.specs.Seen.{layout_seen};
+ghost use Rattle.rpg_records.specs.Seen.{layout_seen};
 ghost use Rattle.rpg_record_decks.specs.Layouts.{framed, layout_by, layout_by_cards, layout_for, layout_of_file, layout_with, narrow, some_types, without_numbers};
 ghost use Rattle.rpg_record_decks.specs.Outcomes.{IsFaultOf, and_then};
 ghost use Rattle.rpg_record_decks.specs.Reading.{type_read};
@@ -14,7 +14,7 @@ use crate::fault::{CardFault, DeckFault};
 use crate::file::{file_length, find_file};
 use crate::kinds::{code_columns, record_type};
 use crate::types::{TypeCards, read_types};
-use rpg_record_layouts::Layout;
+use rpg_records::Layout;
 use std::alloc::{AllocError, Global};
 
 /// The most columns of a line.

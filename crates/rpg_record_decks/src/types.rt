@@ -16,7 +16,7 @@ use crate::columns::{changed_card, columns, file_name};
 use crate::deck::DeckCard;
 use crate::fault::{CardFault, DeckFault, bad_columns};
 use crate::fields::{FieldColumns, field_columns, number_field};
-use rpg_record_layouts::{Code, NumberField, NumberForm};
+use rpg_records::{Code, NumberField, NumberForm};
 use rpg_sheet::{Card, InputField, InputSpec, RecordCode, Three};
 use rpg_text::is_blank;
 use std::alloc::{AllocError, Global};

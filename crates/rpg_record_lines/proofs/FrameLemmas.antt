@@ -3,7 +3,7 @@ use Rattle.std.proofs.Common.{◌≡◌, ℕ, ◌+◌, ◌<◌, ◌≤◌, List,
 use Rattle.std.proofs.lemmas.Bool.{le-leb, lt-leb, le-ltb, lt-ltb, eq-eqb, ne_eqb}
 use Rattle.std.proofs.lemmas.List.{drop-drop}
 use Rattle.std.specs.Io.BufRead.{take_through}
-use Rattle.rpg_record_layouts.specs.Sizes.{counted}
+use Rattle.rpg_records.specs.Sizes.{counted}
 use Rattle.rpg_record_lines.specs.Cuts.{Finished, Refused, Whole, after_word, described_cut, line_cut, next_described, next_line, next_of_length, unterminated}
 use Rattle.rpg_record_lines.specs.Inputs.{GivesFront, GivesWhole}
 use Rattle.rpg_record_lines.specs.declared.fault.RecordFault.{RecordFault}

@@ -9,7 +9,7 @@ use Rattle.std.specs.Io.BufRead.{take_through}
 use Rattle.std.specs.Io.KnownBytes.{Consumes, IsAtEnd, Keeps, prepend_known}
 use Rattle.std.specs.List.{list_any, prefix_len}
 use Rattle.rpg_record_lines.proofs.LineLemmas.{any_before}
-use Rattle.rpg_record_layouts.specs.Sizes.{counted}
+use Rattle.rpg_records.specs.Sizes.{counted}
 use Rattle.rpg_record_lines.specs.Inputs.{GivesFront}
 
 pub nothing_before : (a : Option (List ℕ)) → prepend_known [] a ≡ a

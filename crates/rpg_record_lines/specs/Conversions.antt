@@ -2,7 +2,7 @@
 use Rattle.std.specs.Prelude.{◌≡◌, ℕ, zero, suc, ◌+◌, List, [], ◌++◌, drop, Option, Some, None, unwrap_or, Result, Ok, Err, IfSome}
 use Rattle.std.specs.Io.KnownBytes.{Appends}
 use Rattle.rpg_files.specs.Sending.{AppendsPrefix}
-use Rattle.rpg_record_layouts.specs.Sizes.{counted}
+use Rattle.rpg_records.specs.Sizes.{counted}
 use Rattle.rpg_record_lines.specs.Cuts.{Cut, Finished, Refused, Whole, next_of}
 use Rattle.rpg_record_lines.specs.declared.conversion.ConversionFault.{ConversionFault}
 use Rattle.rpg_record_lines.specs.declared.conversion.ConversionFault.TheVariants as stops

@@ -7,7 +7,7 @@ use Rattle.rpg_record_lines.specs.Lines.{characters_of, line_of, whole_line_of}
 use Rattle.rpg_record_lines.specs.Outcomes.{Outcome}
 use Rattle.rpg_record_lines.specs.Records.{checked_record, record_of, typed_record}
 use Rattle.rpg_record_lines.specs.Types.{first_type}
-use Rattle.rpg_record_layouts.specs.declared.layout.RecordType.{RecordType}
+use Rattle.rpg_records.specs.declared.layout.RecordType.{RecordType}
 use Rattle.rpg_record_lines.specs.declared.line.Converter.{Converter}
 
 -- the record types of a converter

@@ -1,7 +1,7 @@
 -- What stands next in an input.
 use Rattle.std.specs.Prelude.{ℕ, ◌+◌, ◌-◌, ◌*◌, ◌==◌, ◌&&◌, nat_le, nat_lt, Bool, if◌then◌else◌, List, drop, length, slice_index, take}
 use Rattle.std.specs.Io.BufRead.{ends_with_byte, strip_last, take_through}
-use Rattle.rpg_record_layouts.specs.Sizes.{counted}
+use Rattle.rpg_records.specs.Sizes.{counted}
 use Rattle.rpg_record_lines.specs.declared.fault.RecordFault.{RecordFault}
 use Rattle.rpg_record_lines.specs.declared.fault.RecordFault.TheVariants as faults
 use Rattle.rpg_record_lines.specs.declared.frames.Framing.{Framing}

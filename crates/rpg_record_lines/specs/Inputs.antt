@@ -1,7 +1,7 @@
 -- What is still to come of an input.
 use Rattle.std.specs.Prelude.{◌≡◌, ℕ, ◌+◌, List, drop, length, slice_range, Option, Some, IfSome, Result, Ok, Err, ⊤}
 use Rattle.std.specs.Io.KnownBytes.{Consumes, prepend_known}
-use Rattle.rpg_record_layouts.specs.Sizes.{counted}
+use Rattle.rpg_records.specs.Sizes.{counted}
 use Rattle.rpg_record_lines.specs.Cuts.{Finished, Refused, Whole, next_of}
 use Rattle.rpg_record_lines.specs.declared.frames.FrameFault.{FrameFault}
 use Rattle.rpg_record_lines.specs.declared.frames.FrameFault.TheVariants as faults

@@ -10,7 +10,7 @@ use Rattle.rpg_record_lines.specs.Outcomes.{Outcome, and_then, joined}
 use Rattle.rpg_record_lines.specs.Types.{card_of, first_type, is_card}
 use Rattle.rpg_record_lines.specs.declared.fault.RecordFault.{RecordFault}
 use Rattle.rpg_record_lines.specs.declared.fault.RecordFault.TheVariants as faults
-use Rattle.rpg_record_layouts.specs.declared.layout.RecordType.{RecordType}
+use Rattle.rpg_records.specs.declared.layout.RecordType.{RecordType}
 
 -- these columns, unless the byte at a place is no character
 abbrev pub unless_bad : List ℕ → List ℕ → Option ℕ → Outcome

@@ -3,14 +3,14 @@ use Rattle.std.specs.Prelude.{ℕ, ◌+◌, ◌-◌, ◌∷◌, min, nat_le, nat
 use Rattle.rpg_records.specs.Unpacked.{binary_text, bytes_of_binary_text, bytes_of_packed_text, packed_text}
 use Rattle.rpg_records.specs.declared.digits.NumberFault.{NumberFault}
 use Rattle.rpg_records.specs.declared.digits.NumberFault.TheVariants as numbers
-use Rattle.rpg_record_layouts.specs.Fields.{digit_count}
-use Rattle.rpg_record_layouts.specs.Sizes.{counted, field_digits, field_size}
+use Rattle.rpg_records.specs.Fields.{digit_count}
+use Rattle.rpg_records.specs.Sizes.{counted, field_digits, field_size}
 use Rattle.rpg_record_lines.specs.Outcomes.{Outcome, and_then, joined, some_or}
 use Rattle.rpg_record_lines.specs.declared.fault.FieldBytes.{FieldBytes}
 use Rattle.rpg_record_lines.specs.declared.fault.RecordFault.TheVariants as faults
-use Rattle.rpg_record_layouts.specs.declared.layout.NumberField.{NumberField}
-use Rattle.rpg_record_layouts.specs.declared.layout.NumberForm.{NumberForm}
-use Rattle.rpg_record_layouts.specs.declared.layout.NumberForm.TheVariants as forms
+use Rattle.rpg_records.specs.declared.layout.NumberField.{NumberField}
+use Rattle.rpg_records.specs.declared.layout.NumberForm.{NumberForm}
+use Rattle.rpg_records.specs.declared.layout.NumberForm.TheVariants as forms
 
 -- ---- digits of bytes
 

@@ -10,7 +10,7 @@ use Rattle.rpg_record_lines.specs.Outcomes.{Outcome, and_then, joined}
 use Rattle.rpg_record_lines.specs.Types.{card_of, first_type, is_card}
 use Rattle.rpg_record_lines.specs.declared.fault.RecordFault.{RecordFault}
 use Rattle.rpg_record_lines.specs.declared.fault.RecordFault.TheVariants as faults
-use Rattle.rpg_record_layouts.specs.declared.layout.RecordType.{RecordType}
+use Rattle.rpg_records.specs.declared.layout.RecordType.{RecordType}
 
 -- the bytes of characters, of which the first stands at a place; or the first that is none
 abbrev pub bytes_from : Page → ℕ → List ℕ → Outcome

@@ -4,8 +4,8 @@ use Rattle.std.specs.List.{list_all}
 use Rattle.rpg_records.specs.Columns.{column_character}
 use Rattle.rpg_records.specs.declared.column.Column.TheVariants as columns
 use Rattle.rpg_records.specs.declared.translation.Page.{Page}
-use Rattle.rpg_record_layouts.specs.declared.layout.Code.{Code}
-use Rattle.rpg_record_layouts.specs.declared.layout.RecordType.{RecordType}
+use Rattle.rpg_records.specs.declared.layout.Code.{Code}
+use Rattle.rpg_records.specs.declared.layout.RecordType.{RecordType}
 
 -- the character at a place of a record, 0 for none
 abbrev pub character_at : Page → Bool → List ℕ → ℕ → ℕ

@@ -5,7 +5,7 @@ use Rattle.rpg_records.specs.Columns.{page_byte}
 use Rattle.rpg_records.specs.declared.translation.Page.{Page}
 use Rattle.rpg_record_lines.specs.Conversions.{Made, Place, TakesStep, Way}
 use Rattle.rpg_record_lines.specs.Converters.{is_low_blank_of, length_of, line_by, page_of_records, record_by, types_of}
-use Rattle.rpg_record_layouts.specs.Sizes.{columns_of}
+use Rattle.rpg_records.specs.Sizes.{columns_of}
 use Rattle.rpg_record_lines.specs.Frames.{frame}
 use Rattle.rpg_record_lines.specs.Inputs.{framing_of, most_of, position_of, remaining_of}
 use Rattle.rpg_record_lines.specs.Lines.{line_of}
@@ -17,8 +17,8 @@ use Rattle.rpg_record_lines.specs.declared.conversion.RecordFormat.{RecordFormat
 use Rattle.rpg_record_lines.specs.declared.frames.Frames.{Frames}
 use Rattle.rpg_record_lines.specs.declared.frames.Framing.{Framing}
 use Rattle.rpg_record_lines.specs.declared.frames.Framing.TheVariants as framings
-use Rattle.rpg_record_layouts.specs.declared.layout.Layout.{Layout}
-use Rattle.rpg_record_layouts.specs.declared.layout.RecordType.{RecordType}
+use Rattle.rpg_records.specs.declared.layout.Layout.{Layout}
+use Rattle.rpg_records.specs.declared.layout.RecordType.{RecordType}
 use Rattle.rpg_record_lines.specs.declared.line.Converter.{Converter}
 use Rattle.rpg_record_lines.specs.declared.maker.Maker.{Maker}
 use Rattle.rpg_record_lines.specs.declared.maker.Making.{Making}

@@ -12,8 +12,7 @@ use crate::input::InputFault;
 use crate::line::Converter;
 use crate::maker::{Maker, Making, Room};
 use crate::sending::send;
-use rpg_record_layouts::Layout;
-use rpg_records::Page;
+use rpg_records::{Layout, Page};
 use std::alloc::{AllocError, Global};
 use std::io::{Read, Write};
 

@@ -15,5 +15,4 @@ pub use conversion::{ConversionFault, Counts, RecordFormat, lines_to_records, re
 pub use fault::{FieldBytes, LineFault, NumberFault, RecordFault};
 pub use frames::Framing;
 pub use line::Converter;
-pub use rpg_record_layouts::{Code, Column, Layout, NumberField, NumberForm, RecordType};
-pub use rpg_records::Page;
+pub use rpg_records::{Code, Column, Layout, NumberField, NumberForm, Page, RecordType};

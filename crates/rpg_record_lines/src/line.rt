@@ -10,8 +10,7 @@ ghost use Rattle.rpg_records.specs.declared.translation.Page.TheVariants as page
 
 use crate::fault::{LineFault, RecordFault};
 use crate::numbers::append_all_digits;
-use rpg_record_layouts::{Code, Layout, RecordType};
-use rpg_records::{Column, Page, Translation};
+use rpg_records::{Code, Column, Layout, Page, RecordType, Translation};
 use rpg_text::trimmed;
 
 /// The character at a place of a record, 0 where there is none.

@@ -1,13 +1,14 @@
 //! The digits of a record's packed and binary fields, and the bytes of such digits.
 
 ghost use Rattle.std.specs.Prelude.{◌≡◌, ◌++◌, length, None, Some, Ok, Err, IfErr, OnErr, OnOk, drop, replicate, take};
-ghost use Rattle.rpg_record_layouts.specs.Sizes.{field_digits, field_size};
+ghost use Rattle.rpg_records.specs.Sizes.{field_digits, field_size};
 ghost use Rattle.rpg_record_lines.specs.Numbers.{digits_at, digits_in, digits_of, field_text, filled, number_bytes, with_number, with_numbers};
 ghost use Rattle.rpg_record_lines.specs.Outcomes.{IsFaultOf, joined};
 
 use crate::fault::{FieldBytes, LineFault, NumberFault, RecordFault};
-use rpg_record_layouts::{NumberField, NumberForm};
-use rpg_records::{binary_to_zoned, packed_to_zoned, zoned_to_binary, zoned_to_packed};
+use rpg_records::{
+    NumberField, NumberForm, binary_to_zoned, packed_to_zoned, zoned_to_binary, zoned_to_packed,
+};
 
 /// Writes the digits of a field's bytes.
 fn write_digits(field: &NumberField, bytes: &[u8], digits: &mut [u8]) -> Result<(), NumberFault>

@@ -7,7 +7,7 @@ ghost use Rattle.rpg_record_lines.specs.Records.{bytes_from, widened};
 use crate::fault::{LineFault, RecordFault};
 use crate::line::{Converter, card_of, is_card};
 use crate::numbers::write_numbers;
-use rpg_record_layouts::RecordType;
+use rpg_records::RecordType;
 use rpg_text::{is_character, trimmed};
 use std::alloc::AllocError;
 

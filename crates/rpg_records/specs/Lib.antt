@@ -1,8 +1,11 @@
--- What the bytes of records are.
+-- What the bytes of records are, and how records are laid out.
 pub mod Binary
 pub mod CodePage
 pub mod Columns
+pub mod Fields
 pub mod Packed
 pub mod Parts
+pub mod Seen
+pub mod Sizes
 pub mod Translations
 pub mod Unpacked

@@ -1,10 +1,11 @@
-//! Records of other machines: code page 037, packed and binary numbers, and a record's columns as characters.
+//! Records of other machines: code page 037, packed and binary numbers, a record's columns as characters, and the layout of a file's records.
 #![tactic(auto)]
 
 mod binary;
 mod column;
 mod digits;
 mod laws;
+mod layout;
 mod packed;
 mod page;
 mod translation;
@@ -13,6 +14,7 @@ pub use binary::{read_binary, write_binary};
 pub use column::Column;
 pub use digits::{NumberFault, binary_to_zoned, packed_to_zoned, zoned_to_binary, zoned_to_packed};
 pub use laws::{code_page_is_one_to_one, packed_numbers_come_back};
+pub use layout::{Code, Layout, NumberField, NumberForm, RecordType};
 pub use packed::{read_packed, write_packed};
 pub use page::{byte_of, character_of, last_place_of};
 pub use translation::{Page, Translation};

@@ -1,5 +1,5 @@
 use Rattle.std.proofs.Common.{◌≡◌, ◌++◌, ◌^◌, ◌<◌, drop, map}
-use Rattle.rpg_record_layouts.specs.Seen.{number_seen}
+use Rattle.rpg_records.specs.Seen.{number_seen}
 use Rattle.rpg_record_decks.specs.Fitted.{digits_after}
 use Rattle.rpg_record_decks.proofs.fitted.add_digits.Given as goal
 

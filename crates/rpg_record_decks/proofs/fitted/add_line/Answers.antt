@@ -1,5 +1,5 @@
 use Rattle.std.proofs.Common.{◌≡◌, ◌≤◌, ◌==◌, ◌++◌, find, sym, ap, subst, ◌∙◌, arith, OnOk, Option}
-use Rattle.rpg_record_layouts.specs.Seen.{columns_seen, layout_seen}
+use Rattle.rpg_records.specs.Seen.{columns_seen, layout_seen}
 use Rattle.rpg_record_decks.proofs.FittedLemmas.{change_is_digits, change_is_length}
 use Rattle.rpg_record_decks.proofs.SeenLemmas.{columns_are_seen}
 use Rattle.rpg_record_decks.specs.Edits.{number_columns}

@@ -1,6 +1,6 @@
 use Rattle.std.proofs.Common.{◌≡◌, ◌++◌, drop, map}
 use Rattle.std.specs.List.{flat_map}
-use Rattle.rpg_record_layouts.specs.Seen.{TypeSeen, type_seen}
+use Rattle.rpg_records.specs.Seen.{TypeSeen, type_seen}
 use Rattle.rpg_record_decks.specs.Fitted.{digits_after}
 use Rattle.rpg_record_decks.proofs.fitted.all_digits.Given as goal
 

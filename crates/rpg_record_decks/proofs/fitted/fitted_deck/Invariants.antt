@@ -1,7 +1,7 @@
 use Rattle.std.proofs.Common.{◌≡◌, ◌++◌, ◌+◌, ◌≤◌, length}
 use Rattle.std.specs.List.{join_with_byte, slice_split}
 use Rattle.rpg_text.specs.Lines.{is_line_feed}
-use Rattle.rpg_record_layouts.specs.Seen.{layout_seen}
+use Rattle.rpg_records.specs.Seen.{layout_seen}
 use Rattle.rpg_record_decks.specs.Fitted.{fitted, fitted_from}
 use Rattle.rpg_record_decks.proofs.fitted.fitted_deck.Given as goal
 

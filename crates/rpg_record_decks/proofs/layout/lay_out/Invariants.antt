@@ -1,5 +1,5 @@
 use Rattle.std.proofs.Common.{◌≡◌, map, take}
-use Rattle.rpg_record_layouts.specs.Seen.{type_seen}
+use Rattle.rpg_records.specs.Seen.{type_seen}
 use Rattle.rpg_record_decks.specs.Kinds.{type_of}
 use Rattle.rpg_record_decks.specs.Reading.{type_read}
 use Rattle.rpg_record_decks.proofs.layout.lay_out.Given as goal

@@ -1,6 +1,6 @@
 use Rattle.std.proofs.Common.{◌≡◌, ◌+◌, ◌-◌, ◌<◌, ◌≤◌, length, arith, rules, sym, ◌∙◌}
 use Rattle.rpg_record_lines.proofs.InputLemmas.{first_line, found_by, given_more, grows_by, more_by, within_by}
-use Rattle.rpg_record_layouts.specs.Sizes.{counted}
+use Rattle.rpg_records.specs.Sizes.{counted}
 use Rattle.rpg_record_lines.specs.Inputs.{given_of, left_in, remaining_in}
 use Rattle.rpg_record_lines.proofs.input.Input.read_line.Goals as goal
 

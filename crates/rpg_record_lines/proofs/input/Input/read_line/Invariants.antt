@@ -1,6 +1,6 @@
 use Rattle.std.proofs.Common.{◌≡◌, ◌≤◌, ◌+◌, ◌-◌, vec_len}
 use Rattle.rpg_record_lines.proofs.InputLemmas.{SoFar}
-use Rattle.rpg_record_layouts.specs.Sizes.{counted}
+use Rattle.rpg_records.specs.Sizes.{counted}
 use Rattle.rpg_record_lines.specs.Inputs.{given_of, remaining_in}
 use Rattle.rpg_record_lines.proofs.input.Input.read_line.Given as goal
 

@@ -1,6 +1,6 @@
 use Rattle.std.proofs.Common.{◌≡◌, ◌≤◌, ◌+◌, ◌-◌, vec_len}
 use Rattle.std.specs.Io.KnownBytes.{Consumes}
-use Rattle.rpg_record_layouts.specs.Sizes.{counted}
+use Rattle.rpg_records.specs.Sizes.{counted}
 use Rattle.rpg_record_lines.specs.Inputs.{given_of, remaining_in}
 use Rattle.rpg_record_lines.proofs.input.Input.read_up_to.Given as goal
 

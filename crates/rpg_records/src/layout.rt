@@ -1,9 +1,9 @@
 //! What is known of a file's records.
 
 ghost use Rattle.std.specs.Prelude.{◌≡◌, ◌+◌, ◌-◌, ◌≤◌, IsTrue};
-ghost use Rattle.rpg_record_layouts.specs.Fields.{digit_count, is_field_size};
+ghost use Rattle.rpg_records.specs.Fields.{digit_count, is_field_size};
 
-use rpg_records::Column;
+use crate::column::Column;
 
 /// How the bytes of a number stand.
 #[derive(Clone, Copy, PartialEq, Eq)]
@@ -38,7 +38,7 @@ pub struct NumberField {
 }
 
 impl NumberField {
-    ghost use Rattle.rpg_record_layouts.specs.Sizes.{field_digits, field_size};
+    ghost use Rattle.rpg_records.specs.Sizes.{field_digits, field_size};
 
     /// How many bytes it has: 1 to 8.
     pub fn size(&self) -> usize
@@ -81,7 +81,7 @@ pub struct RecordType {
 }
 
 impl RecordType {
-    ghost use Rattle.rpg_record_layouts.specs.Sizes.{digits_after};
+    ghost use Rattle.rpg_records.specs.Sizes.{digits_after};
 
     /// How many digits stand after the record's columns.
     pub fn digit_count(&self) -> usize
@@ -107,7 +107,7 @@ pub struct Layout {
 }
 
 impl Layout {
-    ghost use Rattle.rpg_record_layouts.specs.Sizes.{columns_of};
+    ghost use Rattle.rpg_records.specs.Sizes.{columns_of};
 
     /// How many columns the longest line has.
     pub fn columns(&self) -> usize

@@ -1,9 +1,9 @@
 -- How many digits and columns records have as lines.
 use Rattle.std.specs.Prelude.{ℕ, ◌+◌, ◌-◌, ◌^◌, max, min, List, [], ◌∷◌, sum_by}
-use Rattle.rpg_record_layouts.specs.Fields.{digit_count}
-use Rattle.rpg_record_layouts.specs.declared.layout.Layout.{Layout}
-use Rattle.rpg_record_layouts.specs.declared.layout.NumberField.{NumberField}
-use Rattle.rpg_record_layouts.specs.declared.layout.RecordType.{RecordType}
+use Rattle.rpg_records.specs.Fields.{digit_count}
+use Rattle.rpg_records.specs.declared.layout.Layout.{Layout}
+use Rattle.rpg_records.specs.declared.layout.NumberField.{NumberField}
+use Rattle.rpg_records.specs.declared.layout.RecordType.{RecordType}
 
 -- a count stops at the largest number of 64 bits
 abbrev pub counted : ℕ → ℕ

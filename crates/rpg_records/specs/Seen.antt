@@ -1,13 +1,13 @@
 -- What a layout says, whatever room its lists take.
 use Rattle.std.specs.Prelude.{ℕ, ◌+◌, ◌-◌, max, List, [], ◌∷◌, map, sum_by}
 use Rattle.rpg_records.specs.declared.column.Column.{Column}
-use Rattle.rpg_record_layouts.specs.Fields.{digit_count}
-use Rattle.rpg_record_layouts.specs.Sizes.{counted}
-use Rattle.rpg_record_layouts.specs.declared.layout.Code.{Code}
-use Rattle.rpg_record_layouts.specs.declared.layout.Layout.{Layout}
-use Rattle.rpg_record_layouts.specs.declared.layout.NumberField.{NumberField}
-use Rattle.rpg_record_layouts.specs.declared.layout.NumberForm.{NumberForm}
-use Rattle.rpg_record_layouts.specs.declared.layout.RecordType.{RecordType}
+use Rattle.rpg_records.specs.Fields.{digit_count}
+use Rattle.rpg_records.specs.Sizes.{counted}
+use Rattle.rpg_records.specs.declared.layout.Code.{Code}
+use Rattle.rpg_records.specs.declared.layout.Layout.{Layout}
+use Rattle.rpg_records.specs.declared.layout.NumberField.{NumberField}
+use Rattle.rpg_records.specs.declared.layout.NumberForm.{NumberForm}
+use Rattle.rpg_records.specs.declared.layout.RecordType.{RecordType}
 
 -- a packed or binary field: its card, its columns and how its bytes stand
 pub record NumberSeen : Type 0 where

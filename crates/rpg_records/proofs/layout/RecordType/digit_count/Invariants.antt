@@ -1,6 +1,6 @@
 use Rattle.std.proofs.Common.{◌≡◌, ◌+◌, ◌^◌, ◌<◌, drop, sum_by}
-use Rattle.rpg_record_layouts.specs.Sizes.{counted, digits_after, field_digits}
-use Rattle.rpg_record_layouts.proofs.layout.RecordType.digit_count.Given as goal
+use Rattle.rpg_records.specs.Sizes.{counted, digits_after, field_digits}
+use Rattle.rpg_records.proofs.layout.RecordType.digit_count.Given as goal
 
 abbrev pub invariant-loop-field : goal.invariant-loop-field
 invariant-loop-field l = record {

@@ -1,7 +1,7 @@
 -- The sizes of packed and binary fields.
 use Rattle.std.specs.Prelude.{ℕ, ◌-◌, ◌*◌, ◌==◌, ◌&&◌, ◌||◌, nat_le, Bool, if◌then◌else◌}
-use Rattle.rpg_record_layouts.specs.declared.layout.NumberForm.{NumberForm}
-use Rattle.rpg_record_layouts.specs.declared.layout.NumberForm.TheVariants as forms
+use Rattle.rpg_records.specs.declared.layout.NumberForm.{NumberForm}
+use Rattle.rpg_records.specs.declared.layout.NumberForm.TheVariants as forms
 
 -- the bytes that a field of that form may have
 abbrev pub is_field_size : NumberForm → ℕ → Bool
