@@ -1,7 +1,7 @@
 //! The command that makes cards of shorthand, and shorthand of cards.
 
 use rpg_cli_answers::{Answer, Listener, Stop, named};
-use rpg_cli_cards::{RULER, ShorthandFault, deck_of, line_message, shorthand_of};
+use rpg_cli_columns::{RULER, ShorthandFault, deck_of, line_message, shorthand_of};
 use rpg_cli_run::source_bytes;
 use rpg_cli_words::{CardsWanted, CardsWords, FileWord};
 use std::alloc::Global;

@@ -70,6 +70,6 @@ pub(crate) fn range_of(kind: CardKind, sought: Sought) -> Option<Range> {
 }
 
 /// Whether a range of the sheet that a card is on begins in a column, which is counted from 1.
-pub fn begins_range(line: &[u8], column: usize) -> bool {
+pub(crate) fn begins_range(line: &[u8], column: usize) -> bool {
     range_of(CardKind::of(line), Sought::From(column)).is_some()
 }

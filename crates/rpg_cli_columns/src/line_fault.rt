@@ -1,6 +1,7 @@
 //! What is wrong with shorthand.
 
-use std::alloc::AllocError;
+use rpg_cli_text::TextWriter;
+use std::alloc::{AllocError, Global};
 
 /// What is wrong with a line of shorthand.
 #[derive(Clone, Copy)]
@@ -50,4 +51,20 @@ impl From<AllocError> for ShorthandFault {
     fn from(_: AllocError) -> Self {
         ShorthandFault::NoMemory
     }
+}
+
+/// What is wrong with a line of the file that `path` names.
+pub fn line_message(
+    alloc: Global,
+    path: &str,
+    line: u16,
+    fault: LineFault,
+) -> Result<String, AllocError> {
+    let mut out = TextWriter::new(alloc);
+    let sentence = fault.sentence();
+    out.fill(
+        "{}:{}: {}\n",
+        &[path.as_bytes().into(), line.into(), sentence.into()],
+    );
+    out.finish()
 }

@@ -1,7 +1,7 @@
 //! From shorthand to cards.
 
-use crate::card::Columns;
-use crate::fault::{LineFault, ShorthandFault};
+use crate::filling::Columns;
+use crate::line_fault::{LineFault, ShorthandFault};
 use crate::marks::{begins_data, ends_source};
 use rpg_cli_text::TextWriter;
 use rpg_text::{first_line, has_only_characters, trimmed};

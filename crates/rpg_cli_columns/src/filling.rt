@@ -1,7 +1,7 @@
 //! The columns of a card that is being filled.
 
-use crate::fault::LineFault;
 use crate::items::{column_at, cut, without_blanks};
+use crate::line_fault::LineFault;
 use rpg_text::{is_blank, trimmed};
 
 /// The column of the form type.
