@@ -5,8 +5,8 @@ ghost use Rattle.rpg_cli_run.specs.Dated.{HasDate};
 ghost use Rattle.rpg_cli_answers.specs.declared.answer.Answer.TheVariants as answers;
 
 use rpg_cli_answers::Answer;
+use rpg_cli_show_fields::uses_date;
 use rpg_cli_words::DateWord;
-use rpg_date_use::uses_date;
 use rpg_engine::Program;
 
 /// Asks for a date if the program uses it and the words have none.

@@ -2,9 +2,8 @@
 
 use crate::header::{write_length, write_version};
 use crate::shown::{broken_by, write_refusal};
-use rpg_cli_show_fields::write_named;
+use rpg_cli_show_fields::{uses_date, write_named};
 use rpg_cli_text::TextWriter;
-use rpg_date_use::uses_date;
 use rpg_object::encode;
 use rpg_object_program::Program;
 use rpg_object_program::row::Rows;

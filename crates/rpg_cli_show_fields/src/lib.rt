@@ -1,13 +1,16 @@
-//! What texts about object programs have in common: the words for fields, values, indicators and lines, and what the cards of a source say of
-//! the rows of its object program.
+//! What commands say of object programs: the words for fields, values, indicators and lines, what the cards of a source say of the rows of its
+//! object program, and whether a program uses the date.
 #![tactic(auto)]
 
+mod date_operands;
+mod date_use;
 mod editing;
 mod operands;
 mod source_rows;
 mod values;
 mod words;
 
+pub use date_use::uses_date;
 pub use editing::{time_word, write_code, write_spacing};
 pub use operands::{constant_of, write_card_operand};
 pub use source_rows::SourceRows;

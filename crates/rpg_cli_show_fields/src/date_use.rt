@@ -3,9 +3,9 @@
 ghost use Rattle.std.specs.Prelude.{◌≡◌, map};
 ghost use Rattle.std.specs.List.{list_any};
 ghost use Rattle.rpg_object_program.specs.Object.{line_row, subroutine_row};
-ghost use Rattle.rpg_date_use.specs.DateUse as words;
+ghost use Rattle.rpg_cli_show_fields.specs.DateUse as words;
 
-use crate::operands::{field_uses, instruction_uses};
+use crate::date_operands::{field_uses, instruction_uses};
 use rpg_effect::line::LineField;
 use rpg_effect::operation::Instruction;
 use rpg_object_program::program::Program;

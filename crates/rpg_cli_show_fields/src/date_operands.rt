@@ -1,7 +1,7 @@
 //! Operands that are the date.
 
 ghost use Rattle.std.specs.Prelude.{◌≡◌};
-ghost use Rattle.rpg_date_use.specs.DateUse as words;
+ghost use Rattle.rpg_cli_show_fields.specs.DateUse as words;
 ghost use Rattle.rpg_effect.specs.Forms as forms;
 
 use rpg_effect::form::Class;
