@@ -1,6 +1,6 @@
 //! The form of a command's diagnostics, and the files that they may be about.
 
-use rpg_cli_json::{Form, Severity};
+use rpg_cli_answers::{Form, Severity};
 use rpg_cli_words::{FileWord, FitWords, Format, Request};
 use std::alloc::{AllocError, Global};
 

@@ -16,10 +16,9 @@ use crate::naming::{files_of, form_of};
 use crate::outlet::Outlet;
 use crate::telling::{tell_answer, tell_unwritten};
 use crate::told::{StandardError, StandardStreams};
-use rpg_cli_answers::{Answer, Listener, Reasons, Stop, json_line, line};
+use rpg_cli_answers::{Answer, FormedListener, Listener, Reasons, Stop, json_line, line};
 use rpg_cli_conversions::{fit_file, records_file};
 use rpg_cli_files::send_line;
-use rpg_cli_json::FormedListener;
 use rpg_cli_run::{go_files, run_files};
 use rpg_cli_words::{
     Format, GoWords, Refusal, Request, RunWords, refuse_bytes, refuse_same_file, request_of,

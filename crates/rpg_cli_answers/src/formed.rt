@@ -1,8 +1,8 @@
 //! A listener that passes diagnostics on in the form that is wanted: as texts, or as objects of JSON.
 
 use crate::diagnostic::{Known, Severity};
+use crate::listener::Listener;
 use crate::objects::diagnostics;
-use rpg_cli_answers::Listener;
 use rpg_cli_files::Reason;
 use std::alloc::Global;
 
