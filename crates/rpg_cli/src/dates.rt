@@ -2,8 +2,8 @@
 
 use rpg_cli_answers::{Answer, Listener, Stop};
 use rpg_cli_text::TextWriter;
+use rpg_cli_values::{DateOrder, may_be_date};
 use rpg_cli_words::{DateWord, RunWords};
-use rpg_dates::{DateOrder, may_be_date};
 use rpg_engine::RunFault;
 use rpg_today::today;
 use std::alloc::{AllocError, Global};

@@ -17,8 +17,8 @@ use Rattle.rpg_engine.specs.declared.object.ObjectFault.TheVariants as objects
 use Rattle.rpg_engine.specs.declared.report.Report.{Report}
 use Rattle.rpg_cli_answers.specs.declared.answer.Answer.{Answer}
 use Rattle.rpg_cli_answers.specs.declared.answer.Answer.TheVariants as answer
-use Rattle.rpg_warning_codes.specs.Codes.{code_text as warning_text}
-use Rattle.rpg_warning_codes.specs.declared.code.WarningCode.{WarningCode}
+use Rattle.rpg_cli_values.specs.Codes.{code_text as warning_text}
+use Rattle.rpg_cli_values.specs.declared.code.WarningCode.{WarningCode}
 
 -- ---- lines
 

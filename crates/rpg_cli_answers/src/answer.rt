@@ -6,9 +6,9 @@ ghost use Rattle.rpg_cli_answers.specs.declared.answer.Answer.TheVariants as ans
 
 use arrayvec::ArrayVec;
 use rpg_cli_files::{FileFault, SourceFault};
+use rpg_cli_values::WarningCode;
 use rpg_cli_words::FileWord;
 use rpg_engine::{ObjectFault, Report, RunFault};
-use rpg_warning_codes::WarningCode;
 
 /// How a command ended. What refuses a command is handed up as it is.
 #[derive(Clone, Copy)]

@@ -8,8 +8,8 @@ use crate::answer::{Answer, Line};
 use arrayvec::ArrayVec;
 use itoa::Buffer;
 use rpg_cli_files::{FileFault, SourceFault};
+use rpg_cli_values::WarningCode;
 use rpg_engine::{JobEnd, ObjectFault, Report, RunFault};
-use rpg_warning_codes::WarningCode;
 
 /// A line under construction.
 type Text = ArrayVec<u8, 96>;

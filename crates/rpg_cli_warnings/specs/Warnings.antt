@@ -9,10 +9,10 @@ use Rattle.rpg_cli_warnings.specs.Pages.{page_on}
 use Rattle.rpg_cli_warnings.specs.declared.warning.Warning.{Warning}
 use Rattle.rpg_cli_warnings.specs.declared.warning.WarningKind.{WarningKind}
 use Rattle.rpg_cli_warnings.specs.declared.warning.WarningKind.TheVariants as kind
-use Rattle.rpg_warning_codes.specs.Codes.{has}
-use Rattle.rpg_warning_codes.specs.declared.code.WarningCode.{WarningCode}
-use Rattle.rpg_warning_codes.specs.declared.code.WarningCode.TheVariants.{W1, W2, W3, W4, W5, W6}
-use Rattle.rpg_warning_codes.specs.declared.codes.WarningCodes.{WarningCodes}
+use Rattle.rpg_cli_values.specs.Codes.{has}
+use Rattle.rpg_cli_values.specs.declared.code.WarningCode.{WarningCode}
+use Rattle.rpg_cli_values.specs.declared.code.WarningCode.TheVariants.{W1, W2, W3, W4, W5, W6}
+use Rattle.rpg_cli_values.specs.declared.codes.WarningCodes.{WarningCodes}
 
 -- the code of a warning
 abbrev pub code : WarningKind → WarningCode

@@ -3,8 +3,8 @@
 ghost use Rattle.std.specs.Prelude.{◌≡◌};
 ghost use Rattle.rpg_cli_warnings.specs.Warnings as warnings;
 
+use rpg_cli_values::WarningCode;
 use rpg_sheet_specs::ColumnFault;
-use rpg_warning_codes::WarningCode;
 
 /// Why a card is warned of.
 #[derive(Clone, Copy)]

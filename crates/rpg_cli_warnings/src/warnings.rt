@@ -10,7 +10,7 @@ use crate::overlaps::put_overlaps;
 use crate::pages::put_pages;
 use crate::warning::Warning;
 use rpg_cards::{IndexedCards, SpecCard};
-use rpg_warning_codes::{WarningCode, WarningCodes};
+use rpg_cli_values::{WarningCode, WarningCodes};
 use std::alloc::{AllocError, Global};
 
 /// The greatest number of an indicator.

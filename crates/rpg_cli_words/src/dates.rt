@@ -1,6 +1,6 @@
 //! The word for the date of a job.
 
-use rpg_dates::DateOrder;
+use rpg_cli_values::DateOrder;
 
 /// The date of a job.
 #[derive(Clone, Copy)]

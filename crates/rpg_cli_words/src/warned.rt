@@ -1,7 +1,7 @@
 //! The words about warnings, and words with several values.
 
 use clap::ArgMatches;
-use rpg_warning_codes::{WarningCode, WarningCodes};
+use rpg_cli_values::{WarningCode, WarningCodes};
 use std::alloc::{AllocError, Global};
 
 /// What becomes of the warnings of a source.

@@ -5,7 +5,7 @@ ghost use Rattle.std.specs.Prelude.{◌<◌, IfSome};
 use jiff::Timestamp;
 use jiff::civil::Date;
 use jiff::tz::{SystemTimeZone, TimeZone, TimeZoneDatabase};
-use rpg_dates::Day;
+use rpg_cli_values::Day;
 use std::io::Read;
 use std::rt::{Clock, Env, Files};
 use std::{env, fs};

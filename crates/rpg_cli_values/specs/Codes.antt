@@ -1,8 +1,8 @@
 -- The texts of codes; which codes a set has, and the set with one more.
 use Rattle.std.specs.Prelude.{ℕ, List, Bool, true, codes}
-use Rattle.rpg_warning_codes.specs.declared.code.WarningCode.{WarningCode}
-use Rattle.rpg_warning_codes.specs.declared.code.WarningCode.TheVariants.{W1, W2, W3, W4, W5, W6}
-use Rattle.rpg_warning_codes.specs.declared.codes.WarningCodes.{WarningCodes}
+use Rattle.rpg_cli_values.specs.declared.code.WarningCode.{WarningCode}
+use Rattle.rpg_cli_values.specs.declared.code.WarningCode.TheVariants.{W1, W2, W3, W4, W5, W6}
+use Rattle.rpg_cli_values.specs.declared.codes.WarningCodes.{WarningCodes}
 
 -- a code as it is printed
 abbrev pub code_text : WarningCode → List ℕ

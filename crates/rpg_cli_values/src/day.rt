@@ -1,7 +1,7 @@
 //! A day, as six digits.
 
 ghost use Rattle.std.specs.Prelude.{◌≡◌, ◌<◌, ◌+◌, ◌∷◌, []};
-ghost use Rattle.rpg_dates.specs.Dates as words;
+ghost use Rattle.rpg_cli_values.specs.Dates as words;
 
 /// The order in which a date has its parts.
 #[derive(Clone, Copy, PartialEq, Eq)]

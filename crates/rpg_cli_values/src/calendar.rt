@@ -1,7 +1,7 @@
 //! Six digits that may be a date.
 
 ghost use Rattle.std.specs.Prelude.{◌≡◌, ◌≤◌};
-ghost use Rattle.rpg_dates.specs.Dates as words;
+ghost use Rattle.rpg_cli_values.specs.Dates as words;
 
 /// Whether a month has 30 days.
 fn is_short(month: u8) -> bool

@@ -1,7 +1,7 @@
 //! Sets of codes.
 
 ghost use Rattle.std.specs.Prelude.{◌≡◌};
-ghost use Rattle.rpg_warning_codes.specs.Codes.{has, with};
+ghost use Rattle.rpg_cli_values.specs.Codes.{has, with};
 
 use crate::code::WarningCode;
 

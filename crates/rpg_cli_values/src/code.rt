@@ -1,7 +1,7 @@
 //! The codes of warnings.
 
 ghost use Rattle.std.specs.Prelude.{◌≡◌};
-ghost use Rattle.rpg_warning_codes.specs.Codes.{code_text};
+ghost use Rattle.rpg_cli_values.specs.Codes.{code_text};
 
 /// What a source is warned of.
 #[derive(Clone, Copy, PartialEq, Eq)]

@@ -1,0 +1,12 @@
+//! Values that words of the command line have: dates of six digits, and codes of warnings.
+#![tactic(auto)]
+
+mod calendar;
+mod code;
+mod codes;
+mod day;
+
+pub use calendar::may_be_date;
+pub use code::WarningCode;
+pub use codes::WarningCodes;
+pub use day::{DateOrder, Day};

@@ -1,2 +1,0 @@
--- Dates of six digits.
-pub mod Dates

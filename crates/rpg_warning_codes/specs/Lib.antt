@@ -1,2 +1,0 @@
--- The codes of warnings, and sets of them.
-pub mod Codes
