@@ -18,7 +18,7 @@ pub(crate) const FAULTS: &str = "\
     %- a text in arithmetic, a result that is UDATE, an edit code beside a text:\n\n     C                     ADD  AMT       WORD    5\n     C                     ADD  TOT       UDATE\
     %- numbers in arithmetic, one kind in COMP and LOKUP, anything in MOVE and MOVEL:\n\n     C                     ADD  AMT       TOT\n     C                     MOVE AMT       WORD    5\
     %an input field without a digit in column 52 is a text, even if it holds only\ndigits: for a whole number put 0 there. A result with a length and without decimals is a text\ntoo\
-    @F5%an index is missing, not allowed, out of range, or no plain whole number that is long enough%cards\
+    @F5%an index is missing, not allowed, out of range, or not a plain whole number that is long enough%cards\
     %- an array without an index, entry 6 of 5, an index on something that isn't an array:\n\n     C                     Z-ADD1         AR\n     C                     Z-ADD1         AR,6\n     C                     Z-ADD1         TOT,1\
     %- a number from 1 to the entries, or the name of a number without decimals:\n\n     C                     Z-ADD1         AR,5\n     C                     Z-ADD1         AR,TOT\
     %write a comma and the index right after the name. Whole arrays are allowed in XFOOT and\nLOKUP only\

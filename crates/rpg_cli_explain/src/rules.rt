@@ -29,13 +29,13 @@ pub(crate) const RULES: &str = "\
     @V9%an alternative is conditioned by MR%rows\
     %- in a program of version 1, an alternative that asks MR\
     %- an alternative that asks H9; in version 2, one that asks MR\
-    @V10%what a line puts out isn't there or has a bad index, or PAGE is no plain number of 4 digits without decimals%rows\
+    @V10%what a line puts out isn't there or has a bad index, or PAGE isn't a plain number of 4 digits without decimals%rows\
     %- field 3, an array, without an index; field 9, which is not there; PAGE of field 1\
     %- entry 5 of field 3; field 4, whose current entry is put out\
-    @V11%what is edited is no number that the code fits, or a fill isn't allowed there%rows\
+    @V11%what is edited isn't a number that the code fits, or a fill isn't allowed there%rows\
     %- field 2, a text, by code 1; field 5 by code Y; a fill beside code X\
     %- field 1 by code 1, or by code Y\
-    @V12%an edit word is no text constant of 1 to 24 characters that fits the number%rows\
+    @V12%an edit word isn't a text constant of 1 to 24 characters that fits the number%rows\
     %- field 5, of 1 digit, by the word of field 7, which has 5 places\
     %- a number of 5 digits by that word\
     @V13%a field's text ends outside the line, or is longer than what is before its end%rows\
@@ -59,7 +59,7 @@ pub(crate) const RULES: &str = "\
     @V19%an indicator is missing, or isn't one that may stand there%rows\
     %- SETON of L0, or of nothing; LOKUP in field 6 with HI; LOKUP with HI and LO\
     %- SETON of LR; LOKUP in field 4, which is ascending, with HI\
-    @V20%the result of LOKUP is no table with enough entries, or factor 2's index can't hold the number of its entries%rows\
+    @V20%the result of LOKUP isn't a table with enough entries, or factor 2's index can't hold the number of its entries%rows\
     %- LOKUP in field 4, of 20 entries, with result 6, of 3\
     %- LOKUP in field 6 with result 4\
     @V21%a branch leads out of its section%rows\

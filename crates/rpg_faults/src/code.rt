@@ -104,7 +104,7 @@ impl FaultCode {
                 "an operand is of the wrong kind, a result can't be written, or LOKUP's result has too few entries"
             }
             FaultCode::F5 => {
-                "an index is missing, not allowed, out of range, or no plain whole number that is long enough"
+                "an index is missing, not allowed, out of range, or not a plain whole number that is long enough"
             }
             FaultCode::F6 => "a limit is passed",
             FaultCode::F7 => {

@@ -107,12 +107,12 @@ impl LineRule {
             }
             LineRule::V9 => "an alternative is conditioned by MR",
             LineRule::V10 => {
-                "what a line puts out isn't there or has a bad index, or PAGE is no plain number of 4 digits without decimals"
+                "what a line puts out isn't there or has a bad index, or PAGE isn't a plain number of 4 digits without decimals"
             }
             LineRule::V11 =>
-                "what is edited is no number that the code fits, or a fill isn't allowed there",
+                "what is edited isn't a number that the code fits, or a fill isn't allowed there",
             LineRule::V12 => {
-                "an edit word is no text constant of 1 to 24 characters that fits the number"
+                "an edit word isn't a text constant of 1 to 24 characters that fits the number"
             }
             LineRule::V13 =>
                 "a field's text ends outside the line, or is longer than what is before its end",
@@ -130,7 +130,7 @@ impl PlaceRule {
             PlaceRule::V18 => "a result may not be written",
             PlaceRule::V19 => "an indicator is missing, or isn't one that may stand there",
             PlaceRule::V20 => {
-                "the result of LOKUP is no table with enough entries, or factor 2's index can't hold the number of its entries"
+                "the result of LOKUP isn't a table with enough entries, or factor 2's index can't hold the number of its entries"
             }
             PlaceRule::V21 => "a branch leads out of its section",
             PlaceRule::V22 =>
