@@ -1,0 +1,15 @@
+use Rattle.std.proofs.Common.{ℕ, List, ◌∙◌, Some, ap, refl, sym}
+use Rattle.rpg_sheet_specs.specs.declared.data.DataSpec.TheVariants as data_spec
+use Rattle.rpg_sheet.proofs.sheet.data.Goals as goal
+
+pub returns-then-ends_source : goal.returns-then-ends_source
+returns-then-ends_source c = rw (sym c.ends_source.ensures ∙ c.if-ends_source.true) refl
+
+pub returns-then-begins_data : goal.returns-then-begins_data
+returns-then-begins_data c = rw (sym c.ends_source.ensures ∙ c.if-ends_source.false, sym c.begins_data.ensures ∙ c.if-begins_data.true) refl
+
+pub returns-then-behind : goal.returns-then-behind
+returns-then-behind c = rw (sym c.ends_source.ensures ∙ c.if-ends_source.false, sym c.begins_data.ensures ∙ c.if-begins_data.false, c.if-behind.true) (ap (λ (columns : List ℕ). Some (data_spec.Card columns)) (c.new.ensures ∙ c.as_slice.ensures.value))
+
+pub returns-else-behind : goal.returns-else-behind
+returns-else-behind c = rw (sym c.ends_source.ensures ∙ c.if-ends_source.false, sym c.begins_data.ensures ∙ c.if-begins_data.false, c.if-behind.false) refl
