@@ -18,7 +18,7 @@ use Rattle.rpg_cycle.specs.Ends.{PhaseEnd, GoesOn}
 use Rattle.rpg_cycle.specs.Indicators.{is_on, last_record, level_indicators, matching_record, with_all, with_one}
 use Rattle.rpg_cycle_records.specs.Merging.{AreMergedInOrder, IsTopIfAny}
 use Rattle.rpg_cycle.specs.Phases.{Cycle, CycleOn, Phase, UnderWay, begun, by_machine, detail_calculations, detail_lines, does, done, either, end_where_last, fill_fields, fill_from, halt_where_asked, has_no_overflow, if_selected, is_bypassed, output, overflow_lines, passes, section, select_one, select_record, set_off, show_match, take_in, total_time, with_config, ◌before◌}
-use Rattle.rpg_cycle.proofs.AfterSelection.{after_selection}
+use Rattle.rpg_cycle.specs.Staging.{after_selection}
 use Rattle.rpg_cycle_records.specs.Waiting.{InputState, Inputs, finds_match, has_match, input_at, takes_in, unread}
 
 -- ---- what is selected, and what waits, stays

@@ -18,7 +18,7 @@ use Rattle.rpg_cycle.specs.Indicators.{any_on, halt_indicators, is_on, last_reco
 use Rattle.rpg_cycle_records.specs.Levels.{is_in_record}
 use Rattle.rpg_cycle_records.specs.Merging.{AreMergedInOrder}
 use Rattle.rpg_cycle.specs.Phases.{Cycle, Done, UnderWay, begun, broken_level, detail_lines, does, done, either, end_where_last, halt_where_asked, overflow_lines, type_indicator, is_bypassed, needs_record, read_record, select_one, select_from, select_record, select_waiting, set_off, show_match, take_in, total_time, with_config, with_inputs, ◌before◌}
-use Rattle.rpg_cycle.proofs.AfterSelection.{after_selection}
+use Rattle.rpg_cycle.specs.Staging.{after_selection}
 use Rattle.rpg_cycle.specs.Runs.{Course, Records, RunsIn, ends_or, left_behind, next_of, rest_where_needed}
 use Rattle.rpg_cycle_records.specs.Waiting.{InputState, Inputs, chosen, first_of, has_match, with_file_over, takes_in, waiting_in, with_waiting}
 

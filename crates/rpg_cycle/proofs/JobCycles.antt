@@ -8,7 +8,7 @@ use Rattle.rpg_cycle_records.specs.Earlier.{Left, Selected, left_by, with_record
 use Rattle.rpg_cycle_records.specs.Merging.{AreMergedInOrder}
 use Rattle.rpg_cycle_records.specs.Waiting.{Inputs, finds_match}
 use Rattle.rpg_cycle.specs.Ends.{GoesOn, PhaseEnd}
-use Rattle.rpg_cycle.specs.Job.{AtWork, Cycles, DoesCycle, IsBehind, feed_at, with_feed}
+use Rattle.rpg_cycle.specs.Job.{AtWork, DoesCycle, IsBehind, feed_at, with_feed}
 use Rattle.rpg_cycle_records.specs.Keeping.{noted, renewed_by, selected_as}
 use Rattle.rpg_cycle.specs.Phases.{Cycle, CycleOn, UnderWay, begun}
 use Rattle.rpg_cycle.specs.Stages.{Ended, Going, Stage, job_end, stage_at}

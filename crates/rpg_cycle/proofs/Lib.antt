@@ -10,12 +10,12 @@ pub mod Growing
 pub mod InTurn
 pub mod JobCycles
 pub mod Machining
-pub mod Nine
 pub mod OneRun
 pub mod Others
 pub mod Picking
 pub mod Selecting
 pub mod Spending
+pub mod Staging
 pub mod Standing
 pub mod Taking
 pub mod Turning

@@ -20,13 +20,12 @@ use Rattle.rpg_effect.specs.declared.input.InputFile.TheVariants.{Primary, Secon
 use Rattle.rpg_cycle_records.specs.Identifying.{code_holds, has_position, same_file, trial_weight}
 use Rattle.rpg_effect.specs.declared.input.InputFile.{InputFile}
 use Rattle.rpg_cycle.specs.Phases.{all_off}
-use Rattle.rpg_cycle.specs.Spending.{SpendsSelecting, Spends, SpendsTakingIn, compared_weight, cycle_weight, fields_weight, matched_weight, reach, record_weight, section_cost}
+use Rattle.rpg_cycle.specs.Spending.{SpendsSelecting, Spends, SpendsTakingIn, compared_weight, cycle_weight, fields_weight, full_page_weight, matched_weight, phases_weight, reach, record_weight, section_cost, totals_weight}
 use Rattle.rpg_machine.specs.Config.{Config, charged}
 use Rattle.rpg_machine.specs.Potential.{PaysForSection}
 use Rattle.rpg_machine.specs.Outputs.{FillsFields, PutsOut, inputs_at, input_fields_of, output_weight}
 use Rattle.rpg_machine.specs.Running.{Did, Running, refilled}
 use Rattle.rpg_machine.specs.declared.time.OutputTime.{OutputTime}
-use Rattle.rpg_machine.specs.declared.time.OutputTime.TheVariants as spoken
 use Rattle.rpg_object_program.specs.Object.{Object, lines_of}
 use Rattle.rpg_object_program.specs.Sections.{first_place}
 use Rattle.rpg_object_program.specs.declared.section.Section.{Section}
@@ -95,23 +94,6 @@ at_no_cost {p} {n} {a} {b} {c} h g = record { few = unpaid (reach p a) (reach p 
   where
     unpaid : (x y z n : ℕ) → y ≤ x + n → z ≤ y + 0 → z ≤ x + n
     unpaid x y z n h g = omega (arith, h, g)
-
-same_n : (n : ℕ) → n ≤ n
-same_n n = omega arith
-
--- behind the selection the steps stay few
-few_left : (s r0 r1 x i full d t f o c : ℕ) → r0 ≤ 2 ^ 49 → s + x ≤ r1 → r1 ≤ r0 + (f + (o + (i + c))) → full + d + t + f + o + c ≤ 2 ^ 48 → i ≤ 2 ^ 49 → s ≤ 2 ^ 60
-few_left s r0 r1 x i full d t f o c low h1 h2 light small = omega (arith, low, h1, h2, light, small)
-
-pub low_there : (x : ℕ) → x ≤ 2 ^ 49 → x ≤ 2 ^ 59
-low_there x h = omega (arith, h)
-
-pub low_here : (x y : ℕ) → x ≤ y → y < 2 ^ 48 → x ≤ 2 ^ 49
-low_here x y h l = omega (arith, h, l)
-
-pub few_steps : (p : Object) (t : Option ℕ) (a b : Running) → reach p a ≤ 2 ^ 49 → cycle_weight p ≤ 2 ^ 48 → fields_weight p t ≤ 2 ^ 49 → Spends p (record_weight p t) a b → b.config.steps ≤ 2 ^ 60
-few_steps p t a b low light small h =
-    few_left b.config.steps (reach p a) (reach p b) (b.config.allowance * most p) (fields_weight p t) (p.allowance * most p) _ _ _ _ _ low (same_n _) h.few light small
 
 -- ---- the trying of types
 
@@ -234,38 +216,46 @@ full_reach p a b same is =
     let two = ap (λ (q : Object). q.allowance * most p) same in
     omega (arith, one, two)
 
--- what is within the sum of all phases is within the bound: the detail lines alone, and all of them
-in_first : (s r0 r1 x full d t f o c b : ℕ) → r0 ≡ full → s + x ≤ r1 → r1 ≤ r0 + d → full + d + t + f + o + c ≤ b → s ≤ b
-in_first s r0 r1 x full d t f o c b e h1 h2 h = omega (arith, e, h1, h2, h)
+-- so all phases are few, and within the bound
+in_all : (r0 full d t o f c b : ℕ) → r0 ≡ full → full + d + t + o + f + c ≤ b → r0 + (d + (t + (o + (f + c)))) ≤ b
+in_all r0 full d t o f c b e h = omega (arith, e, h)
 
-in_all : (s r0 r1 r2 r3 i x full d t f o c b : ℕ) → r0 ≡ full → s + x ≤ r3 → r3 ≤ r2 + (f + (o + (i + c))) → r2 + i ≤ r1 + t → r1 ≤ r0 + d → full + d + t + f + o + c ≤ b → s ≤ b
-in_all s r0 r1 r2 r3 i x full d t f o c b e h1 h2 h3 h4 h = omega (arith, e, h1, h2, h3, h4, h)
+in_bits : (x b : ℕ) → x ≤ b → b < 2 ^ 48 → x ≤ 2 ^ 48
+in_bits x b h low = omega (arith, h, low)
 
-in_bits : (r0 r1 r2 i full d t f o c b : ℕ) → r0 ≡ full → r2 + i ≤ r1 + t → r1 ≤ r0 + d → full + d + t + f + o + c ≤ b → b < 2 ^ 48 → r2 + i ≤ 2 ^ 48
-in_bits r0 r1 r2 i full d t f o c b e h1 h2 h low = omega (arith, e, h1, h2, h, low)
+in_bound : (s x r0 r1 w b : ℕ) → s + x ≤ r1 → r1 ≤ r0 + w → r0 + w ≤ b → s ≤ b
+in_bound s x r0 r1 w b h g k = omega (arith, h, g, k)
 
-none_left : (x y n : ℕ) → y ≤ x + n → y + 0 ≤ x + n
-none_left x y n h = omega (arith, h)
+same_n : (n : ℕ) → n ≤ n
+same_n n = omega arith
 
-no_more : (x n : ℕ) → x ≤ x + n
-no_more x n = omega arith
+module _ (p : Object) (a : Running) (full : reach p a ≡ p.allowance * most p) where
+  within : reach p a + phases_weight p ≤ bound p
+  within = in_all (reach p a) (p.allowance * most p) _ _ _ _ _ (bound p) full (within_bound p)
 
-module _ (p : Object) (r0 : Running) (full : reach p r0 ≡ p.allowance * most p) where
-  pub lines_bounded : (b : Running) → Spends p (output_weight p spoken.Detail) r0 b → b.config.steps ≤ bound p
-  lines_bounded b h = in_first b.config.steps (reach p r0) (reach p b) (b.config.allowance * most p) (p.allowance * most p) _ _ _ _ _ (bound p) full (same_n _) h.few (within_bound p)
+  pub phases_few : bound p < 2 ^ 48 → reach p a + phases_weight p ≤ 2 ^ 48
+  phases_few low = in_bits _ (bound p) within low
 
-  pub all_bounded : (t : Option ℕ) (a b c : Running) → Spends p (output_weight p spoken.Detail) r0 a → SpendsSelecting p t a b → Spends p (record_weight p t) b c → c.config.steps ≤ bound p
-  all_bounded t a b c h g f = in_all c.config.steps (reach p r0) (reach p a) (reach p b) (reach p c) (fields_weight p t) (c.config.allowance * most p) (p.allowance * most p) _ _ _ _ _ (bound p) full (same_n _) f.few g.few h.few (within_bound p)
+  pub phases_bounded : (b : Running) → Spends p (phases_weight p) a b → b.config.steps ≤ bound p
+  phases_bounded b s = in_bound b.config.steps (b.config.allowance * most p) (reach p a) (reach p b) (phases_weight p) (bound p) (same_n _) s.few within
 
-  -- where the job ends as records are taken in
-  pub taken_bounded : (a b : Running) → Spends p (output_weight p spoken.Detail) r0 a → Spends p (types_weight p.types) a b → b.config.steps ≤ bound p
-  taken_bounded a b h g = all_bounded None a b b h (record { few = none_left (reach p a) (reach p b) (types_weight p.types) g.few }) (record { few = no_more (reach p b) (record_weight p None) })
+-- ---- the phases from the selection on
 
-  pub selected_low : (t : Option ℕ) (a b : Running) → bound p < 2 ^ 48 → Spends p (output_weight p spoken.Detail) r0 a → SpendsSelecting p t a b → reach p b + fields_weight p t ≤ 2 ^ 48
-  selected_low t a b low h g = in_bits (reach p r0) (reach p a) (reach p b) (fields_weight p t) (p.allowance * most p) _ _ _ _ _ (bound p) full g.few h.few (within_bound p) low
+left_to_pay : (x y i t o f d k : ℕ) → x + (t + (o + (f + d))) ≤ k → y + i ≤ x + t → y + (o + (f + (i + d))) ≤ k
+left_to_pay x y i t o f d k h g = omega (arith, h, g)
 
-pub low_left : (x y : ℕ) → x + y ≤ 2 ^ 48 → x ≤ 2 ^ 49
-low_left x y h = omega (arith, h)
+-- a record was selected, and those that follow are still to come
+pub selected_few : {p : Object} {t : Option ℕ} (k : ℕ) {a b : Running} →
+    SpendsSelecting p t a b → reach p a + (types_weight p.types + (totals_weight p + (full_page_weight p + section_cost p sections.Detail))) ≤ k →
+    reach p b + record_weight p t ≤ k
+selected_few {p} {t} k {a} {b} s few = left_to_pay (reach p a) (reach p b) (fields_weight p t) (types_weight p.types) (totals_weight p) (full_page_weight p) (section_cost p sections.Detail) k few s.few
 
-pub low_right : (x y : ℕ) → x + y ≤ 2 ^ 48 → y ≤ 2 ^ 49
-low_right x y h = omega (arith, h)
+paid : (x y z i t o f d : ℕ) → y + i ≤ x + t → z ≤ y + (o + (f + (i + d))) → z ≤ x + (t + (o + (f + d)))
+paid x y z i t o f d h g = omega (arith, h, g)
+
+-- and then they were done
+pub selected_then : {p : Object} {t : Option ℕ} {a b c : Running} → SpendsSelecting p t a b → Spends p (record_weight p t) b c →
+    Spends p (types_weight p.types + (totals_weight p + (full_page_weight p + section_cost p sections.Detail))) a c
+selected_then {p} {t} {a} {b} {c} s h = record {
+  few = paid (reach p a) (reach p b) (reach p c) (fields_weight p t) (types_weight p.types) (totals_weight p) (full_page_weight p) (section_cost p sections.Detail) s.few h.few;
+}

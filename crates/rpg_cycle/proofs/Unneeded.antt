@@ -17,7 +17,7 @@ use Rattle.std.specs.List.{list_all}
 use Rattle.rpg_cycle.specs.Ends.{PhaseEnd, GoesOn, EndOfJob, Halt, Wrong}
 use Rattle.rpg_cycle.specs.Indicators.{any_on, first_page, halt_indicators, is_on, last_record, level_indicators, with_all, with_one, without_type, without_types}
 use Rattle.rpg_cycle.specs.Phases.{Cycle, Done, Phase, UnderWay, all_off, begun, detail_lines, does, done, either, halt_where_asked, identify, needs_record, read_record, select_one, select_record, set_off, take_in, take_type, with_config, with_inputs, ◌before◌}
-use Rattle.rpg_cycle.proofs.AfterSelection.{after_selection}
+use Rattle.rpg_cycle.specs.Staging.{after_selection}
 use Rattle.rpg_machine.specs.Config.{Config, Output, charged}
 use Rattle.rpg_object_program.specs.Constants.{word_at}
 use Rattle.rpg_object_program.specs.Kept.{IsOverflowIndicator, IsProgram}

@@ -13,7 +13,7 @@ use Rattle.rpg_cycle_records.specs.declared.kept.Kept.{Kept}
 use Rattle.rpg_cycle.specs.Ends.{GoesOn, PhaseEnd}
 use Rattle.rpg_cycle.specs.Phases.{CycleOn, Phase, UnderWay, fill_fields, if_selected, show_match}
 use Rattle.rpg_machine.specs.Config.{Config, Output}
-use Rattle.rpg_machine.specs.Running.{Running, config_on, refilled}
+use Rattle.rpg_machine.specs.Running.{Running, config_on}
 use Rattle.rpg_object_program.specs.Object.{Object}
 use Rattle.rpg_text.specs.Texts.{is_character}
 
@@ -98,13 +98,13 @@ ShowsMatch k t old new = DoesHolding (show_match (match_by old.program k)) (hold
 abbrev pub FillsSelected : Kept → Option ℕ → Running → PhaseEnd → Running → Type 0
 FillsSelected k t old e new = DoesWith (fill_fields old.program) (selected_in old.program k t) old e new
 
--- With what is kept of earlier records and of its files, and with the record that is next in each, a machine did a cycle that goes on, and
--- selected the record of that type, if one was selected.
+-- With what is kept of earlier records and of its files, and with the record that is next in each, a machine with its allowance full did
+-- a cycle that goes on, and selected the record of that type, if one was selected.
 abbrev pub CycleGoesOn : Object → Kept → (primary secondary : Option (Bor (List ℕ))) → Running → Option ℕ → Kept → Running → Type 0
 CycleGoesOn p k primary secondary old t k' new =
-    Does (cycle_by p k (next_text primary) (next_text secondary)) (refilled old) (unselected (inputs_of k)) GoesOn new (holding_kept p k' t)
+    Does (cycle_by p k (next_text primary) (next_text secondary)) old (unselected (inputs_of k)) GoesOn new (holding_kept p k' t)
 
 -- a cycle that ended the job
 abbrev pub CycleEnds : Object → Kept → (primary secondary : Option (Bor (List ℕ))) → Running → PhaseEnd → Running → Type 0
 CycleEnds p k primary secondary old e new =
-    (h : Beside) × Does (cycle_by p k (next_text primary) (next_text secondary)) (refilled old) (unselected (inputs_of k)) e new h
+    (h : Beside) × Does (cycle_by p k (next_text primary) (next_text secondary)) old (unselected (inputs_of k)) e new h

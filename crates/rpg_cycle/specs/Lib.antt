@@ -13,5 +13,6 @@ pub mod Runs
 pub mod Selecting
 pub mod Spending
 pub mod Stages
+pub mod Staging
 pub mod Standing
 pub mod Starting

@@ -61,9 +61,17 @@ full_page_weight p = if is_some p.overflow then output_weight p times.Overflow e
 abbrev pub totals_weight : Object → ℕ
 totals_weight p = section_cost p sections.Total + output_weight p times.Total
 
+-- the phases from overflow lines on
+abbrev pub detail_time_weight : Object → Option ℕ → ℕ
+detail_time_weight p t = full_page_weight p + (fields_weight p t + section_cost p sections.Detail)
+
 -- the phases after the selection of a record, or of none
 abbrev pub record_weight : Object → Option ℕ → ℕ
-record_weight p t = totals_weight p + (full_page_weight p + (fields_weight p t + section_cost p sections.Detail))
+record_weight p t = totals_weight p + detail_time_weight p t
+
+-- all phases of a cycle; what types weigh pays for the fields of the selected record
+abbrev pub phases_weight : Object → ℕ
+phases_weight p = output_weight p times.Detail + (types_weight p.types + (totals_weight p + (full_page_weight p + section_cost p sections.Detail)))
 
 -- all phases of a cycle, and what the allowance can lead to
 abbrev pub cycle_weight : Object → ℕ

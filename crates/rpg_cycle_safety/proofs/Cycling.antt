@@ -8,7 +8,7 @@ use Rattle.rpg_cycle_records.specs.Waiting.{Inputs, chosen, has_match, takes_in,
 use Rattle.rpg_cycle.specs.Ends.{PhaseEnd, GoesOn, EndOfJob, Halt, phase_end}
 use Rattle.rpg_cycle.specs.Indicators.{any_on, halt_indicators, is_on, last_record, level_indicators, matching_record, with_all, with_one}
 use Rattle.rpg_cycle.specs.Phases.{Cycle, CycleOn, Done, Phase, UnderWay, all_off, begun, detail_calculations, detail_lines, does, done, either, end_where_last, fill_fields, halt_where_asked, if_selected, is_bypassed, output, overflow_lines, read_record, section, select_from, select_one, select_record, set_off, show_match, take_in, total_time, with_config, ◌before◌}
-use Rattle.rpg_cycle.proofs.AfterSelection.{after_selection}
+use Rattle.rpg_cycle.specs.Staging.{after_selection}
 use Rattle.rpg_cycle.specs.Spending.{section_cost}
 use Rattle.rpg_effect.specs.Ends as effects
 use Rattle.rpg_effect.specs.Forms.{form_at}

@@ -6,7 +6,7 @@ use Rattle.rpg_cycle_records.specs.Waiting.{Inputs, chosen, has_match, takes_in,
 use Rattle.rpg_cycle.specs.Ends.{PhaseEnd, GoesOn, EndOfJob, Halt, Wrong, phase_end}
 use Rattle.rpg_cycle.specs.Indicators.{any_on, halt_indicators, is_on, last_record, level_indicators, matching_record, with_all, with_one}
 use Rattle.rpg_cycle.specs.Phases.{CycleOn, Done, Phase, UnderWay, all_off, begun, by_machine, detail_calculations, detail_lines, does, done, either, end_where_last, fill_fields, fill_from, from_there, halt_where_asked, has_no_overflow, if_selected, is_bypassed, needs_record, output, overflow_lines, passes, read_record, section, select_from, select_one, select_record, set_off, show_match, take_in, total_time, unless, with_config, ◌before◌}
-use Rattle.rpg_cycle.proofs.AfterSelection.{after_selection}
+use Rattle.rpg_cycle.specs.Staging.{after_selection}
 use Rattle.rpg_cycle.specs.Runs.{Records, left_behind, next_of}
 use Rattle.rpg_cycle.specs.Starting.{job_first_world, job_start}
 use Rattle.rpg_effect.specs.Effect.{Effect}

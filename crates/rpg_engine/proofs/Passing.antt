@@ -10,7 +10,7 @@ use Rattle.rpg_cycle.specs.Counting.{waiting_count}
 use Rattle.rpg_cycle.specs.Ends.{PhaseEnd, GoesOn, EndOfJob, Halt, Wrong}
 use Rattle.rpg_cycle.specs.Indicators.{any_on, halt_indicators, is_on, last_record, level_indicators, with_all, with_levels, with_type}
 use Rattle.rpg_cycle.specs.Phases.{Cycle, Done, Phase, UnderWay, begun, broken_level, detail_lines, does, done, either, end_where_last, from_there, halt_where_asked, identify, is_bypassed, needs_record, overflow_lines, read_record, select_from, select_one, select_record, select_waiting, set_off, show_match, take_in, total_time, type_indicator, with_config, with_inputs, ◌before◌}
-use Rattle.rpg_cycle.proofs.AfterSelection.{after_selection}
+use Rattle.rpg_cycle.specs.Staging.{after_selection}
 use Rattle.rpg_cycle.specs.Runs.{Records, next_of}
 use Rattle.rpg_cycle_records.specs.Earlier.{Left, Selected, control_fields, left_by}
 use Rattle.rpg_cycle_records.specs.Identifying.{is_good_record, padded}

@@ -10,6 +10,7 @@ use Rattle.rpg_cycle_records.specs.Keeping.{left_of, noted}
 use Rattle.rpg_cycle_records.specs.Waiting.{Inputs}
 use Rattle.rpg_cycle.specs.Selecting.{RenewsLeft}
 use Rattle.rpg_cycle.specs.Stages.{Going, Ended, is_going, job_end, stage_of}
+use Rattle.rpg_machine.specs.Running.{refilled}
 use Rattle.rpg_object_program.specs.Object.{Object}
 use Rattle.rpg_verify.specs.Bound.{bound}
 use Rattle.rpg_cycle.proofs.Growing.{and_grows}
@@ -27,7 +28,7 @@ returns-in-Ok-clause-done g c =
     let same = c.self.invariant.program going in
     let t = c.in-Ok.selected in
     let kept = c.run_cycle.new.kept in
-    let went = subst (λ (o : Object). CycleGoesOn o i.kept c.args.primary c.args.secondary i.machine t kept c.run_cycle.new.machine) same c.in-Ok.ensures.goes.goes in
+    let went = subst (λ (o : Object). CycleGoesOn o i.kept c.args.primary c.args.secondary (refilled i.machine) t kept c.run_cycle.new.machine) same c.in-Ok.ensures.goes.goes in
     let renewed = subst (λ (o : Object). RenewsLeft o t i.kept kept) same c.in-Ok.ensures.goes.left in
     let was = job p i.machine (left_of i.kept) (inputs_of i.kept) (stage_of i.progress) in
     let new = job p c.run_cycle.new.machine (left_of c.note.new.self) (inputs_of c.note.new.self) Going in
@@ -52,7 +53,7 @@ returns-in_ok-finish-in-Err-Ends-clause-done g c =
     let behind = c.self.invariant.behind going in
     let same = c.self.invariant.program going in
     let kept = c.run_cycle.new.kept in
-    let d = subst (λ (o : Object). CycleEnds o i.kept c.args.primary c.args.secondary i.machine (job_end e) c.run_cycle.new.machine) same (rw c.in-Err-Ends.field-0-is at c.in-Err-Ends.ensures.stops) in
+    let d = subst (λ (o : Object). CycleEnds o i.kept c.args.primary c.args.secondary (refilled i.machine) (job_end e) c.run_cycle.new.machine) same (rw c.in-Err-Ends.field-0-is at c.in-Err-Ends.ensures.stops) in
     let new = job p c.finish.new.self (left_of kept) (inputs_of kept) (Ended (job_end e)) in
     subst (λ (old : of.AtWork). of.Cycles old x y new) c.self.view_is (record {
       behind = behind;
@@ -74,7 +75,7 @@ invariant_of-self g c =
     let same = c.self.invariant.program going in
     let t = c.in-Ok.selected in
     let kept = c.run_cycle.new.kept in
-    let went = subst (λ (o : Object). CycleGoesOn o i.kept c.args.primary c.args.secondary i.machine t kept c.run_cycle.new.machine) same c.in-Ok.ensures.goes.goes in
+    let went = subst (λ (o : Object). CycleGoesOn o i.kept c.args.primary c.args.secondary (refilled i.machine) t kept c.run_cycle.new.machine) same c.in-Ok.ensures.goes.goes in
     let renewed = subst (λ (o : Object). RenewsLeft o t i.kept kept) same c.in-Ok.ensures.goes.left in
     let o = some_before i.machine.last in
     let old = job p i.machine (left_of i.kept) (inputs_of i.kept) (stage_of i.progress) in

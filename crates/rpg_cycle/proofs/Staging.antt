@@ -1,0 +1,138 @@
+-- Phases one after another, with all that is known of how each came out.
+use Rattle.std.proofs.Common.{Result, Err, IfOk, ◌≡◌, ℕ, ◌+◌, ◌*◌, ◌≤◌, ◌^◌, subst, arith}
+use Rattle.std.specs.Result.{IsErrAnd}
+use Rattle.rpg_cycle.proofs.Composing.{ends, goes, memory_both, memory_map, ok_map, ok_of_err, passed_map, passed_memory, stops_map}
+use Rattle.rpg_cycle.proofs.Growing.{and_grows}
+use Rattle.rpg_cycle.proofs.Spending.{and_less, and_then}
+use Rattle.rpg_cycle.specs.Doing.{Beside, Does, DoesAlone, DoesHolding}
+use Rattle.rpg_cycle.specs.Ends.{GoesOn, PhaseEnd}
+use Rattle.rpg_cycle.specs.Phases.{Phase, detail_lines, halt_where_asked, set_off, ◌before◌}
+use Rattle.rpg_cycle.specs.Spending.{Spends, reach}
+use Rattle.rpg_cycle.specs.Stages.{IfStops, UnlessNoMemory, job_end}
+use Rattle.rpg_cycle.specs.Staging.{DoesStage}
+use Rattle.rpg_cycle.specs.declared.ends.Stop.{Stop}
+use Rattle.rpg_effect.proofs.Fronts.{grows_not}
+use Rattle.rpg_effect.specs.Fronts.{OnlyGrows}
+use Rattle.rpg_machine.specs.Ready.{IsReady}
+use Rattle.rpg_machine.specs.Running.{Running}
+use Rattle.rpg_object_program.specs.Object.{Object}
+use Rattle.rpg_verify.specs.Bound.{most}
+
+-- ---- what is still to come
+
+left_few : (x y n m k : ℕ) → x + (n + m) ≤ k → y ≤ x + n → y + m ≤ k
+left_few x y n m k h g = omega (arith, h, g)
+
+-- it stays as few
+pub still_few : {p : Object} {n : ℕ} (m k : ℕ) {a b : Running} → Spends p n a b → reach p a + (n + m) ≤ k → reach p b + m ≤ k
+still_few {p} {n} m k {a} {b} s few = left_few (reach p a) (reach p b) n m k few s.few
+
+-- behind a phase that costs nothing
+pub still_free : {p : Object} (m k : ℕ) {a b : Running} → Spends p 0 a b → reach p a + m ≤ k → reach p b + m ≤ k
+still_free {p} m k {a} {b} s few = free (reach p a) (reach p b) m k few s.few
+  where
+    free : (x y m k : ℕ) → x + m ≤ k → y ≤ x + 0 → y + m ≤ k
+    free x y m k h g = omega (arith, h, g)
+
+-- and so do the steps
+pub steps_few : (p : Object) (m : ℕ) (b : Running) → reach p b + m ≤ 2 ^ 59 → b.config.steps ≤ 2 ^ 60
+steps_few p m b h = low b.config.steps (b.config.allowance * most p) m h
+  where
+    low : (s x m : ℕ) → s + x + m ≤ 2 ^ 59 → s ≤ 2 ^ 60
+    low s x m h = omega (arith, h)
+
+pub steps_low : (p : Object) (m : ℕ) (b : Running) → reach p b + m ≤ 2 ^ 48 → b.config.steps ≤ 2 ^ 49
+steps_low p m b h = low b.config.steps (b.config.allowance * most p) m h
+  where
+    low : (s x m : ℕ) → s + x + m ≤ 2 ^ 48 → s ≤ 2 ^ 49
+    low s x m h = omega (arith, h)
+
+pub fewer : (x : ℕ) → x ≤ 2 ^ 48 → x ≤ 2 ^ 59
+fewer x h = omega (arith, h)
+
+pub alone_few : (x m k : ℕ) → x + m ≤ k → x ≤ k
+alone_few x m k h = omega (arith, h)
+
+-- nothing was spent
+pub unspent : (p : Object) (a : Running) → Spends p 0 a a
+unspent p a = record { few = same (reach p a) }
+  where
+    same : (x : ℕ) → x ≤ x + 0
+    same x = omega arith
+
+-- ---- a phase that selects nothing, whatever is beside it
+
+pub of_alone : {P : Phase} {p : Object} {n : ℕ} {a b : Running} (h : Beside) (r : Result (Unit {0}) Stop) → IfOk r (λ _. DoesAlone P a GoesOn b) → IfStops r (λ e. DoesAlone P a (job_end e) b) →
+    IfOk r (λ _. IsReady b) → UnlessNoMemory r (Spends p n a b) → OnlyGrows a.output b.output → DoesStage p P n h a r b
+of_alone h r d s ready few grown = record {
+  goes = ok_map r _ _ (λ x e. e.each h) d;
+  stops = stops_map r _ _ (λ e f. f.each h) s;
+  ready = ready;
+  spends = few;
+  grows = grown;
+}
+
+-- a stage of the machine's own program
+pub stage_own : (F : Object → Phase) (w : Object → ℕ) {p : Object} {h : Beside} {a b : Running} {r : Result (Unit {0}) Stop} → a.program ≡ p → DoesStage a.program (F a.program) (w a.program) h a r b → DoesStage p (F p) (w p) h a r b
+stage_own F w {p} {h} {a} {b} {r} same x = subst (λ (o : Object). DoesStage o (F o) (w o) h a r b) same x
+
+-- a test that ends the job leaves the machine as it was
+pub of_test : {P : Phase} {p : Object} {a : Running} (h : Beside) (s : Stop) → IfStops {A = Unit {0}} (Err s) (λ e. DoesHolding P h a (job_end e) a) → DoesStage p P 0 h a (Err s) a
+of_test {P} {p} {a} h s d = record { goes = tt; stops = d; ready = tt; spends = memory_both {A = Unit {0}} (Err s) _ (unspent p a); grows = grows_not a.output }
+
+-- ---- one phase, and those that follow it
+
+module _ {p : Object} {P Q : Phase} {n : ℕ} (m : ℕ) {h : Beside} {a b : Running} where
+  -- the one goes on
+  pub goes_on : {c : Running} {r : Result (Unit {0}) Stop} → DoesHolding P h a GoesOn b → Spends p n a b → OnlyGrows a.output b.output → DoesStage p Q m h b r c → DoesStage p (P before Q) (n + m) h a r c
+  goes_on {c} {r} d s g x = record {
+    goes = ok_map r _ _ (λ u e. goes d e) x.goes;
+    stops = stops_map r _ _ (λ e f. goes d f) x.stops;
+    ready = x.ready;
+    spends = memory_map r _ _ (λ t. and_then s t) x.spends;
+    grows = and_grows g x.grows;
+  }
+
+  -- the one ends the job
+  pub ends_here : (s : Stop) (r : Result (Unit {0}) Stop) → IsErrAnd r (λ x. x ≡ s) → DoesStage p P n h a (Err s) b → DoesStage p (P before Q) (n + m) h a r b
+  ends_here s r is x = record {
+    goes = ok_of_err r _ _ is;
+    stops = passed_map (Unit {0}) (Unit {0}) r s _ _ (λ e d. ends e d) is x.stops;
+    ready = ok_of_err r _ _ is;
+    spends = passed_memory (Unit {0}) (Unit {0}) r s _ _ (λ t. and_less m t) is x.spends;
+    grows = x.grows;
+  }
+
+free_then : (x y z m : ℕ) → y ≤ x + 0 → z ≤ y + m → z ≤ x + m
+free_then x y z m h g = omega (arith, h, g)
+
+module _ {p : Object} {P Q : Phase} (m : ℕ) {h : Beside} {a b : Running} where
+  -- a phase that costs nothing goes on
+  pub goes_free : {c : Running} {r : Result (Unit {0}) Stop} → DoesHolding P h a GoesOn b → Spends p 0 a b → OnlyGrows a.output b.output → DoesStage p Q m h b r c → DoesStage p (P before Q) m h a r c
+  goes_free {c} {r} d s g x = record {
+    goes = ok_map r _ _ (λ u e. goes d e) x.goes;
+    stops = stops_map r _ _ (λ e f. goes d f) x.stops;
+    ready = x.ready;
+    spends = memory_map r (Spends p m b c) (Spends p m a c) (λ t. record { few = free_then (reach p a) (reach p b) (reach p c) m s.few t.few }) x.spends;
+    grows = and_grows g x.grows;
+  }
+
+  -- a phase that costs nothing ends the job
+  pub ends_free : (s : Stop) (r : Result (Unit {0}) Stop) → IsErrAnd r (λ x. x ≡ s) → DoesStage p P 0 h a (Err s) b → DoesStage p (P before Q) m h a r b
+  ends_free s r is x = record {
+    goes = ok_of_err r _ _ is;
+    stops = passed_map (Unit {0}) (Unit {0}) r s _ _ (λ e d. ends e d) is x.stops;
+    ready = ok_of_err r _ _ is;
+    spends = passed_memory (Unit {0}) (Unit {0}) r s (Spends p 0 a b) (Spends p m a b) (λ t. record { few = costly (reach p a) (reach p b) m t.few }) is x.spends;
+    grows = x.grows;
+  }
+    where
+      costly : (x y m : ℕ) → y ≤ x + 0 → y ≤ x + m
+      costly x y m h = omega (arith, h)
+
+-- ---- the phases before the selection
+
+-- they went on, and then others were done
+pub first_three : (p : Object) {Q : Phase} {a b d c : Running} (h : Beside) {u : Beside} {e : PhaseEnd} → DoesAlone (detail_lines p) a GoesOn b → DoesAlone halt_where_asked b GoesOn b → DoesAlone (set_off p) b GoesOn d →
+    Does Q d h e c u → Does (detail_lines p before halt_where_asked before set_off p before Q) a h e c u
+first_three p h x y z r = goes (x.each h) (goes (y.each h) (goes (z.each h) r))
