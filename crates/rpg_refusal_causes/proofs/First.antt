@@ -2,8 +2,8 @@
 use Rattle.std.proofs.Common.{◌≡◌, ℕ, zero, suc, ◌+◌, Bool, true, false, not, ◌&&◌, ◌||◌, List, [], ◌∷◌, map, Option, Some, None, slice_get, refl, sym}
 use Rattle.std.proofs.lemmas.Bool.{false≢true}
 use Rattle.std.specs.List.{list_all, list_any}
-use Rattle.std.specs.Option.{is_some, option_map, unwrap_or}
-use Rattle.rpg_refusal_causes.specs.First.{cause_if, cause_of_row, first_cause, or_next}
+use Rattle.std.specs.Option.{is_some, option_map, option_or, unwrap_or}
+use Rattle.rpg_refusal_causes.specs.First.{cause_if, cause_of_row, first_cause}
 
 pub some_if : {C : Type 0} (b : Bool) (c : C) → b ≡ true → is_some (cause_if b c) ≡ true
 some_if true c h = refl
@@ -13,16 +13,16 @@ pub some_unless : {C : Type 0} (b : Bool) (c : C) → b ≡ false → is_some (c
 some_unless true c h = absurd (false≢true (sym h))
 some_unless false c h = refl
 
-pub some_front : {C : Type 0} (a b : Option C) → is_some a ≡ true → is_some (or_next a b) ≡ true
+pub some_front : {C : Type 0} (a b : Option C) → is_some a ≡ true → is_some (option_or a b) ≡ true
 some_front None b h = absurd (false≢true h)
 some_front (Some c) b h = refl
 
-pub some_later : {C : Type 0} (a b : Option C) → is_some b ≡ true → is_some (or_next a b) ≡ true
+pub some_later : {C : Type 0} (a b : Option C) → is_some b ≡ true → is_some (option_or a b) ≡ true
 some_later None b h = h
 some_later (Some c) b h = refl
 
 -- one of two tests doesn't pass
-pub one_of_two : {C : Type 0} (a b : Bool) (x y : Option C) → (not a ≡ true → is_some x ≡ true) → (not b ≡ true → is_some y ≡ true) → not (a && b) ≡ true → is_some (or_next x y) ≡ true
+pub one_of_two : {C : Type 0} (a b : Bool) (x y : Option C) → (not a ≡ true → is_some x ≡ true) → (not b ≡ true → is_some y ≡ true) → not (a && b) ≡ true → is_some (option_or x y) ≡ true
 one_of_two false b x y f g h = some_front x y (f refl)
 one_of_two true b x y f g h = some_later x y (g h)
 
@@ -37,7 +37,7 @@ module _ {X C : Type 0} (cause : ℕ → X → Option C) (test : X → Bool) whe
   some_any h n (x ∷ xs) e = by_test (test x) refl e (some_any h (n + 1) xs)
     where
       by_test : (b : Bool) → test x ≡ b → (b || list_any test xs) ≡ true → (list_any test xs ≡ true → is_some (first_cause cause (n + 1) xs) ≡ true) →
-          is_some (or_next (cause n x) (first_cause cause (n + 1) xs)) ≡ true
+          is_some (option_or (cause n x) (first_cause cause (n + 1) xs)) ≡ true
       by_test true t f later = some_front (cause n x) (first_cause cause (n + 1) xs) (h n x t)
       by_test false t f later = some_later (cause n x) (first_cause cause (n + 1) xs) (later f)
 
@@ -47,7 +47,7 @@ module _ {X C : Type 0} (cause : ℕ → X → Option C) (test : X → Bool) whe
   some_not_all h n (x ∷ xs) e = by_test (test x) refl e (some_not_all h (n + 1) xs)
     where
       by_test : (b : Bool) → test x ≡ b → not (b && list_all test xs) ≡ true → (not (list_all test xs) ≡ true → is_some (first_cause cause (n + 1) xs) ≡ true) →
-          is_some (or_next (cause n x) (first_cause cause (n + 1) xs)) ≡ true
+          is_some (option_or (cause n x) (first_cause cause (n + 1) xs)) ≡ true
       by_test true t f later = some_later (cause n x) (first_cause cause (n + 1) xs) (later f)
       by_test false t f later = some_front (cause n x) (first_cause cause (n + 1) xs) (h n x t)
 

@@ -2,7 +2,7 @@
 use Rattle.std.proofs.Common.{◌≡◌, ℕ, ◌+◌, Bool, true, false, not, ◌&&◌, List, [], ◌∷◌, ◌++◌, map, cond, Option, Some, None, refl, sym, ap, ◌∙◌}
 use Rattle.std.proofs.lemmas.Bool.{false≢true}
 use Rattle.std.proofs.lemmas.List.{map-append}
-use Rattle.std.specs.Option.{is_some}
+use Rattle.std.specs.Option.{is_some, option_or}
 use Rattle.std.specs.Prelude.{◌||◌, nat_le}
 use Rattle.rpg_effect.specs.Forms.{entries_of, form_at}
 use Rattle.rpg_effect.specs.Rows.{all_of, all_used, can_hold, field_of, holds_all, holds_position, holds_positions, is_current_table, is_good_operand, is_searched, is_two_sided, is_writable_use}
@@ -18,8 +18,8 @@ use Rattle.rpg_object_program.specs.declared.section.Section.{Section}
 use Rattle.rpg_object_program.specs.declared.section.Section.TheVariants.{Detail, Total, Subroutine}
 use Rattle.rpg_object_program.specs.declared.spans.Span.{Span}
 use Rattle.rpg_refusal_causes.proofs.First.{one_of_two, some_front, some_if, some_later, some_unless}
-use Rattle.rpg_refusal_causes.specs.First.{cause_if, or_next}
-use Rattle.rpg_refusal_causes.specs.PlaceCauses.{all_placed, call_cause, column_cause, entries_cause, found_cause, marks_cause, operand_cause, place_cause, placed_after_detail, placed_in, placed_in_subroutines, search_cause, short_cause, shows_cause, target_cause, unordered_cause}
+use Rattle.rpg_refusal_causes.specs.First.{cause_if}
+use Rattle.rpg_refusal_causes.specs.PlaceCauses.{all_placed, call_cause, column_cause, entries_cause, found_cause, marked_cause, marks_cause, operand_cause, place_cause, placed_after_detail, placed_in, placed_in_subroutines, search_cause, short_cause, target_cause, unordered_cause}
 use Rattle.rpg_refusal_causes.specs.declared.cause.Column.{Column}
 use Rattle.rpg_refusal_causes.specs.declared.cause.Column.TheVariants as column_names
 use Rattle.rpg_refusal_causes.specs.declared.cause.Placed.{Placed}
@@ -32,10 +32,10 @@ use Rattle.rpg_verify_rules.specs.declared.rule.PlaceRule.TheVariants.{V16, V17,
 
 -- one of three columns doesn't pass
 one_of_three : {C : Type 0} (a b c : Bool) (x y z : Option C) → (a ≡ false → is_some x ≡ true) → (b ≡ false → is_some y ≡ true) → (c ≡ false → is_some z ≡ true) →
-    not (a && (b && c)) ≡ true → is_some (or_next x (or_next y z)) ≡ true
-one_of_three false b c x y z f g h e = some_front x (or_next y z) (f refl)
-one_of_three true false c x y z f g h e = some_later x (or_next y z) (some_front y z (g refl))
-one_of_three true true false x y z f g h e = some_later x (or_next y z) (some_later y z (h refl))
+    not (a && (b && c)) ≡ true → is_some (option_or (option_or x y) z) ≡ true
+one_of_three false b c x y z f g h e = some_front (option_or x y) z (some_front x y (f refl))
+one_of_three true false c x y z f g h e = some_front (option_or x y) z (some_later x y (g refl))
+one_of_three true true false x y z f g h e = some_later (option_or x y) z (h refl)
 one_of_three true true true x y z f g h e = absurd (false≢true e)
 
 module _ (test : Use (Operand ℕ) → Bool) where
@@ -80,11 +80,11 @@ module _ (good known : Use (Operand ℕ) → Bool) where
 -- ---- indicators, and where control goes
 
 shows_have : (p : Object) (m : Marks) (factor2 : Option (Use (Operand ℕ)))
-    → not (are_marked m && (not (is_two_sided m) && (not (is_ordered m) || all_used (is_ascending p) factor2))) ≡ true → is_some (shows_cause p m factor2) ≡ true
+    → not (are_marked m && (not (is_two_sided m) && (not (is_ordered m) || all_used (is_ascending p) factor2))) ≡ true → is_some (marked_cause p m factor2) ≡ true
 shows_have p m factor2 h = by (are_marked m) (is_two_sided m) (is_ordered m) factor2 h
   where
     by : (a two ordered : Bool) (o : Option (Use (Operand ℕ))) → not (a && (not two && (not ordered || all_used (is_ascending p) o))) ≡ true
-        → is_some (or_next (cause_if (not (a && not two)) (causes.Marked m)) (unordered_cause p m o)) ≡ true
+        → is_some (option_or (cause_if (not (a && not two)) (causes.Marked m)) (unordered_cause p m o)) ≡ true
     by false two ordered o h = refl
     by true true ordered o h = refl
     by true false false o h = absurd (false≢true h)
@@ -117,9 +117,9 @@ found_have p to (Some u) h = by (is_searched (form_at p.fields) u.shape) h
     by true e = entries_have p to u (entries_of (form_at p.fields u.operand.field)) e
     by false e = absurd (false≢true e)
 
-search_has : (p : Object) (r : Row (Operand ℕ)) → not (holds_found p r) ≡ true → is_some (search_cause p r) ≡ true
+search_has : (p : Object) (i : Instruction ℕ) (r : Row (Operand ℕ)) → not (holds_found p r) ≡ true → is_some (search_cause p i r) ≡ true
 unfolding holds_positions
-search_has p r h =
+search_has p i r h =
     one_of_two (all_of (is_current_table (form_at p.fields)) r) (all_used (λ u. not (is_searched (form_at p.fields) u.shape) || holds_all (form_at p.fields) r.result u) r.factor2)
     (operand_cause (λ u. not (is_current_table (form_at p.fields) u)) r) (found_cause p r.result r.factor2)
     (operand_has (is_current_table (form_at p.fields)) r) (found_have p r.result r.factor2) h
@@ -144,7 +144,7 @@ place_has V16 p x h = operand_has (is_good_operand (form_at p.fields)) (columns 
 place_has V17 p x h = kinds_have (is_good_operand (form_at p.fields)) (has_known_kind p x.instruction) (columns p x.instruction) h
 place_has V18 p x h = written_has (is_good_operand (form_at p.fields)) (has_known_kind p x.instruction) (is_writable_use (form_at p.fields)) column_names.Result (columns p x.instruction).result h
 place_has V19 p x h = marks_has p x.instruction h
-place_has V20 p x h = search_has p (written_columns p x.instruction) h
+place_has V20 p x h = search_has p x.instruction (written_columns p x.instruction) h
 place_has V21 p x h = target_has p x.span x.span.section x.instruction h
 place_has V22 p x h = call_has p x.span.section x.instruction h
 

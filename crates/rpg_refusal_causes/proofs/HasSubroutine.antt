@@ -2,12 +2,12 @@
 use Rattle.std.proofs.Common.{◌≡◌, ℕ, zero, suc, ◌+◌, Bool, true, false, ◌||◌, List, [], ◌∷◌, length, Some, None, slice_get, refl}
 use Rattle.std.proofs.lemmas.Bool.{false≢true}
 use Rattle.std.specs.List.{list_any}
-use Rattle.std.specs.Option.{is_some, unwrap_or}
+use Rattle.std.specs.Option.{is_some, option_or, unwrap_or}
 use Rattle.std.specs.Prelude.{◌==◌, if◌then◌else◌}
 use Rattle.rpg_effect.specs.declared.operation.Instruction.{Instruction}
 use Rattle.rpg_object_program.specs.Object.{Object, SubroutineRow}
 use Rattle.rpg_refusal_causes.proofs.First.{some_any, some_at, some_front, some_if, some_later}
-use Rattle.rpg_refusal_causes.specs.First.{cause_of_row, first_cause, or_next}
+use Rattle.rpg_refusal_causes.specs.First.{cause_of_row, first_cause}
 use Rattle.rpg_refusal_causes.specs.SubroutineCauses.{body_cause, foreign_cause, level_cause, return_cause, stray_cause, subroutine_cause}
 use Rattle.rpg_refusal_causes.specs.declared.cause.RefusalCause.TheVariants as causes
 use Rattle.rpg_verify_rules.specs.PlaceRules.{bodies_judged, has_stray_return, is_off_level, is_return, with_first}
@@ -39,7 +39,7 @@ judged_has number n (s ∷ ss) zero h = body_has number s
 judged_has number n (s ∷ ss) (suc k) h = judged_has number (n + 1) ss k h
 
 unended_has : (p : Object) (ss : List SubroutineRow) (row : ℕ) → unwrap_or (slice_get (with_first (has_stray_return p) (bodies_judged 0 ss)) row) false ≡ true →
-    is_some (or_next (if row == 0 then stray_cause p else None) (cause_of_row (body_cause row) (slice_get ss row))) ≡ true
+    is_some (option_or (if row == 0 then stray_cause p else None) (cause_of_row (body_cause row) (slice_get ss row))) ≡ true
 unended_has p [] zero h = some_front (stray_cause p) None (stray_has p h)
 unended_has p [] (suc k) h = absurd (false≢true h)
 unended_has p (s ∷ ss) zero h = some_later (stray_cause p) (body_cause 0 s) (body_has 0 s)

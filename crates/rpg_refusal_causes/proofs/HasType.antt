@@ -5,13 +5,13 @@ use Rattle.std.proofs.lemmas.Bool.{eq-eqb, eqb-true, false≢true}
 use Rattle.std.proofs.lemmas.List.Folds.{list_any-append}
 use Rattle.std.specs.Cmp.Lexicographic.{pointwise}
 use Rattle.std.specs.List.{list_all, list_any, sum}
-use Rattle.std.specs.Option.{is_some, option_map}
+use Rattle.std.specs.Option.{is_some, option_map, option_or}
 use Rattle.std.specs.Prelude.{◌==◌, nat_le}
 use Rattle.rpg_effect.specs.Input.{TypeRow}
 use Rattle.rpg_effect.specs.declared.input.ControlField.{ControlField}
 use Rattle.rpg_object_program.specs.Object.{Object, input_length}
 use Rattle.rpg_refusal_causes.proofs.First.{one_of_two, some_any, some_front, some_if, some_later, some_not_all, some_unless}
-use Rattle.rpg_refusal_causes.specs.First.{cause_if, first_cause, or_next}
+use Rattle.rpg_refusal_causes.specs.First.{cause_if, first_cause}
 use Rattle.rpg_refusal_causes.specs.TypeCauses.{code_cause, control_cause, input_cause, level_cause, levels_cause, match_cause, matches_cause, shown_cause, twice_cause, type_cause, widths_cause}
 use Rattle.rpg_refusal_causes.specs.declared.cause.RefusalCause.{RefusalCause}
 use Rattle.rpg_refusal_causes.specs.declared.cause.RefusalCause.TheVariants as causes
@@ -118,11 +118,11 @@ module _ (len : ℕ) (all : List ControlField) where
 
 -- each part of the rule of match fields has a cause
 matches_have : (len : ℕ) (first cs : List ControlField) → not (are_matches len (joined_widths first) cs) ≡ true
-    → is_some (or_next (first_cause (match_cause len cs) 0 cs) (matches_cause (joined_widths first) cs)) ≡ true
+    → is_some (option_or (first_cause (match_cause len cs) 0 cs) (matches_cause (joined_widths first) cs)) ≡ true
 matches_have len first cs h = by (list_all (is_control_in len) cs) (are_once cs) refl refl h
   where
     by : (a b : Bool) → list_all (is_control_in len) cs ≡ a → are_once cs ≡ b → not (a && (b && (nat_le (sum (joined_widths cs)) 256 && are_joined_as (joined_widths first) cs))) ≡ true
-        → is_some (or_next (first_cause (match_cause len cs) 0 cs) (matches_cause (joined_widths first) cs)) ≡ true
+        → is_some (option_or (first_cause (match_cause len cs) 0 cs) (matches_cause (joined_widths first) cs)) ≡ true
     by false b is once h =
         some_front (first_cause (match_cause len cs) 0 cs) (matches_cause (joined_widths first) cs)
         (some_not_all (match_cause len cs) (is_control_in len) (λ n c e. some_front (cause_if (not (is_control_in len c)) (causes.Match n c len)) (twice_cause cs n c) (some_unless (is_control_in len c) (causes.Match n c len) e)) 0 cs

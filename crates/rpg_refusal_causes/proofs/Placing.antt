@@ -1,14 +1,13 @@
 -- Instructions of sections, one section after the other.
 use Rattle.std.proofs.Common.{◌≡◌, ℕ, zero, suc, ◌+◌, ◌-◌, ◌<◌, List, [], ◌∷◌, ◌++◌, map, length, get_or, Option, slice_get, refl, sym, ap, ◌∙◌, arith}
 use Rattle.std.proofs.lemmas.Option.{slice_get-map}
-use Rattle.std.specs.Option.{option_map}
+use Rattle.std.specs.Option.{option_map, option_or}
 use Rattle.rpg_effect.specs.declared.operation.Instruction.{Instruction}
 use Rattle.rpg_object_program.specs.Object.{Object}
 use Rattle.rpg_object_program.specs.Spans.{IsSpan}
 use Rattle.rpg_object_program.specs.declared.row.Subroutine.{Subroutine}
 use Rattle.rpg_object_program.specs.declared.section.Section.TheVariants as sections
 use Rattle.rpg_object_program.specs.declared.spans.Span.{Span}
-use Rattle.rpg_refusal_causes.specs.First.{or_next}
 use Rattle.rpg_refusal_causes.specs.PlaceCauses.{placed_in, placed_in_subroutines, span_of}
 use Rattle.rpg_refusal_causes.specs.declared.cause.Placed.{Placed}
 use Rattle.rpg_verify_rules.proofs.Sectioning.{left, one_left}
@@ -30,15 +29,15 @@ section_at p s h xs k =
     ∙ sym (slice_get-map (placed_in p s.section) xs k)
 
 -- in the first list, or in what comes after it
-pub either : {X Y : Type 0} (f : X → Y) (xs : List X) (ys : List Y) (k : ℕ) → slice_get (map f xs ++ ys) k ≡ or_next (slice_get (map f xs) k) (slice_get ys (k - length xs))
+pub either : {X Y : Type 0} (f : X → Y) (xs : List X) (ys : List Y) (k : ℕ) → slice_get (map f xs ++ ys) k ≡ option_or (slice_get (map f xs) k) (slice_get ys (k - length xs))
 either f [] ys k = ap (slice_get ys) (omega arith)
 either f (x ∷ xs) ys zero = refl
-either f (x ∷ xs) ys (suc k) = either f xs ys k ∙ ap (λ n. or_next (slice_get (map f xs) k) (slice_get ys n)) (omega arith)
+either f (x ∷ xs) ys (suc k) = either f xs ys k ∙ ap (λ n. option_or (slice_get (map f xs) k) (slice_get ys n)) (omega arith)
 
 -- in the first subroutine that is left, or in those after it
 pub either_left : (p : Object) (number : ℕ) (subs : List Subroutine) (i : ℕ) (s : Subroutine) (k : ℕ) → i < length subs → s ≡ get_or subs i s →
     slice_get (placed_in_subroutines p number (left subs i)) k
-    ≡ or_next (slice_get (map (placed_in p (sections.Subroutine number)) s.instructions.items) k)
+    ≡ option_or (slice_get (map (placed_in p (sections.Subroutine number)) s.instructions.items) k)
     (slice_get (placed_in_subroutines p (number + 1) (left subs (i + 1))) (k - length s.instructions.items))
 either_left p number subs i s k h e =
     ap (λ xs. slice_get (placed_in_subroutines p number xs) k) (one_left subs i s h e)

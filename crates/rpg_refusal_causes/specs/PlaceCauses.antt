@@ -1,6 +1,7 @@
 -- What in an instruction breaks V16 to V22.
-use Rattle.std.specs.Prelude.{ℕ, ◌+◌, Bool, false, not, ◌&&◌, nat_le, List, [], ◌∷◌, ◌++◌, map, Option, None, Some, slice_get, if◌then◌else◌}
-use Rattle.std.specs.Option.{option_map, option_map_or}
+use Rattle.std.specs.Prelude.{ℕ, ◌+◌, Bool, false, not, ◌&&◌, nat_le, List, [], ◌∷◌, ◌++◌, map, Option, None, Some, slice_get}
+use Rattle.std.specs.Prelude.{if◌then◌else◌}
+use Rattle.std.specs.Option.{option_map, option_map_or, option_or}
 use Rattle.rpg_effect.specs.Forms.{entries_of, form_at}
 use Rattle.rpg_effect.specs.Rows.{can_hold, is_current_table, is_good_operand, is_searched, is_two_sided, is_writable_use}
 use Rattle.rpg_effect.specs.declared.condition.Conditions.{Conditions}
@@ -16,7 +17,7 @@ use Rattle.rpg_object_program.specs.Sections.{first_place, level_of, place_behin
 use Rattle.rpg_object_program.specs.declared.section.Section.{Section}
 use Rattle.rpg_object_program.specs.declared.section.Section.TheVariants.{Detail, Total, Subroutine}
 use Rattle.rpg_object_program.specs.declared.spans.Span.{Span}
-use Rattle.rpg_refusal_causes.specs.First.{cause_if, or_next}
+use Rattle.rpg_refusal_causes.specs.First.{cause_if}
 use Rattle.rpg_refusal_causes.specs.declared.cause.Column.{Column}
 use Rattle.rpg_refusal_causes.specs.declared.cause.Column.TheVariants as column_names
 use Rattle.rpg_refusal_causes.specs.declared.cause.Placed.{Placed}
@@ -55,11 +56,12 @@ placed_at p place = slice_get (all_placed p) place
 
 -- ---- which operand breaks a rule
 
--- it isn't there as it has to be; it is, and is of another kind; it may not be written
+-- it isn't there as it has to be; it is, and is of another kind; it may not be written; it is to become current, and is no table
 abbrev pub operand_breaks : PlaceRule → Object → Instruction ℕ → Use (Operand ℕ) → Bool
 operand_breaks V16 p i u = not (is_good_operand (form_at p.fields) u)
 operand_breaks V17 p i u = is_good_operand (form_at p.fields) u && not (has_known_kind p i u)
 operand_breaks V18 p i u = not (is_writable_use (form_at p.fields) u)
+operand_breaks V20 p i u = not (is_current_table (form_at p.fields) u)
 operand_breaks r p i u = false
 
 -- the operand of a column, if it breaks the rule
@@ -70,19 +72,23 @@ column_cause breaks column (Some u) = cause_if (breaks u) (causes.Operand column
 -- the first of an instruction's operands that breaks the rule
 abbrev pub operand_cause : (Use (Operand ℕ) → Bool) → Row (Operand ℕ) → Option RefusalCause
 operand_cause breaks r =
-    or_next (column_cause breaks column_names.Factor1 r.factor1)
-    (or_next (column_cause breaks column_names.Factor2 r.factor2) (column_cause breaks column_names.Result r.result))
+    option_or (option_or (column_cause breaks column_names.Factor1 r.factor1) (column_cause breaks column_names.Factor2 r.factor2))
+    (column_cause breaks column_names.Result r.result)
 
--- ---- indicators, and where control goes
+-- ---- indicators
 
 -- factor 2, where it isn't in ascending sequence
 abbrev pub unordered_cause : Object → Marks → Option (Use (Operand ℕ)) → Option RefusalCause
 unordered_cause p m None = None
 unordered_cause p m (Some u) = cause_if (not (is_ascending p u)) (causes.Unordered m u)
 
--- the indicators of an operation; where these may stand, factor 2, which is searched by them
-abbrev pub shows_cause : Object → Marks → Option (Use (Operand ℕ)) → Option RefusalCause
-shows_cause p m factor2 = or_next (cause_if (not (are_marked m && not (is_two_sided m))) (causes.Marked m)) (unordered_cause p m factor2)
+-- indicators; where these may stand, factor 2, which is searched by them
+abbrev pub marked_cause : Object → Marks → Option (Use (Operand ℕ)) → Option RefusalCause
+marked_cause p m factor2 = option_or (cause_if (not (are_marked m && not (is_two_sided m))) (causes.Marked m)) (unordered_cause p m factor2)
+
+-- those of an operation
+abbrev pub shows_cause : Object → Instruction ℕ → Option RefusalCause
+shows_cause p i = marked_cause p (columns p i).marks (columns_of_kind p i).factor2
 
 -- the conditions that a branch asks
 abbrev pub asked_by : Instruction ℕ → Option Conditions
@@ -91,34 +97,46 @@ asked_by i = None
 
 -- a branch asks indicators, an operation is marked by them
 abbrev pub marks_cause : Object → Instruction ℕ → Option RefusalCause
-marks_cause p i = option_map_or (λ cs. Some (causes.Asked cs)) (asked_by i) (shows_cause p (columns p i).marks (columns_of_kind p i).factor2)
+marks_cause p i = option_map_or (λ cs. Some (causes.Asked cs)) (asked_by i) (shows_cause p i)
+
+-- ---- what is searched
+
+-- the entries of what an operand names
+abbrev pub entries_named : Object → Use (Operand ℕ) → ℕ
+entries_named p u = entries_of (form_at p.fields u.operand.field)
 
 -- a result with fewer entries than that
 abbrev pub short_cause : Object → ℕ → Option (Use (Operand ℕ)) → Option RefusalCause
 short_cause p n None = None
-short_cause p n (Some u) = cause_if (not (nat_le n (entries_of (form_at p.fields u.operand.field)))) (causes.Short u n)
+short_cause p n (Some u) = cause_if (not (nat_le n (entries_named p u))) (causes.Short u n)
 
 -- what is searched has so many entries: its index can't hold their number, or the result has fewer
 abbrev pub entries_cause : Object → Option (Use (Operand ℕ)) → Use (Operand ℕ) → ℕ → Option RefusalCause
-entries_cause p to u n = or_next (cause_if (not (can_hold (form_at p.fields) u.operand.index n)) (causes.Index u n)) (short_cause p n to)
+entries_cause p to u n = option_or (cause_if (not (can_hold (form_at p.fields) u.operand.index n)) (causes.Index u n)) (short_cause p n to)
 
 -- of what is searched
 abbrev pub found_cause : Object → Option (Use (Operand ℕ)) → Option (Use (Operand ℕ)) → Option RefusalCause
 found_cause p to None = None
-found_cause p to (Some u) = if is_searched (form_at p.fields) u.shape then entries_cause p to u (entries_of (form_at p.fields u.operand.field)) else None
+found_cause p to (Some u) = if is_searched (form_at p.fields) u.shape then entries_cause p to u (entries_named p u) else None
 
 -- of operands that no smaller rule refuses: what is to become current is no table; else what is searched
-abbrev pub search_cause : Object → Row (Operand ℕ) → Option RefusalCause
-search_cause p r = or_next (operand_cause (λ u. not (is_current_table (form_at p.fields) u)) r) (found_cause p r.result r.factor2)
+abbrev pub search_cause : Object → Instruction ℕ → Row (Operand ℕ) → Option RefusalCause
+search_cause p i r = option_or (operand_cause (operand_breaks V20 p i) r) (found_cause p r.result r.factor2)
+
+-- ---- where control goes
 
 -- where a branch leads
 abbrev pub target_cause : Span → Instruction ℕ → Option RefusalCause
 target_cause s (Branch is_taken_where cs target) = Some (causes.Target target s.first s.end)
 target_cause s i = None
 
+-- the level of a subroutine that is there
+abbrev pub level_if_any : List SubroutineRow → ℕ → Option ℕ
+level_if_any ss n = option_map (λ (s : SubroutineRow). s.level) (slice_get ss n)
+
 -- what a call calls
 abbrev pub call_cause : Object → Instruction ℕ → Option RefusalCause
-call_cause p (Call n) = Some (causes.Called n (option_map (λ (s : SubroutineRow). s.level) (slice_get p.subroutines n)))
+call_cause p (Call n) = Some (causes.Called n (level_if_any p.subroutines n))
 call_cause p i = None
 
 -- what in an instruction that breaks a rule breaks it
@@ -127,6 +145,6 @@ place_cause V16 p x = operand_cause (operand_breaks V16 p x.instruction) (column
 place_cause V17 p x = operand_cause (operand_breaks V17 p x.instruction) (columns p x.instruction)
 place_cause V18 p x = column_cause (operand_breaks V18 p x.instruction) column_names.Result (columns p x.instruction).result
 place_cause V19 p x = marks_cause p x.instruction
-place_cause V20 p x = search_cause p (written_columns p x.instruction)
+place_cause V20 p x = search_cause p x.instruction (written_columns p x.instruction)
 place_cause V21 p x = target_cause x.span x.instruction
 place_cause V22 p x = call_cause p x.instruction

@@ -1,16 +1,17 @@
 -- What in a record type breaks V3 to V7, V25 and V26.
 use Rattle.std.specs.Prelude.{ℕ, ◌+◌, ◌==◌, not, nat_le, List, [], ◌∷◌, take, Option, None, Some, if◌then◌else◌}
 use Rattle.std.specs.List.{list_any, sum}
-use Rattle.std.specs.Option.{option_map}
+use Rattle.std.specs.Option.{option_map, option_or}
 use Rattle.rpg_effect.specs.Input.{TypeRow}
 use Rattle.rpg_effect.specs.declared.input.ControlField.{ControlField}
 use Rattle.rpg_effect.specs.declared.input.InputField.{InputField}
 use Rattle.rpg_effect.specs.declared.input.RecordCode.{RecordCode}
 use Rattle.rpg_object_program.specs.Object.{Object, input_length}
-use Rattle.rpg_refusal_causes.specs.First.{cause_if, first_cause, or_next}
+use Rattle.rpg_refusal_causes.specs.First.{cause_if, first_cause}
 use Rattle.rpg_refusal_causes.specs.declared.cause.RefusalCause.{RefusalCause}
 use Rattle.rpg_refusal_causes.specs.declared.cause.RefusalCause.TheVariants as causes
-use Rattle.rpg_verify_rules.specs.TypeRules.{first_matches, is_code_in, is_control_in, is_input_in, is_measured, is_of_level, joined_width, joined_widths, measures, shows_wrongly}
+use Rattle.rpg_verify_rules.specs.TypeRules.{first_matches, joined_width, joined_widths, measures}
+use Rattle.rpg_verify_rules.specs.TypeRules.{is_code_in, is_control_in, is_input_in, is_measured, is_of_level, shows_wrongly}
 use Rattle.rpg_verify_rules.specs.declared.rule.TypeRule.{TypeRule}
 use Rattle.rpg_verify_rules.specs.declared.rule.TypeRule.TheVariants.{V3, V4, V5, V6, V7, V25, V26}
 
@@ -36,7 +37,7 @@ twice_cause cs n c = cause_if (list_any (is_of_level c.level) (take n cs)) (caus
 
 -- a match field that isn't columns of a record of that length, or is of a level that one before it has
 abbrev pub match_cause : ℕ → List ControlField → ℕ → ControlField → Option RefusalCause
-match_cause len cs n c = or_next (cause_if (not (is_control_in len c)) (causes.Match n c len)) (twice_cause cs n c)
+match_cause len cs n c = option_or (cause_if (not (is_control_in len c)) (causes.Match n c len)) (twice_cause cs n c)
 
 -- ---- joined lengths
 
@@ -58,14 +59,18 @@ widths_cause level (w ∷ ws) cs =
 
 -- all match fields are too long, or a level has another length than in the first type with match fields
 abbrev pub matches_cause : List ℕ → List ControlField → Option RefusalCause
-matches_cause widths cs = or_next (cause_if (not (nat_le (sum (joined_widths cs)) 256)) (causes.LongMatches (sum (joined_widths cs)))) (widths_cause 1 widths cs)
+matches_cause widths cs =
+    let n = sum (joined_widths cs) in
+    option_or (cause_if (not (nat_le n 256)) (causes.LongMatches n)) (widths_cause 1 widths cs)
 
 -- what in a type that breaks a rule breaks it; joined lengths, where no single field does
 unfoldable pub type_cause : TypeRule → Object → TypeRow ℕ → Option RefusalCause
 type_cause V3 p t = first_cause (code_cause (input_length p t.file)) 0 t.codes
 type_cause V4 p t = option_map causes.TurnedOn t.indicator
-type_cause V5 p t = or_next (first_cause (control_cause (input_length p t.file)) 0 t.levels) (levels_cause 1 (measures p.types) t.levels)
+type_cause V5 p t = option_or (first_cause (control_cause (input_length p t.file)) 0 t.levels) (levels_cause 1 (measures p.types) t.levels)
 type_cause V6 p t = first_cause (input_cause p (input_length p t.file)) 0 t.inputs
 type_cause V7 p t = first_cause (shown_cause p (input_length p t.file)) 0 t.inputs
 type_cause V25 p t = Some causes.NoSecondary
-type_cause V26 p t = or_next (first_cause (match_cause (input_length p t.file) t.matches) 0 t.matches) (matches_cause (joined_widths (first_matches p.types)) t.matches)
+type_cause V26 p t =
+    option_or (first_cause (match_cause (input_length p t.file) t.matches) 0 t.matches)
+    (matches_cause (joined_widths (first_matches p.types)) t.matches)

@@ -1,8 +1,5 @@
 //! What in a row breaks a rule, as a value.
 
-ghost use Rattle.std.specs.Prelude.{◌≡◌};
-ghost use Rattle.rpg_refusal_causes.specs.First as words;
-
 use rpg_effect::condition::Conditions;
 use rpg_effect::input::{ControlField, InputField};
 use rpg_effect::line::{LineField, Spacing};
@@ -170,17 +167,4 @@ pub struct Refusal {
 pub struct Placed {
     pub span: Span,
     pub instruction: Instruction<u16>,
-}
-
-/// A cause, or the one of what comes later.
-pub(crate) fn or_next(
-    cause: Option<RefusalCause>,
-    later: Option<RefusalCause>,
-) -> Option<RefusalCause>
-    ensures { result ≡ words.or_next cause later }
-{
-    match cause {
-        None => later,
-        Some(cause) => Some(cause),
-    }
 }

@@ -2,7 +2,6 @@
 #![tactic(auto)]
 
 mod cause;
-mod indicators;
 mod joined;
 pub mod laws;
 mod lines;
@@ -11,7 +10,6 @@ mod refusals;
 mod searches;
 mod subroutines;
 mod types;
-mod widths;
 
 pub use cause::{Column, Placed, Refusal, RefusalCause};
 pub use places::placed_at;

@@ -1,28 +1,24 @@
-//! What in an instruction breaks V16 to V22, and which instruction stands at a place.
+//! Which instruction stands at a place, and what in it breaks V16 to V19, V21 and V22.
 
-ghost use Rattle.std.specs.Prelude.{◌≡◌, ◌+◌, ◌≤◌, length, map, option_map, slice_get};
-ghost use Rattle.rpg_effect.specs.Forms as forms;
-ghost use Rattle.rpg_effect.specs.Rows as rows_words;
-ghost use Rattle.rpg_object_program.specs.Instructions.{columns};
+ghost use Rattle.std.specs.Prelude.{◌≡◌, ◌+◌, length, map, slice_get};
 ghost use Rattle.rpg_object_program.specs.Kept.{IsProgram};
-ghost use Rattle.rpg_object_program.specs.Object.{SubroutineRow, seen, subroutine_row};
+ghost use Rattle.rpg_object_program.specs.Object.{seen, subroutine_row};
 ghost use Rattle.rpg_object_program.specs.Spans.{IsSpan};
-ghost use Rattle.rpg_object_program.specs.declared.section.Section.TheVariants as section_names;
 ghost use Rattle.rpg_refusal_causes.specs.First.{cause_of_row};
 ghost use Rattle.rpg_refusal_causes.specs.PlaceCauses as words;
-ghost use Rattle.rpg_verify_rules.specs.PlaceRules as rules;
 
-use crate::cause::{Column, Placed, RefusalCause, or_next};
-use crate::searches::{search_cause, shows_cause, written_columns};
+use crate::cause::{Column, Placed, RefusalCause};
+use crate::searches::{found_cause, shows_cause};
 use rpg_effect::condition::Conditions;
-use rpg_effect::operation::{Action, Instruction, Operand};
+use rpg_effect::operation::{Instruction, Operand};
 use rpg_effect::row::{Row, Use};
 use rpg_object_program::Program;
-use rpg_object_program::columns::{columns_of, has_kind, is_good, is_writable_use};
-use rpg_object_program::row::{Rows, Subroutine};
+use rpg_object_program::columns::{columns_of, is_current_table, is_good, is_writable_use};
+use rpg_object_program::row::Rows;
 use rpg_object_program::section::Section;
 use rpg_object_program::spans::Span;
 use rpg_verify_rules::PlaceRule;
+use rpg_verify_rules::places::{has_known_kind, written_columns};
 
 // ---- the instruction at a place
 
@@ -32,59 +28,10 @@ fn in_section(rows: &Rows, span: Span, code: &[Instruction<u16>], place: usize) 
     ensures { result ≡ slice_get (map (words.placed_in (seen rows.now) span.section) code.now) place }
 {
     let _rows = rows;
-    match code.get(place) {
-        None => None,
-        Some(instruction) => Some(Placed {
-            span,
-            instruction: *instruction,
-        }),
-    }
-}
-
-fn in_detail(rows: &Rows, place: usize) -> Option<Placed>
-    ensures { result ≡ slice_get (map (words.placed_in (seen rows.now) section_names.Detail) rows.now.detail.items) place }
-{
-    let span = Span {
-        section: Section::Detail,
-        level: 0,
-        first: 0,
-        end: rows.detail.len(),
-    };
-    in_section(rows, span, &rows.detail, place)
-}
-
-fn in_total(rows: &Rows, place: usize) -> Option<Placed>
-    requires { IsProgram (seen rows.now) }
-    ensures { result ≡ slice_get (map (words.placed_in (seen rows.now) section_names.Total) rows.now.total.items) place }
-{
-    let first = rows.detail.len();
-    let span = Span {
-        section: Section::Total,
-        level: 0,
-        first,
-        end: first + rows.total.len(),
-    };
-    in_section(rows, span, &rows.total, place)
-}
-
-fn in_subroutine(
-    rows: &Rows,
-    number: u16,
-    first: usize,
-    subroutine: &Subroutine,
-    place: usize,
-) -> Option<Placed>
-    requires few { first + length subroutine.now.instructions.items ≤ 8192 }
-    requires span { IsSpan (seen rows.now) (record { section = section_names.Subroutine number; level = subroutine.now.level; first = first; end = first + length subroutine.now.instructions.items }) }
-    ensures { result ≡ slice_get (map (words.placed_in (seen rows.now) (section_names.Subroutine number)) subroutine.now.instructions.items) place }
-{
-    let span = Span {
-        section: Section::Subroutine(number),
-        level: subroutine.level,
-        first,
-        end: first + subroutine.instructions.len(),
-    };
-    in_section(rows, span, &subroutine.instructions, place)
+    Some(Placed {
+        span,
+        instruction: *code.get(place)?,
+    })
 }
 
 fn in_subroutines(rows: &Rows, begin: usize, place: usize) -> Option<Placed>
@@ -96,11 +43,17 @@ fn in_subroutines(rows: &Rows, begin: usize, place: usize) -> Option<Placed>
     let mut rest = place;
     let mut number: u16 = 0;
     for subroutine in &rows.subroutines {
-        match in_subroutine(rows, number, first, subroutine, rest) {
+        let count = subroutine.instructions.len();
+        let span = Span {
+            section: Section::Subroutine(number),
+            level: subroutine.level,
+            first,
+            end: first + count,
+        };
+        match in_section(rows, span, &subroutine.instructions, rest) {
             Some(placed) => return Some(placed),
             None => {}
         }
-        let count = subroutine.instructions.len();
         rest = rest.saturating_sub(count);
         first += count;
         number += 1;
@@ -112,10 +65,17 @@ fn after_detail(rows: &Rows, place: usize) -> Option<Placed>
     requires { IsProgram (seen rows.now) }
     ensures { result ≡ slice_get (words.placed_after_detail (seen rows.now)) place }
 {
+    let first = rows.detail.len();
     let total = rows.total.len();
-    match in_total(rows, place) {
+    let span = Span {
+        section: Section::Total,
+        level: 0,
+        first,
+        end: first + total,
+    };
+    match in_section(rows, span, &rows.total, place) {
         Some(placed) => Some(placed),
-        None => in_subroutines(rows, rows.detail.len() + total, place.saturating_sub(total)),
+        None => in_subroutines(rows, first + total, place.saturating_sub(total)),
     }
 }
 
@@ -123,9 +83,16 @@ fn at_place(rows: &Rows, place: usize) -> Option<Placed>
     requires { IsProgram (seen rows.now) }
     ensures { result ≡ words.placed_at (seen rows.now) place }
 {
-    match in_detail(rows, place) {
+    let detail = rows.detail.len();
+    let span = Span {
+        section: Section::Detail,
+        level: 0,
+        first: 0,
+        end: detail,
+    };
+    match in_section(rows, span, &rows.detail, place) {
         Some(placed) => Some(placed),
-        None => after_detail(rows, place.saturating_sub(rows.detail.len())),
+        None => after_detail(rows, place.saturating_sub(detail)),
     }
 }
 
@@ -137,45 +104,6 @@ pub fn placed_at(program: &Program, place: usize) -> Option<Placed>
 }
 
 // ---- operands
-
-/// Whether factor 2 is to be of the kind of factor 1.
-fn compares(instruction: Instruction<u16>) -> bool
-    ensures { result ≡ rules.compares instruction }
-{
-    match instruction {
-        Instruction::Act(Action::Compare { .. } | Action::LookUp { .. }) => true,
-        Instruction::Act(_)
-        | Instruction::Except
-        | Instruction::Branch { .. }
-        | Instruction::Call { .. }
-        | Instruction::Return { .. } => false,
-    }
-}
-
-fn is_good_if_any(rows: &Rows, used: Option<Use<Operand<u16>>>) -> bool
-    ensures { result ≡ rows_words.all_used (rows_words.is_good_operand (forms.form_at rows.now.fields.items)) used }
-{
-    match used {
-        None => true,
-        Some(used) => is_good(rows, used),
-    }
-}
-
-fn knows_kinds(rows: &Rows, instruction: Instruction<u16>) -> bool
-    ensures { result ≡ rules.knows_kinds (seen rows.now) instruction }
-{
-    !compares(instruction) || is_good_if_any(rows, columns_of(rows, instruction).factor1)
-}
-
-pub(crate) fn has_known_kind(
-    rows: &Rows,
-    instruction: Instruction<u16>,
-    used: Use<Operand<u16>>,
-) -> bool
-    ensures { result ≡ rules.has_known_kind (seen rows.now) instruction used }
-{
-    !knows_kinds(rows, instruction) || has_kind(rows, used)
-}
 
 fn operand_breaks(
     rule: PlaceRule,
@@ -189,7 +117,8 @@ fn operand_breaks(
         PlaceRule::V16 => !is_good(rows, used),
         PlaceRule::V17 => is_good(rows, used) && !has_known_kind(rows, instruction, used),
         PlaceRule::V18 => !is_writable_use(rows, used),
-        PlaceRule::V19 | PlaceRule::V20 | PlaceRule::V21 | PlaceRule::V22 => false,
+        PlaceRule::V20 => !is_current_table(rows, used),
+        PlaceRule::V19 | PlaceRule::V21 | PlaceRule::V22 => false,
     }
 }
 
@@ -202,38 +131,26 @@ fn column_cause(
 ) -> Option<RefusalCause>
     ensures { result ≡ words.column_cause (words.operand_breaks rule (seen rows.now) instruction) column used }
 {
-    match used {
-        None => None,
-        Some(used) => {
-            if operand_breaks(rule, rows, instruction, used) {
-                Some(RefusalCause::Operand { column, used })
-            } else {
-                None
-            }
-        }
+    let used = used?;
+    if operand_breaks(rule, rows, instruction, used) {
+        Some(RefusalCause::Operand { column, used })
+    } else {
+        None
     }
 }
 
+/// The first of these operands of an instruction that breaks the rule.
 fn operand_cause(
     rule: PlaceRule,
     rows: &Rows,
     instruction: Instruction<u16>,
+    row: Row<Operand<u16>>,
 ) -> Option<RefusalCause>
-    ensures { result ≡ words.operand_cause (words.operand_breaks rule (seen rows.now) instruction) (columns (seen rows.now) instruction) }
+    ensures { result ≡ words.operand_cause (words.operand_breaks rule (seen rows.now) instruction) row }
 {
-    let Row {
-        factor1,
-        factor2,
-        result: to,
-        ..
-    } = columns_of(rows, instruction);
-    or_next(
-        column_cause(rule, rows, instruction, Column::Factor1, factor1),
-        or_next(
-            column_cause(rule, rows, instruction, Column::Factor2, factor2),
-            column_cause(rule, rows, instruction, Column::Result, to),
-        ),
-    )
+    column_cause(rule, rows, instruction, Column::Factor1, row.factor1)
+        .or(column_cause(rule, rows, instruction, Column::Factor2, row.factor2))
+        .or(column_cause(rule, rows, instruction, Column::Result, row.result))
 }
 
 // ---- indicators, and where control goes
@@ -242,13 +159,10 @@ fn operand_cause(
 fn asked_by(instruction: Instruction<u16>) -> Option<Conditions>
     ensures { result ≡ words.asked_by instruction }
 {
-    match instruction {
-        Instruction::Branch { conditions, .. } => Some(conditions),
-        Instruction::Act(_)
-        | Instruction::Except
-        | Instruction::Call { .. }
-        | Instruction::Return { .. } => None,
-    }
+    let Instruction::Branch { conditions, .. } = instruction else {
+        return None;
+    };
+    Some(conditions)
 }
 
 fn marks_cause(rows: &Rows, instruction: Instruction<u16>) -> Option<RefusalCause>
@@ -263,58 +177,52 @@ fn marks_cause(rows: &Rows, instruction: Instruction<u16>) -> Option<RefusalCaus
 fn target_cause(span: Span, instruction: Instruction<u16>) -> Option<RefusalCause>
     ensures { result ≡ words.target_cause span instruction }
 {
-    match instruction {
-        Instruction::Branch { target, .. } => Some(RefusalCause::Target {
-            target,
-            first: span.first,
-            end: span.end,
-        }),
-        Instruction::Act(_)
-        | Instruction::Except
-        | Instruction::Call { .. }
-        | Instruction::Return { .. } => None,
-    }
+    let Instruction::Branch { target, .. } = instruction else {
+        return None;
+    };
+    Some(RefusalCause::Target {
+        target,
+        first: span.first,
+        end: span.end,
+    })
 }
 
 #[tactic(auto, using(crate::proofs::AtRows::level_seen))]
 fn level_of(rows: &Rows, subroutine: u16) -> Option<u16>
-    ensures { result ≡ option_map (λ (s : SubroutineRow). s.level) (slice_get (map subroutine_row rows.now.subroutines.items) subroutine) }
+    ensures { result ≡ words.level_if_any (map subroutine_row rows.now.subroutines.items) subroutine }
 {
-    match rows.subroutines.get(usize::from(subroutine)) {
-        None => None,
-        Some(subroutine) => Some(subroutine.level),
-    }
+    let subroutine = rows.subroutines.get(usize::from(subroutine))?;
+    Some(subroutine.level)
 }
 
 fn call_cause(rows: &Rows, instruction: Instruction<u16>) -> Option<RefusalCause>
     ensures { result ≡ words.call_cause (seen rows.now) instruction }
 {
-    match instruction {
-        Instruction::Call { subroutine } => Some(RefusalCause::Called {
-            subroutine,
-            level: level_of(rows, subroutine),
-        }),
-        Instruction::Act(_)
-        | Instruction::Except
-        | Instruction::Branch { .. }
-        | Instruction::Return { .. } => None,
-    }
+    let Instruction::Call { subroutine } = instruction else {
+        return None;
+    };
+    Some(RefusalCause::Called {
+        subroutine,
+        level: level_of(rows, subroutine),
+    })
 }
 
 #[tactic(auto, unfolding(crate::specs::PlaceCauses::place_cause))]
 fn cause_at(rule: PlaceRule, rows: &Rows, placed: Placed) -> Option<RefusalCause>
     ensures { result ≡ words.place_cause rule (seen rows.now) placed }
 {
-    let row = columns_of(rows, placed.instruction);
+    let Placed { span, instruction } = placed;
+    let row = columns_of(rows, instruction);
     match rule {
-        PlaceRule::V16 | PlaceRule::V17 => operand_cause(rule, rows, placed.instruction),
-        PlaceRule::V18 => {
-            column_cause(rule, rows, placed.instruction, Column::Result, row.result)
+        PlaceRule::V16 | PlaceRule::V17 => operand_cause(rule, rows, instruction, row),
+        PlaceRule::V18 => column_cause(rule, rows, instruction, Column::Result, row.result),
+        PlaceRule::V19 => marks_cause(rows, instruction),
+        PlaceRule::V20 => {
+            let row = written_columns(rows, instruction);
+            operand_cause(rule, rows, instruction, row).or(found_cause(rows, row))
         }
-        PlaceRule::V19 => marks_cause(rows, placed.instruction),
-        PlaceRule::V20 => search_cause(rows, written_columns(rows, placed.instruction)),
-        PlaceRule::V21 => target_cause(placed.span, placed.instruction),
-        PlaceRule::V22 => call_cause(rows, placed.instruction),
+        PlaceRule::V21 => target_cause(span, instruction),
+        PlaceRule::V22 => call_cause(rows, instruction),
     }
 }
 
@@ -323,8 +231,5 @@ pub(crate) fn place_cause(rule: PlaceRule, rows: &Rows, place: usize) -> Option<
     requires { IsProgram (seen rows.now) }
     ensures { result ≡ cause_of_row (words.place_cause rule (seen rows.now)) (words.placed_at (seen rows.now) place) }
 {
-    match at_place(rows, place) {
-        None => None,
-        Some(placed) => cause_at(rule, rows, placed),
-    }
+    cause_at(rule, rows, at_place(rows, place)?)
 }

@@ -1,6 +1,6 @@
 //! The least broken rule with its cause.
 
-ghost use Rattle.std.specs.Prelude.{◌≡◌, MatchOption, option_map};
+ghost use Rattle.std.specs.Prelude.{◌≡◌, MatchOption};
 ghost use Rattle.rpg_object_program.specs.Kept.{IsProgram};
 ghost use Rattle.rpg_object_program.specs.Object.{seen};
 ghost use Rattle.rpg_refusal_causes.specs.Causes.{IsRefusalOf, cause_in};
@@ -15,20 +15,15 @@ use rpg_object_program::Program;
 use rpg_object_program::row::Rows;
 use rpg_verify_rules::{BrokenRule, Rule, first_broken};
 
-fn overflow_cause(rows: &Rows) -> Option<RefusalCause>
-    ensures { result ≡ option_map RefusalCause.Overflow rows.now.overflow }
-{
-    let indicator = rows.overflow?;
-    Some(RefusalCause::Overflow { indicator })
-}
-
 #[tactic(auto, unfolding(crate::specs::Causes::cause_in))]
 fn cause_in(rows: &Rows, broken: BrokenRule) -> Option<RefusalCause>
     requires { IsProgram (seen rows.now) }
     ensures { result ≡ cause_in (seen rows.now) broken.rule broken.row }
 {
     match broken.rule {
-        Rule::Overflow => overflow_cause(rows),
+        Rule::Overflow => Some(RefusalCause::Overflow {
+            indicator: rows.overflow?,
+        }),
         Rule::Type(rule) => type_cause(rule, rows, broken.row),
         Rule::Line(rule) => line_cause(rule, rows, broken.row),
         Rule::Place(rule) => place_cause(rule, rows, broken.row),

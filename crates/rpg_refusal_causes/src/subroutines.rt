@@ -6,7 +6,7 @@ ghost use Rattle.rpg_object_program.specs.Object.{seen, subroutine_row};
 ghost use Rattle.rpg_refusal_causes.specs.First.{cause_of_row, first_cause};
 ghost use Rattle.rpg_refusal_causes.specs.SubroutineCauses as words;
 
-use crate::cause::{RefusalCause, or_next};
+use crate::cause::RefusalCause;
 use rpg_effect::operation::Instruction;
 use rpg_object_program::row::{Rows, Subroutine};
 use rpg_verify_rules::{SubroutineRule, is_return};
@@ -26,14 +26,16 @@ fn return_cause(first: usize, code: &[Instruction<u16>]) -> Option<RefusalCause>
     None
 }
 
-fn stray_cause(rows: &Rows) -> Option<RefusalCause>
+/// The first RET outside subroutines, which counts for row 0.
+fn stray_cause(rows: &Rows, row: usize) -> Option<RefusalCause>
     requires { IsProgram (seen rows.now) }
-    ensures { result ≡ words.stray_cause (seen rows.now) }
+    ensures { result ≡ (if row == 0 then words.stray_cause (seen rows.now) else None) }
 {
-    or_next(
-        return_cause(0, &rows.detail),
-        return_cause(rows.detail.len(), &rows.total),
-    )
+    if row == 0 {
+        return_cause(0, &rows.detail).or(return_cause(rows.detail.len(), &rows.total))
+    } else {
+        None
+    }
 }
 
 fn foreign_cause(number: usize, code: &[Instruction<u16>]) -> Option<RefusalCause>
@@ -52,39 +54,24 @@ fn foreign_cause(number: usize, code: &[Instruction<u16>]) -> Option<RefusalCaus
 fn body_cause(number: usize, subroutine: &Subroutine) -> Option<RefusalCause>
     ensures { result ≡ words.body_cause number (subroutine_row subroutine.now) }
 {
-    or_next(
-        foreign_cause(number, &subroutine.instructions),
-        Some(RefusalCause::Unended),
-    )
+    foreign_cause(number, &subroutine.instructions).or(Some(RefusalCause::Unended))
 }
 
 #[tactic(auto, using(crate::proofs::AtRows::row_seen))]
 fn unended_cause(rows: &Rows, row: usize) -> Option<RefusalCause>
     ensures { result ≡ cause_of_row (words.body_cause row) (slice_get (map subroutine_row rows.now.subroutines.items) row) }
 {
-    match rows.subroutines.get(row) {
-        None => None,
-        Some(subroutine) => body_cause(row, subroutine),
-    }
+    body_cause(row, rows.subroutines.get(row)?)
 }
 
 #[tactic(auto, using(crate::proofs::AtRows::row_seen))]
 fn level_cause(rows: &Rows, row: usize) -> Option<RefusalCause>
     ensures { result ≡ cause_of_row words.level_cause (slice_get (map subroutine_row rows.now.subroutines.items) row) }
 {
-    match rows.subroutines.get(row) {
-        None => None,
-        Some(subroutine) => Some(RefusalCause::Level {
-            level: subroutine.level,
-        }),
-    }
-}
-
-fn stray_at(rows: &Rows, row: usize) -> Option<RefusalCause>
-    requires { IsProgram (seen rows.now) }
-    ensures { result ≡ (if row == 0 then words.stray_cause (seen rows.now) else None) }
-{
-    if row == 0 { stray_cause(rows) } else { None }
+    let subroutine = rows.subroutines.get(row)?;
+    Some(RefusalCause::Level {
+        level: subroutine.level,
+    })
 }
 
 /// What in the subroutine of a row breaks a rule, if it breaks it; RET outside subroutines counts for row 0.
@@ -98,7 +85,7 @@ pub(crate) fn subroutine_cause(
     ensures { result ≡ words.subroutine_cause rule (seen rows.now) row }
 {
     match rule {
-        SubroutineRule::V23 => or_next(stray_at(rows, row), unended_cause(rows, row)),
+        SubroutineRule::V23 => stray_cause(rows, row).or(unended_cause(rows, row)),
         SubroutineRule::V24 => level_cause(rows, row),
     }
 }

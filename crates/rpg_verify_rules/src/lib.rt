@@ -4,12 +4,12 @@
 mod indicators;
 pub mod laws;
 mod least;
-mod lines;
-mod matches;
-mod places;
+pub mod lines;
+pub mod matches;
+pub mod places;
 mod rule;
 mod subroutines;
-mod types;
+pub mod types;
 mod words;
 
 pub use least::{RULES, first_broken};

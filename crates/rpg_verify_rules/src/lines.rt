@@ -80,7 +80,7 @@ fn is_spaced_on(file: File, s: Spacing) -> bool
 
 // ---- alternatives
 
-fn are_all_asked(version: Version, conditions: &[Condition]) -> bool
+pub fn are_all_asked(version: Version, conditions: &[Condition]) -> bool
     ensures { result ≡ list_all (marks.may_be_asked version) conditions.now }
 {
     conditions.iter().all(|c| may_be_asked(version, c))
@@ -109,7 +109,7 @@ fn is_source_of(source: Source, form: Option<FieldForm>) -> bool
     }
 }
 
-fn is_field_there(rows: &Rows, field: &LineField<u16>) -> bool
+pub fn is_field_there(rows: &Rows, field: &LineField<u16>) -> bool
     ensures { result ≡ words.is_field_there (seen rows.now) field.now }
 {
     (has_entry(rows, field.operand) && is_one_entry(rows, field.operand))
@@ -153,7 +153,7 @@ fn is_field_edited(rows: &Rows, field: &LineField<u16>) -> bool
     )
 }
 
-fn lacks_editing(rows: &Rows, field: &LineField<u16>) -> bool
+pub fn lacks_editing(rows: &Rows, field: &LineField<u16>) -> bool
     ensures { result ≡ words.lacks_editing (seen rows.now) field.now }
 {
     is_field_there(rows, field) && !is_field_edited(rows, field)
@@ -188,7 +188,7 @@ fn is_field_worded(rows: &Rows, field: &LineField<u16>) -> bool
     }
 }
 
-fn lacks_word(rows: &Rows, field: &LineField<u16>) -> bool
+pub fn lacks_word(rows: &Rows, field: &LineField<u16>) -> bool
     requires { IsProgram (seen rows.now) }
     ensures { result ≡ words.lacks_word (seen rows.now) field.now }
 {
@@ -265,7 +265,7 @@ fn may_have_width(rows: &Rows, field: &LineField<u16>) -> bool
 }
 
 /// Tests last whether a word fits, so only for a field without room.
-fn lacks_room(rows: &Rows, length: u16, field: &LineField<u16>) -> bool
+pub fn lacks_room(rows: &Rows, length: u16, field: &LineField<u16>) -> bool
     requires { IsProgram (seen rows.now) }
     ensures { result ≡ words.lacks_room (seen rows.now) length field.now }
 {
@@ -296,7 +296,7 @@ fn fits_line(rows: &Rows, length: u16, field: &LineField<u16>) -> bool
     has_width(rows, field) && has_room(rows, length, field)
 }
 
-fn blanks_wrongly(rows: &Rows, length: u16, field: &LineField<u16>) -> bool
+pub fn blanks_wrongly(rows: &Rows, length: u16, field: &LineField<u16>) -> bool
     requires { IsProgram (seen rows.now) }
     ensures { result ≡ words.blanks_wrongly (seen rows.now) length field.now }
 {
@@ -310,7 +310,7 @@ fn blank_wrongly(rows: &Rows, length: u16, fields: &[LineField<u16>]) -> bool
     fields.iter().any(|f| blanks_wrongly(rows, length, f))
 }
 
-fn asks_wrongly(rows: &Rows, length: u16, field: &LineField<u16>) -> bool
+pub fn asks_wrongly(rows: &Rows, length: u16, field: &LineField<u16>) -> bool
     requires { IsProgram (seen rows.now) }
     ensures { result ≡ words.asks_wrongly (seen rows.now) length field.now }
 {

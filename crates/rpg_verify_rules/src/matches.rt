@@ -27,7 +27,7 @@ fn joined_widths(fields: &[ControlField]) -> [u128; 9]
 }
 
 /// The columns of levels 1 to 9 together.
-fn joined_in_all(fields: &[ControlField]) -> u128
+pub fn joined_in_all(fields: &[ControlField]) -> u128
     ensures { result ≡ sum (words.joined_widths fields.now) }
 {
     joined(1, fields)
@@ -42,7 +42,7 @@ fn joined_in_all(fields: &[ControlField]) -> u128
 }
 
 /// The joined lengths of the first type that has match fields.
-pub(crate) fn first_widths(types: &[RecordType]) -> [u128; 9]
+pub fn first_widths(types: &[RecordType]) -> [u128; 9]
     ensures { result ≡ words.joined_widths (words.first_matches (map type_row types.now)) }
 {
     for record_type in types {
@@ -53,7 +53,7 @@ pub(crate) fn first_widths(types: &[RecordType]) -> [u128; 9]
     [0; 9]
 }
 
-fn has_level(level: u8, fields: &[ControlField]) -> bool
+pub fn has_level(level: u8, fields: &[ControlField]) -> bool
     ensures { result ≡ list_any (words.is_of_level level) fields.now }
 {
     fields.iter().any(|f| f.level == level)

@@ -183,7 +183,7 @@ fn knows_kinds(rows: &Rows, instruction: Instruction<u16>) -> bool
     !compares(instruction) || is_good_if_any(rows, columns_of(rows, instruction).factor1)
 }
 
-fn has_known_kind(rows: &Rows, instruction: Instruction<u16>, used: Use<Operand<u16>>) -> bool
+pub fn has_known_kind(rows: &Rows, instruction: Instruction<u16>, used: Use<Operand<u16>>) -> bool
     ensures { result ≡ words.has_known_kind (seen rows.now) instruction used }
 {
     !knows_kinds(rows, instruction) || has_kind(rows, used)
@@ -290,7 +290,7 @@ fn of_kind_or_none(
 }
 
 /// The operands that V16 and V17 allow.
-fn columns_of_kind(rows: &Rows, instruction: Instruction<u16>) -> Row<Operand<u16>>
+pub fn columns_of_kind(rows: &Rows, instruction: Instruction<u16>) -> Row<Operand<u16>>
     ensures { result ≡ words.columns_of_kind (seen rows.now) instruction }
 {
     let row = good_columns(rows, columns_of(rows, instruction));
@@ -318,7 +318,7 @@ fn written_or_none(rows: &Rows, used: Option<Use<Operand<u16>>>) -> Option<Use<O
 }
 
 /// The operands that V16 to V18 allow.
-fn written_columns(rows: &Rows, instruction: Instruction<u16>) -> Row<Operand<u16>>
+pub fn written_columns(rows: &Rows, instruction: Instruction<u16>) -> Row<Operand<u16>>
     ensures { result ≡ words.written_columns (seen rows.now) instruction }
 {
     let row = columns_of_kind(rows, instruction);
@@ -348,7 +348,7 @@ fn are_asked(version: Version, instruction: Instruction<u16>) -> bool
     }
 }
 
-fn are_marked(marks: Marks) -> bool
+pub fn are_marked(marks: Marks) -> bool
     ensures { result ≡ words.are_marked marks }
 {
     match marks {
@@ -359,7 +359,7 @@ fn are_marked(marks: Marks) -> bool
     }
 }
 
-fn is_two_sided(marks: Marks) -> bool
+pub fn is_two_sided(marks: Marks) -> bool
     ensures { result ≡ rows_words.is_two_sided marks }
 {
     match marks {
@@ -378,7 +378,7 @@ fn is_ordered(marks: Marks) -> bool
 }
 
 /// Whether the operand of a column, if there is one, is in ascending sequence.
-fn is_ascending_if_any(rows: &Rows, used: Option<Use<Operand<u16>>>) -> bool
+pub fn is_ascending_if_any(rows: &Rows, used: Option<Use<Operand<u16>>>) -> bool
     ensures { result ≡ rows_words.all_used (words.is_ascending (seen rows.now)) used }
 {
     match used {

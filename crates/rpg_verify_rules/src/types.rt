@@ -78,7 +78,7 @@ fn columns_at(level: u8, field: &ControlField) -> u128
 }
 
 /// The columns of all control fields of a level.
-pub(crate) fn joined(level: u8, fields: &[ControlField]) -> u128
+pub fn joined(level: u8, fields: &[ControlField]) -> u128
     ensures value { result ≡ words.joined_width level fields.now }
     ensures few { result ≤ 2 ^ 80 }
 {
@@ -102,7 +102,7 @@ fn measure(level: u8, types: &[RecordType]) -> u128
     0
 }
 
-fn measures(types: &[RecordType]) -> [u128; 9]
+pub fn measures(types: &[RecordType]) -> [u128; 9]
     ensures { result ≡ words.measures (map type_row types.now) }
 {
     [
@@ -118,7 +118,7 @@ fn measures(types: &[RecordType]) -> [u128; 9]
     ]
 }
 
-fn is_measured(measure: u128, n: u128) -> bool
+pub fn is_measured(measure: u128, n: u128) -> bool
     ensures { result ≡ words.is_measured measure n }
 {
     n == 0 || (n <= 256 && n == measure)
@@ -138,7 +138,7 @@ fn all_measured(measures: &[u128; 9], fields: &[ControlField]) -> bool
     true
 }
 
-fn is_code_in(length: u16, code: &RecordCode) -> bool
+pub fn is_code_in(length: u16, code: &RecordCode) -> bool
     ensures { result ≡ words.is_code_in length code.now }
 {
     1 <= code.position && code.position <= length
@@ -150,7 +150,7 @@ fn are_codes_in(length: u16, codes: &[RecordCode]) -> bool
     codes.iter().all(|c| is_code_in(length, c))
 }
 
-fn is_control_in(length: u16, field: &ControlField) -> bool
+pub fn is_control_in(length: u16, field: &ControlField) -> bool
     ensures { result ≡ words.is_control_in length field.now }
 {
     1 <= field.from && (field.from <= field.to && field.to <= length)
@@ -162,7 +162,7 @@ pub(crate) fn are_controls_in(length: u16, fields: &[ControlField]) -> bool
     fields.iter().all(|f| is_control_in(length, f))
 }
 
-fn is_input_in(rows: &Rows, length: u16, field: &InputField<u16>) -> bool
+pub fn is_input_in(rows: &Rows, length: u16, field: &InputField<u16>) -> bool
     ensures { result ≡ words.is_input_in (seen rows.now) length field.now }
 {
     match form_at(rows, field.field) {
@@ -196,7 +196,7 @@ fn is_input_shown(rows: &Rows, field: &InputField<u16>) -> bool
     are_settable(field.shows) && fits_shows(kind_of(form_at(rows, field.field)), field.shows)
 }
 
-fn shows_wrongly(rows: &Rows, length: u16, field: &InputField<u16>) -> bool
+pub fn shows_wrongly(rows: &Rows, length: u16, field: &InputField<u16>) -> bool
     ensures { result ≡ words.shows_wrongly (seen rows.now) length field.now }
 {
     !is_input_shown(rows, field) && is_input_in(rows, length, field)

@@ -1,24 +1,35 @@
-use Rattle.std.proofs.Common.{rules, ◌≡◌, ◌-◌, length, slice_get, sym, ap, ◌∙◌}
+use Rattle.std.proofs.Common.{rules, ◌≡◌, ◌-◌, length, map, slice_get, sym, ap, ◌∙◌}
+use Rattle.std.specs.Option.{option_or}
 use Rattle.rpg_object_program.specs.Object.{seen}
 use Rattle.rpg_object_program.specs.declared.section.Section.TheVariants.{Total}
 use Rattle.rpg_refusal_causes.proofs.Placing.{either}
-use Rattle.rpg_refusal_causes.specs.First.{or_next}
 use Rattle.rpg_refusal_causes.specs.PlaceCauses.{placed_in, placed_in_subroutines}
+use Rattle.rpg_verify_rules.proofs.Spanning.{total_span}
 use Rattle.rpg_refusal_causes.proofs.places.after_detail.Goals as goal
+
+pub in_section-requires : goal.in_section-requires
+in_section-requires c =
+    let first : c.len-first.result ≡ length c.args.rows.now.detail.items = search rules in
+    let rest : c.len-total.result ≡ length c.args.rows.now.total.items = search rules in
+    total_span (seen c.args.rows.now) c.len-first.result c.len-total.result first rest
 
 pub returns-in-Some : goal.returns-in-Some
 returns-in-Some c =
     let p = seen c.args.rows.now in
     let later = placed_in_subroutines p 0 p.subroutines in
-    ap (λ o. or_next o (slice_get later (c.args.place - length p.total))) c.in-Some.ensures
+    let rest = slice_get later (c.args.place - length p.total) in
+    ap (λ o. option_or o rest) c.in-Some.ensures
+    ∙ ap (λ is. option_or (slice_get (map (placed_in p Total) is) c.args.place) rest) c.deref.ensures.value
     ∙ sym (either (placed_in p Total) p.total later c.args.place)
 
 pub returns-in-None : goal.returns-in-None
 returns-in-None c =
     let p = seen c.args.rows.now in
     let later = placed_in_subroutines p 0 p.subroutines in
+    let rest = slice_get later (c.args.place - length p.total) in
     let taken : c.saturating_sub.result ≡ c.args.place - length p.total = search rules in
     c.in_subroutines.ensures
     ∙ ap (slice_get later) taken
-    ∙ ap (λ o. or_next o (slice_get later (c.args.place - length p.total))) (sym c.in-None.is ∙ c.in_total.ensures)
+    ∙ ap (λ o. option_or o rest) (sym c.in-None.is ∙ c.in_section.ensures)
+    ∙ ap (λ is. option_or (slice_get (map (placed_in p Total) is) c.args.place) rest) c.deref.ensures.value
     ∙ sym (either (placed_in p Total) p.total later c.args.place)

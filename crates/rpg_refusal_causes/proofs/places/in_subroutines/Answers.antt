@@ -1,11 +1,11 @@
 use Rattle.std.proofs.Common.{rules, ◌≡◌, ◌+◌, ◌-◌, ◌<◌, ◌≤◌, map, length, get_or, slice_get, refl, sym, ap, ◌∙◌, subst, arith}
+use Rattle.std.specs.Option.{option_or}
 use Rattle.rpg_object_program.specs.Object.{seen, subroutine_row}
 use Rattle.rpg_object_program.specs.Sections.{first_in, instructions_in}
 use Rattle.rpg_object_program.specs.Spans.{IsSpan}
 use Rattle.rpg_object_program.specs.declared.section.Section.TheVariants as sections
 use Rattle.rpg_refusal_causes.proofs.Placing.{either_left}
-use Rattle.rpg_refusal_causes.specs.First.{or_next}
-use Rattle.rpg_refusal_causes.specs.PlaceCauses.{placed_in_subroutines}
+use Rattle.rpg_refusal_causes.specs.PlaceCauses.{placed_in, placed_in_subroutines}
 use Rattle.rpg_verify_rules.proofs.Sectioning.{left, fewer_left}
 use Rattle.rpg_verify_rules.proofs.Spanning.{at_zero, first_behind, subroutine_at, subroutine_span}
 use Rattle.rpg_refusal_causes.proofs.places.in_subroutines.Goals as goal
@@ -32,12 +32,14 @@ returns-in-Some c =
     let is : s ≡ get_or subs i s = subst (λ xs. s ≡ get_or xs i s) same c.subroutine-item.is in
     let n = c.loop-subroutine.number in
     let k = c.loop-subroutine.rest in
-    ap (λ o. or_next o (slice_get (placed_in_subroutines p (n + 1) (left subs (i + 1))) (k - length s.instructions.items))) c.in-Some.ensures
+    let rest = slice_get (placed_in_subroutines p (n + 1) (left subs (i + 1))) (k - length s.instructions.items) in
+    ap (λ o. option_or o rest) c.in-Some.ensures
+    ∙ ap (λ is. option_or (slice_get (map (placed_in p (sections.Subroutine n)) is) k) rest) c.deref.ensures.value
     ∙ sym (either_left p n subs i s k low is)
     ∙ c.loop-subroutine.invariant.so_far
 
-pub in_subroutine-requires-clause-few : goal.in_subroutine-requires-clause-few
-in_subroutine-requires-clause-few c =
+pub overflow_add-span : goal.overflow_add-span
+overflow_add-span c =
     let subs = c.args.rows.now.subroutines.items in
     let i = c.loop-subroutine.subroutine-index in
     let s = c.subroutine-item.result in
@@ -46,10 +48,11 @@ in_subroutine-requires-clause-few c =
     let is : s ≡ get_or subs i s = subst (λ xs. s ≡ get_or xs i s) same c.subroutine-item.is in
     let fewer = fewer_left subs i s low is in
     let few : c.loop-subroutine.first + instructions_in (left subs i) ≤ 8192 = c.loop-subroutine.invariant.few in
-    omega (arith, fewer, few)
+    let long : c.len-count.result ≡ length s.instructions.items = search rules in
+    omega (arith, fewer, few, long)
 
-pub in_subroutine-requires-clause-span : goal.in_subroutine-requires-clause-span
-in_subroutine-requires-clause-span c =
+pub in_section-requires : goal.in_section-requires
+in_section-requires c =
     let p = seen c.args.rows.now in
     let subs = c.args.rows.now.subroutines.items in
     let i = c.loop-subroutine.subroutine-index in
@@ -58,10 +61,12 @@ in_subroutine-requires-clause-span c =
     let same = c.deref-subroutine-items.ensures.value in
     let low : i < length subs = subst (λ xs. i < length xs) same c.loop-subroutine-test.true in
     let is : s ≡ get_or subs i s = subst (λ xs. s ≡ get_or xs i s) same c.subroutine-item.is in
+    let long : c.len-count.result ≡ length s.instructions.items = search rules in
     let begins : f ≡ first_in (length p.detail + length p.total) p.subroutines i =
     c.loop-subroutine.invariant.begins ∙ ap (λ b. first_in b p.subroutines i) c.requires.begin in
     let span = subroutine_span p i f (subroutine_row s) (subroutine_at subs i s low is) begins in
-    subst (λ n. IsSpan p (record { section = sections.Subroutine n; level = s.level; first = f; end = f + length s.instructions.items })) (sym c.loop-subroutine.invariant.counted) span
+    subst (λ n. IsSpan p (record { section = sections.Subroutine c.loop-subroutine.number; level = s.level; first = f; end = f + n })) (sym long)
+    (subst (λ n. IsSpan p (record { section = sections.Subroutine n; level = s.level; first = f; end = f + length s.instructions.items })) (sym c.loop-subroutine.invariant.counted) span)
 
 pub loop-subroutine-preserved : goal.loop-subroutine-preserved
 loop-subroutine-preserved c =
@@ -83,10 +88,12 @@ loop-subroutine-preserved c =
     let counted = c.loop-subroutine.invariant.counted in
     let next = first_behind c.args.begin p.subroutines i (subroutine_row s) (subroutine_at subs i s low is) in
     let begins : f ≡ first_in c.args.begin p.subroutines i = c.loop-subroutine.invariant.begins in
+    let rest = slice_get (placed_in_subroutines p (n + 1) (left subs (i + 1))) (k - length s.instructions.items) in
     record {
       so_far =
           ap (slice_get (placed_in_subroutines p (n + 1) (left subs (i + 1)))) taken
-          ∙ ap (λ o. or_next o (slice_get (placed_in_subroutines p (n + 1) (left subs (i + 1))) (k - length s.instructions.items))) (sym c.in-None.is ∙ c.in_subroutine.ensures)
+          ∙ ap (λ o. option_or o rest) (sym c.in-None.is ∙ c.in_section.ensures)
+          ∙ ap (λ is. option_or (slice_get (map (placed_in p (sections.Subroutine n)) is) k) rest) c.deref.ensures.value
           ∙ sym (either_left p n subs i s k low is)
           ∙ c.loop-subroutine.invariant.so_far;
       few = omega (arith, fewer, few, long);

@@ -1,6 +1,6 @@
 use Rattle.std.proofs.Common.{◌≡◌, ◌+◌, drop}
 use Rattle.rpg_refusal_causes.specs.TypeCauses.{levels_cause}
-use Rattle.rpg_refusal_causes.proofs.joined.level_off.Given as goal
+use Rattle.rpg_refusal_causes.proofs.joined.levels_cause.Given as goal
 
 abbrev pub invariant-loop-measure : goal.invariant-loop-measure
 invariant-loop-measure l = record {

@@ -1,6 +1,6 @@
 use Rattle.std.proofs.Common.{◌≡◌, ◌+◌, drop}
 use Rattle.rpg_refusal_causes.specs.TypeCauses.{widths_cause}
-use Rattle.rpg_refusal_causes.proofs.joined.width_off.Given as goal
+use Rattle.rpg_refusal_causes.proofs.joined.widths_cause.Given as goal
 
 abbrev pub invariant-loop-first : goal.invariant-loop-first
 invariant-loop-first l = record {
