@@ -1,61 +1,73 @@
 //! Bytes that are no object program.
 
-use crate::fields::write_count;
+use crate::fields::counted;
 use crate::spot::{Spot, spot_at};
 use rpg_cli_text::{Piece, TextWriter};
 use rpg_object_format::fault::Code;
+use rpg_text::{first_line, is_blank};
 use std::alloc::{AllocError, Global};
+
+const SOURCE: &str = "{}: {}: {}: this is a source: compile it first with rpg2 compile\n";
 
 /// The most bytes of a value that are shown.
 const MOST_SHOWN: usize = 32;
 
-/// Writes what was looked for at an offset, and returns how many bytes it has.
-fn write_wanted(out: &mut TextWriter, spot: Option<Spot>) -> usize {
-    let Some(spot) = spot else {
-        out.write_str("the object program ends there");
-        return 1;
-    };
-    out.write_str(spot.part.name);
-    if let Some(row) = spot.row {
-        out.fill(" of {} {}", &[spot.table.into(), row.into()]);
+/// Whether columns 1 to 5 of a card may be its number: they are blanks and digits.
+fn is_numbering(columns: &[u8]) -> bool {
+    for byte in columns {
+        if !matches!(*byte, b' ' | b'0'..=b'9') {
+            return false;
+        }
     }
-    out.write_str(" was looked for there");
-    spot.part.bytes
+    true
 }
 
-/// So many bytes from an offset on, as far as the file goes.
-fn write_bytes(out: &mut TextWriter, bytes: &[u8], offset: usize, count: usize) {
-    for byte in bytes.iter().skip(offset).take(count) {
-        write!(out, " {byte:02x}");
+/// Whether the first line is a card that a source begins with: a comment, an H card, or an F card of an input or an output file.
+fn begins_source(bytes: &[u8]) -> bool {
+    if bytes.is_empty() {
+        return false;
     }
+    let (line, _) = first_line(bytes);
+    let is_card = match (line.get(5), line.get(6), line.get(14)) {
+        (_, Some(b'*'), _) => true,
+        (Some(b'F'), _, Some(b'I' | b'O')) => true,
+        (Some(b'H'), _, _) => is_blank(line.get(6..line.len().min(14)).unwrap_or(&[])),
+        _ => false,
+    };
+    is_card && is_numbering(line.get(..5).unwrap_or(&[]))
+}
+
+/// Writes what was looked for at an offset.
+fn write_wanted(out: &mut TextWriter, spot: Spot) {
+    out.write_str(spot.name);
+    if let Some(row) = spot.row.number {
+        out.fill(" of {} {}", &[spot.row.table.into(), row.into()]);
+    }
+    out.write_str(" was looked for there");
 }
 
 /// What stands at an offset in the place of so many bytes.
 fn write_found(out: &mut TextWriter, bytes: &[u8], offset: usize, count: usize) {
-    match bytes.len().saturating_sub(offset).min(count) {
+    let size = bytes.len();
+    let (bytes_stand, stand) = match size.saturating_sub(offset).min(count) {
         0 => {
-            out.write_str(", and the file has ");
-            write_count(out, bytes.len(), "byte", "bytes");
+            let unit = counted(size, "byte", "bytes");
+            out.fill(", and the file has {} {}", &[size.into(), unit.into()]);
+            return;
         }
-        1 => {
-            out.write_str(", and byte");
-            write_bytes(out, bytes, offset, 1);
-            out.write_str(" stands there");
-        }
-        found => {
-            out.write_str(", and bytes");
-            write_bytes(out, bytes, offset, found.min(MOST_SHOWN));
-            out.write_str(if found > MOST_SHOWN {
-                " .. stand there"
-            } else {
-                " stand there"
-            });
-        }
+        1 => (", and byte", " stands there"),
+        found if found <= MOST_SHOWN => (", and bytes", " stand there"),
+        _ => (", and bytes", " .. stand there"),
+    };
+    out.write_str(bytes_stand);
+    for byte in bytes.iter().skip(offset).take(count.min(MOST_SHOWN)) {
+        write!(out, " {byte:02x}");
     }
+    out.write_str(stand);
 }
 
-/// The diagnostic for bytes that are no object program: the code's sentence, what was looked for at the offset, and what stands there. `path`
-/// names their file.
+/// The diagnostic for bytes that are no object program: the code's sentence, what was looked for at the offset, and what stands there; of a
+/// source, that it has to be compiled. `path` names their file.
 pub fn bytes_message(
     alloc: Global,
     path: &str,
@@ -65,17 +77,25 @@ pub fn bytes_message(
 ) -> Result<String, AllocError> {
     let mut out = TextWriter::new(alloc);
     let path = Piece::Outside(path.as_bytes());
+    let (text, sentence) = (code.text(), code.sentence());
+    if matches!(code, Code::NoObject) && begins_source(bytes) {
+        out.fill(SOURCE, &[path, text.into(), sentence.into()]);
+        return out.finish();
+    }
     out.fill(
         "{}: {}: {}: offset {}: ",
-        &[
-            path,
-            code.text().into(),
-            code.sentence().into(),
-            offset.into(),
-        ],
+        &[path, text.into(), sentence.into(), offset.into()],
     );
-    let count = write_wanted(&mut out, spot_at(bytes, offset));
-    write_found(&mut out, bytes, offset, count);
+    match spot_at(bytes, offset) {
+        Some(spot) => {
+            write_wanted(&mut out, spot);
+            write_found(&mut out, bytes, offset, spot.bytes);
+        }
+        None => {
+            out.write_str("the object program ends there");
+            write_found(&mut out, bytes, offset, 1);
+        }
+    }
     out.write_char('\n');
     out.finish()
 }

@@ -1,181 +1,115 @@
 //! What in a row breaks a rule, in words.
 
-use crate::fields::{asked, write_field, write_indicator, write_operand, write_shows};
+use crate::fields::{write_field, write_indicator, write_indicators, write_operand};
 use crate::rows::write_subroutine;
-use rpg_cli_text::{Piece, TextWriter};
-use rpg_effect::input::{ControlField, InputField};
-use rpg_effect::line::{Editing, LineField, Spacing};
-use rpg_effect::operation::Operand;
+use rpg_cli_text::TextWriter;
+use rpg_effect::condition::Condition;
+use rpg_effect::line::Editing;
+use rpg_effect::operation::{Operand, Shows};
 use rpg_effect::row::{Marks, Use};
 use rpg_object_program::row::Rows;
-use rpg_refusal_causes::{Column, RefusalCause};
-use rpg_verify_rules::Rule;
+use rpg_refusal_causes::{Column, RefusalCause as Cause};
 
-const CODE: &str = "; its code {} is at position {}, and a record has {}";
+/// The sentence of a record type, or how it begins.
+fn type_sentence(cause: Cause) -> &'static str {
+    match cause {
+        Cause::Code { .. } => "; its code {} is at position {}, and a record has {}",
+        Cause::TurnedOn { .. } => "; it turns on ",
+        Cause::Control { .. } => {
+            "; its control field {}, of L{}, is columns {} to {}, and a record has {}"
+        }
+        Cause::Match { .. } => {
+            "; its match field {}, of M{}, is columns {} to {}, and a record has {}"
+        }
+        Cause::Twice { .. } => "; its match field {} is of M{}, as one before it is",
+        Cause::LongLevel { .. } => "; the joined length of L{} is {}, and may be 256",
+        Cause::OtherLevel { .. } => {
+            "; the joined length of L{} is {}, and in the first type that has it {}"
+        }
+        Cause::LongMatches { .. } => {
+            "; the joined length of its match fields is {}, and may be 256"
+        }
+        Cause::OtherMatches { .. } => {
+            "; the joined length of M{} is {}, and in the first type that has match fields {}"
+        }
+        Cause::Input { .. } => "; its input field {} is columns {} to {} of a record's {}, for ",
+        Cause::Shown { .. } => "; its input field {} is for ",
+        Cause::NoSecondary => "; it is of the secondary file",
+        _ => "",
+    }
+}
 
-const CONTROL_FIELD: &str =
-    "; its control field {}, of L{}, is columns {} to {}, and a record has {}";
-
-const MATCH_FIELD: &str = "; its match field {}, of M{}, is columns {} to {}, and a record has {}";
-
-const TWICE_MATCHED: &str = "; its match field {} is of M{}, as one before it is";
-
-const LONG_LEVEL: &str = "; the joined length of L{} is {}, and may be 256";
-
-const OTHER_LEVEL: &str = "; the joined length of L{} is {}, and in the first type that has it {}";
-
-const LONG_MATCHES: &str = "; the joined length of its match fields is {}, and may be 256";
-
-const OTHER_MATCHES: &str =
-    "; the joined length of M{} is {}, and in the first type that has match fields {}";
-
-const INPUT_FIELD: &str = "; its input field {} is columns {} to {} of a record's {}, for ";
-
-const MOVEMENTS: &str = "; it spaces {} before and {} after, and skips to {} before and {} after";
-
-const TARGET: &str = "; it leads to {}; they begin at {} and end at {}";
-
-const STRAY_RETURN: &str = ": the RET at place {} stands in no subroutine";
-
-// ---- record types
-
-fn write_level(out: &mut TextWriter, sentence: &str, at: usize, field: ControlField, columns: u16) {
-    let ControlField {
-        level,
-        from,
-        to,
-        ..
-    } = field;
-    out.fill(
-        sentence,
-        &[
-            at.into(),
-            level.into(),
-            from.into(),
-            to.into(),
-            columns.into(),
-        ],
-    );
+/// The sentence of a cause, or how it begins.
+fn sentence_of(cause: Cause) -> &'static str {
+    match cause {
+        Cause::Overflow { .. } => ": it is ",
+        Cause::Movements { .. } => {
+            "; it spaces {} before and {} after, and skips to {} before and {} after"
+        }
+        Cause::Alternative { .. } => "; its alternative {} asks MR",
+        Cause::Field { .. } => "; its field {} is ",
+        Cause::Asked { .. } => "; its indicators:",
+        Cause::Target { .. } => "; it leads to {}; they begin at {} and end at {}",
+        Cause::Called { .. } => "; it calls subroutine {}",
+        Cause::StrayReturn { .. } => ": the RET at place {} stands in no subroutine",
+        _ => type_sentence(cause),
+    }
 }
 
 /// A joined length, which is counted in 128 bits.
-fn length(columns: u128) -> Piece<'static> {
-    u64::try_from(columns).unwrap_or(u64::MAX).into()
+fn length(columns: u128) -> u64 {
+    u64::try_from(columns).unwrap_or(u64::MAX)
 }
 
-/// A level's joined length, and the one that it has in the first type; all that is too long.
-fn write_joined(out: &mut TextWriter, cause: RefusalCause) {
+/// The numbers in the sentence of a record type.
+fn type_numbers(cause: Cause) -> [u64; 5] {
     match cause {
-        RefusalCause::LongLevel { level, columns } => {
-            out.fill(LONG_LEVEL, &[level.into(), length(columns)]);
-        }
-        RefusalCause::OtherLevel {
-            level,
-            columns,
-            first,
-        } => out.fill(OTHER_LEVEL, &[level.into(), length(columns), length(first)]),
-        RefusalCause::LongMatches { columns } => out.fill(LONG_MATCHES, &[length(columns)]),
-        RefusalCause::OtherMatches {
-            level,
-            columns,
-            first,
-        } => out.fill(
-            OTHER_MATCHES,
-            &[level.into(), length(columns), length(first)],
-        ),
-        _ => {}
-    }
-}
-
-fn write_input(out: &mut TextWriter, rows: &Rows, at: usize, input: InputField<u16>, columns: u16) {
-    let InputField {
-        from,
-        to,
-        field,
-        ..
-    } = input;
-    out.fill(
-        INPUT_FIELD,
-        &[at.into(), from.into(), to.into(), columns.into()],
-    );
-    write_field(out, rows, field);
-}
-
-fn write_shown(out: &mut TextWriter, rows: &Rows, at: usize, input: InputField<u16>) {
-    out.fill("; its input field {} is for ", &[at.into()]);
-    write_field(out, rows, input.field);
-    out.write_str(", with the indicators");
-    write_shows(out, input.shows);
-}
-
-fn write_type_cause(out: &mut TextWriter, rows: &Rows, cause: RefusalCause) {
-    match cause {
-        RefusalCause::Code {
+        Cause::Code {
             at,
             position,
             columns,
-        } => out.fill(CODE, &[at.into(), position.into(), columns.into()]),
-        RefusalCause::TurnedOn { indicator } => {
-            out.write_str("; it turns on ");
-            write_indicator(out, indicator);
+        } => [at as u64, position.into(), columns.into(), 0, 0],
+        Cause::Control { at, field, columns } | Cause::Match { at, field, columns } => {
+            let (level, from, to) = (field.level.into(), field.from.into(), field.to.into());
+            [at as u64, level, from, to, columns.into()]
         }
-        RefusalCause::Control { at, field, columns } => {
-            write_level(out, CONTROL_FIELD, at, field, columns);
+        Cause::Twice { at, level } => [at as u64, level.into(), 0, 0, 0],
+        Cause::LongLevel { level, columns } => [level.into(), length(columns), 0, 0, 0],
+        Cause::LongMatches { columns } => [length(columns), 0, 0, 0, 0],
+        Cause::OtherLevel {
+            level,
+            columns,
+            first,
         }
-        RefusalCause::Match { at, field, columns } => {
-            write_level(out, MATCH_FIELD, at, field, columns);
+        | Cause::OtherMatches {
+            level,
+            columns,
+            first,
+        } => [level.into(), length(columns), length(first), 0, 0],
+        Cause::Input { at, input, columns } => {
+            let (from, to) = (input.from.into(), input.to.into());
+            [at as u64, from, to, columns.into(), 0]
         }
-        RefusalCause::Twice { at, level } => out.fill(TWICE_MATCHED, &[at.into(), level.into()]),
-        RefusalCause::Input { at, input, columns } => write_input(out, rows, at, input, columns),
-        RefusalCause::Shown { at, input } => write_shown(out, rows, at, input),
-        RefusalCause::NoSecondary => out.write_str("; it is of the secondary file"),
-        _ => write_joined(out, cause),
+        Cause::Shown { at, .. } => [at as u64, 0, 0, 0, 0],
+        _ => [0; 5],
     }
 }
 
-// ---- output lines
-
-fn write_movements(out: &mut TextWriter, spacing: Spacing) {
-    let Spacing {
-        space_before,
-        space_after,
-        skip_before,
-        skip_after,
-    } = spacing;
-    out.fill(
-        MOVEMENTS,
-        &[
-            space_before.into(),
-            space_after.into(),
-            skip_before.into(),
-            skip_after.into(),
-        ],
-    );
-}
-
-/// What a field puts out, and where it ends.
-fn write_line_field(out: &mut TextWriter, rows: &Rows, at: usize, field: LineField<u16>) {
-    out.fill("; its field {} is ", &[at.into()]);
-    write_operand(out, rows, field.operand);
-    if let Editing::Word(word) = field.editing {
-        out.write_str(", edited by the word in ");
-        write_field(out, rows, word);
-    }
-    out.fill(", and ends at place {}", &[field.end.into()]);
-}
-
-fn write_line_cause(out: &mut TextWriter, rows: &Rows, cause: RefusalCause) {
+/// The numbers in the sentence of a cause.
+fn numbers_of(cause: Cause) -> [u64; 5] {
     match cause {
-        RefusalCause::Movements { spacing } => write_movements(out, spacing),
-        RefusalCause::Alternative { at } => {
-            out.fill("; its alternative {} asks MR", &[at.into()]);
+        Cause::Movements { spacing } => {
+            let (before, after) = (spacing.space_before.into(), spacing.space_after.into());
+            let (to_before, to_after) = (spacing.skip_before.into(), spacing.skip_after.into());
+            [before, after, to_before, to_after, 0]
         }
-        RefusalCause::Field { at, field } => write_line_field(out, rows, at, field),
-        _ => {}
+        Cause::Alternative { at } | Cause::Field { at, .. } => [at as u64, 0, 0, 0, 0],
+        Cause::Target { target, first, end } => [target.into(), first as u64, end as u64, 0, 0],
+        Cause::Called { subroutine, .. } => [subroutine.into(), 0, 0, 0, 0],
+        Cause::StrayReturn { place } => [place as u64, 0, 0, 0, 0],
+        _ => type_numbers(cause),
     }
 }
-
-// ---- instructions
 
 /// What an operand is, by the name of its column.
 fn write_used(out: &mut TextWriter, rows: &Rows, column: Column, used: Use<Operand<u16>>) {
@@ -187,20 +121,24 @@ fn write_used(out: &mut TextWriter, rows: &Rows, column: Column, used: Use<Opera
     write_operand(out, rows, used.operand);
 }
 
+fn write_shows(out: &mut TextWriter, shows: Shows) {
+    write_indicators(out, [shows.plus, shows.minus, shows.zero]);
+}
+
 /// The indicators of an operation.
 fn write_marks(out: &mut TextWriter, marks: Marks) {
-    match marks {
-        Marks::Unmarked => {}
-        Marks::Shown(shows) | Marks::Wanted(shows) | Marks::Sought(shows) => {
-            out.write_str("; its indicators:");
-            write_shows(out, shows);
-        }
+    if let Marks::Shown(shows) | Marks::Wanted(shows) | Marks::Sought(shows) = marks {
+        out.write_str("; its indicators:");
+        write_shows(out, shows);
     }
 }
 
-/// What a call calls: a subroutine with its level, or one that isn't there.
-fn write_called(out: &mut TextWriter, rows: &Rows, subroutine: u16, level: Option<u16>) {
-    out.fill("; it calls subroutine {}", &[subroutine.into()]);
+fn asked_by(condition: Option<Condition>) -> Option<u8> {
+    Some(condition?.indicator)
+}
+
+/// The level of the subroutine that a call calls, or which there are.
+fn write_called(out: &mut TextWriter, rows: &Rows, level: Option<u16>) {
     match (level, rows.subroutines.len()) {
         (Some(level), _) => out.fill(", of level {}", &[level.into()]),
         (None, 0) => out.write_str("; there is none"),
@@ -209,51 +147,62 @@ fn write_called(out: &mut TextWriter, rows: &Rows, subroutine: u16, level: Optio
     }
 }
 
-fn write_place_cause(out: &mut TextWriter, rows: &Rows, cause: RefusalCause) {
+/// What follows a cause's sentence: what it is about, in words.
+fn write_parts(out: &mut TextWriter, rows: &Rows, row: usize, cause: Cause) {
     match cause {
-        RefusalCause::Operand { column, used } => write_used(out, rows, column, used),
-        RefusalCause::Asked { conditions } => {
-            out.write_str("; its indicators:");
-            write_shows(out, asked(conditions));
+        Cause::Overflow { indicator } | Cause::TurnedOn { indicator } => write_indicator(
+            out, indicator,
+        ),
+        Cause::Input { input, .. } => write_field(out, rows, input.field),
+        Cause::Shown { input, .. } => {
+            write_field(out, rows, input.field);
+            out.write_str(", with the indicators");
+            write_shows(out, input.shows);
         }
-        RefusalCause::Marked { marks } => write_marks(out, marks),
-        RefusalCause::Unordered { marks, used } => {
+        Cause::Field { field, .. } => {
+            write_operand(out, rows, field.operand);
+            if let Editing::Word(word) = field.editing {
+                out.write_str(", edited by the word in ");
+                write_field(out, rows, word);
+            }
+            out.fill(", and ends at place {}", &[field.end.into()]);
+        }
+        Cause::Operand { column, used } => write_used(out, rows, column, used),
+        Cause::Asked { conditions } => {
+            let first = asked_by(conditions.first);
+            let (second, third) = (asked_by(conditions.second), asked_by(conditions.third));
+            write_indicators(out, [first, second, third]);
+        }
+        Cause::Marked { marks } => write_marks(out, marks),
+        Cause::Unordered { marks, used } => {
             write_marks(out, marks);
             write_used(out, rows, Column::Factor2, used);
         }
-        RefusalCause::Index { used, .. } => write_used(out, rows, Column::Factor2, used),
-        RefusalCause::Short { used, entries } => {
+        Cause::Index { used, .. } => write_used(out, rows, Column::Factor2, used),
+        Cause::Short { used, entries } => {
             write_used(out, rows, Column::Result, used);
             out.fill(", and factor 2 has {}", &[entries.into()]);
         }
-        RefusalCause::Target { target, first, end } => {
-            out.fill(TARGET, &[target.into(), first.into(), end.into()]);
+        Cause::Called { level, .. } => write_called(out, rows, level),
+        Cause::ForeignReturn { .. } | Cause::Unended | Cause::Level { .. } => {
+            write_subroutine(out, rows, row);
         }
-        RefusalCause::Called { subroutine, level } => write_called(out, rows, subroutine, level),
         _ => {}
     }
 }
 
 /// What in the row of a rule's table breaks the rule.
-pub(crate) fn write_cause(
-    out: &mut TextWriter,
-    rows: &Rows,
-    rule: Rule,
-    row: usize,
-    cause: RefusalCause,
-) {
-    match (rule, cause) {
-        (Rule::Overflow, RefusalCause::Overflow { indicator }) => {
-            out.write_str(": it is ");
-            write_indicator(out, indicator);
-        }
-        (Rule::Type(_), _) => write_type_cause(out, rows, cause),
-        (Rule::Line(_), _) => write_line_cause(out, rows, cause),
-        (Rule::Place(_), _) => write_place_cause(out, rows, cause),
-        (Rule::Subroutine(_), RefusalCause::StrayReturn { place }) => {
-            out.fill(STRAY_RETURN, &[place.into()]);
-        }
-        (Rule::Subroutine(_), _) => write_subroutine(out, rows, row),
-        (Rule::Overflow, _) => {}
-    }
+pub(crate) fn write_cause(out: &mut TextWriter, rows: &Rows, row: usize, cause: Cause) {
+    let [first, second, third, fourth, fifth] = numbers_of(cause);
+    out.fill(
+        sentence_of(cause),
+        &[
+            first.into(),
+            second.into(),
+            third.into(),
+            fourth.into(),
+            fifth.into(),
+        ],
+    );
+    write_parts(out, rows, row, cause);
 }

@@ -1,92 +1,82 @@
 //! Which row of a program it is.
 
-use crate::fields::write_count;
+use crate::fields::counted;
 use rpg_cli_text::TextWriter;
 use rpg_effect::line::{File, Time};
 use rpg_effect::operation::Instruction;
 use rpg_object_program::Program;
-use rpg_object_program::row::{Rows, Subroutine};
+use rpg_object_program::row::Rows;
 use rpg_object_program::section::Section;
-use rpg_object_program::spans::Span;
 use rpg_refusal_causes::placed_at;
 use rpg_verify_rules::{BrokenRule, Rule};
-
-fn time_name(time: Time) -> &'static str {
-    match time {
-        Time::Heading => "a heading line",
-        Time::Detail => "a detail line",
-        Time::Total => "a total line",
-        Time::Exception => "an exception line",
-    }
-}
 
 /// A line by its number, its time and its file, with the places of that file's lines.
 fn write_line(out: &mut TextWriter, rows: &Rows, row: usize) {
     let Some(line) = rows.lines.get(row) else {
         return;
     };
+    let time = match line.time {
+        Time::Heading => "a heading line",
+        Time::Detail => "a detail line",
+        Time::Total => "a total line",
+        Time::Exception => "an exception line",
+    };
     let file = match line.file {
         File::Printer => "of the printer",
         File::Disk => "of the disk file",
     };
+    let length = usize::from(rows.file_length(line.file));
+    let unit = counted(length, "place", "places");
     out.fill(
-        ": line {}, {} {}, of ",
-        &[row.into(), time_name(line.time).into(), file.into()],
+        ": line {}, {} {}, of {} {}",
+        &[
+            row.into(),
+            time.into(),
+            file.into(),
+            length.into(),
+            unit.into(),
+        ],
     );
-    write_count(
-        out,
-        usize::from(rows.file_length(line.file)),
-        "place",
-        "places",
-    );
-}
-
-/// The name of a section.
-fn write_section(out: &mut TextWriter, span: Span) {
-    match span.section {
-        Section::Detail => out.write_str("the detail calculations"),
-        Section::Total => out.write_str("the total calculations"),
-        Section::Subroutine(number) => {
-            out.fill(
-                "subroutine {}, of level {}",
-                &[number.into(), span.level.into()],
-            );
-        }
-    }
 }
 
 /// Which instruction stands at a place, counted through the whole program.
 pub fn write_instruction_at(out: &mut TextWriter, program: &Program, place: usize) {
     if let Some(placed) = placed_at(program, place) {
+        let span = placed.span;
+        let (sentence, number) = match span.section {
+            Section::Detail => ("the {} at place {} of the detail calculations", 0),
+            Section::Total => ("the {} at place {} of the total calculations", 0),
+            Section::Subroutine(number) => {
+                ("the {} at place {} of subroutine {}, of level {}", number)
+            }
+        };
+        let name = placed.instruction.name();
         out.fill(
-            "the {} at place {} of ",
-            &[placed.instruction.name().into(), place.into()],
+            sentence,
+            &[name.into(), place.into(), number.into(), span.level.into()],
         );
-        write_section(out, placed.span);
     }
 }
 
-/// What a subroutine ends in.
-fn write_end(out: &mut TextWriter, subroutine: &Subroutine) {
+/// A subroutine by its number, with its level and what it ends in.
+pub(crate) fn write_subroutine(out: &mut TextWriter, rows: &Rows, row: usize) {
+    let Some(subroutine) = rows.subroutines.get(row) else {
+        return;
+    };
+    let level = subroutine.level;
+    out.fill(": subroutine {}, of level {}", &[row.into(), level.into()]);
     let Some(last) = subroutine.instructions.last() else {
         out.write_str(", without instructions");
         return;
     };
-    out.write_str(", of ");
     let count = subroutine.instructions.len();
-    write_count(out, count, "instruction", "instructions");
-    out.fill(", the last {}", &[last.name().into()]);
+    let unit = counted(count, "instruction", "instructions");
+    out.fill(
+        ", of {} {}, the last {}",
+        &[count.into(), unit.into(), last.name().into()],
+    );
     if let Instruction::Return { subroutine } = *last {
         out.fill(" of subroutine {}", &[subroutine.into()]);
-    }
-}
-
-/// A subroutine by its number, with its level and its end.
-pub(crate) fn write_subroutine(out: &mut TextWriter, rows: &Rows, row: usize) {
-    if let Some(subroutine) = rows.subroutines.get(row) {
-        let level = subroutine.level;
-        out.fill(": subroutine {}, of level {}", &[row.into(), level.into()]);
-        write_end(out, subroutine);
     }
 }
 

@@ -12,20 +12,12 @@ use std::alloc::{AllocError, Global};
 pub fn rule_message(alloc: Global, path: &str, program: &Program) -> Result<String, AllocError> {
     let mut out = TextWriter::new(alloc);
     if let Some(refusal) = refusal(program) {
-        let rule = refusal.broken.rule;
+        let broken = refusal.broken;
         let path = Piece::Outside(path.as_bytes());
-        out.fill(
-            "{}: V{}: {}",
-            &[path, rule.number().into(), rule.sentence().into()],
-        );
-        write_row(&mut out, program, refusal.broken);
-        write_cause(
-            &mut out,
-            program.rows(),
-            rule,
-            refusal.broken.row,
-            refusal.cause,
-        );
+        let (number, sentence) = (broken.rule.number(), broken.rule.sentence());
+        out.fill("{}: V{}: {}", &[path, number.into(), sentence.into()]);
+        write_row(&mut out, program, broken);
+        write_cause(&mut out, program.rows(), broken.row, refusal.cause);
         out.write_char('\n');
     }
     out.finish()

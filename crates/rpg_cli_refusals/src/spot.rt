@@ -1,26 +1,30 @@
 //! What stands at an offset of an object program's bytes. The counts before it are taken as they are.
 
 use crate::parts::{
-    ALTERNATIVE, CONTROL_FIELD, FIELD, INPUT_FIELD, INSTRUCTION, LINE, LINE_FIELD, MATCH_FIELD,
-    RECORD_CODE, RowPart, RowParts, SUBROUTINE, header_part, part_at, type_part,
+    ALTERNATIVE, CONDITION, CONTROL_FIELD, FIELD, HEADER, HEADER_END, HEADER_END_2, INPUT_FIELD,
+    INSTRUCTION, LINE, LINE_FIELD, MATCH_FIELD, RECORD_CODE, SUBROUTINE, TYPE, TYPE_2,
 };
 use rpg_object_program::row::Version;
+use std::ops::ControlFlow;
 
-/// A part of a row of a table.
+/// A row of a table; the header has no number.
 #[derive(Clone, Copy)]
-pub(crate) struct Spot {
-    pub part: RowPart,
+pub(crate) struct TableRow {
     pub table: &'static str,
-    /// The number of the row in its table; the header has none.
-    pub row: Option<usize>,
+    pub number: Option<usize>,
 }
 
-fn row_spot(part: RowPart, table: &'static str, row: usize) -> Option<Spot> {
-    Some(Spot {
-        part,
-        table,
-        row: Some(row),
-    })
+/// A part of a row: what it is called, and how many bytes it has.
+#[derive(Clone, Copy)]
+pub(crate) struct Spot {
+    pub name: &'static str,
+    pub bytes: usize,
+    pub row: TableRow,
+}
+
+fn row_of(table: &'static str, number: usize) -> TableRow {
+    let number = Some(number);
+    TableRow { table, number }
 }
 
 /// The bytes, the offset that is looked for, and how far the tables were gone through.
@@ -43,6 +47,11 @@ impl Walk<'_> {
         }
     }
 
+    /// A number of two bytes in the row that begins here.
+    fn ahead(&self, place: usize) -> usize {
+        self.number(self.at.saturating_add(place))
+    }
+
     /// The version that the bytes say; 1 where they say another.
     fn version(&self) -> Version {
         match self.number(6) {
@@ -51,157 +60,139 @@ impl Walk<'_> {
         }
     }
 
-    /// A number of two bytes in the row that begins here.
-    fn ahead(&self, place: usize) -> usize {
-        self.number(self.at.saturating_add(place))
-    }
-
-    /// The place of the offset in the next so many bytes. If it is after them, they are passed.
-    fn within(&mut self, count: usize) -> Option<usize> {
-        let place = self.offset.checked_sub(self.at)?;
-        if place < count {
-            return Some(place);
+    /// Goes past a part of a row, or stops in it.
+    fn pass(&mut self, name: &'static str, bytes: usize, row: TableRow) -> ControlFlow<Spot> {
+        let end = self.at.saturating_add(bytes);
+        if self.offset < end {
+            return ControlFlow::Break(Spot { name, bytes, row });
         }
-        self.at = self.at.saturating_add(count);
-        None
+        self.at = end;
+        ControlFlow::Continue(())
     }
-}
 
-fn in_header(walk: &mut Walk<'_>) -> Option<Spot> {
-    let place = walk.within(32)?;
-    Some(Spot {
-        part: header_part(walk.version(), place),
-        table: "header",
-        row: None,
-    })
-}
+    /// Goes past these parts of a row, or stops in one.
+    fn pass_parts(&mut self, parts: &'static str, row: TableRow) -> ControlFlow<Spot> {
+        for part in parts.lines() {
+            if let Some((bytes, name)) = part.split_once(' ') {
+                self.pass(name, bytes.parse().unwrap_or(1), row)?;
+            }
+        }
+        ControlFlow::Continue(())
+    }
 
-fn in_fields(walk: &mut Walk<'_>) -> Option<Spot> {
-    let count = walk.number(18);
-    let place = walk.within(count.saturating_mul(8))?;
-    row_spot(part_at(FIELD, place % 8), "field", place / 8 + 1)
-}
+    /// Goes past these parts of a row, which stand in it so many times.
+    fn pass_all(&mut self, count: usize, parts: &'static str, row: TableRow) -> ControlFlow<Spot> {
+        for _ in 0..count {
+            self.pass_parts(parts, row)?;
+        }
+        ControlFlow::Continue(())
+    }
 
-fn in_values(walk: &mut Walk<'_>) -> Option<Spot> {
-    for field in 0..walk.number(18) {
-        let row = field.saturating_mul(8).saturating_add(32);
-        let length = walk.number(row.saturating_add(2));
-        let entries = walk.number(row.saturating_add(6));
-        if walk.within(length.saturating_mul(entries)).is_some() {
-            let value = RowPart {
-                name: "a first value",
-                bytes: length,
+    fn pass_header(&mut self) -> ControlFlow<Spot> {
+        let header = TableRow {
+            table: "header",
+            number: None,
+        };
+        self.pass_parts(HEADER, header)?;
+        let end = match self.version() {
+            Version::One => HEADER_END,
+            Version::Two => HEADER_END_2,
+        };
+        self.pass_parts(end, header)
+    }
+
+    fn pass_fields(&mut self) -> ControlFlow<Spot> {
+        for field in 1..=self.number(18) {
+            self.pass_parts(FIELD, row_of("field", field))?;
+        }
+        ControlFlow::Continue(())
+    }
+
+    /// Goes past the first values of all fields, whose rows begin behind the header.
+    fn pass_values(&mut self) -> ControlFlow<Spot> {
+        let mut row: usize = 32;
+        for field in 1..=self.number(18) {
+            let length = self.number(row.saturating_add(2));
+            let entries = self.number(row.saturating_add(6));
+            self.pass_entries(entries, length, row_of("field", field))?;
+            row = row.saturating_add(8);
+        }
+        ControlFlow::Continue(())
+    }
+
+    fn pass_entries(&mut self, count: usize, length: usize, row: TableRow) -> ControlFlow<Spot> {
+        for _ in 0..count {
+            self.pass("a first value", length, row)?;
+        }
+        ControlFlow::Continue(())
+    }
+
+    /// Goes past the record types. Version 1 has no match fields.
+    fn pass_types(&mut self) -> ControlFlow<Spot> {
+        for number in 0..self.number(20) {
+            let row = row_of("record type", number);
+            let head = *self;
+            let (parts, matches) = match self.version() {
+                Version::One => (TYPE, 0),
+                Version::Two => (TYPE_2, head.ahead(8)),
             };
-            return row_spot(value, "field", field.saturating_add(1));
+            self.pass_parts(parts, row)?;
+            self.pass_all(head.ahead(2), RECORD_CODE, row)?;
+            self.pass_all(head.ahead(4), CONTROL_FIELD, row)?;
+            self.pass_all(head.ahead(6), INPUT_FIELD, row)?;
+            self.pass_all(matches, MATCH_FIELD, row)?;
         }
+        ControlFlow::Continue(())
     }
-    None
-}
 
-/// The tables of a record type: where its head counts their rows, the bytes of a row, and its parts. Version 1 has no match fields.
-const TYPE_TABLES: [(usize, usize, RowParts); 4] = [
-    (2, 4, RECORD_CODE),
-    (4, 6, CONTROL_FIELD),
-    (6, 10, INPUT_FIELD),
-    (8, 6, MATCH_FIELD),
-];
-
-fn in_type(walk: &mut Walk<'_>, row: usize) -> Option<Spot> {
-    let begin = *walk;
-    let version = walk.version();
-    let (head, tables) = match version {
-        Version::One => (8, 3),
-        Version::Two => (10, 4),
-    };
-    if let Some(place) = walk.within(head) {
-        return row_spot(type_part(version, place), "record type", row);
-    }
-    for (count, bytes, parts) in TYPE_TABLES.iter().take(tables) {
-        let rows = begin.ahead(*count);
-        if let Some(place) = walk.within(rows.saturating_mul(*bytes)) {
-            let part = part_at(parts, place.checked_rem(*bytes)?);
-            return row_spot(part, "record type", row);
+    fn pass_alternatives(&mut self, count: usize, row: TableRow) -> ControlFlow<Spot> {
+        for _ in 0..count {
+            let conditions = self.ahead(0);
+            self.pass_parts(ALTERNATIVE, row)?;
+            self.pass_all(conditions, CONDITION, row)?;
         }
+        ControlFlow::Continue(())
     }
-    None
-}
 
-fn in_types(walk: &mut Walk<'_>) -> Option<Spot> {
-    for row in 0..walk.number(20) {
-        if let Some(spot) = in_type(walk, row) {
-            return Some(spot);
+    fn pass_lines(&mut self) -> ControlFlow<Spot> {
+        for number in 0..self.number(22) {
+            let row = row_of("line", number);
+            let head = *self;
+            self.pass_parts(LINE, row)?;
+            self.pass_alternatives(head.ahead(6), row)?;
+            self.pass_all(head.ahead(8), LINE_FIELD, row)?;
         }
+        ControlFlow::Continue(())
     }
-    None
-}
 
-fn in_alternatives(walk: &mut Walk<'_>, count: usize, row: usize) -> Option<Spot> {
-    for _ in 0..count {
-        let conditions = walk.ahead(0);
-        if let Some(place) = walk.within(conditions.saturating_mul(2).saturating_add(2)) {
-            return row_spot(part_at(ALTERNATIVE, place), "line", row);
+    /// Goes past so many instructions, of which the first has this number, and returns the number after them.
+    fn pass_code(&mut self, count: usize, first: usize) -> ControlFlow<Spot, usize> {
+        let end = first.saturating_add(count);
+        for place in first..end {
+            self.pass_parts(INSTRUCTION, row_of("instruction", place))?;
         }
+        ControlFlow::Continue(end)
     }
-    None
-}
 
-fn in_line(walk: &mut Walk<'_>, row: usize) -> Option<Spot> {
-    let alternatives = walk.ahead(6);
-    let fields = walk.ahead(8);
-    if let Some(place) = walk.within(12) {
-        return row_spot(part_at(LINE, place), "line", row);
-    }
-    if let Some(spot) = in_alternatives(walk, alternatives, row) {
-        return Some(spot);
-    }
-    let place = walk.within(fields.saturating_mul(16))?;
-    row_spot(part_at(LINE_FIELD, place % 16), "line", row)
-}
-
-fn in_lines(walk: &mut Walk<'_>) -> Option<Spot> {
-    for row in 0..walk.number(22) {
-        if let Some(spot) = in_line(walk, row) {
-            return Some(spot);
+    fn pass_calculations(&mut self) -> ControlFlow<Spot> {
+        let total = self.pass_code(self.number(24), 0)?;
+        let mut first = self.pass_code(self.number(26), total)?;
+        for number in 0..self.number(28) {
+            let count = self.ahead(2);
+            self.pass_parts(SUBROUTINE, row_of("subroutine", number))?;
+            first = self.pass_code(count, first)?;
         }
+        ControlFlow::Continue(())
     }
-    None
-}
 
-/// The spot in the next so many instructions, of which the first has this number.
-fn in_instructions(walk: &mut Walk<'_>, count: usize, first: usize) -> Option<Spot> {
-    let place = walk.within(count.saturating_mul(20))?;
-    row_spot(
-        part_at(INSTRUCTION, place % 20),
-        "instruction",
-        first.saturating_add(place / 20),
-    )
-}
-
-fn in_subroutines(walk: &mut Walk<'_>, before: usize) -> Option<Spot> {
-    let mut first = before;
-    for row in 0..walk.number(28) {
-        let count = walk.ahead(2);
-        if let Some(place) = walk.within(4) {
-            return row_spot(part_at(SUBROUTINE, place), "subroutine", row);
-        }
-        if let Some(spot) = in_instructions(walk, count, first) {
-            return Some(spot);
-        }
-        first = first.saturating_add(count);
+    fn pass_program(&mut self) -> ControlFlow<Spot> {
+        self.pass_header()?;
+        self.pass_fields()?;
+        self.pass_values()?;
+        self.pass_types()?;
+        self.pass_lines()?;
+        self.pass_calculations()
     }
-    None
-}
-
-fn in_calculations(walk: &mut Walk<'_>) -> Option<Spot> {
-    let detail = walk.number(24);
-    let total = walk.number(26);
-    if let Some(spot) = in_instructions(walk, detail, 0) {
-        return Some(spot);
-    }
-    if let Some(spot) = in_instructions(walk, total, detail) {
-        return Some(spot);
-    }
-    in_subroutines(walk, detail.saturating_add(total))
 }
 
 /// What was expected at an offset; nothing after the last table.
@@ -211,20 +202,5 @@ pub(crate) fn spot_at(bytes: &[u8], offset: usize) -> Option<Spot> {
         offset,
         at: 0,
     };
-    if let Some(spot) = in_header(&mut walk) {
-        return Some(spot);
-    }
-    if let Some(spot) = in_fields(&mut walk) {
-        return Some(spot);
-    }
-    if let Some(spot) = in_values(&mut walk) {
-        return Some(spot);
-    }
-    if let Some(spot) = in_types(&mut walk) {
-        return Some(spot);
-    }
-    if let Some(spot) = in_lines(&mut walk) {
-        return Some(spot);
-    }
-    in_calculations(&mut walk)
+    walk.pass_program().break_value()
 }
