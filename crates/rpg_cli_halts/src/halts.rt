@@ -1,7 +1,7 @@
 //! Halts.
 
 use crate::again::{HaltedRecord, Lower};
-use crate::columns::{BadColumns, BadInput, bad_columns};
+use crate::columns::{BadInput, bad_columns, columns_of};
 use crate::lines::write_indexed_fields;
 use crate::record::BadRecord;
 use crate::source::{HaltedSource, write_source};
@@ -125,7 +125,7 @@ impl<'a> Found<'a> {
     fn column(self) -> Option<usize> {
         match self {
             Found::Nothing => None,
-            Found::Input(bad, _) => Some(bad.columns.from),
+            Found::Input(bad, _) => Some(usize::from(bad.input.from)),
             Found::Record(bad, _) => Some(bad.column()),
             Found::Lower(lower) => Some(lower.column),
         }
@@ -140,31 +140,22 @@ impl<'a> Found<'a> {
 }
 
 /// What stands in the columns that spell no number.
-fn write_columns(out: &mut TextWriter, bad: BadColumns, text: &[u8]) {
-    let place = bad.column.saturating_sub(1);
+fn write_columns(out: &mut TextWriter, bad: BadInput, text: &[u8]) {
+    let BadInput { input, column, .. } = bad;
+    let character = text.get(column.saturating_sub(1)..column).unwrap_or(&[]);
     out.fill(
         ": columns {} to {} are \"{}\", and {} in column {} is no digit",
         &[
-            bad.from.into(),
-            bad.to.into(),
-            bad.of(text).into(),
-            text.get(place..bad.column).unwrap_or(&[]).into(),
-            bad.column.into(),
+            input.from.into(),
+            input.to.into(),
+            columns_of(text, input).into(),
+            character.into(),
+            column.into(),
         ],
     );
 }
 
-/// How a match value is lower than the one before.
-fn write_lower(out: &mut TextWriter, lower: Lower<'_>) {
-    out.fill(
-        "match value \"{}\" is lower than \"{}\" of record {}",
-        &[
-            lower.value.into(),
-            lower.before.into(),
-            lower.follows.into(),
-        ],
-    );
-}
+const LOWER: &str = "match value \"{}\" is lower than \"{}\" of record {}";
 
 /// What a cycle does that isn't of one record.
 const BETWEEN: &str =
@@ -184,8 +175,9 @@ impl Told<'_> {
         }
     }
 
-    /// Where it halted: the file, with record and column as far as they are known.
-    fn write_spot(self, out: &mut TextWriter) {
+    /// Where it halted, as far as record and column are known, and what was wrong.
+    fn write_halt(self, out: &mut TextWriter) {
+        let halt = self.halted.halt;
         self.write_names(out);
         if let Some((_, record)) = self.record {
             out.fill(":{}", &[record.into()]);
@@ -193,15 +185,18 @@ impl Told<'_> {
         if let Some(column) = self.found.column() {
             out.fill(":{}", &[column.into()]);
         }
-    }
-
-    /// What was wrong.
-    fn write_sentence(self, out: &mut TextWriter) {
-        out.fill(": halt {}: ", &[self.halted.halt.number().into()]);
+        out.fill(": halt {}: ", &[halt.number().into()]);
         match self.found {
             Found::Record(bad, text) => bad.write(out, text),
-            Found::Lower(lower) => write_lower(out, lower),
-            Found::Input(_, _) | Found::Nothing => out.write_str(self.halted.halt.sentence()),
+            Found::Lower(
+                Lower {
+                    value,
+                    before,
+                    follows,
+                    ..
+                },
+            ) => out.fill(LOWER, &[value.into(), before.into(), follows.into()]),
+            Found::Input(_, _) | Found::Nothing => out.write_str(halt.sentence()),
         }
     }
 
@@ -214,39 +209,29 @@ impl Told<'_> {
                 write_instruction_at(out, program, usize::from(place.number));
             }
             (None, Halt::BadIndex, _) => write_indexed_fields(out, program.rows()),
-            (None, _, Found::Input(bad, text)) => write_columns(out, bad.columns, text),
+            (None, _, Found::Input(bad, text)) => write_columns(out, bad, text),
             (None, _, _) => {}
         }
     }
 
-    /// Which record it was, or what the cycle does.
+    /// Which record it was, or what the cycle does, and how many cycles were done before.
     fn write_cycle(self, out: &mut TextWriter) {
-        let cycles = self.halted.cycles;
-        match (self.record, self.halted.halt) {
-            (Some((_, record)), Halt::IndicatorOn) => {
-                out.fill("record {} was the last one", &[record.into()]);
-            }
-            (Some((_, record)), _) => out.fill("it was record {}", &[record.into()]),
-            (None, _) if has_two_files(self.program) => {
-                out.fill("it was cycle {}", &[cycles.into()]);
-            }
-            (None, _) => match cycles.saturating_sub(1) {
-                0 => out.write_str("it was the first cycle, which takes record 1"),
-                before => out.fill(BETWEEN, &[cycles.into(), before.into(), cycles.into()]),
-            },
-        }
-    }
-
-    /// How many cycles were done before.
-    fn write_before(self, out: &mut TextWriter) {
-        match self.halted.cycles.saturating_sub(1) {
-            0 => out.write_str("; no cycle was done before\n"),
-            1 => out.write_str("; 1 cycle was done before, and what was put out stays\n"),
-            before => out.fill(
-                "; {} cycles were done before, and what was put out stays\n",
-                &[before.into()],
-            ),
-        }
+        let cycle = self.halted.cycles;
+        let before = cycle.saturating_sub(1);
+        let (sentence, first) = match (self.record, self.halted.halt, before) {
+            (Some((_, record)), Halt::IndicatorOn, _) => ("record {} was the last one", record),
+            (Some((_, record)), _, _) => ("it was record {}", record),
+            (None, _, _) if has_two_files(self.program) => ("it was cycle {}", cycle),
+            (None, _, 0) => ("it was the first cycle, which takes record 1", cycle),
+            (None, _, _) => (BETWEEN, cycle),
+        };
+        let end = match before {
+            0 => "; no cycle was done before\n",
+            1 => "; 1 cycle was done before, and what was put out stays\n",
+            _ => "; {} cycles were done before, and what was put out stays\n",
+        };
+        out.fill(sentence, &[first.into(), before.into(), cycle.into()]);
+        out.fill(end, &[before.into()]);
     }
 }
 
@@ -285,8 +270,7 @@ pub fn halt_message(
         found,
     };
     let mut out = TextWriter::new(alloc);
-    told.write_spot(&mut out);
-    told.write_sentence(&mut out);
+    told.write_halt(&mut out);
     told.write_place(&mut out);
     out.write_char('\n');
     if let Some(source) = source {
@@ -295,6 +279,5 @@ pub fn halt_message(
     told.write_names(&mut out);
     out.write_str(": ");
     told.write_cycle(&mut out);
-    told.write_before(&mut out);
     out.finish()
 }

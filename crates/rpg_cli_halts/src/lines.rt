@@ -9,10 +9,10 @@ fn write_line(out: &mut TextWriter, line: &Line, number: usize, is_first: bool) 
     let mut is_first = is_first;
     for (at, field) in line.fields.iter().enumerate() {
         if let Index::Field(index) = field.operand.index {
-            out.write_str(if is_first { ": " } else { ", or " });
-            write!(
-                out,
-                "field {at} of output line {number}, with the number in field {index}"
+            let before = if is_first { ": " } else { ", or " };
+            out.fill(
+                "{}field {} of output line {}, with the number in field {}",
+                &[before.into(), at.into(), number.into(), index.into()],
             );
             is_first = false;
         }

@@ -9,6 +9,14 @@ use rpg_verify::Verified;
 /// The most columns of a record in any file.
 const MOST_COLUMNS: usize = 9999;
 
+const UNENDED: &str =
+    "more than 9,999 columns without a line feed: `fold -b -w {}` cuts records of one length into lines";
+
+const BLANK_END: &str =
+    "the record has {} columns, of which {}-{} are blank, and records of this file have {}";
+
+const TOO_LONG: &str = "the record has {} columns, and records of this file have {}";
+
 /// What is wrong with a record.
 #[derive(Clone, Copy)]
 pub(crate) enum BadRecord {
@@ -62,16 +70,14 @@ impl BadRecord {
 fn write_too_long(out: &mut TextWriter, text: &[u8], length: usize) {
     let count = text.len();
     if count > MOST_COLUMNS {
-        write!(
-            out,
-            "more than 9,999 columns without a line feed: `fold -b -w {length}` cuts records of one length into lines"
+        out.fill(UNENDED, &[length.into()]);
+    } else if is_blank(text.get(length..).unwrap_or(&[])) {
+        let first = length.saturating_add(1);
+        out.fill(
+            BLANK_END,
+            &[count.into(), first.into(), count.into(), length.into()],
         );
-        return;
+    } else {
+        out.fill(TOO_LONG, &[count.into(), length.into()]);
     }
-    write!(out, "the record has {count} columns");
-    let first = length.saturating_add(1);
-    if is_blank(text.get(length..).unwrap_or(&[])) {
-        write!(out, ", of which {first}-{count} are blank");
-    }
-    write!(out, ", and records of this file have {length}");
 }

@@ -26,8 +26,7 @@ pub struct HaltedSource<'a> {
 impl HaltedSource<'_> {
     /// Begins a line about a card.
     fn write_card(self, out: &mut TextWriter, card: u16) {
-        out.write_shown(self.path.as_bytes());
-        write!(out, ":{card}: ");
+        out.fill("{}:{}: ", &[self.path.as_bytes().into(), card.into()]);
     }
 
     /// Ends the line about a card, and shows the card.
@@ -51,27 +50,15 @@ fn write_action(
         out.write_char(' ');
     }
     out.write_str(action.name());
-    if let Some(used) = row.factor2 {
-        out.write_char(' ');
-        write_card_operand(out, rows, source, used.operand);
-    }
-    if let Some(used) = row.result {
-        out.write_str(" into ");
-        write_card_operand(out, rows, source, used.operand);
+    for (before, used) in [(" ", row.factor2), (" into ", row.result)] {
+        if let Some(used) = used {
+            out.write_str(before);
+            write_card_operand(out, rows, source, used.operand);
+        }
     }
 }
 
-/// An operation that goes to a label or a subroutine, which stands in its card's factor 2 (33-42).
-fn write_target(out: &mut TextWriter, operation: &str, line: &[u8]) {
-    out.write_str(operation);
-    let end = line.len().min(42);
-    if let Some(name) = line.get(32..end) {
-        out.write_char(' ');
-        out.write_shown(trimmed(name));
-    }
-}
-
-/// What an instruction was made of.
+/// What an instruction was made of; a label or a subroutine that it goes to is in factor 2 (33-42) of its card.
 fn write_made_of(
     out: &mut TextWriter,
     rows: &Rows,
@@ -79,16 +66,19 @@ fn write_made_of(
     line: &[u8],
     instruction: Instruction<u16>,
 ) {
-    match instruction {
-        Instruction::Act(action) => write_action(out, rows, source, action),
-        Instruction::Branch { conditions, .. } if has_conditions(conditions) => {
-            out.write_str("its conditions");
+    let target = trimmed(line.get(32..line.len().min(42)).unwrap_or(&[]));
+    let sentence = match instruction {
+        Instruction::Act(action) => {
+            write_action(out, rows, source, action);
+            return;
         }
-        Instruction::Branch { .. } => write_target(out, "GOTO", line),
-        Instruction::Call { .. } => write_target(out, "EXSR", line),
-        Instruction::Return { .. } => out.write_str("ENDSR"),
-        Instruction::Except => out.write_str("EXCPT"),
-    }
+        Instruction::Branch { conditions, .. } if has_conditions(conditions) => "its conditions",
+        Instruction::Branch { .. } => "GOTO {}",
+        Instruction::Call { .. } => "EXSR {}",
+        Instruction::Return { .. } => "ENDSR",
+        Instruction::Except => "EXCPT",
+    };
+    out.fill(sentence, &[target.into()]);
 }
 
 /// The card of the instruction that halted.
@@ -109,8 +99,8 @@ fn write_instruction(
 
 /// The card of the input field whose columns are no number.
 fn write_input(out: &mut TextWriter, bad: BadInput, source: HaltedSource<'_>) {
-    let name = source.rows.field_name(bad.columns.field);
-    let card = source.rows.input_card(bad.row, bad.input);
+    let name = source.rows.field_name(bad.input.field);
+    let card = source.rows.input_card(bad.row, bad.number);
     if let (Some(name), Some(card)) = (name, card) {
         source.write_card(out, card);
         out.write_shown(name);
