@@ -3,8 +3,9 @@
 use crate::again::{HaltedRecord, Lower};
 use crate::columns::{BadInput, bad_columns, columns_of};
 use crate::lines::write_indexed_fields;
-use crate::record::BadRecord;
+use crate::record::{bad_byte, write_too_long};
 use crate::source::{HaltedSource, write_source};
+use rpg_cli_messages::write_byte_cause;
 use rpg_cli_refusals::write_instruction_at;
 use rpg_cli_text::TextWriter;
 use rpg_effect::halt::Halt;
@@ -93,28 +94,35 @@ struct Told<'a> {
     found: Found<'a>,
 }
 
-/// What is wrong with the record of a halt.
+/// What is wrong with the record of a halt, and its text.
 #[derive(Clone, Copy)]
 enum Found<'a> {
     Nothing,
-    /// Columns of its text that are to be a number.
+    /// Columns that are to be a number.
     Input(BadInput, &'a [u8]),
-    /// Its length, or a byte of its text.
-    Record(BadRecord, &'a [u8]),
+    /// A byte that is no character; its place is counted from 0.
+    Byte(usize, &'a [u8]),
+    /// It is longer than the records of its file, which have so many columns.
+    TooLong(usize, &'a [u8]),
     /// Its match value.
     Lower(Lower<'a>),
 }
 
 impl<'a> Found<'a> {
     fn of(program: &'a Verified, halted: HaltedCycle, record: &'a HaltedRecord) -> Option<Self> {
+        let rows = program.program().rows();
         match (halted.place, halted.halt) {
             (None, Halt::BadRecord) => {
                 let text = record.text();
-                Some(Found::Record(BadRecord::of(program, record.file, text)?, text))
+                let length = usize::from(rows.input_length(record.file));
+                match bad_byte(text) {
+                    Some(place) => Some(Found::Byte(place, text)),
+                    None if text.len() > length => Some(Found::TooLong(length, text)),
+                    None => None,
+                }
             }
             (None, Halt::BadDigit) => {
-                let bad = bad_columns(program.program().rows(), record)?;
-                Some(Found::Input(bad, record.filled()))
+                Some(Found::Input(bad_columns(rows, record)?, record.filled()))
             }
             (None, Halt::OutOfSequence) => Some(Found::Lower(record.lower(program)?)),
             _ => None,
@@ -126,15 +134,8 @@ impl<'a> Found<'a> {
         match self {
             Found::Nothing => None,
             Found::Input(bad, _) => Some(usize::from(bad.input.from)),
-            Found::Record(bad, _) => Some(bad.column()),
+            Found::Byte(before, _) | Found::TooLong(before, _) => Some(before.saturating_add(1)),
             Found::Lower(lower) => Some(lower.column),
-        }
-    }
-
-    fn input(self) -> Option<BadInput> {
-        match self {
-            Found::Input(bad, _) => Some(bad),
-            Found::Nothing | Found::Record(_, _) | Found::Lower(_) => None,
         }
     }
 }
@@ -187,15 +188,16 @@ impl Told<'_> {
         }
         out.fill(": halt {}: ", &[halt.number().into()]);
         match self.found {
-            Found::Record(bad, text) => bad.write(out, text),
-            Found::Lower(
-                Lower {
-                    value,
-                    before,
-                    follows,
-                    ..
-                },
-            ) => out.fill(LOWER, &[value.into(), before.into(), follows.into()]),
+            Found::Byte(place, text) => write_byte_cause(out, text, place),
+            Found::TooLong(length, text) => write_too_long(out, text, length),
+            Found::Lower(lower) => out.fill(
+                LOWER,
+                &[
+                    lower.value.into(),
+                    lower.before.into(),
+                    lower.follows.into(),
+                ],
+            ),
             Found::Input(_, _) | Found::Nothing => out.write_str(halt.sentence()),
         }
     }
@@ -274,7 +276,11 @@ pub fn halt_message(
     told.write_place(&mut out);
     out.write_char('\n');
     if let Some(source) = source {
-        write_source(&mut out, program, halted, found.input(), source);
+        let bad = match found {
+            Found::Input(bad, _) => Some(bad),
+            _ => None,
+        };
+        write_source(&mut out, program, halted, bad, source);
     }
     told.write_names(&mut out);
     out.write_str(": ");
