@@ -3,8 +3,8 @@
 use crate::fields::{write_field, write_indicator, write_indicators, write_operand};
 use crate::rows::write_subroutine;
 use rpg_cli_text::TextWriter;
-use rpg_effect::condition::Condition;
-use rpg_effect::line::Editing;
+use rpg_effect::condition::{Condition, Conditions};
+use rpg_effect::line::{Editing, Spacing};
 use rpg_effect::operation::{Operand, Shows};
 use rpg_effect::row::{Marks, Use};
 use rpg_object_program::row::Rows;
@@ -70,8 +70,8 @@ fn type_numbers(cause: Cause) -> [u64; 5] {
             columns,
         } => [at as u64, position.into(), columns.into(), 0, 0],
         Cause::Control { at, field, columns } | Cause::Match { at, field, columns } => {
-            let (level, from, to) = (field.level.into(), field.from.into(), field.to.into());
-            [at as u64, level, from, to, columns.into()]
+            let (from, to) = (u64::from(field.from), u64::from(field.to));
+            [at as u64, field.level.into(), from, to, columns.into()]
         }
         Cause::Twice { at, level } => [at as u64, level.into(), 0, 0, 0],
         Cause::LongLevel { level, columns } => [level.into(), length(columns), 0, 0, 0],
@@ -87,7 +87,7 @@ fn type_numbers(cause: Cause) -> [u64; 5] {
             first,
         } => [level.into(), length(columns), length(first), 0, 0],
         Cause::Input { at, input, columns } => {
-            let (from, to) = (input.from.into(), input.to.into());
+            let (from, to) = (u64::from(input.from), u64::from(input.to));
             [at as u64, from, to, columns.into(), 0]
         }
         Cause::Shown { at, .. } => [at as u64, 0, 0, 0, 0],
@@ -99,9 +99,13 @@ fn type_numbers(cause: Cause) -> [u64; 5] {
 fn numbers_of(cause: Cause) -> [u64; 5] {
     match cause {
         Cause::Movements { spacing } => {
-            let (before, after) = (spacing.space_before.into(), spacing.space_after.into());
-            let (to_before, to_after) = (spacing.skip_before.into(), spacing.skip_after.into());
-            [before, after, to_before, to_after, 0]
+            let Spacing {
+                space_before: before,
+                space_after: after,
+                skip_before: to,
+                skip_after: to_after,
+            } = spacing;
+            [before.into(), after.into(), to.into(), to_after.into(), 0]
         }
         Cause::Alternative { at } | Cause::Field { at, .. } => [at as u64, 0, 0, 0, 0],
         Cause::Target { target, first, end } => [target.into(), first as u64, end as u64, 0, 0],
@@ -137,6 +141,15 @@ fn asked_by(condition: Option<Condition>) -> Option<u8> {
     Some(condition?.indicator)
 }
 
+/// The indicators that are asked.
+fn asked(conditions: Conditions) -> Shows {
+    Shows {
+        plus: asked_by(conditions.first),
+        minus: asked_by(conditions.second),
+        zero: asked_by(conditions.third),
+    }
+}
+
 /// The level of the subroutine that a call calls, or which there are.
 fn write_called(out: &mut TextWriter, rows: &Rows, level: Option<u16>) {
     match (level, rows.subroutines.len()) {
@@ -150,9 +163,9 @@ fn write_called(out: &mut TextWriter, rows: &Rows, level: Option<u16>) {
 /// What follows a cause's sentence: what it is about, in words.
 fn write_parts(out: &mut TextWriter, rows: &Rows, row: usize, cause: Cause) {
     match cause {
-        Cause::Overflow { indicator } | Cause::TurnedOn { indicator } => write_indicator(
-            out, indicator,
-        ),
+        Cause::Overflow { indicator } | Cause::TurnedOn { indicator } => {
+            write_indicator(out, indicator);
+        }
         Cause::Input { input, .. } => write_field(out, rows, input.field),
         Cause::Shown { input, .. } => {
             write_field(out, rows, input.field);
@@ -169,9 +182,7 @@ fn write_parts(out: &mut TextWriter, rows: &Rows, row: usize, cause: Cause) {
         }
         Cause::Operand { column, used } => write_used(out, rows, column, used),
         Cause::Asked { conditions } => {
-            let first = asked_by(conditions.first);
-            let (second, third) = (asked_by(conditions.second), asked_by(conditions.third));
-            write_indicators(out, [first, second, third]);
+            write_shows(out, asked(conditions));
         }
         Cause::Marked { marks } => write_marks(out, marks),
         Cause::Unordered { marks, used } => {

@@ -43,7 +43,7 @@ fn write_line(out: &mut TextWriter, rows: &Rows, row: usize) {
 pub fn write_instruction_at(out: &mut TextWriter, program: &Program, place: usize) {
     if let Some(placed) = placed_at(program, place) {
         let span = placed.span;
-        let (sentence, number) = match span.section {
+        let (sentence, number): (&str, u16) = match span.section {
             Section::Detail => ("the {} at place {} of the detail calculations", 0),
             Section::Total => ("the {} at place {} of the total calculations", 0),
             Section::Subroutine(number) => {
