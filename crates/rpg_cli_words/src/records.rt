@@ -115,20 +115,41 @@ pub(crate) fn fault_of(given: &ArgMatches) -> Option<&'static str> {
     }
 }
 
-pub(crate) fn records_words<'a>(given: &ArgMatches<'a>) -> Option<Request<'a>> {
+/// The files of a conversion, and which way it goes.
+#[derive(Clone, Copy)]
+struct RecordFiles<'a> {
+    input: &'a str,
+    output: &'a str,
+    deck: &'a str,
+    way: RecordsWay,
+    new_deck: Option<&'a str>,
+}
+
+fn record_files<'a>(given: &ArgMatches<'a>) -> Option<RecordFiles<'a>> {
     let (deck, way) = deck(given)?;
-    Some(Request::Records(RecordsWords {
+    Some(RecordFiles {
         input: given.get_str("IN")?,
         output: given.get_str("OUT")?,
         deck,
         way,
+        new_deck: given.get_str("deck"),
+    })
+}
+
+pub(crate) fn records_words<'a>(given: &ArgMatches<'a>) -> Option<Request<'a>> {
+    let files = record_files(given)?;
+    Some(Request::Records(RecordsWords {
+        input: files.input,
+        output: files.output,
+        deck: files.deck,
+        way: files.way,
         file: given.get_str("file"),
         length: given.get_one::<u16>("length"),
         framing: framing(given),
         is_ascii: given.get_flag("ascii"),
         low_blank: given.get_flag("low-blank"),
         dropped: dropped(given),
-        new_deck: given.get_str("deck"),
+        new_deck: files.new_deck,
         format: format_of(given),
     }))
 }

@@ -490,19 +490,43 @@ fn show_words<'a>(given: &ArgMatches<'a>) -> Option<Request<'a>> {
     }))
 }
 
-/// The words of a run whose program a word names. Where PRINT isn't given, standard output is meant.
-pub(crate) fn run_words<'a>(given: &ArgMatches<'a>, program: FileWord) -> Option<RunWords<'a>> {
-    Some(RunWords {
+/// The files of a run.
+#[derive(Clone, Copy)]
+struct RunFiles<'a> {
+    object: &'a str,
+    input: &'a str,
+    print: &'a str,
+    secondary: Option<&'a str>,
+    disk: Option<&'a str>,
+    source: Option<&'a str>,
+}
+
+/// The files of a run whose program a word names. Where PRINT isn't given, standard output is meant.
+fn run_files<'a>(given: &ArgMatches<'a>, program: FileWord) -> Option<RunFiles<'a>> {
+    Some(RunFiles {
         object: given.get_str(program.name())?,
-        program,
         input: given.get_str("INPUT")?,
         print: given.get_str("PRINT").unwrap_or(STANDARD),
-        date: given.get_str("date").map(DateWord::of),
         secondary: given.get_str("secondary"),
         disk: given.get_str("disk"),
+        source: given.get_str("source"),
+    })
+}
+
+/// The words of a run whose program a word names.
+pub(crate) fn run_words<'a>(given: &ArgMatches<'a>, program: FileWord) -> Option<RunWords<'a>> {
+    let files = run_files(given, program)?;
+    Some(RunWords {
+        object: files.object,
+        program,
+        input: files.input,
+        print: files.print,
+        date: given.get_str("date").map(DateWord::of),
+        secondary: files.secondary,
+        disk: files.disk,
         most: given.get_one::<u64>("most"),
         keeps: given.get_flag("keep"),
-        source: given.get_str("source"),
+        source: files.source,
         looks: look_words(given),
         is_quiet: given.get_flag("quiet"),
         format: format_of(given),
