@@ -15,14 +15,19 @@ fn write_bytes(out: &mut TextWriter, bytes: &[u8]) {
     }
 }
 
+/// Writes a sentence with a number in it.
+fn write_count(out: &mut TextWriter, sentence: &str, count: usize) {
+    out.fill(sentence, &[count.into()]);
+}
+
 fn write_card_fault(out: &mut TextWriter, fault: CardFault) {
     match fault {
         CardFault::TooLong => out.write_str("the card has more than 80 characters"),
         CardFault::NoCharacter => out.write_str("the card has a byte that is no character"),
         CardFault::TooMany => out.write_str("it is card 2,001"),
-        CardFault::Columns { first, last } => write!(
-            out,
-            "columns {first} to {last} have a value that isn't allowed, or a column is filled that must be blank"
+        CardFault::Columns { first, last } => out.fill(
+            "columns {} to {} have a value that isn't allowed, or a column is filled that must be blank",
+            &[first.into(), last.into()],
         ),
         CardFault::Length => out.write_str("a record has 1 to 9,999 bytes: give --length"),
         CardFault::Outside => out.write_str("the columns aren't in the record"),
@@ -32,15 +37,13 @@ fn write_card_fault(out: &mut TextWriter, fault: CardFault) {
         CardFault::NoDecimals => {
             out.write_str("a packed or binary field is a number: it has its decimals in 52")
         }
-        CardFault::Shared { card } => write!(
-            out,
-            "of the type of card {card}, a column is one of characters and of a packed or binary field"
+        CardFault::Shared { card } => out.fill(
+            "of the type of card {}, a column is one of characters and of a packed or binary field",
+            &[card.into()],
         ),
         CardFault::Wide { columns } => {
-            write!(
-                out,
-                "lines would have {columns} columns, and 9,999 are the most"
-            )
+            let sentence = "lines would have {} columns, and 9,999 are the most";
+            write_count(out, sentence, columns)
         }
         CardFault::NoType => out.write_str("the file has no record type on the I cards"),
         CardFault::BytesInLines => out.write_str(
@@ -59,7 +62,7 @@ pub(crate) fn deck_message(
     out.write_shown(path.as_bytes());
     match fault {
         DeckFault::Card { number, fault } => {
-            write!(out, ":{number}: ");
+            out.fill(":{}: ", &[number.into()]);
             write_card_fault(&mut out, fault);
         }
         DeckFault::NoFile => out.write_str(": no card describes such an input file"),
@@ -79,38 +82,48 @@ fn write_number_fault(out: &mut TextWriter, fault: NumberFault) {
 
 /// By one side it is of the type of a card, by the other side of that of another one.
 fn write_types(out: &mut TextWriter, one: &str, card: u16, side: &str, other: Option<u16>) {
-    write!(
-        out,
-        "by its {one} it is of the type of card {card}, by its {side} "
+    out.fill(
+        "by its {} it is of the type of card {}, by its {} ",
+        &[one.into(), card.into(), side.into()],
     );
     match other {
-        Some(other) => write!(out, "of that of card {other}"),
+        Some(other) => out.fill("of that of card {}", &[other.into()]),
         None => out.write_str("of none"),
     }
 }
 
+/// Writes the columns of a field, and its card.
+fn write_columns(out: &mut TextWriter, first: usize, last: usize, card: u16) {
+    out.fill(
+        "columns {} to {} (card {}): ",
+        &[first.into(), last.into(), card.into()],
+    );
+}
+
+fn write_no_character(out: &mut TextWriter, column: usize, byte: u8) {
+    write_count(out, "column {}: ", column);
+    write_bytes(out, &[byte]);
+    out.write_str(": the byte is no character");
+}
+
 fn write_record_fault(out: &mut TextWriter, fault: RecordFault) {
     match fault {
-        RecordFault::Cut { bytes } => write!(out, "the input ends after {bytes} bytes of it"),
+        RecordFault::Cut { bytes } => {
+            write_count(out, "the input ends after {} bytes of it", bytes)
+        }
         RecordFault::NoDescriptor { bytes } => {
             write_bytes(out, &bytes);
             out.write_str(": no record descriptor");
         }
         RecordFault::TooLong { bytes } => {
-            write!(out, "it has {bytes} bytes, more than the cards say")
+            write_count(out, "it has {} bytes, more than the cards say", bytes)
         }
         RecordFault::LongLine { most } => {
-            write!(
-                out,
-                "it has more than {most} bytes, the most that a line can have"
-            )
+            let sentence = "it has more than {} bytes, the most that a line can have";
+            write_count(out, sentence, most)
         }
         RecordFault::NoType => out.write_str("it is of no type"),
-        RecordFault::NoCharacter { column, byte } => {
-            write!(out, "column {column}: ");
-            write_bytes(out, &[byte]);
-            out.write_str(": the byte is no character");
-        }
+        RecordFault::NoCharacter { column, byte } => write_no_character(out, column, byte),
         RecordFault::BadNumber {
             card,
             first,
@@ -118,14 +131,15 @@ fn write_record_fault(out: &mut TextWriter, fault: RecordFault) {
             bytes,
             fault,
         } => {
-            write!(out, "columns {first} to {last} (card {card}): ");
+            write_columns(out, usize::from(first), usize::from(last), card);
             write_bytes(out, bytes.as_slice());
             write_number_fault(out, fault);
         }
         RecordFault::OtherLine { card, other } => write_types(out, "bytes", card, "line", other),
         RecordFault::OtherRecord { card, other } => write_types(out, "line", card, "bytes", other),
         RecordFault::BadDigits { card, first, last } => {
-            write!(out, "columns {first} to {last} (card {card}): no number")
+            write_columns(out, first, last, card);
+            out.write_str("no number");
         }
         RecordFault::TooMany => out.write_str("a file has at most 10,000,000 records"),
     }
@@ -141,7 +155,7 @@ pub(crate) fn record_message(
 ) -> Result<String, AllocError> {
     let mut out = TextWriter::new(alloc);
     out.write_shown(path.as_bytes());
-    write!(out, ": record {number} at byte {offset}: ");
+    out.fill(": record {} at byte {}: ", &[number.into(), offset.into()]);
     write_record_fault(&mut out, fault);
     out.write_char('\n');
     out.finish()
