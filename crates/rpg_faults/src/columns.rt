@@ -61,7 +61,10 @@ pub(crate) fn own_length(
 fn length_of(file: Option<GroupFile>) -> Option<u16>
     ensures { result ≡ option_map (λ f. f.record_length) file }
 {
-    Some(file?.record_length)
+    match file {
+        None => None,
+        Some(file) => Some(file.record_length),
+    }
 }
 
 fn outside_on_input(length: Option<u16>, input: &InputSpec) -> bool

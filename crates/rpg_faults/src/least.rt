@@ -51,7 +51,7 @@ fn first_on_cards(source: &IndexedCards, labels: &Labels) -> Option<Fault>
     let mut seen = Seen::nothing(source, places);
     let mut rest = source.as_slice();
     while let Some((card, after)) = rest.split_first() {
-        if let Some(code) = least_code(&FaultCode::all(), source, labels, &seen, card, after) {
+        if let Some(code) = least_code(source, labels, &seen, card, after) {
             return Some(Fault {
                 card: card.number,
                 code,
@@ -63,9 +63,8 @@ fn first_on_cards(source: &IndexedCards, labels: &Labels) -> Option<Fault>
     None
 }
 
-/// The first of these codes whose rule a card breaks.
+/// The least code whose rule a card breaks.
 fn least_code(
-    codes: &[FaultCode],
     source: &IndexedCards,
     labels: &Labels,
     seen: &Seen,
@@ -74,11 +73,11 @@ fn least_code(
 ) -> Option<FaultCode>
     requires labels { labels.now ≡ source.now }
     requires seen { AreCardsSeen source.now (card.now ∷ after.now) seen.now }
-    ensures { result ≡ find (λ code. rules.rule code seen.now.before.now card.now after.now) codes.now }
+    ensures { result ≡ find (λ code. rules.rule code seen.now.before.now card.now after.now) faults.codes }
 {
-    for code in codes {
-        if breaks(*code, source, labels, seen, card, after) {
-            return Some(*code);
+    for code in FaultCode::all() {
+        if breaks(code, source, labels, seen, card, after) {
+            return Some(code);
         }
     }
     None
