@@ -3,6 +3,7 @@
 use rpg_cards::SpecCard;
 use rpg_faults::{CardFault, SourceCode};
 use rpg_sheet::{Card, Spec};
+use rpg_sheet_specs::{DataCard, DataSpec};
 use rpg_text::{first_line, has_only_characters};
 use std::alloc::{AllocError, Global};
 
@@ -12,7 +13,7 @@ const COLUMNS: usize = 80;
 /// The last card that a source may have.
 const LAST_CARD: u16 = 2000;
 
-/// The lines of a source up to the card that ends it, or to the first one too many; the cards that are on a sheet and can be read; and the cards that
+/// The lines of a source up to the card that ends it, or to the first one too many; the cards that can be read, on a sheet or data; and those that
 /// data begin with.
 #[derive(Drop)]
 pub(crate) struct Deck<'a> {
@@ -41,7 +42,20 @@ fn is_among(faults: &[CardFault], number: u16) -> bool {
     false
 }
 
-/// What a card stands for that can be read; nothing where it is on no sheet.
+/// What a card of data stands for: nothing before data begin, and where it ends the source.
+fn data_of(card: &Card, is_data: bool) -> Option<DataSpec> {
+    if card.ends_source() {
+        None
+    } else if card.begins_data() {
+        Some(DataSpec::Begin)
+    } else if is_data {
+        Some(DataSpec::Card(DataCard::new(card.as_slice())))
+    } else {
+        None
+    }
+}
+
+/// What a card stands for that can be read; nothing where it is neither on a sheet nor data.
 fn spec_of(line: &[u8], is_data: bool) -> Option<Spec> {
     if line.len() > COLUMNS {
         return None;
@@ -50,8 +64,10 @@ fn spec_of(line: &[u8], is_data: bool) -> Option<Spec> {
         return None;
     }
     let card = Card::new(line);
-    let sheet = card.sheet(is_data)?;
-    card.read(sheet).ok()
+    match card.sheet(is_data) {
+        Some(sheet) => card.read(sheet).ok(),
+        None => data_of(&card, is_data).map(Spec::Data),
+    }
 }
 
 impl<'a> Deck<'a> {
