@@ -1,0 +1,51 @@
+-- F10, F12, F13, F14 and F15 as rpg_faults has them.
+use Rattle.std.proofs.Common.{◌≡◌, ◌||◌, List, ◌∷◌, ◌++◌, refl}
+use Rattle.rpg_cards.specs.declared.spec_card.SpecCard.{SpecCard}
+use Rattle.rpg_deck.specs.Flat.{IsInOrder}
+use Rattle.rpg_deck.specs.Tree.{tree}
+use Rattle.rpg_deck_laws.proofs.Broken.{apart-broken, nowhere-broken, order-broken, recursion-broken, rounding-broken}
+use Rattle.rpg_deck_laws.proofs.Each.{AreBroken, broken-same}
+use Rattle.rpg_deck_laws.specs.Rules.{leaving_cards, lost_cards, misplaced_cards, recursive_cards, wrongly_rounding_cards}
+use Rattle.rpg_faults.specs.Rules.{rule}
+use Rattle.rpg_faults.specs.declared.code.FaultCode.TheVariants.{F10, F12, F13, F14, F15}
+use Rattle.rpg_faults_flow.specs.Flow.{calls_itself, goes_apart, goes_nowhere}
+use Rattle.rpg_faults_flow.specs.Order.{breaks_order}
+use Rattle.rpg_faults_flow.specs.Rounding.{bad_rounding}
+use Rattle.rpg_faults_limits.specs.Order.{strays}
+
+module _ (before : List SpecCard) (c : SpecCard) (after : List SpecCard) where
+  rule-f10 : goes_nowhere (before ++ c ∷ after) before c after ≡ rule F10 before c after
+  unfolding rule
+  rule-f10 = refl
+
+  rule-f12 : (breaks_order before c after || strays before c) ≡ rule F12 before c after
+  unfolding rule
+  rule-f12 = refl
+
+  rule-f13 : goes_apart (before ++ c ∷ after) before c after ≡ rule F13 before c after
+  unfolding rule
+  rule-f13 = refl
+
+  rule-f14 : calls_itself (before ++ c ∷ after) before c after ≡ rule F14 before c after
+  unfolding rule
+  rule-f14 = refl
+
+  rule-f15 : bad_rounding before c after ≡ rule F15 before c after
+  unfolding rule
+  rule-f15 = refl
+
+module _ (cards : List SpecCard) (ordered : IsInOrder 0 cards) where
+  pub f10-broken : AreBroken (rule F10) cards (lost_cards (tree cards))
+  f10-broken = broken-same (λ b c a. goes_nowhere (b ++ c ∷ a) b c a) (rule F10) cards (lost_cards (tree cards)) (λ b c a split. rule-f10 b c a) (nowhere-broken cards ordered)
+
+  pub f12-broken : AreBroken (rule F12) cards (misplaced_cards (tree cards))
+  f12-broken = broken-same (λ b c a. breaks_order b c a || strays b c) (rule F12) cards (misplaced_cards (tree cards)) (λ b c a split. rule-f12 b c a) (order-broken cards ordered)
+
+  pub f13-broken : AreBroken (rule F13) cards (leaving_cards (tree cards))
+  f13-broken = broken-same (λ b c a. goes_apart (b ++ c ∷ a) b c a) (rule F13) cards (leaving_cards (tree cards)) (λ b c a split. rule-f13 b c a) (apart-broken cards ordered)
+
+  pub f14-broken : AreBroken (rule F14) cards (recursive_cards (tree cards))
+  f14-broken = broken-same (λ b c a. calls_itself (b ++ c ∷ a) b c a) (rule F14) cards (recursive_cards (tree cards)) (λ b c a split. rule-f14 b c a) (recursion-broken cards ordered)
+
+  pub f15-broken : AreBroken (rule F15) cards (wrongly_rounding_cards (tree cards))
+  f15-broken = broken-same bad_rounding (rule F15) cards (wrongly_rounding_cards (tree cards)) (λ b c a split. rule-f15 b c a) (rounding-broken cards ordered)

@@ -1,0 +1,4 @@
+pub mod Numbers
+pub mod Order
+pub mod Rounding
+pub mod Rules

@@ -1,0 +1,108 @@
+-- F12 over a tree: sections out of order, BEGSR and ENDSR that aren't paired, and cards that need one before them.
+use Rattle.std.specs.Prelude.{ℕ, max, nat_lt, List, [], ◌∷◌, ◌++◌, Bool, true, false, not, ◌&&◌, ◌||◌, if◌then◌else◌}
+use Rattle.std.specs.List.{flat_map}
+use Rattle.rpg_cards.specs.Groups.{joins}
+use Rattle.rpg_cards.specs.Sections.{is_subroutine}
+use Rattle.rpg_cards.specs.declared.labels.Section.{Section}
+use Rattle.rpg_cards.specs.declared.labels.Section.TheVariants.{Detail, Outside, Subroutine, Total}
+use Rattle.rpg_deck.specs.Cut.{Sheet}
+use Rattle.rpg_deck.specs.Steps.{Step, begins, control_of, ends, group_deed}
+use Rattle.rpg_deck.specs.declared.card.Card.{Card}
+use Rattle.rpg_deck_laws.specs.Numbers.{one_if}
+use Rattle.rpg_faults_flow.specs.Order.{is_bracket, section_rank}
+use Rattle.rpg_faults_limits.specs.Order.{takes_codes, takes_conditions}
+use Rattle.rpg_sheet_specs.specs.declared.input.InputSpec.{InputSpec}
+use Rattle.rpg_sheet_specs.specs.declared.input.InputSpec.TheVariants as input
+use Rattle.rpg_sheet_specs.specs.declared.output.OutputSpec.{OutputSpec}
+use Rattle.rpg_sheet_specs.specs.declared.output.OutputSpec.TheVariants as output
+
+-- ---- C cards
+
+-- the place of a step's section in the order of the sections
+abbrev pub rank : Step → ℕ
+rank s = section_rank (control_of s.group)
+
+-- in no section
+abbrev pub is_outside : Section → Bool
+is_outside Detail = false
+is_outside Total = false
+is_outside (Subroutine n) = false
+is_outside Outside = true
+
+-- SR in columns 7 and 8, and in no subroutine
+abbrev pub is_loose : Step → Bool
+is_loose s = is_subroutine (control_of s.group) && is_outside s.section
+
+-- its operation is BEGSR or ENDSR
+abbrev pub has_bracket : Step → Bool
+has_bracket s = is_bracket (group_deed s.group)
+
+-- an AN or OR card that goes on with nothing, a section that belongs above one that stands above it, or SR in no subroutine
+abbrev pub is_misplaced : ℕ → Step → Bool
+is_misplaced highest s = joins (control_of s.group) || (nat_lt (rank s) highest || (is_loose s && not (has_bracket s)))
+
+-- the first cards of misplaced steps, where the last of the sections above has this place
+abbrev pub misplaced_from : ℕ → List Step → List ℕ
+misplaced_from highest [] = []
+misplaced_from highest (s ∷ ss) = one_if (is_misplaced highest s) s.group.first.number ++ misplaced_from (max highest (rank s)) ss
+
+-- of the BEGSR and ENDSR of SR cards the next is an ENDSR
+abbrev pub is_closed : List Step → Bool
+is_closed [] = false
+is_closed (s ∷ ss) = if begins s.group then false else if ends s.group then true else is_closed ss
+
+-- BEGSR or ENDSR without SR, ENDSR in no subroutine, or a BEGSR that no ENDSR closes
+abbrev pub is_unpaired : Step → List Step → Bool
+is_unpaired s after =
+    (has_bracket s && not (is_subroutine (control_of s.group)))
+    || ((ends s.group && is_outside s.section) || (begins s.group && not (is_closed after)))
+
+-- ---- I and O cards
+
+module _ {X : Type 0} (goes_on takes : X → Bool) where
+  -- the cards that have to go on with the card right before them, where that takes none such
+  abbrev pub cut_off : Bool → List (Card X) → List ℕ
+  cut_off taken [] = []
+  cut_off taken (c ∷ cs) = one_if (goes_on c.spec && not taken) c.number ++ cut_off (takes c.spec) cs
+
+  -- those of a sheet: the card that a group begins with takes them
+  abbrev pub cut_off_in : Sheet (Card X) → List ℕ
+  cut_off_in s = cut_off false s.strays ++ flat_map (λ g. cut_off true g.followers) s.groups
+
+-- the cards that pass a test
+abbrev pub numbers_of : {X : Type 0} → (X → Bool) → List (Card X) → List ℕ
+numbers_of test cs = flat_map (λ c. one_if (test c.spec) c.number) cs
+
+-- an AND card of a record type
+abbrev pub is_and : InputSpec → Bool
+is_and (input.Type t) = false
+is_and (input.And codes) = true
+is_and (input.Field f) = false
+
+-- a field card of a record type
+abbrev pub is_input_field : InputSpec → Bool
+is_input_field (input.Type t) = false
+is_input_field (input.And codes) = false
+is_input_field (input.Field f) = true
+
+-- AND cards without codes right before them, and fields of no record type
+abbrev pub strays_on_input : Sheet (Card InputSpec) → List ℕ
+strays_on_input s = cut_off_in is_and takes_codes s ++ numbers_of is_input_field s.strays
+
+-- an AND or OR card of a line
+abbrev pub is_and_or : OutputSpec → Bool
+is_and_or (output.Record r) = false
+is_and_or (output.And t) = true
+is_and_or (output.Or t) = true
+is_and_or (output.Field f) = false
+
+-- a field card of a line
+abbrev pub is_output_field : OutputSpec → Bool
+is_output_field (output.Record r) = false
+is_output_field (output.And t) = false
+is_output_field (output.Or t) = false
+is_output_field (output.Field f) = true
+
+-- AND and OR cards without conditions right before them, and fields of no line
+abbrev pub strays_on_output : Sheet (Card OutputSpec) → List ℕ
+strays_on_output s = cut_off_in is_and_or takes_conditions s ++ numbers_of is_output_field s.strays
