@@ -1,7 +1,6 @@
 //! The cards of a source, each with its faults below it.
 
 use crate::chart::write_ruler;
-use crate::deck::Deck;
 use rpg_cards::IndexedCards;
 use rpg_cli_messages::{write_first, write_note};
 use rpg_cli_text::TextWriter;
@@ -43,7 +42,7 @@ fn write_faults<'f>(
 /// Writes the cards below a ruler. The faults are in the order of cards, those of the whole source first.
 pub(crate) fn write_cards(
     out: &mut TextWriter,
-    deck: &Deck,
+    lines: &[&[u8]],
     source: &IndexedCards,
     faults: &[CardFault],
 ) {
@@ -51,7 +50,7 @@ pub(crate) fn write_cards(
     write_ruler(out, 80);
     out.write_char('\n');
     let mut rest = write_faults(out, 0, &[], source, faults);
-    for (place, line) in deck.lines.iter().enumerate() {
+    for (place, line) in lines.iter().enumerate() {
         let number = place.saturating_add(1);
         write_card(out, number, line);
         rest = write_faults(out, number, line, source, rest);

@@ -13,13 +13,11 @@ const COLUMNS: usize = 80;
 /// The last card that a source may have.
 const LAST_CARD: u16 = 2000;
 
-/// The lines of a source up to the card that ends it, or to the first one too many; the cards that can be read, on a sheet or data; and those that
-/// data begin with.
+/// The lines of a source up to the card that ends it, or to the first one too many; and the cards that can be read, on a sheet or data.
 #[derive(Drop)]
-pub(crate) struct Deck<'a> {
+pub(crate) struct ReadCards<'a> {
     pub lines: Vec<&'a [u8]>,
     pub cards: Vec<SpecCard>,
-    pub beginnings: Vec<u16>,
 }
 
 /// Whether a line has these two characters and then a blank, or its end.
@@ -70,7 +68,7 @@ fn spec_of(line: &[u8], is_data: bool) -> Option<Spec> {
     }
 }
 
-impl<'a> Deck<'a> {
+impl<'a> ReadCards<'a> {
     fn take(
         &mut self,
         number: u16,
@@ -82,9 +80,6 @@ impl<'a> Deck<'a> {
         if is_among(faults, number) {
             return Ok(());
         }
-        if begins_with(line, b"**") {
-            self.beginnings.push(number)?;
-        }
         if let Some(spec) = spec_of(line, is_data) {
             self.cards.push(SpecCard { number, spec })?;
         }
@@ -92,11 +87,10 @@ impl<'a> Deck<'a> {
     }
 
     /// The cards of a source that has these faults.
-    pub fn read(alloc: Global, source: &'a [u8], faults: &[CardFault]) -> Result<Self, AllocError> {
-        let mut deck = Deck {
+    pub fn of(alloc: Global, source: &'a [u8], faults: &[CardFault]) -> Result<Self, AllocError> {
+        let mut read = ReadCards {
             lines: Vec::new(alloc),
             cards: Vec::new(alloc),
-            beginnings: Vec::new(alloc),
         };
         let mut rest = source;
         let mut is_data = false;
@@ -105,13 +99,13 @@ impl<'a> Deck<'a> {
                 break;
             }
             let (line, more) = first_line(rest);
-            deck.take(number, line, is_data, faults)?;
+            read.take(number, line, is_data, faults)?;
             if begins_with(line, b"/*") {
                 break;
             }
             is_data = is_data || begins_with(line, b"**");
             rest = more;
         }
-        Ok(deck)
+        Ok(read)
     }
 }

@@ -1,10 +1,11 @@
 //! The files of a source.
 
-use rpg_cards::{FileUse, IndexedCards, SpecCard, use_of};
+use rpg_cards::{FileUse, use_of};
 use rpg_cli_list_names::{By, Mentions, overflow_of};
 use rpg_cli_show_fields::{name_text, write_named};
 use rpg_cli_text::TextWriter;
-use rpg_sheet_specs::{FileSpec, Word};
+use rpg_deck::{Card, Tree};
+use rpg_sheet_specs::{FileSpec, InputSpec, OutputSpec, Word};
 use std::alloc::{AllocError, Global};
 
 /// How many columns stand before the further cards that name a file.
@@ -36,25 +37,38 @@ pub(crate) fn write_heading(
     out.write_char('\n');
 }
 
-/// The file that a record type or a line names.
-fn named_on(card: &SpecCard) -> Option<&Word<8>> {
-    match (card.record_type(), card.line()) {
-        (Some(record_type), _) => record_type.file.as_ref(),
-        (None, Some(line)) => line.file.as_ref(),
-        (None, None) => None,
+/// Whether a card names the file.
+fn is_named(file: &Option<Word<8>>, name: &Word<8>) -> bool {
+    match file {
+        Some(named) => named == name,
+        None => false,
     }
 }
 
-/// The cards of record types and lines that name a file.
-fn cards_with(alloc: Global, cards: &[SpecCard], name: &Word<8>) -> Result<Mentions, AllocError> {
-    let mut mentions = Mentions::new(alloc);
-    for card in cards {
-        match named_on(card) {
-            Some(named) if named == name => mentions.note(By::Using, card.number)?,
+/// Notes the cards of record types that name a file.
+fn note_types(mentions: &mut Mentions, tree: &Tree, name: &Word<8>) -> Result<(), AllocError> {
+    for group in &tree.types.groups {
+        match group.first.spec {
+            InputSpec::Type(record_type) if is_named(&record_type.file, name) => {
+                mentions.note(By::Using, group.first.number)?;
+            }
             _ => {}
         }
     }
-    Ok(mentions)
+    Ok(())
+}
+
+/// Notes the cards of lines that name a file.
+fn note_lines(mentions: &mut Mentions, tree: &Tree, name: &Word<8>) -> Result<(), AllocError> {
+    for group in &tree.lines.groups {
+        match group.first.spec {
+            OutputSpec::Record(record) if is_named(&record.file, name) => {
+                mentions.note(By::Using, group.first.number)?;
+            }
+            _ => {}
+        }
+    }
+    Ok(())
 }
 
 fn write_file(out: &mut TextWriter, card: u16, file: &FileSpec) {
@@ -76,11 +90,10 @@ fn write_file(out: &mut TextWriter, card: u16, file: &FileSpec) {
 }
 
 /// Whether a file is described on one of these cards.
-fn is_among(cards: &[SpecCard], name: &Word<8>) -> bool {
+fn is_among(cards: &[Card<&FileSpec>], name: &Word<8>) -> bool {
     for card in cards {
-        match card.file() {
-            Some(file) if file.name == *name => return true,
-            _ => {}
+        if card.spec.name == *name {
+            return true;
         }
     }
     false
@@ -90,23 +103,21 @@ fn is_among(cards: &[SpecCard], name: &Word<8>) -> bool {
 pub(crate) fn write_files(
     alloc: Global,
     out: &mut TextWriter,
-    source: &IndexedCards,
+    tree: &Tree,
 ) -> Result<(), AllocError> {
-    let cards = source.as_slice();
-    let mut is_first = true;
-    for (place, card) in cards.iter().enumerate() {
-        let before = cards.get(..place).unwrap_or(&[]);
-        match card.file() {
-            Some(file) if !is_among(before, &file.name) => {
-                if is_first {
-                    out.write_str("\nFILES\n");
-                }
-                is_first = false;
-                write_file(out, card.number, file);
-                cards_with(alloc, cards, &file.name)?.write_lines(out, By::Using, NAMED);
-                out.write_char('\n');
-            }
-            _ => {}
+    if !tree.files.is_empty() {
+        out.write_str("\nFILES\n");
+    }
+    for (place, card) in tree.files.iter().enumerate() {
+        let before = tree.files.get(..place).unwrap_or(&[]);
+        let name = &card.spec.name;
+        if !is_among(before, name) {
+            write_file(out, card.number, card.spec);
+            let mut mentions = Mentions::new(alloc);
+            note_types(&mut mentions, tree, name)?;
+            note_lines(&mut mentions, tree, name)?;
+            mentions.write_lines(out, By::Using, NAMED);
+            out.write_char('\n');
         }
     }
     Ok(())

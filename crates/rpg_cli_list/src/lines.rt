@@ -3,11 +3,12 @@
 use crate::chart::{Chart, first_place};
 use crate::files::{length_words, write_heading};
 use crate::picture::picture_of;
-use rpg_cards::{FileUse, IndexedCards, SpecCard, in_places, time_of, use_of};
+use rpg_cards::{FileUse, IndexedCards, in_places, time_of, use_of};
 use rpg_cli_show_fields::{
     name_text, time_word, write_code, write_quoted, write_spacing, write_when,
 };
 use rpg_cli_text::TextWriter;
+use rpg_deck::{Card, Tree};
 use rpg_edit_marks::Fill;
 use rpg_effect::line::Spacing;
 use rpg_faults_operands::fill_in;
@@ -48,7 +49,7 @@ fn write_head(
     card: u16,
     record: &OutputRecord,
     file: Option<&FileSpec>,
-    followers: &[SpecCard],
+    followers: &[Card<&OutputSpec>],
 ) {
     let time = time_word(time_of(record.time));
     out.fill("  line, card {}: {}", &[card.into(), time.into()]);
@@ -60,20 +61,25 @@ fn write_head(
     }
     write_when(out, ", when", in_places(record.conditions));
     for card in followers {
-        match card.output() {
-            Some(OutputSpec::And(conditions)) => write_when(out, " and", in_places(*conditions)),
-            Some(OutputSpec::Or(conditions)) => write_when(out, ", or", in_places(*conditions)),
-            _ => {}
+        match card.spec {
+            OutputSpec::And(conditions) => write_when(out, " and", in_places(*conditions)),
+            OutputSpec::Or(conditions) => write_when(out, ", or", in_places(*conditions)),
+            OutputSpec::Record(_) | OutputSpec::Field(_) => {}
         }
     }
     out.write_char('\n');
 }
 
 /// Draws the fields of a line.
-fn write_chart(out: &mut TextWriter, source: &IndexedCards, length: u16, followers: &[SpecCard]) {
+fn write_chart(
+    out: &mut TextWriter,
+    source: &IndexedCards,
+    length: u16,
+    followers: &[Card<&OutputSpec>],
+) {
     let mut chart = Chart::new(length, b' ');
     for card in followers {
-        if let Some(field) = card.output_field() {
+        if let OutputSpec::Field(field) = card.spec {
             draw_field(&mut chart, source, field);
         }
     }
@@ -143,14 +149,14 @@ fn write_line(
     out: &mut TextWriter,
     source: &IndexedCards,
     file: Option<&FileSpec>,
-    followers: &[SpecCard],
+    followers: &[Card<&OutputSpec>],
 ) {
     if let Some(file) = file {
         write_chart(out, source, file.record_length, followers);
     }
     let mut is_first = true;
     for card in followers {
-        if let Some(field) = card.output_field() {
+        if let OutputSpec::Field(field) = card.spec {
             if is_first {
                 out.write_str("    card  places     printed\n");
             }
@@ -160,23 +166,12 @@ fn write_line(
     }
 }
 
-/// Those of these cards before the next line.
-fn before_line(cards: &[SpecCard]) -> &[SpecCard] {
-    for (place, card) in cards.iter().enumerate() {
-        if card.line().is_some() {
-            return cards.get(..place).unwrap_or(&[]);
-        }
-    }
-    cards
-}
-
 /// Writes all lines as they are put out.
-pub(crate) fn write_lines(out: &mut TextWriter, source: &IndexedCards) {
-    let cards = source.as_slice();
+pub(crate) fn write_lines(out: &mut TextWriter, source: &IndexedCards, tree: &Tree) {
     let mut file = None;
     let mut is_first = true;
-    for (place, card) in cards.iter().enumerate() {
-        let Some(record) = card.line() else {
+    for group in &tree.lines.groups {
+        let OutputSpec::Record(record) = group.first.spec else {
             continue;
         };
         if let Some(name) = &record.file {
@@ -190,8 +185,7 @@ pub(crate) fn write_lines(out: &mut TextWriter, source: &IndexedCards) {
             write_heading(out, "LINES", record.file.as_ref(), file, counted);
         }
         is_first = false;
-        let followers = before_line(cards.get(place + 1..).unwrap_or(&[]));
-        write_head(out, card.number, record, file, followers);
-        write_line(out, source, file, followers);
+        write_head(out, group.first.number, record, file, group.followers);
+        write_line(out, source, file, group.followers);
     }
 }

@@ -1,7 +1,7 @@
 //! The listing of a source.
 
 use crate::cards::write_cards;
-use crate::deck::{Deck, is_unread};
+use crate::deck::{ReadCards, is_unread};
 use crate::files::write_files;
 use crate::lines::write_lines;
 use crate::records::write_records;
@@ -9,6 +9,7 @@ use crate::tables::write_tables;
 use rpg_cards::IndexedCards;
 use rpg_cli_list_names::{Indicators, Labels, Names, write_constants};
 use rpg_cli_text::TextWriter;
+use rpg_deck::{Deck, Tree};
 use rpg_faults::{CardFault, source_faults};
 use std::alloc::{AllocError, Global};
 
@@ -44,35 +45,36 @@ fn write_fields(
     write_constants(alloc, out, source.as_slice(), names.count())
 }
 
-/// Writes what the cards describe and name; the data of tables begin on these cards.
+/// Writes what the cards describe and name.
 fn write_contents(
     alloc: Global,
     out: &mut TextWriter,
     source: &IndexedCards,
-    beginnings: &[u16],
 ) -> Result<(), AllocError> {
     let cards = source.as_slice();
-    write_files(alloc, out, source)?;
-    write_tables(out, cards, beginnings);
-    write_records(out, source);
+    let deck = Deck::new(alloc, cards)?;
+    let tree = Tree::of(alloc, &deck)?;
+    write_files(alloc, out, &tree)?;
+    write_tables(out, &tree);
+    write_records(out, source, &tree);
     write_fields(alloc, out, source)?;
     Labels::of(alloc, cards)?.write(out);
     Indicators::of(alloc, cards)?.write(out);
-    write_lines(out, source);
+    write_lines(out, source, &tree);
     Ok(())
 }
 
-fn deck_text(
+fn cards_text(
     alloc: Global,
     path: &str,
-    deck: &Deck,
+    read: &ReadCards,
     faults: &[CardFault],
 ) -> Result<String, AllocError> {
-    let source = IndexedCards::new(alloc, &deck.cards)?;
+    let source = IndexedCards::new(alloc, &read.cards)?;
     let mut out = TextWriter::new(alloc);
-    write_head(&mut out, path, deck.lines.len(), faults);
-    write_cards(&mut out, deck, &source, faults);
-    write_contents(alloc, &mut out, &source, &deck.beginnings)?;
+    write_head(&mut out, path, read.lines.len(), faults);
+    write_cards(&mut out, &read.lines, &source, faults);
+    write_contents(alloc, &mut out, &source)?;
     out.finish()
 }
 
@@ -83,6 +85,6 @@ pub fn source_listing(alloc: Global, path: &str, source: &[u8]) -> Result<String
     let Ok(faults) = source_faults(alloc, source) else {
         return Err(AllocError);
     };
-    let deck = Deck::read(alloc, source, &faults)?;
-    deck_text(alloc, path, &deck, &faults)
+    let read = ReadCards::of(alloc, source, &faults)?;
+    cards_text(alloc, path, &read, &faults)
 }

@@ -3,9 +3,10 @@
 use crate::chart::{Chart, MOST_DRAWN};
 use crate::files::write_heading;
 use crate::tables::write_decimals;
-use rpg_cards::{IndexedCards, SpecCard, number_of, shows_of};
+use rpg_cards::{IndexedCards, number_of, shows_of};
 use rpg_cli_show_fields::{name_text, write_named, write_quoted, write_shows};
 use rpg_cli_text::TextWriter;
+use rpg_deck::{Card, Tree};
 use rpg_sheet_specs::{FileSpec, InputField, InputSpec, RecordCode, RecordType, Three};
 
 /// Which type it is, and what it turns on.
@@ -37,11 +38,11 @@ fn write_all_codes(
     out: &mut TextWriter,
     card: u16,
     codes: &Three<Option<RecordCode>>,
-    followers: &[SpecCard],
+    followers: &[Card<&InputSpec>],
 ) {
     let mut is_any = write_codes(out, card, codes) == 0;
     for card in followers {
-        if let Some(InputSpec::And(codes)) = card.input() {
+        if let InputSpec::And(codes) = card.spec {
             write_codes(out, card.number, codes);
             is_any = false;
         }
@@ -81,10 +82,10 @@ fn write_field(out: &mut TextWriter, card: u16, field: &InputField) {
 }
 
 /// Draws the record: an X for each character of a text, a 9 for each digit, a point in no field.
-fn write_layout(out: &mut TextWriter, length: u16, followers: &[SpecCard]) {
+fn write_layout(out: &mut TextWriter, length: u16, followers: &[Card<&InputSpec>]) {
     let mut chart = Chart::new(length, b'.');
     for card in followers {
-        if let Some(field) = card.input_field() {
+        if let InputSpec::Field(field) = card.spec {
             let letter = if field.decimals.is_some() { b'9' } else { b'X' };
             chart.fill(field.from, field.to, letter);
         }
@@ -93,10 +94,10 @@ fn write_layout(out: &mut TextWriter, length: u16, followers: &[SpecCard]) {
 }
 
 /// Writes the fields of a type below a heading, if it has some.
-fn write_fields(out: &mut TextWriter, file: Option<&FileSpec>, followers: &[SpecCard]) {
+fn write_fields(out: &mut TextWriter, file: Option<&FileSpec>, followers: &[Card<&InputSpec>]) {
     let mut is_first = true;
     for card in followers {
-        let Some(field) = card.input_field() else {
+        let InputSpec::Field(field) = card.spec else {
             continue;
         };
         if is_first {
@@ -113,23 +114,12 @@ fn write_fields(out: &mut TextWriter, file: Option<&FileSpec>, followers: &[Spec
     }
 }
 
-/// Those of these cards before the next record type.
-fn before_type(cards: &[SpecCard]) -> &[SpecCard] {
-    for (place, card) in cards.iter().enumerate() {
-        if card.record_type().is_some() {
-            return cards.get(..place).unwrap_or(&[]);
-        }
-    }
-    cards
-}
-
 /// Writes the record types with their fields.
-pub(crate) fn write_records(out: &mut TextWriter, source: &IndexedCards) {
-    let cards = source.as_slice();
+pub(crate) fn write_records(out: &mut TextWriter, source: &IndexedCards, tree: &Tree) {
     let mut file = None;
     let mut is_first = true;
-    for (place, card) in cards.iter().enumerate() {
-        let Some(record_type) = card.record_type() else {
+    for group in &tree.types.groups {
+        let InputSpec::Type(record_type) = group.first.spec else {
             continue;
         };
         if let Some(name) = &record_type.file {
@@ -139,9 +129,8 @@ pub(crate) fn write_records(out: &mut TextWriter, source: &IndexedCards) {
             write_heading(out, "RECORDS", record_type.file.as_ref(), file, "columns");
         }
         is_first = false;
-        let followers = before_type(cards.get(place + 1..).unwrap_or(&[]));
-        write_head(out, card.number, record_type);
-        write_all_codes(out, card.number, &record_type.codes, followers);
-        write_fields(out, file, followers);
+        write_head(out, group.first.number, record_type);
+        write_all_codes(out, group.first.number, &record_type.codes, group.followers);
+        write_fields(out, file, group.followers);
     }
 }

@@ -1,8 +1,9 @@
 //! Tables and arrays.
 
-use rpg_cards::{SpecCard, is_table};
+use rpg_cards::is_table;
 use rpg_cli_show_fields::name_text;
 use rpg_cli_text::TextWriter;
+use rpg_deck::Tree;
 use rpg_sheet_specs::{ExtensionSpec, TableSpec};
 
 const HEADING: &str =
@@ -49,21 +50,17 @@ pub(crate) fn write_decimals(out: &mut TextWriter, decimals: Option<u8>) {
     }
 }
 
-/// Writes a row for each table and array of the E cards, whose data begin on these cards in the order of the E cards that have some.
-pub(crate) fn write_tables(out: &mut TextWriter, cards: &[SpecCard], beginnings: &[u16]) {
-    let mut is_first = true;
+/// Writes a row for each table and array of the E cards. The data come in the order of the E cards that have some.
+pub(crate) fn write_tables(out: &mut TextWriter, tree: &Tree) {
+    if !tree.tables.is_empty() {
+        out.write_str(HEADING);
+    }
     let mut with_data = 0usize;
-    for card in cards {
-        let Some(extension) = card.extension() else {
-            continue;
-        };
-        if is_first {
-            out.write_str(HEADING);
-        }
-        is_first = false;
-        let beginning = match extension.entries_per_card {
-            Some(_) => beginnings.get(with_data).copied(),
-            None => None,
+    for card in tree.tables {
+        let extension = card.spec;
+        let beginning = match (extension.entries_per_card, tree.decks.groups.get(with_data)) {
+            (Some(_), Some(deck)) => Some(deck.first.number),
+            _ => None,
         };
         with_data = with_data.saturating_add(usize::from(beginning.is_some()));
         write_table(out, card.number, extension, &extension.table, beginning);
