@@ -1,5 +1,5 @@
 -- The first of a range of numbers that passes, one by one.
-use Rattle.std.proofs.Common.{◌≡◌, ℕ, ◌+◌, ◌-◌, ◌<◌, suc, List, Option, Some, cond, ap, arith}
+use Rattle.std.proofs.Common.{◌≡◌, ℕ, ◌+◌, ◌-◌, ◌<◌, suc, List, Some, cond, ap, arith}
 use Rattle.std.specs.List.{range_with_len}
 use Rattle.std.specs.Option.{option_or}
 use Rattle.rpg_cards.specs.declared.spec_card.SpecCard.{SpecCard}

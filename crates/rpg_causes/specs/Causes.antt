@@ -3,7 +3,6 @@ use Rattle.std.specs.Prelude.{ℕ, ◌==◌, List, [], ◌∷◌, ◌++◌, Bool
 use Rattle.std.specs.Option.{option_map, option_or}
 use Rattle.rpg_cards.specs.Cards.{output_record_on}
 use Rattle.rpg_cards.specs.declared.spec_card.SpecCard.{SpecCard}
-use Rattle.rpg_causes.specs.Data.{data_cause}
 use Rattle.rpg_causes.specs.Editing.{editing_cause}
 use Rattle.rpg_causes.specs.Files.{file_cause}
 use Rattle.rpg_causes.specs.Joins.{join_cause}
@@ -11,6 +10,7 @@ use Rattle.rpg_causes.specs.Movements.{moved_disk}
 use Rattle.rpg_causes.specs.Places.{outside}
 use Rattle.rpg_causes.specs.declared.cause.Cause.{Cause}
 use Rattle.rpg_causes.specs.declared.cause.Cause.TheVariants as cause
+use Rattle.rpg_causes_data.specs.Data.{data_cause}
 use Rattle.rpg_causes_flow.specs.Columns.{on_calculation}
 use Rattle.rpg_causes_flow.specs.Labels.{nowhere, target, twice}
 use Rattle.rpg_causes_flow.specs.Order.{order_cause}

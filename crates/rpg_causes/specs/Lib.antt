@@ -1,5 +1,4 @@
 pub mod Causes
-pub mod Data
 pub mod Editing
 pub mod Files
 pub mod JoinSums

@@ -7,12 +7,12 @@ ghost use Rattle.rpg_faults.specs.Rules as rules;
 ghost use Rattle.rpg_faults.specs.declared.code.FaultCode.TheVariants.{F9, F12, F16};
 ghost use Rattle.rpg_faults_limits.specs.State.{AreLimits};
 
-use crate::data::{DataCause, data_cause};
 use crate::editing::{EditingCause, editing_cause};
 use crate::files::{FileCause, FileOnCard, file_cause, moved_disk};
 use crate::joins::{JoinCause, join_cause};
 use crate::places::{PlaceCause, outside_cause};
 use rpg_cards::{IndexedCards, Sheets, SpecCard};
+use rpg_causes_data::{DataCause, data_cause};
 use rpg_causes_flow::{
     ColumnCause, NowhereCause, OrderCause, RoundingCause, StrayCause, Target, TwiceCause,
     apart_cause, nowhere_cause, on_calculation, order_cause, rounding_cause, stray_cause,

@@ -2,20 +2,17 @@
 #![tactic(auto)]
 
 mod cause;
-mod data;
 mod editing;
-mod entries;
 mod files;
 mod joins;
 mod places;
 
 pub use cause::{Cause, fault_cause};
-pub use data::{DataCause, Need};
 pub use editing::{EditingCause, Misfit};
-pub use entries::{EntryCause, EntryFault};
 pub use files::{FileCause, FileOnCard, FileUser};
 pub use joins::JoinCause;
 pub use places::PlaceCause;
+pub use rpg_causes_data::{DataCause, EntryCause, EntryFault, Need};
 pub use rpg_causes_flow::{
     ColumnCause, Giver, NowhereCause, OrderCause, RoundingCause, StrayCause, Target, TwiceCause,
 };

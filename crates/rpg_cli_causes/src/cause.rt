@@ -1,5 +1,6 @@
 //! The cause of a fault in words.
 
+use crate::data::write_data;
 use crate::editing::write_editing;
 use crate::files::{write_file, write_movement};
 use crate::indicators::write_bad_indicator;
@@ -41,6 +42,7 @@ fn write_told(out: &mut TextWriter, spot: Spot<'_>, cause: &Cause) {
         Cause::Outside(place) => write_outside(out, spot, place),
         Cause::Join(join) => write_join(out, *join),
         Cause::Editing(editing) => write_editing(out, editing),
+        Cause::Data(data) => write_data(out, spot, data),
     }
 }
 

@@ -1,8 +1,9 @@
-//! Why a card has a fault of F1 to F16, in words: the name, the other card, the limit and the number.
+//! Why a card has a fault of F1 to F18, in words: the name, the other card, the limit and the number.
 #![tactic(auto)]
 
 mod cause;
 mod counted;
+mod data;
 mod editing;
 mod files;
 mod forms;

@@ -4,7 +4,7 @@ use rpg_cards::{Defined, IndexedCards, SpecCard};
 use rpg_causes::{Cause, fault_cause};
 use rpg_effect::form::FieldForm;
 use rpg_faults::FaultCode;
-use rpg_sheet::{ColumnFault, ColumnRange, Entry, Factor, Word};
+use rpg_sheet::{ColumnFault, ColumnRange, DataSpec, Entry, Factor, Word};
 use rpg_text::{first_line, trimmed};
 
 /// The cards of a source that can be read, and its text: none where only the card of the fault is known.
@@ -107,6 +107,15 @@ impl<'a> Spot<'a> {
             rest = behind;
         }
         &[]
+    }
+
+    /// What stands on a card of data from a column on.
+    pub fn data_of_card(self, number: u16, column: usize, length: usize) -> Option<&'a [u8]> {
+        let first = column.saturating_sub(1);
+        match card_at(self.source.cards.as_slice(), number)?.data()? {
+            DataSpec::Card(data) => data.as_slice().get(first..first.saturating_add(length)),
+            DataSpec::Begin => None,
+        }
     }
 
     /// The field that stands in the marked columns.

@@ -1,10 +1,9 @@
 //! F18: what is wrong with the data of a table.
 
-ghost use Rattle.std.specs.Prelude.{◌≡◌, ◌≤◌, ◌*◌, count_by, is_some, length, option_and_then, IsTrue};
+ghost use Rattle.std.specs.Prelude.{◌≡◌, ◌≤◌, ◌*◌, count_by, is_some, length, IsTrue};
 ghost use Rattle.std.specs.Option.{option_map};
-ghost use Rattle.rpg_cards.specs.Cards.{extension_on};
 ghost use Rattle.rpg_cards.specs.Names.{tables_on};
-ghost use Rattle.rpg_causes.specs.Data as causes;
+ghost use Rattle.rpg_causes_data.specs.Data as causes;
 ghost use Rattle.rpg_faults.specs.Data as rules;
 
 use crate::entries::{EntryCause, first_wrong};
@@ -43,11 +42,7 @@ pub enum DataCause {
 
 /// F18: what is wrong with the data of an E card, or the `**` card of data that no E card wants.
 #[tactic(auto, using(crate::proofs::DataRule::data_rule))]
-pub(crate) fn data_cause(
-    source: &IndexedCards,
-    before: &[SpecCard],
-    card: &SpecCard,
-) -> Option<DataCause>
+pub fn data_cause(source: &IndexedCards, before: &[SpecCard], card: &SpecCard) -> Option<DataCause>
     ensures cause { result ≡ causes.data_cause source.now before.now card.now }
     ensures rule { is_some result ≡ rules.breaks_data source.now before.now card.now }
 {
@@ -148,7 +143,7 @@ fn of_tables(
     requires fits { per_card * width ≤ 80 }
     ensures { result ≡ causes.of_tables extension.now per_card (causes.deck_cards deck.now) 0 (tables_on extension.now) }
 {
-    let entries = extension.entries;
+    let entries = extension.entries as usize;
     let layout = Layout {
         per_card,
         width,
@@ -193,7 +188,11 @@ fn of_begin(source: &IndexedCards, before: &[SpecCard]) -> Option<DataCause>
 fn wanted(cards: &[SpecCard]) -> usize
     ensures { result ≡ rules.wanted cards.now }
 {
-    cards.iter().filter(|card| wants_data(card)).count()
+    let mut count = 0;
+    for card in cards {
+        count += usize::from(wants_data(card));
+    }
+    count
 }
 
 /// How many of these cards begin data.
@@ -201,7 +200,11 @@ fn begun(cards: &[SpecCard]) -> usize
     ensures count { result ≡ count_by causes.begins cards.now }
     ensures few { result ≤ length cards.now }
 {
-    cards.iter().filter(|card| begins(card)).count()
+    let mut count = 0;
+    for card in cards {
+        count += usize::from(begins(card));
+    }
+    count
 }
 
 fn begins(card: &SpecCard) -> bool

@@ -1,6 +1,6 @@
 use Rattle.std.proofs.Common.{◌≡◌, length}
-use Rattle.rpg_causes.specs.Data.{behind_begin}
-use Rattle.rpg_causes.proofs.data.behind_begin.Given as goal
+use Rattle.rpg_causes_data.specs.Data.{behind_begin}
+use Rattle.rpg_causes_data.proofs.data.behind_begin.Given as goal
 
 abbrev pub invariant-loop-card : goal.invariant-loop-card
 invariant-loop-card l = behind_begin l.number l.rest ≡ behind_begin l.fn.number l.cards

@@ -6,39 +6,44 @@ use Rattle.std.proofs.lemmas.List.{take-append-le}
 use Rattle.std.proofs.lemmas.List.FromFn.{length-map-range_with_len, take-map-range_with_len}
 use Rattle.std.proofs.lemmas.Simd.{map-map}
 use Rattle.std.specs.List.{flat_map, last_or, range_with_len}
-use Rattle.std.specs.Option.{is_some, option_map, option_or}
+use Rattle.std.specs.Option.{is_some, option_or}
 use Rattle.rpg_cards.proofs.IndexLemmas.{option_or_assoc}
 use Rattle.rpg_cards.specs.Cards.{data_on}
 use Rattle.rpg_cards.specs.declared.spec_card.SpecCard.{SpecCard}
-use Rattle.rpg_causes.specs.Data.{DataCard, PlacedEntry, deck_cards, entry_cause, fault_of, first_wrong, placed_entries, placed_on, with_data}
-use Rattle.rpg_causes.specs.declared.entries.EntryCause.{EntryCause}
-use Rattle.rpg_causes.specs.declared.entries.EntryFault.{EntryFault}
+use Rattle.rpg_causes_data.specs.Data.{DataCard, PlacedEntry, data_card, deck_cards, first_wrong, placed_entries, placed_on, with_data, wrong_entry}
+use Rattle.rpg_causes_data.specs.declared.entries.EntryCause.{EntryCause}
 use Rattle.rpg_faults.specs.Data.{entry_on}
 use Rattle.rpg_sheet_specs.specs.declared.data.DataSpec.{DataSpec}
 use Rattle.rpg_sheet_specs.specs.declared.data.DataSpec.TheVariants as deck
 use Rattle.rpg_sheet_specs.specs.declared.extension.TableSpec.{TableSpec}
 
+or_some_is : {X : Type 0} (a b : Option X) → is_some a ≡ true → option_or a b ≡ a
+or_some_is None b e = absurd cc
+or_some_is (Some x) b e = refl
+
+or_none_is : {X : Type 0} (a b : Option X) → is_some a ≡ false → option_or a b ≡ b
+or_none_is None b e = refl
+or_none_is (Some x) b e = absurd cc
+
 -- ---- entries of one card, by their numbers
 
-module _ (t : TableSpec) (k : ℕ) (o : Option (List ℕ)) (entry : ℕ → PlacedEntry) (i n : ℕ) (all : Option EntryCause) where
+module _ (t : TableSpec) (k : ℕ) (o : Option (List ℕ)) (entry : ℕ → PlacedEntry) (i n : ℕ) (all found : Option EntryCause)
+    (less : i < n) (so_far : all ≡ first_wrong t k o (map entry (range_with_len i (n - i)))) (here : found ≡ wrong_entry t k o (entry i)) where
   abbrev rest : List PlacedEntry
   rest = map entry (range_with_len (i + 1) (n - (i + 1)))
 
-  next : i < n → all ≡ first_wrong t k o (map entry (range_with_len i (n - i)))
-      → all ≡ option_or (option_map (entry_cause t k (entry i)) (fault_of t o (entry i).text)) (first_wrong t (k + 1) (Some (entry i).text) rest)
-  next less so_far =
+  next : all ≡ option_or found (first_wrong t (k + 1) (Some (entry i).text) rest)
+  next =
       let one_more : n - i ≡ suc (n - (i + 1)) = omega arith in
       so_far ∙ ap (λ m. first_wrong t k o (map entry (range_with_len i m))) one_more
+      ∙ ap (λ f. option_or f (first_wrong t (k + 1) (Some (entry i).text) rest)) (sym here)
 
-  pub found_here : (f : EntryFault) → i < n → all ≡ first_wrong t k o (map entry (range_with_len i (n - i)))
-      → Some f ≡ fault_of t o (entry i).text → Some (entry_cause t k (entry i) f) ≡ all
-  found_here f less so_far wrong =
-      sym (next less so_far ∙ ap (λ x. option_or (option_map (entry_cause t k (entry i)) x) (first_wrong t (k + 1) (Some (entry i).text) rest)) (sym wrong))
+  pub found_here : is_some found ≡ true → found ≡ all
+  found_here wrong = sym (next ∙ or_some_is found (first_wrong t (k + 1) (Some (entry i).text) rest) wrong)
 
-  pub not_here : (m : ℕ) (x : List ℕ) → i < n → all ≡ first_wrong t k o (map entry (range_with_len i (n - i)))
-      → None ≡ fault_of t o (entry i).text → m ≡ k + 1 → x ≡ (entry i).text → all ≡ first_wrong t m (Some x) rest
-  not_here m x less so_far right is text =
-      next less so_far ∙ ap (λ f. option_or (option_map (entry_cause t k (entry i)) f) (first_wrong t (k + 1) (Some (entry i).text) rest)) (sym right)
+  pub not_here : (m : ℕ) (x : List ℕ) → is_some found ≡ false → m ≡ k + 1 → x ≡ (entry i).text → all ≡ first_wrong t m (Some x) rest
+  not_here m x right is text =
+      next ∙ or_none_is found (first_wrong t (k + 1) (Some (entry i).text) rest) right
       ∙ ap (λ j. first_wrong t j (Some (entry i).text) rest) (sym is) ∙ ap (λ y. first_wrong t m (Some y) rest) (sym text)
 
 -- ---- the entries of a card, and those of the cards behind it
@@ -77,22 +82,14 @@ text_of e = e.text
 
 wrong_behind : (t : TableSpec) (k : ℕ) (o : Option (List ℕ)) (es gs : List PlacedEntry)
     → first_wrong t k o (es ++ gs) ≡ option_or (first_wrong t k o es) (first_wrong t (k + length es) (last_or o (map text_of es)) gs)
-wrong_behind t k o [] gs = let same : k ≡ k + length {0} {PlacedEntry} [] = omega arith in ap (λ m. first_wrong t m o gs) same
+wrong_behind t k o [] gs = let same : k ≡ k + 0 = omega arith in ap (λ m. first_wrong t m o gs) same
 wrong_behind t k o (e ∷ es) gs =
-    let here = option_map (entry_cause t k e) (fault_of t o e.text) in
+    let here = wrong_entry t k o e in
     let last = last_or (Some e.text) (map text_of es) in
     let same : k + 1 + length es ≡ k + length (e ∷ es) = omega arith in
     ap (option_or here) (wrong_behind t (k + 1) (Some e.text) es gs)
     ∙ sym (option_or_assoc here (first_wrong t (k + 1) (Some e.text) es) (first_wrong t (k + 1 + length es) last gs))
     ∙ ap (λ m. option_or (option_or here (first_wrong t (k + 1) (Some e.text) es)) (first_wrong t m last gs)) same
-
-or_some_is : {X : Type 0} (a b : Option X) → is_some a ≡ true → option_or a b ≡ a
-or_some_is None b e = absurd cc
-or_some_is (Some x) b e = refl
-
-or_none_is : {X : Type 0} (a b : Option X) → is_some a ≡ false → option_or a b ≡ b
-or_none_is None b e = refl
-or_none_is (Some x) b e = absurd cc
 
 -- ---- a step over the cards: so many entries of one, and those of the cards behind it
 
@@ -129,6 +126,16 @@ module _ (t : TableSpec) (k : ℕ) (o : Option (List ℕ)) (width from len n per
       ∙ ap (λ j. first_wrong t j (last_or o (map (entry_on width from len d.text) (range_with_len 0 count))) (behind (n - count))) (sym number)
       ∙ ap (λ l. first_wrong t m l (behind (n - count))) (sym last) ∙ ap (λ j. first_wrong t m next (behind j)) (sym fewer)
 
+-- a card that isn't one of data
+pub kept : (t : TableSpec) (k : ℕ) (o : Option (List ℕ)) (width from len n per_card : ℕ) (ds cards : List DataCard) (all : Option EntryCause) (m left : ℕ) (next : Option (List ℕ))
+    → cards ≡ ds → all ≡ first_wrong t k o (placed_entries n per_card width from len cards) → m ≡ k → left ≡ n → next ≡ o
+    → all ≡ first_wrong t m next (placed_entries left per_card width from len ds)
+kept t k o width from len n per_card ds cards all m left next split so_far number fewer last =
+    so_far ∙ ap (λ l. first_wrong t k o (placed_entries n per_card width from len l)) split
+    ∙ ap (λ j. first_wrong t j o (placed_entries n per_card width from len ds)) (sym number)
+    ∙ ap (λ b. first_wrong t m b (placed_entries n per_card width from len ds)) (sym last)
+    ∙ ap (λ j. first_wrong t m next (placed_entries j per_card width from len ds)) (sym fewer)
+
 -- ---- the cards of a deck, one by one
 
 cards_at : (cards : List SpecCard) (i : ℕ) (c : SpecCard) → i < length cards → c ≡ get_or cards i c
@@ -138,7 +145,7 @@ cards_at cards i c less is =
     ∙ ap (λ k. with_data c.number (data_on c.spec) (deck_cards (drop k cards))) (sym (add-one i))
 
 module _ (cards : List SpecCard) (i : ℕ) (c : SpecCard) (less : i < length cards) (is : c ≡ get_or cards i c) where
-  pub at_data : (text : List ℕ) → data_on c.spec ≡ Some (deck.Card text) → deck_cards (drop i cards) ≡ record { number = c.number; text = text } ∷ deck_cards (drop (i + 1) cards)
+  pub at_data : (text : List ℕ) → data_on c.spec ≡ Some (deck.Card text) → deck_cards (drop i cards) ≡ data_card c.number text ∷ deck_cards (drop (i + 1) cards)
   at_data text on = cards_at cards i c less is ∙ ap (λ (d : Option DataSpec). with_data c.number d (deck_cards (drop (i + 1) cards))) on
 
   pub at_begin : data_on c.spec ≡ Some deck.Begin → deck_cards (drop i cards) ≡ []

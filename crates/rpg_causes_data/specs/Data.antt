@@ -5,13 +5,14 @@ use Rattle.std.specs.Option.{option_map, option_map_or, option_or}
 use Rattle.rpg_cards.specs.Cards.{data_on, extension_on}
 use Rattle.rpg_cards.specs.Names.{tables_on}
 use Rattle.rpg_cards.specs.declared.spec_card.SpecCard.{SpecCard}
-use Rattle.rpg_causes.specs.declared.data.DataCause.{DataCause}
-use Rattle.rpg_causes.specs.declared.data.DataCause.TheVariants as cause
-use Rattle.rpg_causes.specs.declared.data.Need.{Need}
-use Rattle.rpg_causes.specs.declared.entries.EntryCause.{EntryCause}
-use Rattle.rpg_causes.specs.declared.entries.EntryFault.{EntryFault}
-use Rattle.rpg_causes.specs.declared.entries.EntryFault.TheVariants.{Lower, NoNumber}
+use Rattle.rpg_causes_data.specs.declared.data.DataCause.{DataCause}
+use Rattle.rpg_causes_data.specs.declared.data.DataCause.TheVariants as cause
+use Rattle.rpg_causes_data.specs.declared.data.Need.{Need}
+use Rattle.rpg_causes_data.specs.declared.entries.EntryCause.{EntryCause}
+use Rattle.rpg_causes_data.specs.declared.entries.EntryFault.{EntryFault}
+use Rattle.rpg_causes_data.specs.declared.entries.EntryFault.TheVariants.{Lower, NoNumber}
 use Rattle.rpg_faults.specs.Data.{cards_for, data_columns, entry_on, has_forms, has_table, is_bad, is_lower, wanted}
+use Rattle.rpg_faults.specs.declared.entries.Layout.{Layout}
 use Rattle.rpg_sheet_specs.specs.declared.data.DataSpec.{DataSpec}
 use Rattle.rpg_sheet_specs.specs.declared.data.DataSpec.TheVariants as deck
 use Rattle.rpg_sheet_specs.specs.declared.extension.ExtensionSpec.{ExtensionSpec}
@@ -38,11 +39,15 @@ pub record DataCard : Type 0 where
   pub number : ℕ
   pub text : List ℕ
 
+-- the card of data with that number and that text
+abbrev pub data_card : ℕ → List ℕ → DataCard
+data_card n text = record { number = n; text = text }
+
 -- with one more card in front
 abbrev pub with_data : ℕ → Option DataSpec → List DataCard → List DataCard
 with_data n None ds = ds
 with_data n (Some deck.Begin) ds = []
-with_data n (Some (deck.Card text)) ds = record { number = n; text = text } ∷ ds
+with_data n (Some (deck.Card text)) ds = data_card n text ∷ ds
 
 -- the cards of data up to the next `**` card
 abbrev pub deck_cards : List SpecCard → List DataCard
@@ -57,13 +62,25 @@ pub record PlacedEntry : Type 0 where
   pub column : ℕ
   pub text : List ℕ
 
+-- the entry of that text, on that card from that column on
+abbrev pub placed_at : ℕ → ℕ → List ℕ → PlacedEntry
+placed_at card column text = record { card = card; column = column; text = text }
+
 -- the entry with this number on a card, from 0
 abbrev pub placed_on : ℕ → ℕ → ℕ → DataCard → ℕ → PlacedEntry
-placed_on width from len c i = record { card = c.number; column = i * width + from + 1; text = entry_on width from len c.text i }
+placed_on width from len c i = placed_at c.number (i * width + from + 1) (entry_on width from len c.text i)
 
 -- so many entries of the cards, in their order
 abbrev pub placed_entries : ℕ → ℕ → ℕ → ℕ → ℕ → List DataCard → List PlacedEntry
 placed_entries n per_card width from len cards = take n (flat_map (λ c. map (placed_on width from len c) (range_with_len 0 per_card)) cards)
+
+-- so many entries of a card, by their layout
+abbrev pub on_card : Layout → DataCard → ℕ → List PlacedEntry
+on_card l c n = map (placed_on l.width l.from l.length c) (range_with_len 0 n)
+
+-- so many entries of a deck, by their layout
+abbrev pub on_deck : Layout → ℕ → List SpecCard → List PlacedEntry
+on_deck l n cards = placed_entries n l.per_card l.width l.from l.length (deck_cards cards)
 
 -- ---- the first entry that is wrong
 
@@ -78,11 +95,14 @@ fault_of t before x =
 abbrev pub entry_cause : TableSpec → ℕ → PlacedEntry → EntryFault → EntryCause
 entry_cause t number e f = record { name = t.name; number = number; card = e.card; column = e.column; length = t.length; fault = f }
 
+-- an entry, if it is wrong
+abbrev pub wrong_entry : TableSpec → ℕ → Option (List ℕ) → PlacedEntry → Option EntryCause
+wrong_entry t number before e = option_map (entry_cause t number e) (fault_of t before e.text)
+
 -- the first of the entries from this number on that is wrong
 abbrev pub first_wrong : TableSpec → ℕ → Option (List ℕ) → List PlacedEntry → Option EntryCause
 first_wrong t number before [] = None
-first_wrong t number before (e ∷ es) =
-    option_or (option_map (entry_cause t number e) (fault_of t before e.text)) (first_wrong t (number + 1) (Some e.text) es)
+first_wrong t number before (e ∷ es) = option_or (wrong_entry t number before e) (first_wrong t (number + 1) (Some e.text) es)
 
 -- that of a table of an E card, from this column of an entry on
 abbrev pub of_table : ExtensionSpec → ℕ → List DataCard → ℕ → TableSpec → Option EntryCause

@@ -1,8 +1,7 @@
 //! F18: the first entry of a table that is wrong.
 
-ghost use Rattle.std.specs.Prelude.{◌≡◌, ◌≤◌, None, map, length, IfSome, option_copied};
-ghost use Rattle.std.specs.List.{range_with_len};
-ghost use Rattle.rpg_causes.specs.Data as causes;
+ghost use Rattle.std.specs.Prelude.{◌≡◌, ◌≤◌, None, length, IfSome, option_copied};
+ghost use Rattle.rpg_causes_data.specs.Data as causes;
 ghost use Rattle.rpg_faults.specs.Entries.{HasNumberSize};
 
 use rpg_cards::SpecCard;
@@ -33,17 +32,18 @@ pub struct EntryCause {
     pub fault: EntryFault,
 }
 
-/// The first entry of a table that is wrong on the cards of its deck.
+/// The first of so many entries of a table that is wrong, on the cards of its deck.
 pub(crate) fn first_wrong(
     table: &TableSpec,
-    entries: u16,
+    entries: usize,
     layout: Layout,
     deck: &[SpecCard],
 ) -> Option<EntryCause>
-    requires { HasNumberSize table.now.decimals layout.length }
-    ensures { result ≡ causes.first_wrong table.now 1 None (causes.placed_entries entries layout.per_card layout.width layout.from layout.length (causes.deck_cards deck.now)) }
+    requires few { entries ≤ 65535 }
+    requires table { HasNumberSize table.now.decimals layout.length }
+    ensures { result ≡ causes.first_wrong table.now 1 None (causes.on_deck layout entries deck.now) }
 {
-    let mut left = entries as usize;
+    let mut left = entries;
     let mut first = 1;
     let mut before = None;
     for card in deck {
@@ -66,7 +66,7 @@ pub(crate) fn first_wrong(
     None
 }
 
-/// The first of so many entries of a card that is wrong, the first of them being that of the table.
+/// The first of so many entries of a card that is wrong; `first` is the number in the table of the first of them.
 fn wrong_on(
     table: &TableSpec,
     first: usize,
@@ -82,24 +82,43 @@ fn wrong_on(
     requires few { count ≤ 65535 }
     requires table { HasNumberSize table.now.decimals layout.length }
     requires before { IfSome before (λ b. length b.now ≡ layout.length) }
-    ensures { result ≡ causes.first_wrong table.now first (option_copied before.entry) (map (causes.placed_on layout.width layout.from layout.length (record { number = card; text = text.now })) (range_with_len 0 count)) }
+    ensures { result ≡ causes.first_wrong table.now first (option_copied before.entry) (causes.on_card layout (causes.data_card card text.now) count) }
 {
     let mut before = before;
     for i in 0..count {
         let entry = layout.entry(text, i);
-        if let Some(fault) = fault_of(table, before, entry) {
-            return Some(EntryCause {
-                name: Word::new(table.name.as_slice()),
-                number: first + i,
-                card,
-                column: i * layout.width + layout.from + 1,
-                length: table.length,
-                fault,
-            });
+        let column = i * layout.width + layout.from + 1;
+        let found = wrong_entry(table, first + i, before, card, column, entry);
+        if found.is_some() {
+            return found;
         }
         before = Some(entry);
     }
     None
+}
+
+/// An entry, if it is wrong.
+fn wrong_entry(
+    table: &TableSpec,
+    number: usize,
+    before: Option<&[u8]>,
+    card: u16,
+    column: usize,
+    entry: &[u8],
+) -> Option<EntryCause>
+    requires entry { HasNumberSize table.now.decimals (length entry.now) }
+    requires before { IfSome before (λ b. length b.now ≡ length entry.now) }
+    ensures { result ≡ causes.wrong_entry table.now number (option_copied before.entry) (causes.placed_at card column entry.now) }
+{
+    let fault = fault_of(table, before, entry)?;
+    Some(EntryCause {
+        name: Word::new(table.name.as_slice()),
+        number,
+        card,
+        column,
+        length: table.length,
+        fault,
+    })
 }
 
 /// What is wrong with an entry, seen with the one before it.

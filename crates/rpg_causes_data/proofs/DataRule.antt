@@ -1,21 +1,21 @@
 -- A card has a cause exactly if it breaks the rules of table data.
 use Rattle.std.proofs.Common.{◌≡◌, ℕ, zero, suc, ◌+◌, ◌-◌, ◌*◌, ◌==◌, Bool, true, false, not, cond, ◌&&◌, ◌||◌, List, [], ◌∷◌, ◌++◌, map, length, take, Option, None, Some, refl, sym, ap, ◌∙◌, arith}
+use Rattle.std.proofs.lemmas.Bool.{eqb-true}
 use Rattle.std.proofs.lemmas.List.{length-map, map-append, take-map}
+use Rattle.std.proofs.lemmas.List.Sums.{sum_by-cons}
 use Rattle.std.proofs.lemmas.Simd.{map-map}
-use Rattle.std.specs.List.{flat_map, list_any, range_with_len, slice_get}
-use Rattle.std.specs.Option.{is_some, option_and_then, option_map, option_map_or, option_or}
+use Rattle.std.specs.List.{flat_map, range_with_len, slice_get}
+use Rattle.std.specs.Option.{is_some, option_and_then, option_map, option_map_or}
 use Rattle.std.specs.Prelude.{count_by, nat_le, nat_lt}
 use Rattle.rpg_cards.specs.Cards.{data_on, extension_on}
-use Rattle.rpg_cards.specs.Groups.{Group, data_card, data_role, followers, following, group_count, groups, opening, role_on}
+use Rattle.rpg_cards.specs.Groups.{Group, data_card, data_role, followers, following, group_count, groups_from, opening, role_on}
 use Rattle.rpg_cards.specs.Names.{tables_on}
 use Rattle.rpg_cards.specs.declared.spec_card.SpecCard.{SpecCard}
-use Rattle.rpg_causes.specs.Data.{DataCard, PlacedEntry, begins, behind_begin, data_cause, deck_cards, entry_cause, fault_of, first_wrong, is_begin, missing, need_of, of_begin, of_behind, of_data, of_deck, of_extension, of_table, of_tables, placed_entries, placed_on, with_data}
-use Rattle.rpg_causes.specs.declared.data.DataCause.{DataCause}
-use Rattle.rpg_causes.specs.declared.data.DataCause.TheVariants as cause
-use Rattle.rpg_causes.specs.declared.entries.EntryCause.{EntryCause}
-use Rattle.rpg_causes.specs.declared.entries.EntryFault.TheVariants.{Lower, NoNumber}
+use Rattle.rpg_causes_data.specs.Data.{DataCard, PlacedEntry, begins, behind_begin, data_cause, deck_cards, entry_cause, fault_of, first_wrong, is_begin, missing, need_of, of_behind, of_data, of_deck, of_extension, of_table, of_tables, placed_entries, placed_on, with_data, wrong_entry}
+use Rattle.rpg_causes_data.specs.declared.data.DataCause.TheVariants as cause
+use Rattle.rpg_causes_data.specs.declared.entries.EntryFault.TheVariants.{Lower, NoNumber}
 use Rattle.rpg_faults.proofs.EntryLemmas.{any_wrong-none}
-use Rattle.rpg_faults.specs.Data.{are_taken, bad_data, bad_deck, bad_table_data, bad_tables, breaks_data, cards_for, data_columns, data_entries, deck_at, entries_on, entry_on, has_forms, has_table, is_bad, is_lower, is_unwanted, wanted}
+use Rattle.rpg_faults.specs.Data.{bad_data, bad_deck, bad_table_data, bad_tables, breaks_data, cards_for, data_columns, data_entries, deck_at, entries_on, has_forms, has_table, is_bad, is_lower, is_unwanted, wanted}
 use Rattle.rpg_faults.specs.Entries.{any_wrong, is_wrong}
 use Rattle.rpg_faults_limits.proofs.LimitRule.{if_some, or_some}
 use Rattle.rpg_sheet_specs.specs.declared.data.DataSpec.{DataSpec}
@@ -43,9 +43,8 @@ first_of_two false false x y = refl
 wrong_some : (t : TableSpec) (k : ℕ) (o : Option (List ℕ)) (es : List PlacedEntry) → is_some (first_wrong t k o es) ≡ any_wrong t o (map text_of es)
 wrong_some t k o [] = refl
 wrong_some t k o (e ∷ es) =
-    let here = option_map (entry_cause t k e) (fault_of t o e.text) in
     let low = t.ascending && option_map_or (λ b. is_lower t.decimals e.text b) o false in
-    or_some here (first_wrong t (k + 1) (Some e.text) es)
+    or_some (wrong_entry t k o e) (first_wrong t (k + 1) (Some e.text) es)
     ∙ ap (λ b. b || is_some (first_wrong t (k + 1) (Some e.text) es)) (mapped_some (entry_cause t k e) (fault_of t o e.text) ∙ first_of_two (is_bad t.decimals e.text) low NoNumber Lower)
     ∙ ap (λ b. is_wrong t o e.text || b) (wrong_some t (k + 1) (Some e.text) es)
 
@@ -106,23 +105,33 @@ deck_some e per_card ds =
     ∙ ap (λ n. none || (wide || (not (n == cards_for e.entries per_card) || is_some (of_tables e per_card ds 0 (tables_on e))))) (sym (length-map ds (λ (d : DataCard). d.text)))
     ∙ ap (λ b. none || (wide || (not (length (texts ds) == cards_for e.entries per_card) || b))) (tables_some e per_card ds 0 (tables_on e))
 
+above_zero : (m : ℕ) → (suc m == 0) ≡ false
+above_zero m = by (suc m == 0) refl
+  where
+    by : (b : Bool) → (suc m == 0) ≡ b → b ≡ false
+    by true e = let same = eqb-true (suc m) 0 e in absurd (omega arith)
+    by false e = refl
+
 behind_is : (n : ℕ) (cards : List SpecCard) → deck_at n cards ≡ option_map (followers data_role) (behind_begin n cards)
 behind_is n [] = refl
 behind_is n (c ∷ cs) = by (data_on c.spec) n (λ m. behind_is m cs)
   where
     by : (x : Option DataSpec) (n : ℕ) → ((m : ℕ) → deck_at m cs ≡ option_map (followers data_role) (behind_begin m cs))
-        → option_map (λ (g : Group (Unit {0}) (List ℕ)). g.followers) (slice_get (opening (role_on data_card x) None (followers data_role cs) (λ own. groups data_role cs)) n)
+        → option_map (λ (g : Group (Unit {0}) (List ℕ)). g.followers) (slice_get (opening (role_on data_card x) None (followers data_role cs) (λ own. groups_from data_role own cs)) n)
         ≡ option_map (followers data_role) (cond (option_map_or is_begin x false) (cond (n == 0) (Some cs) (behind_begin (n - 1) cs)) (behind_begin n cs))
     by None n e = e n
     by (Some (deck.Card text)) n e = e n
     by (Some deck.Begin) zero e = refl
-    by (Some deck.Begin) (suc m) e = let less : suc m - 1 ≡ m = omega arith in e m ∙ ap (λ k. option_map (followers data_role) (behind_begin k cs)) (sym less)
+    by (Some deck.Begin) (suc m) e =
+        let less : m ≡ suc m - 1 = omega arith in
+        e m ∙ ap (λ k. option_map (followers data_role) (behind_begin k cs)) less
+        ∙ ap (λ b. option_map (followers data_role) (cond b (Some cs) (behind_begin (suc m - 1) cs))) (sym (above_zero m))
 
 -- ---- E cards
 
-without : {X : Type 0} (b : Bool) (x : X) (o : Option X) (bad : Bool) → is_some o ≡ bad → is_some (cond b o None) ≡ (b && bad)
-without true x o bad e = e
-without false x o bad e = refl
+only_if : {X : Type 0} (b : Bool) (o : Option X) (bad : Bool) → is_some o ≡ bad → is_some (cond b o None) ≡ (b && bad)
+only_if true o bad e = e
+only_if false o bad e = refl
 
 extension_some : (cards before : List SpecCard) (e : ExtensionSpec) (p : Option ℕ) → is_some (of_extension cards before e p) ≡ bad_data cards before e p
 extension_some cards before e None = if_some (has_table e) cause.NoData
@@ -134,20 +143,26 @@ extension_some cards before e (Some per_card) =
         → is_some (option_map_or (of_behind e per_card) o (Some (missing e per_card))) ≡ option_map_or (λ ts. has_forms e && bad_deck e per_card ts) (option_map (followers data_role) o) true
     by None = refl
     by (Some behind) =
-        without (has_forms e) (missing e per_card) (of_deck e per_card (deck_cards behind)) (bad_deck e per_card (followers data_role behind))
+        only_if (has_forms e) (of_deck e per_card (deck_cards behind)) (bad_deck e per_card (followers data_role behind))
         (deck_some e per_card (deck_cards behind) ∙ ap (bad_deck e per_card) (deck_texts behind))
 
 -- ---- `**` cards
 
 begun_is : (cards : List SpecCard) → group_count data_role cards ≡ count_by begins cards
 begun_is [] = refl
-begun_is (c ∷ cs) = by (data_on c.spec) (begun_is cs)
+begun_is (c ∷ cs) = by (data_on c.spec) (begun_is cs) ∙ sym (sum_by-cons (λ (d : SpecCard). cond (begins d) 1 0) c cs)
   where
+    none : (n : ℕ) → n ≡ 0 + n
+    none n = omega arith
+
+    one : (n : ℕ) → suc n ≡ 1 + n
+    one n = omega arith
+
     by : (x : Option DataSpec) → group_count data_role cs ≡ count_by begins cs
-        → length (opening (role_on data_card x) None (followers data_role cs) (λ own. groups data_role cs)) ≡ cond (option_map_or is_begin x false) 1 0 + count_by begins cs
-    by None e = e
-    by (Some (deck.Card text)) e = e
-    by (Some deck.Begin) e = omega arith
+        → length (opening (role_on data_card x) None (followers data_role cs) (λ own. groups_from data_role own cs)) ≡ cond (option_map_or is_begin x false) 1 0 + count_by begins cs
+    by None e = e ∙ none (count_by begins cs)
+    by (Some (deck.Card text)) e = e ∙ none (count_by begins cs)
+    by (Some deck.Begin) e = ap suc e ∙ one (count_by begins cs)
 
 data_some : (cards before : List SpecCard) (o : Option DataSpec) → is_some (option_and_then (of_data cards before) o) ≡ option_map_or (is_unwanted cards before) o false
 data_some cards before None = refl

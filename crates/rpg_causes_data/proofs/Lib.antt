@@ -1,0 +1,2 @@
+pub mod DataRule
+pub mod EntryWalk

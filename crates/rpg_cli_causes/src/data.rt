@@ -1,0 +1,94 @@
+//! F18: the data of tables.
+
+use crate::counted::noun;
+use crate::spot::Spot;
+use rpg_causes::{DataCause, EntryCause, EntryFault, Need};
+use rpg_cli_text::TextWriter;
+use rpg_faults::FaultCode;
+
+const WANTED: &str = ": {} {}, {} a card, {} {} {} of data, and ";
+
+/// The cards of data that so many entries need.
+fn write_need(out: &mut TextWriter, need: Need) {
+    out.fill(
+        WANTED,
+        &[
+            need.entries.into(),
+            noun(usize::from(need.entries), "entry", "entries").into(),
+            need.per_card.into(),
+            noun(usize::from(need.entries), "needs", "need").into(),
+            need.cards.into(),
+            noun(usize::from(need.cards), "card", "cards").into(),
+        ],
+    );
+}
+
+/// That there are other cards than an E card needs.
+fn write_other_cards(out: &mut TextWriter, need: Need, there: usize) {
+    write_need(out, need);
+    let verb = noun(there, "stands", "stand");
+    out.fill("{} {} there", &[there.into(), verb.into()]);
+}
+
+const TOO_WIDE: &str = ": {} entries a card of {} columns take {}, and a card has 80";
+
+/// The entries of a card that are wider than it.
+fn write_too_wide(out: &mut TextWriter, per_card: u16, width: u32) {
+    let columns = u64::from(per_card).saturating_mul(u64::from(width));
+    out.fill(
+        TOO_WIDE,
+        &[per_card.into(), u64::from(width).into(), columns.into()],
+    );
+}
+
+const ENTRY: &str = ": entry {} of {}, on card {}, is \"{}\", which is ";
+
+/// Which entry of a table is wrong, and why.
+fn write_entry(out: &mut TextWriter, spot: Spot<'_>, cause: &EntryCause) {
+    let text = spot
+        .data_of_card(cause.card, cause.column, usize::from(cause.length))
+        .unwrap_or(&[]);
+    out.fill(
+        ENTRY,
+        &[
+            cause.number.into(),
+            cause.name.as_slice().into(),
+            cause.card.into(),
+            text.into(),
+        ],
+    );
+    match cause.fault {
+        EntryFault::NoNumber => out.write_str("no number"),
+        EntryFault::Lower => {
+            let before = cause.number.saturating_sub(1);
+            out.fill("lower than entry {}", &[before.into()]);
+        }
+    }
+}
+
+/// The `**` card that no E card needs.
+fn write_spare(out: &mut TextWriter, deck: usize, wanted: usize) {
+    let of_cards = noun(wanted, "E card needs data", "E cards need data");
+    out.fill(
+        ": it is ** card {}, and {} {}",
+        &[deck.into(), wanted.into(), of_cards.into()],
+    );
+}
+
+/// F18: what is wrong with the data of a table.
+pub(crate) fn write_data(out: &mut TextWriter, spot: Spot<'_>, cause: &DataCause) {
+    out.write_str(FaultCode::F18.sentence());
+    match cause {
+        DataCause::NoData => out.write_str(": a table has data, and 33-35 are blank"),
+        DataCause::NoDeck => out.write_str(": no ** card is left for them"),
+        DataCause::Missing(need) => {
+            write_need(out, *need);
+            out.write_str("no ** card is left for them");
+        }
+        DataCause::NonePerCard => out.write_str(": 33-35 have 0 entries a card"),
+        DataCause::TooWide { per_card, width } => write_too_wide(out, *per_card, *width),
+        DataCause::OtherCards { need, there } => write_other_cards(out, *need, *there),
+        DataCause::Entry(entry) => write_entry(out, spot, entry),
+        DataCause::Spare { deck, wanted } => write_spare(out, *deck, *wanted),
+    }
+}
