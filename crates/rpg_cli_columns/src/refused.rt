@@ -44,11 +44,7 @@ fn is_starred(line: &[u8]) -> bool {
 }
 
 /// Writes which columns have a bad value: what stands there, what of RPG II that is or what may stand there, and whether it stands beside its place.
-pub fn write_bad_columns(out: &mut TextWriter, line: &[u8], columns: Option<ColumnFault>) {
-    let Some(columns) = columns else {
-        out.write_str("some columns have a bad value");
-        return;
-    };
+pub fn write_bad_columns(out: &mut TextWriter, line: &[u8], columns: ColumnFault) {
     let range = range_of(CardKind::of(line), Sought::Columns(columns));
     write_columns_found(out, line, columns, range);
     match feature_at(line, columns) {

@@ -214,7 +214,11 @@ pub(crate) fn write_sentence(
         SourceCode::Sheet(SheetCode::S4) => {
             write_order(out, later_card(source.text, fault.card, line));
         }
-        SourceCode::Sheet(SheetCode::S5) => write_bad_columns(out, line, fault.columns),
+        SourceCode::Sheet(SheetCode::S5) => {
+            if let Some(columns) = fault.columns {
+                write_bad_columns(out, line, columns);
+            }
+        }
         SourceCode::Sheet(SheetCode::S6) => out.write_str("a source has at most 2,000 cards"),
     }
 }
