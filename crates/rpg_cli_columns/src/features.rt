@@ -15,9 +15,9 @@ pub(crate) const FEATURES: &str =
 /COPY isn't read: put the cards that it names in its place
  / 07-07 /COPY
 line counter cards (L) aren't read: a page has 66 lines; take the card out if each form begins with a skip (rpg2 fit rewrites it: A4)
- ? 06-06 L
+ ? 06-06 L&
 telecommunications cards (T) aren't read
- ? 06-06 T
+ ? 06-06 T&
 DEBUG isn't supported: blank column 15 (rpg2 fit rewrites it: A2)
  H 15-15
 inverted print isn't supported: blank column 21; edit codes put commas before the decimal point

@@ -21,7 +21,9 @@ mod unread;
 
 pub use deck::deck_of;
 pub use line_fault::{LineFault, ShorthandFault, line_message};
+pub use marks::{begins_data, ends_source};
 pub use pattern::character_at;
 pub use refused::{write_bad_columns, write_form_type};
 pub use ruler::RULER;
 pub use shorthand::shorthand_of;
+pub use unread::has_card_number;

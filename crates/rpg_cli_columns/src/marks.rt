@@ -5,10 +5,12 @@ fn begins_with(line: &[u8], mark: &[u8]) -> bool {
     line.starts_with(mark) && line.get(2).copied().unwrap_or(b' ') == b' '
 }
 
-pub(crate) fn begins_data(line: &[u8]) -> bool {
+/// Whether a line is a `**` card, after which data stand.
+pub fn begins_data(line: &[u8]) -> bool {
     begins_with(line, b"**")
 }
 
-pub(crate) fn ends_source(line: &[u8]) -> bool {
+/// Whether a line is a `/*` card, which ends a source.
+pub fn ends_source(line: &[u8]) -> bool {
     begins_with(line, b"/*")
 }

@@ -9,6 +9,12 @@ use rpg_sheet::ColumnFault;
 /// The directives for a listing stand from here on, whatever column 6 has.
 const DIRECTIVE: ColumnFault = ColumnFault { column: 7, last: 7 };
 
+/// The column of the form type.
+const FORM_TYPE: usize = 6;
+
+/// The letter of a card that is on no sheet: data and comments have any character in column 6.
+const NO_SHEET: u8 = b'?';
+
 /// Where the pattern of a place begins in its line, after a blank, the letter of the card and the columns.
 const PATTERN: usize = 9;
 
@@ -46,11 +52,23 @@ fn first_at(letter: u8, line: &[u8], columns: ColumnFault) -> Option<Unread> {
     None
 }
 
+/// Whether columns 1-5 have blanks and a number alone, as those of a card have.
+pub fn has_card_number(line: &[u8]) -> bool {
+    for column in 1..FORM_TYPE {
+        let character = character_at(line, column);
+        if character != b' ' && !character.is_ascii_digit() {
+            return false;
+        }
+    }
+    true
+}
+
 /// What of RPG II stands in columns that were refused, and the way round; none where they hold no feature that is known here.
 pub(crate) fn feature_at(line: &[u8], columns: ColumnFault) -> Option<Unread> {
     let (letter, _) = sheet_of(CardKind::of(line));
     match first_at(b'/', line, DIRECTIVE) {
         Some(directive) => Some(directive),
+        None if letter == NO_SHEET && !has_card_number(line) => None,
         None => first_at(letter, line, columns),
     }
 }

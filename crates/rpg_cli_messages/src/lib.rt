@@ -10,6 +10,7 @@ mod note;
 mod numbers;
 mod order;
 mod picture;
+mod unmarked;
 
 pub use bytes::write_byte_cause;
 pub use card_lines::CardLines;

@@ -5,6 +5,7 @@ use crate::card_lines::CardLines;
 use crate::numbers::{readable_cards, write_numbers};
 use crate::order::{LaterCard, later_card, write_order};
 use crate::picture::write_picture;
+use crate::unmarked::write_unmarked;
 use rpg_cards::IndexedCards;
 use rpg_cli_causes::{Root, SourceCards, root_of, write_cause};
 use rpg_cli_columns::{character_at, write_bad_columns, write_form_type};
@@ -210,13 +211,18 @@ pub(crate) fn write_sentence(
         }
         SourceCode::Sheet(SheetCode::S1) => write_long_line(out, line),
         SourceCode::Sheet(SheetCode::S2) => write_bad_byte(out, line),
-        SourceCode::Sheet(SheetCode::S3) => write_form_type(out, line),
+        SourceCode::Sheet(SheetCode::S3) => {
+            write_form_type(out, line);
+            write_unmarked(out, source.text, fault.card);
+        }
         SourceCode::Sheet(SheetCode::S4) => {
             write_order(out, later_card(source.text, fault.card, line));
+            write_unmarked(out, source.text, fault.card);
         }
         SourceCode::Sheet(SheetCode::S5) => {
             if let Some(columns) = fault.columns {
                 write_bad_columns(out, line, columns);
+                write_unmarked(out, source.text, fault.card);
             }
         }
         SourceCode::Sheet(SheetCode::S6) => out.write_str("a source has at most 2,000 cards"),

@@ -1,0 +1,74 @@
+//! Data before which a `**` card is missing.
+
+use rpg_cli_columns::{begins_data, character_at, ends_source, has_card_number};
+use rpg_cli_text::TextWriter;
+use rpg_text::{first_line, is_blank};
+
+/// The last card that a source may have.
+const LAST_CARD: u16 = 2000;
+
+/// What a source has of tables and of lines.
+#[derive(Clone, Copy)]
+struct Tally {
+    /// How many E cards want data.
+    wanted: usize,
+    /// How many cards begin data.
+    begun: usize,
+    /// The last O card; 0 if there is none.
+    last_line: u16,
+}
+
+/// Whether a line is a card with this form type, and no comment.
+fn is_card(line: &[u8], form: u8) -> bool {
+    character_at(line, 6) == form && character_at(line, 7) != b'*' && has_card_number(line)
+}
+
+/// Whether a line is an E card with entries a card, whose data stand after a `**` card.
+fn wants_data(line: &[u8]) -> bool {
+    is_card(line, b'E') && !is_blank(line.get(32..line.len().min(35)).unwrap_or(&[]))
+}
+
+impl Tally {
+    /// Counts a card. After the first that begins data there are no sheets.
+    fn note(&mut self, card: u16, line: &[u8]) {
+        if begins_data(line) {
+            self.begun = self.begun.saturating_add(1);
+        } else if self.begun == 0 {
+            if wants_data(line) {
+                self.wanted = self.wanted.saturating_add(1);
+            }
+            if is_card(line, b'O') {
+                self.last_line = card;
+            }
+        }
+    }
+
+    fn of(text: &[u8]) -> Tally {
+        let mut tally = Tally {
+            wanted: 0,
+            begun: 0,
+            last_line: 0,
+        };
+        let mut rest = text;
+        for card in 1..=LAST_CARD {
+            if rest.is_empty() {
+                break;
+            }
+            let (line, behind) = first_line(rest);
+            if ends_source(line) {
+                break;
+            }
+            tally.note(card, line);
+            rest = behind;
+        }
+        tally
+    }
+}
+
+/// Writes that a card of a source, by its number, may be data: it stands after the last O card, and not all E cards have their data.
+pub(crate) fn write_unmarked(out: &mut TextWriter, text: &[u8], number: u16) {
+    let tally = Tally::of(text);
+    if tally.begun < tally.wanted && 0 < tally.last_line && tally.last_line < number {
+        out.write_str("; or a ** card is missing before data");
+    }
+}
