@@ -1,10 +1,10 @@
 //! Which faults come of one slip.
 
 use crate::spot::{SourceCards, Spot};
-use rpg_causes::Cause;
+use rpg_causes::{Cause, OperandCause, OrderCause};
 use rpg_effect::form::Kind;
 use rpg_faults::{CardFault, FaultCode, SourceCode};
-use rpg_sheet::{Entry, Spec};
+use rpg_sheet::Entry;
 
 /// A slip that other faults follow from.
 #[derive(Clone, Copy, PartialEq, Eq)]
@@ -13,6 +13,8 @@ pub enum Root {
     Text(u16),
     /// No card defines this name, which is filled up with blanks.
     Unknown([u8; 6]),
+    /// This calculation card stands before cards of an earlier time.
+    Later(u16),
 }
 
 /// A name, filled up with blanks.
@@ -24,14 +26,14 @@ fn padded(name: &[u8]) -> [u8; 6] {
     padded
 }
 
-/// The input field that makes an entry a text.
+/// The card that makes an entry a text.
 fn text_of(spot: Spot<'_>, entry: Option<&Entry>) -> Option<Root> {
     let name = &entry?.name;
     let form = spot.form(name)?;
     let card = spot.definer(name.as_slice())?;
-    match (form.kind, &card.spec) {
-        (Kind::Text, Spec::Input(_)) => Some(Root::Text(card.number)),
-        _ => None,
+    match form.kind {
+        Kind::Text => Some(Root::Text(card.number)),
+        Kind::Number => None,
     }
 }
 
@@ -44,7 +46,20 @@ fn text_root(spot: Spot<'_>) -> Option<Root> {
     }
 }
 
-/// The slip that a fault comes of, where other faults may come of it too: a name that no card defines, or a field that is a text.
+/// The slip of an operand of the wrong kind, if that is that it is a text.
+fn operand_root(spot: Spot<'_>, cause: Cause) -> Option<Root> {
+    match cause {
+        Cause::Operand(
+            OperandCause::TextOperand { .. }
+            | OperandCause::EditedText(_)
+            | OperandCause::Unlike { .. },
+        ) => text_root(spot),
+        _ => None,
+    }
+}
+
+/// The slip that a fault comes of, where other faults may come of it too: a name that no card defines, a field that is a text, or a calculation
+/// that stands too early.
 pub fn root_of(source: SourceCards<'_>, line: &[u8], fault: CardFault) -> Option<Root> {
     let SourceCode::Fault(code) = fault.code else {
         return None;
@@ -55,7 +70,12 @@ pub fn root_of(source: SourceCards<'_>, line: &[u8], fault: CardFault) -> Option
             Cause::UndefinedName(name) => Some(Root::Unknown(padded(name.as_slice()))),
             _ => None,
         },
-        FaultCode::F4 | FaultCode::F17 => text_root(spot),
+        FaultCode::F4 => operand_root(spot, source.cause(fault.card, code)?),
+        FaultCode::F12 => match source.cause(fault.card, code)? {
+            Cause::Order(OrderCause::Early { card, .. }) => Some(Root::Later(card)),
+            _ => None,
+        },
+        FaultCode::F17 => text_root(spot),
         _ => None,
     }
 }

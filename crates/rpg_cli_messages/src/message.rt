@@ -67,8 +67,8 @@ fn write_messages(
 enum Slip {
     /// A card that stands before those of earlier sheets.
     Later(LaterCard),
-    /// A field that is a text.
-    Field(Root),
+    /// A card of which faults of other cards come.
+    Root(Root),
 }
 
 fn slip_of(source: SourceCards<'_>, line: &[u8], fault: CardFault) -> Option<Slip> {
@@ -77,7 +77,7 @@ fn slip_of(source: SourceCards<'_>, line: &[u8], fault: CardFault) -> Option<Sli
             Some(Slip::Later(later_card(source.text, fault.card, line)?))
         }
         SourceCode::Sheet(_) => None,
-        SourceCode::Fault(_) => Some(Slip::Field(root_of(source, line, fault)?)),
+        SourceCode::Fault(_) => Some(Slip::Root(root_of(source, line, fault)?)),
     }
 }
 
@@ -99,10 +99,16 @@ fn write_follower(out: &mut TextWriter, path: &str, line: &[u8], fault: CardFaul
                 later.card
             );
         }
-        Slip::Field(Root::Text(card)) => {
+        Slip::Root(Root::Text(card)) => {
             write!(out, "follows from card {card} too, whose field is a text\n");
         }
-        Slip::Field(Root::Unknown(name)) => {
+        Slip::Root(Root::Later(card)) => {
+            write!(
+                out,
+                "follows from card {card} too, which is of a later time\n"
+            );
+        }
+        Slip::Root(Root::Unknown(name)) => {
             out.write_shown(trimmed(&name));
             out.write_str(" once more\n");
         }
@@ -117,7 +123,7 @@ const DECIMALS: ColumnFault = ColumnFault {
 
 /// The card that a slip is on, where the fault is on another.
 fn write_slip_card(out: &mut TextWriter, path: &str, source: &[u8], slip: Slip) {
-    let Slip::Field(Root::Text(card)) = slip else {
+    let Slip::Root(Root::Text(card)) = slip else {
         return;
     };
     let line = CardLines::of(source).line_of(card);
