@@ -1,8 +1,7 @@
 //! The cards of a source, each with its faults below it.
 
 use crate::chart::write_ruler;
-use rpg_cards::IndexedCards;
-use rpg_cli_messages::{write_first, write_note};
+use rpg_cli_messages::{SourceCards, write_first, write_note};
 use rpg_cli_text::TextWriter;
 use rpg_faults::CardFault;
 use rpg_text::trimmed;
@@ -25,7 +24,7 @@ fn write_faults<'f>(
     out: &mut TextWriter,
     number: usize,
     line: &[u8],
-    source: &IndexedCards,
+    source: SourceCards<'_>,
     faults: &'f [CardFault],
 ) -> &'f [CardFault] {
     let mut rest = faults;
@@ -43,7 +42,7 @@ fn write_faults<'f>(
 pub(crate) fn write_cards(
     out: &mut TextWriter,
     lines: &[&[u8]],
-    source: &IndexedCards,
+    source: SourceCards<'_>,
     faults: &[CardFault],
 ) {
     out.write_str("\n card ");

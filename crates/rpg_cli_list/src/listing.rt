@@ -8,6 +8,7 @@ use crate::records::write_records;
 use crate::tables::write_tables;
 use rpg_cards::IndexedCards;
 use rpg_cli_list_names::{Indicators, Labels, Names, write_constants};
+use rpg_cli_messages::SourceCards;
 use rpg_cli_text::TextWriter;
 use rpg_deck::{Deck, Tree};
 use rpg_faults::{CardFault, source_faults};
@@ -67,13 +68,18 @@ fn write_contents(
 fn cards_text(
     alloc: Global,
     path: &str,
+    text: &[u8],
     read: &ReadCards,
     faults: &[CardFault],
 ) -> Result<String, AllocError> {
     let source = IndexedCards::new(alloc, &read.cards)?;
     let mut out = TextWriter::new(alloc);
     write_head(&mut out, path, read.lines.len(), faults);
-    write_cards(&mut out, &read.lines, &source, faults);
+    let known = SourceCards {
+        cards: &source,
+        text,
+    };
+    write_cards(&mut out, &read.lines, known, faults);
     write_contents(alloc, &mut out, &source)?;
     out.finish()
 }
@@ -86,5 +92,5 @@ pub fn source_listing(alloc: Global, path: &str, source: &[u8]) -> Result<String
         return Err(AllocError);
     };
     let read = ReadCards::of(alloc, source, &faults)?;
-    cards_text(alloc, path, &read, &faults)
+    cards_text(alloc, path, source, &read, &faults)
 }

@@ -17,3 +17,4 @@ pub use card_lines::CardLines;
 pub use message::{source_messages, write_place, write_told};
 pub use note::write_note;
 pub use picture::{write_first, write_picture};
+pub use rpg_cli_causes::SourceCards;

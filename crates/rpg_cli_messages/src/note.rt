@@ -2,7 +2,6 @@
 
 use crate::message::{columns_of, write_sentence};
 use crate::picture::write_times;
-use rpg_cards::IndexedCards;
 use rpg_cli_causes::SourceCards;
 use rpg_cli_text::TextWriter;
 use rpg_faults::CardFault;
@@ -23,7 +22,7 @@ pub fn write_note(
     out: &mut TextWriter,
     margin: usize,
     line: &[u8],
-    cards: &IndexedCards,
+    source: SourceCards<'_>,
     fault: CardFault,
 ) {
     if let Some(columns) = columns_of(line, fault) {
@@ -37,7 +36,6 @@ pub fn write_note(
         margin.saturating_sub(code.len().saturating_add(1)),
     );
     write!(out, "{code} ");
-    let source = SourceCards { cards, text: &[] };
     write_sentence(out, line, source, fault);
     out.write_char('\n');
 }
