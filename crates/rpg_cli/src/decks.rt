@@ -2,8 +2,10 @@
 
 use rpg_cli_answers::{Answer, Listener, Stop, named};
 use rpg_cli_columns::{RULER, ShorthandFault, deck_of, line_message, shorthand_of};
+use rpg_cli_messages::card_message;
 use rpg_cli_run::source_bytes;
 use rpg_cli_words::{CardsWanted, CardsWords, FileWord};
+use rpg_faults::{CardFault, SourceFault};
 use std::alloc::Global;
 use std::rt::Files;
 
@@ -26,6 +28,47 @@ fn deck_text<L: Listener>(
     }
 }
 
+/// The shorthand of cards. The first that is no card is reported.
+fn shorthand_text<L: Listener>(
+    alloc: Global,
+    path: &str,
+    source: &[u8],
+    listener: &mut L,
+) -> Result<String, Answer> {
+    match shorthand_of(alloc, source) {
+        Ok(text) => Ok(text),
+        Err(fault) => {
+            tell_card(alloc, path, source, fault, listener);
+            Err(fault.into())
+        }
+    }
+}
+
+fn tell_card<L: Listener>(
+    alloc: Global,
+    path: &str,
+    source: &[u8],
+    fault: SourceFault,
+    listener: &mut L,
+) {
+    let SourceFault::At {
+        card,
+        code,
+        columns,
+    } = fault
+    else {
+        return;
+    };
+    let fault = CardFault {
+        card,
+        code,
+        columns,
+    };
+    if let Ok(message) = card_message(alloc, path, source, fault) {
+        listener.tell(message.as_str());
+    }
+}
+
 /// What the arguments ask for: a file's cards, or its shorthand.
 fn wanted_text<L: Listener>(
     alloc: Global,
@@ -37,7 +80,7 @@ fn wanted_text<L: Listener>(
         CardsWanted::Cards | CardsWanted::RuledCards => {
             deck_text(alloc, words.source, source, listener)
         }
-        CardsWanted::Shorthand => Ok(shorthand_of(alloc, source)?),
+        CardsWanted::Shorthand => shorthand_text(alloc, words.source, source, listener),
     }
 }
 

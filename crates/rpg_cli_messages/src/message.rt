@@ -38,6 +38,25 @@ pub fn source_messages(
     out.finish()
 }
 
+/// What a person reads of one fault of a source, which `path` names, where a command goes no further: it is written as among others.
+pub fn card_message(
+    alloc: Global,
+    path: &str,
+    source: &[u8],
+    fault: CardFault,
+) -> Result<String, AllocError> {
+    let no_cards = Vec::new(alloc);
+    let cards = IndexedCards::new(alloc, &no_cards)?;
+    let known = SourceCards {
+        cards: &cards,
+        text: source,
+    };
+    let mut out = TextWriter::new(alloc);
+    let line = CardLines::of(source).line_of(fault.card);
+    write_message(&mut out, path, line, known, fault);
+    out.finish()
+}
+
 /// Writes faults in the order of their cards, and notes the slips that they come from.
 fn write_messages(
     out: &mut TextWriter,
