@@ -112,7 +112,7 @@ pub(crate) fn explain<L: Listener>(
         }
         Ok(None) => {
             listener.tell(
-                "codes are S1 to S6, F1 to F18, W1 to W6, V1 to V26, B1 to B7, A1 to A21, and halt 1 to halt 8\n",
+                "codes are S1 to S6, F1 to F18, W1 to W7, V1 to V26, B1 to B7, A1 to A21, and halt 1 to halt 8\n",
             );
             Ok(Answer::NoSuchCode)
         }

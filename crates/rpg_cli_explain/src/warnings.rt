@@ -1,4 +1,4 @@
-//! The pages of W1 to W6.
+//! The pages of W1 to W7.
 
 /// The pages, in the order of their codes, each as [`crate::page::Page`] reads it.
 pub(crate) const WARNINGS: &str = "\
@@ -25,4 +25,8 @@ pub(crate) const WARNINGS: &str = "\
     @W6%PAGE has conditions, and isn't set back to 1%cards\
     %- a page number with a condition of its own (23-31):\n\n     O                 01      PAGE      10\
     %- PAGE without conditions, on a line with conditions:\n\n     OPRINT   H  1     1P\n     O       OR        OF\n     O                         PAGE      10\
-    %where page numbers should start again, Z-ADD 0 to PAGE in the calculations, and take\nthe condition away. Here it decides whether PAGE is printed, and counted";
+    %where page numbers should start again, Z-ADD 0 to PAGE in the calculations, and take\nthe condition away. Here it decides whether PAGE is printed, and counted\
+    @W7%SETON turns on a halt indicator, which ends the job%cards\
+    %- a halt to call the operator:\n\n     C   30                SETON                     H1\
+    %- other indicators, and halt indicators that a record type or a result turns on:\n\n     IINPUT   AA  H1\n     C           AMT       COMP 100                  H2\
+    %if the job is to go on, put out a line of type E in its place, or test another\nindicator. It ends with halt 6 after the lines of that record, and what was printed is kept";

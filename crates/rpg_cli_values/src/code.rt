@@ -12,6 +12,7 @@ pub enum WarningCode {
     W4,
     W5,
     W6,
+    W7,
 }
 
 impl WarningCode {
@@ -25,6 +26,7 @@ impl WarningCode {
             WarningCode::W4 => "W4",
             WarningCode::W5 => "W5",
             WarningCode::W6 => "W6",
+            WarningCode::W7 => "W7",
         }
     }
 
@@ -37,6 +39,7 @@ impl WarningCode {
             "W4" => Some(WarningCode::W4),
             "W5" => Some(WarningCode::W5),
             "W6" => Some(WarningCode::W6),
+            "W7" => Some(WarningCode::W7),
             _ => None,
         }
     }
@@ -50,6 +53,7 @@ impl WarningCode {
             WarningCode::W4 => "a result has fewer digits before its point than a factor",
             WarningCode::W5 => "a control level is asked for, and no field has it",
             WarningCode::W6 => "PAGE has conditions, and isn't set back to 1",
+            WarningCode::W7 => "SETON turns on a halt indicator, which ends the job",
         }
     }
 }

@@ -14,6 +14,7 @@ pub struct WarningCodes {
     w4: bool,
     w5: bool,
     w6: bool,
+    w7: bool,
 }
 
 impl WarningCodes {
@@ -24,6 +25,7 @@ impl WarningCodes {
         w4: false,
         w5: false,
         w6: false,
+        w7: false,
     };
 
     /// Whether a code is in the set.
@@ -37,6 +39,7 @@ impl WarningCodes {
             WarningCode::W4 => self.w4,
             WarningCode::W5 => self.w5,
             WarningCode::W6 => self.w6,
+            WarningCode::W7 => self.w7,
         }
     }
 
@@ -51,6 +54,7 @@ impl WarningCodes {
             WarningCode::W4 => WarningCodes { w4: true, ..self },
             WarningCode::W5 => WarningCodes { w5: true, ..self },
             WarningCode::W6 => WarningCodes { w6: true, ..self },
+            WarningCode::W7 => WarningCodes { w7: true, ..self },
         }
     }
 }

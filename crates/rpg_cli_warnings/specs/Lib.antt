@@ -1,5 +1,6 @@
 -- What a source is warned of, as definitions.
 pub mod Digits
+pub mod Halts
 pub mod Indicators
 pub mod Marks
 pub mod Overlaps

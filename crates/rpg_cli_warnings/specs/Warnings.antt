@@ -3,6 +3,7 @@ use Rattle.std.specs.Prelude.{List, [], ◌++◌, Bool, not, filter}
 use Rattle.std.specs.List.{filter_map}
 use Rattle.rpg_cards.specs.declared.spec_card.SpecCard.{SpecCard}
 use Rattle.rpg_cli_warnings.specs.Digits.{shorter_on}
+use Rattle.rpg_cli_warnings.specs.Halts.{halt_on}
 use Rattle.rpg_cli_warnings.specs.Indicators.{warnings_up_to}
 use Rattle.rpg_cli_warnings.specs.Overlaps.{overlaps_from}
 use Rattle.rpg_cli_warnings.specs.Pages.{page_on}
@@ -11,7 +12,7 @@ use Rattle.rpg_cli_warnings.specs.declared.warning.WarningKind.{WarningKind}
 use Rattle.rpg_cli_warnings.specs.declared.warning.WarningKind.TheVariants as kind
 use Rattle.rpg_cli_values.specs.Codes.{has}
 use Rattle.rpg_cli_values.specs.declared.code.WarningCode.{WarningCode}
-use Rattle.rpg_cli_values.specs.declared.code.WarningCode.TheVariants.{W1, W2, W3, W4, W5, W6}
+use Rattle.rpg_cli_values.specs.declared.code.WarningCode.TheVariants.{W1, W2, W3, W4, W5, W6, W7}
 use Rattle.rpg_cli_values.specs.declared.codes.WarningCodes.{WarningCodes}
 
 -- the code of a warning
@@ -22,10 +23,16 @@ code (kind.Overlap first last card) = W3
 code (kind.Shorter r f) = W4
 code (kind.NoLevel n) = W5
 code kind.PageConditions = W6
+code (kind.SetsHalt n) = W7
 
--- of all 129 indicators, of fields over each other, of results that are too short, of page numbers
+-- of all 129 indicators, of fields over each other, of results that are too short, of page numbers, of halts
 abbrev pub warnings_of : List SpecCard → List Warning
-warnings_of cards = warnings_up_to 129 cards ++ overlaps_from cards [] cards ++ filter_map (shorter_on cards) cards ++ filter_map page_on cards
+warnings_of cards =
+    warnings_up_to 129 cards
+    ++ overlaps_from cards [] cards
+    ++ filter_map (shorter_on cards) cards
+    ++ filter_map page_on cards
+    ++ filter_map halt_on cards
 
 -- the code of a warning
 unfoldable pub code_of : Warning → WarningCode

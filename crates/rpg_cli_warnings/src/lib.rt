@@ -1,9 +1,10 @@
 //! What a source without a fault is warned of: indicators that are asked and never turned on, or turned on and never asked, fields of a line over each other,
-//! and results that are shorter than what they are made of.
+//! results that are shorter than what they are made of, page numbers under conditions, and halts.
 #![tactic(auto)]
 
 mod asking;
 mod digits;
+mod halts;
 mod indicators;
 mod levels;
 mod marks;

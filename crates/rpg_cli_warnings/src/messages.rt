@@ -46,6 +46,13 @@ fn write_sentence(out: &mut TextWriter, kind: WarningKind) {
         WarningKind::PageConditions => out.write_str(
             "PAGE has conditions: they decide whether it is printed, and don't set it back to 1 (docs/OLD_PROGRAMS.md)",
         ),
+        WarningKind::SetsHalt { indicator } => {
+            let indicator = Indicator(indicator);
+            write!(
+                out,
+                "SETON turns on {indicator}: a halt indicator ends the job, and no operator can answer it (docs/OLD_PROGRAMS.md)"
+            );
+        }
         WarningKind::Shorter { result, factor } => {
             let of_digits = if result == 1 { "" } else { "s" };
             write!(

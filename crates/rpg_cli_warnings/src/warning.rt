@@ -34,6 +34,10 @@ pub enum WarningKind {
     },
     /// It puts PAGE out under conditions.
     PageConditions,
+    /// It turns on a halt indicator by SETON.
+    SetsHalt {
+        indicator: u8,
+    },
 }
 
 impl WarningKind {
@@ -47,6 +51,7 @@ impl WarningKind {
             WarningKind::Shorter { .. } => WarningCode::W4,
             WarningKind::NoLevel { .. } => WarningCode::W5,
             WarningKind::PageConditions => WarningCode::W6,
+            WarningKind::SetsHalt { .. } => WarningCode::W7,
         }
     }
 }

@@ -5,6 +5,7 @@ ghost use Rattle.std.specs.List.Sorted.{IsPermutation};
 ghost use Rattle.rpg_cli_warnings.specs.Warnings as warned;
 
 use crate::digits::put_shorter;
+use crate::halts::put_halts;
 use crate::indicators::put_indicators;
 use crate::overlaps::put_overlaps;
 use crate::pages::put_pages;
@@ -16,7 +17,7 @@ use std::alloc::{AllocError, Global};
 /// The greatest number of an indicator.
 const LAST_INDICATOR: u8 = 129;
 
-/// All that a source without a fault is warned of: by indicators, then fields over each other, results that are too short and page numbers by their cards.
+/// All that a source without a fault is warned of: by indicators, then fields over each other, results that are too short, page numbers and halts by their cards.
 pub fn source_warnings(alloc: Global, source: &IndexedCards) -> Result<Vec<Warning>, AllocError>
     ensures { IfOk result (λ warnings. warnings.items ≡ warned.warnings_of source.now) }
 {
@@ -26,6 +27,7 @@ pub fn source_warnings(alloc: Global, source: &IndexedCards) -> Result<Vec<Warni
     put_overlaps(&mut warnings, &mut placed, source)?;
     put_shorter(&mut warnings, source)?;
     put_pages(&mut warnings, source.as_slice())?;
+    put_halts(&mut warnings, source.as_slice())?;
     Ok(warnings)
 }
 

@@ -89,7 +89,7 @@ watch F Reports control fields that go down, and counts records and lines";
 const FORMATS: &[&str] = &["text", "json"];
 
 /// The codes of warnings that may be allowed.
-const WARNING_CODES: &[&str] = &["W1", "W2", "W3", "W4", "W5", "W6"];
+const WARNING_CODES: &[&str] = &["W1", "W2", "W3", "W4", "W5", "W6", "W7"];
 
 /// Cuts a text at a mark. Without the mark nothing comes after it.
 fn cut(text: &'static str, mark: &str) -> (&'static str, &'static str) {
