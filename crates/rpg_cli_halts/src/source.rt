@@ -5,7 +5,6 @@ use crate::halts::HaltedCycle;
 use rpg_cli_messages::{CardLines, write_picture};
 use rpg_cli_show_fields::{SourceRows, write_card_operand};
 use rpg_cli_text::TextWriter;
-use rpg_effect::condition::has_conditions;
 use rpg_effect::halt::Halt;
 use rpg_effect::operation::{Action, Index, Instruction, Operand};
 use rpg_object_program::Program;
@@ -72,7 +71,6 @@ fn write_made_of(
             write_action(out, rows, source, action);
             return;
         }
-        Instruction::Branch { conditions, .. } if has_conditions(conditions) => "its conditions",
         Instruction::Branch { .. } => "GOTO {}",
         Instruction::Call { .. } => "EXSR {}",
         Instruction::Return { .. } => "ENDSR",
