@@ -81,7 +81,7 @@ fn is_odd(text: &str) -> bool {
 fn odd_date_message(alloc: Global, text: &str) -> Result<String, AllocError> {
     let mut out = TextWriter::new(alloc);
     out.fill(
-        "--date {} is no date of a calendar: UDATE has it as it is\n",
+        "--date {} isn't a calendar date: UDATE holds it as it is\n",
         &[text.into()],
     );
     out.finish()

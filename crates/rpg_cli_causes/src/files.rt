@@ -19,7 +19,7 @@ const THIRD_INPUT: &str =
     "; a second input file has S in 16, and a third isn't supported: merge two beforehand (docs/OLD_PROGRAMS.md)";
 
 const MORE_OUTPUT: &str =
-    "; more output files aren't supported: write one with a code in column 1, and split it afterwards (rpg2 fit does it for disk files: A21)";
+    "; more output files aren't supported: make a deck for each printer; rpg2 fit makes one of several disk files (A21)";
 
 /// A second file of a use, and what to do.
 fn write_second(out: &mut TextWriter, spot: Spot<'_>, name: &[u8], first: &FileOnCard) {
@@ -54,8 +54,9 @@ fn write_second(out: &mut TextWriter, spot: Spot<'_>, name: &[u8], first: &FileO
 /// The length that no line, and the one that no record has.
 const fn length_sentence(serves_as: FileUse) -> &'static str {
     match serves_as {
-        FileUse::Printer => "a printed line of {} places: it has 1 to 132 (docs/OLD_PROGRAMS.md)",
-        _ => "a record length of {}: it is 1 to 9,999",
+        FileUse::Printer =>
+            "a printed line of {} places: a line has 1 to 132 (docs/OLD_PROGRAMS.md)",
+        _ => "a record length of {}: a record has 1 to 9,999 columns",
     }
 }
 
@@ -96,7 +97,10 @@ pub(crate) fn write_file(out: &mut TextWriter, spot: Spot<'_>, cause: &FileCause
         }
         FileCause::Unnamed(user) => {
             let (of_whom, _) = user_names(*user);
-            out.fill("the first {} names its file in 7-14", &[of_whom.into()]);
+            out.fill(
+                "the first {} has to name its file in 7-14",
+                &[of_whom.into()],
+            );
         }
         FileCause::Unknown { name, .. } => {
             out.fill("no F card has {}", &[name.as_slice().into()]);

@@ -5,7 +5,7 @@ use rpg_cli_text::{TextWriter, indicator_name};
 use rpg_sheet::Indicator;
 
 const NOT_OF_TYPE: &str =
-    "{} isn't turned on by record types: 01 to 99, L1 to L9, LR and H1 to H9 are";
+    "{} can't be turned on by a record type: 01 to 99, L1 to L9, LR and H1 to H9 can";
 
 const TEXT_FIELD: &str =
     "{} is a text, since column 52 is blank, and only its blanks are tested (69-70)";
@@ -22,15 +22,15 @@ pub(crate) fn write_bad_indicator(out: &mut TextWriter, cause: &IndicatorCause) 
             out.fill(NOT_OF_TYPE, &[name_of(indicator).into()]);
         }
         IndicatorCause::NeverSet(indicator) => out.fill(
-            "{} isn't set: results and fields set all but L0, 1P and MR",
+            "{} can't be set: results and fields set all but L0, 1P and MR",
             &[name_of(indicator).into()],
         ),
         IndicatorCause::TextField(name) => out.fill(TEXT_FIELD, &[name.as_slice().into()]),
         IndicatorCause::FirstPage => out.write_str(
-            "1P isn't asked in calculations: it is on before the first record alone",
+            "calculations can't test 1P: it is on only before the first record",
         ),
         IndicatorCause::NoMatchFields => {
-            out.write_str("MR is asked, and no field has a match level (61-62)");
+            out.write_str("MR is tested, and no field has a match level (61-62)");
         }
     }
 }

@@ -28,9 +28,9 @@ fn write_near_label(out: &mut TextWriter, cards: &[SpecCard], name: &[u8], is_su
     }
 }
 
-const IS_SUBROUTINE: &str = "{} is a subroutine (card {}): EXSR does it, GOTO leads to labels";
+const IS_SUBROUTINE: &str = "{} is a subroutine (card {}): EXSR calls it, GOTO goes to labels";
 
-const IS_LABEL: &str = "{} is a label (card {}): GOTO leads to it, EXSR does subroutines";
+const IS_LABEL: &str = "{} is a label (card {}): GOTO goes to it, EXSR calls subroutines";
 
 /// F10: the label or the subroutine that isn't there, or is the other of the two.
 pub(crate) fn write_nowhere(out: &mut TextWriter, spot: Spot<'_>, cause: &NowhereCause) {
@@ -38,7 +38,7 @@ pub(crate) fn write_nowhere(out: &mut TextWriter, spot: Spot<'_>, cause: &Nowher
         NowhereCause::Absent(wanted) => {
             let name = wanted.name.as_slice();
             let operation = if wanted.is_subroutine { "BEGSR" } else { "TAG" };
-            out.fill("no {} gives {}", &[operation.into(), name.into()]);
+            out.fill("no {} defines {}", &[operation.into(), name.into()]);
             let cards = spot.source.cards.as_slice();
             write_near_label(out, cards, name, wanted.is_subroutine);
         }
@@ -68,17 +68,14 @@ pub(crate) fn write_twice(out: &mut TextWriter, cause: &TwiceCause) {
             &[name.as_slice().into(), (*card).into()],
         ),
         TwiceCause::EveryProgram(name) => {
-            out.fill(
-                "{} is a field without being defined",
-                &[name.as_slice().into()],
-            );
+            out.fill("{} is predefined as a field", &[name.as_slice().into()]);
         }
     }
 }
 
 /// F13: where the label stands.
 const APART: &str =
-    "{} (card {}) is a label of another section: GOTO leads within the detail calculations, the total ones, or one subroutine";
+    "{} (card {}) is a label of another section: GOTO stays within the detail calculations, the total calculations, or one subroutine";
 
 /// F14: the subroutine that leads back.
 const RECURSION: &str = "{} (card {}) is the subroutine that this card is in, or leads back to it";

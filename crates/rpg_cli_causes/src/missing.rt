@@ -24,10 +24,13 @@ const fn sentence(cause: &ColumnCause) -> (&'static str, &'static str) {
     match cause {
         ColumnCause::NoOperation => ("a calculation needs an operation (28-32)", ""),
         ColumnCause::ConditionsNeeded => (
-            "of a calculation with AN and OR cards each card has conditions (9-17)",
+            "each card of a calculation with AN or OR cards needs conditions (9-17)",
             "",
         ),
-        ColumnCause::Unconditioned => ("TAG, BEGSR and ENDSR have no conditions: blank 9-17", ""),
+        ColumnCause::Unconditioned => (
+            "TAG, BEGSR and ENDSR can't have conditions: blank 9-17",
+            "",
+        ),
         ColumnCause::LengthAlone => ("a length (49-51) without a result field (43-48)", ""),
         ColumnCause::NoIndicators => ("{} has no resulting indicators: blank 54-59", ""),
         ColumnCause::IndicatorNeeded => ("{} needs a resulting indicator (54-59)", ""),
@@ -35,15 +38,15 @@ const fn sentence(cause: &ColumnCause) -> (&'static str, &'static str) {
             "{} searches for high (54-55) or low (56-57), not for both",
             "",
         ),
-        ColumnCause::NotAllowed(at) => ("{} doesn't have {}: blank it", name_of(*at)),
+        ColumnCause::NotAllowed(at) => ("{} doesn't use {}: blank it", name_of(*at)),
         ColumnCause::Needed(at) => ("{} needs {}", name_of(*at)),
-        ColumnCause::NotPlain(at) => ("{} has a name in {}, without an index", name_of(*at)),
+        ColumnCause::NotPlain(at) => ("{} needs a name without an index in {}", name_of(*at)),
         ColumnCause::LastCardAlone(at) => (LAST_CARD_ALONE, name_of(*at)),
     }
 }
 
 const LAST_CARD_ALONE: &str =
-    "the calculation goes on with AN or OR, and its last card alone has {}";
+    "the calculation continues with AN or OR, and only its last card may have {}";
 
 /// F9 of what LOKUP searches, or of an output field.
 pub(crate) fn write_field(out: &mut TextWriter, spot: Spot<'_>, cause: &FieldCause) {

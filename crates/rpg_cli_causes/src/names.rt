@@ -38,14 +38,14 @@ const ARRAY_ON_INPUT: &str =
 pub(crate) fn write_redefined(out: &mut TextWriter, spot: Spot<'_>, cause: &Redefined) {
     let name = cause.name.as_slice();
     if name == b"UDATE".as_slice() {
-        out.write_str("UDATE is the date, and no card defines it");
+        out.write_str("UDATE is the date, and no card can define it");
         return;
     }
     out.fill("{} is ", &[name.into()]);
     write_form(out, cause.here);
     out.write_str(" here, and ");
     if cause.definer.is_none() {
-        out.write_str("without being defined it is ");
+        out.write_str("it is predefined as ");
     }
     write_form(out, cause.first);
     if let Some(card) = cause.definer {

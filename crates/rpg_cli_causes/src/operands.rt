@@ -19,7 +19,7 @@ fn write_remedy(out: &mut TextWriter, spot: Spot<'_>, text: &TextField) {
     };
     if text.length <= MOST_DIGITS {
         let remedy = if spot.is_extension(card) {
-            "its decimals, in 44 or 56,"
+            "a digit in column 44 or 56"
         } else {
             "a digit in column 52"
         };
@@ -32,9 +32,9 @@ fn write_remedy(out: &mut TextWriter, spot: Spot<'_>, text: &TextField) {
 
 const fn class_sentence(wanted: Content) -> &'static str {
     match wanted {
-        Content::WholeArray => "{} is no array, and {} adds up the entries of one",
-        Content::Searched => "{} is no table and no array, and {} searches one",
-        _ => "{} is no table, and what is found by {} becomes current in one",
+        Content::WholeArray => "{} isn't an array, and {} adds up the entries of one",
+        Content::Searched => "{} is neither a table nor an array, and {} searches one",
+        _ => "{} isn't a table, and what is found by {} becomes current in one",
     }
 }
 
@@ -59,12 +59,12 @@ pub(crate) fn write_operand(out: &mut TextWriter, spot: Spot<'_>, cause: &Operan
         }
         OperandCause::Unlike { first, second } => write_unlike(out, operation, *first, *second),
         OperandCause::Unwritable => {
-            out.write_str("UDATE is the date, and no calculation changes it");
+            out.write_str("UDATE is the date, and no calculation can change it");
         }
         OperandCause::TooFew { found, searched } => write_too_few(out, spot, *found, *searched),
         OperandCause::EditedText(text) => write_edited(out, spot, text),
         OperandCause::BlankedDate(name) => out.fill(
-            "{} is the date, and isn't blanked: take B out of column 39",
+            "{} is the date, and can't be blanked: take B out of column 39",
             &[name.as_slice().into()],
         ),
     }
@@ -134,7 +134,7 @@ pub(crate) fn write_index(out: &mut TextWriter, spot: Spot<'_>, cause: &IndexCau
         } => write_no_index(out, name, *form, *definer),
         IndexCause::NoArray(name) => {
             out.fill(
-                "{} is no array, and has no index",
+                "{} isn't an array, and takes no index",
                 &[name.as_slice().into()],
             );
         }

@@ -25,9 +25,9 @@ fn write_unended(out: &mut TextWriter, name: &Option<Word<6>>, next: Option<u16>
     }
 }
 
-const UNJOINED: &str = "AN and OR go on with the calculation right before them, and there is none";
+const UNJOINED: &str = "AN and OR continue the calculation right before them, and there is none";
 
-const EARLY: &str = "this card is of {} and stands after {} (card {})";
+const EARLY: &str = "this card is for {}, but comes after {} (card {})";
 
 const NO_BEGSR: &str = "this ENDSR has no BEGSR: the last subroutine before it ends on card {}";
 
@@ -58,7 +58,7 @@ pub(crate) fn write_order(out: &mut TextWriter, spot: Spot<'_>, cause: &OrderCau
 fn write_joined(out: &mut TextWriter, sentence: &'static str, card: Option<u16>) {
     out.write_str(sentence);
     match card {
-        Some(card) => out.fill(", and card {} is none", &[card.into()]),
+        Some(card) => out.fill(", and card {} isn't one", &[card.into()]),
         None => out.write_str(", and there is none"),
     }
 }
@@ -67,24 +67,16 @@ fn write_joined(out: &mut TextWriter, sentence: &'static str, card: Option<u16>)
 pub(crate) fn write_stray(out: &mut TextWriter, cause: StrayCause) {
     match cause {
         StrayCause::NoType => {
-            out.write_str("a field stands after its record type, and none is before it");
+            out.write_str("a field needs a record type before it");
         }
         StrayCause::NoLine => {
-            out.write_str("a field stands after its line, and none is before it");
+            out.write_str("a field needs a line before it");
         }
         StrayCause::OtherThanType(card) => {
-            write_joined(
-                out,
-                "AND goes on with the record type right before it",
-                card,
-            );
+            write_joined(out, "AND continues the record type right before it", card);
         }
         StrayCause::OtherThanLine(card) => {
-            write_joined(
-                out,
-                "AND and OR go on with the line right before them",
-                card,
-            );
+            write_joined(out, "AND and OR continue the line right before them", card);
         }
     }
 }

@@ -8,7 +8,7 @@ use rpg_cli_text::TextWriter;
 pub(crate) fn write_rounding(out: &mut TextWriter, spot: Spot<'_>, cause: RoundingCause) {
     let sentence = match cause {
         RoundingCause::LastCardAlone =>
-            "the calculation goes on with AN or OR, and its last card alone has H",
+            "the calculation continues with AN or OR, and only its last card may have H",
         RoundingCause::NoOperation => "H (53) without an operation (28-32)",
         RoundingCause::NotRounded => "{} isn't half adjusted: blank column 53",
         RoundingCause::SeveralCards => "MVR has no AN or OR cards",

@@ -32,7 +32,7 @@ combined files aren't supported: write the records to the disk file (docs/OLD_PR
  F 15-15 C
 display files aren't supported: put parameters in a first record of its own type (docs/OLD_PROGRAMS.md)
  F 15-15 D
-files read by key or on demand aren't supported: sort them, and match them with the primary file as its secondary file (docs/OLD_PROGRAMS.md)
+files read by key or on demand aren't supported: sort the file, make it the primary file, and match the transactions as the secondary file (docs/OLD_PROGRAMS.md)
  F 16-16 C
  F 16-16 D
 record address files aren't supported: sort the records beforehand (docs/OLD_PROGRAMS.md)
@@ -50,7 +50,7 @@ keys and record addresses aren't supported: sort the records beforehand (docs/OL
  F 35-38
 line counter cards (L) aren't read: blank column 39 if each form begins with a skip; a page has 66 lines (rpg2 fit rewrites it: A4)
  F 39-39 L
-the extension code isn't read: blank column 39, a deck with tables needs none (rpg2 fit rewrites it: A5)
+the extension code isn't read: blank column 39, a deck with tables needs none
  F 39-39 E
 symbolic devices and labels aren't read: blank 47-53, nothing depends on them (rpg2 fit rewrites it: A2)
  F 47-53
@@ -58,12 +58,12 @@ exits aren't supported: no program outside the deck is called
  F 54-59
 the core index isn't read: blank 60-65, nothing depends on it
  F 60-65
-records aren't added to a file that is there: write a new file (docs/OLD_PROGRAMS.md)
+adding records to an existing file isn't supported: write a new file (docs/OLD_PROGRAMS.md)
  F 66-66 A
  O 16-16 ADD
 the unit isn't read: blank column 70, nothing depends on it (rpg2 fit rewrites it: A2)
  F 70-70
-external switches (U1 to U8) aren't supported: turn indicators on by a first record of its own type (rpg2 fit --switches decides them: A3)
+external switches (U1 to U8) aren't supported: turn indicators on with a first record that has its own type (rpg2 fit --switches decides conditions on them: A3)
  F 71-72 U#
  T 19-20 U#
  C 09-17 .U#
@@ -73,7 +73,7 @@ external switches (U1 to U8) aren't supported: turn indicators on by a first rec
  D 23-31 .U#
 tables that are read from a file at the start aren't supported: put the entries after a ** card (rpg2 fit rewrites it: A5)
  E 11-18
-tables that are written to a file at the end aren't supported: put the entries out by lines
+tables that are written to a file at the end aren't supported: write the entries with output lines
  E 19-26
 packed and binary entries aren't read: write their digits
  E 43-43 P
@@ -87,10 +87,10 @@ OR among record types isn't supported: write a record type for each, and repeat 
  T 07-14 _______OR
 sequence by number isn't supported: write two letters; the order of the types isn't checked then (rpg2 fit rewrites it: A7)
  T 15-16 ##
-sequence by number isn't supported: blank column 17 (rpg2 fit rewrites it: A7)
+sequence by number isn't supported: blank column 17
  T 17-17 1
  T 17-17 N
-sequence by number isn't supported: blank column 18 (rpg2 fit rewrites it: A7)
+sequence by number isn't supported: blank column 18
  T 18-18 O
 look ahead isn't supported
  T 19-20 **
@@ -126,42 +126,42 @@ figurative constants aren't supported: MOVE a text of blanks as long as the resu
  C 18-42 *BLANK
 figurative constants aren't supported: write 0, or a text of zeros (rpg2 fit rewrites it: A10)
  C 18-42 *ZERO
-it isn't among the operations that are read: sort the records, and match them as the secondary file (docs/OLD_PROGRAMS.md)
+this operation isn't supported: sort the master, make it the primary file, and match the transactions as the secondary file (docs/OLD_PROGRAMS.md)
  C 28-32 CHAIN
  C 28-32 READ_
  C 28-32 SETLL
-it isn't among the operations that are read: match values decide which file comes next
+this operation isn't supported: match values decide which file comes next
  C 28-32 FORCE
-it isn't among the operations that are read: put parameters in a first record of its own type (docs/OLD_PROGRAMS.md)
+this operation isn't supported: put parameters in a first record of its own type (docs/OLD_PROGRAMS.md)
  C 28-32 DSPLY
  C 28-32 KEY__
  C 28-32 SET__
-it isn't among the operations that are read: loop over the array with an index (rpg2 fit rewrites it: A11)
+this operation isn't supported: loop over the array with an index (rpg2 fit rewrites it: A11)
  C 28-32 MOVEA
-it isn't among the operations that are read: loop over the array with an index (docs/OLD_PROGRAMS.md)
+this operation isn't supported: loop over the array with an index (docs/OLD_PROGRAMS.md)
  C 28-32 SORTA
-it isn't among the operations that are read: use Newton's method in a loop (docs/OLD_PROGRAMS.md)
+this operation isn't supported: use Newton's method in a loop (docs/OLD_PROGRAMS.md)
  C 28-32 SQRT_
-it isn't among the operations that are read, and nothing takes its place: rewrite what depends on zones (docs/OLD_PROGRAMS.md)
+this operation isn't supported, and nothing takes its place: rewrite what depends on zones (docs/OLD_PROGRAMS.md)
  C 28-32 TESTZ
  C 28-32 TESTN
  C 28-32 MHHZO
  C 28-32 MHLZO
  C 28-32 MLHZO
  C 28-32 MLLZO
-it isn't among the operations that are read: keep a field of one digit, or an indicator, for each bit
+this operation isn't supported: keep a field of one digit, or an indicator, for each bit
  C 28-32 BITON
  C 28-32 BITOF
  C 28-32 TESTB
-it isn't among the operations that are read: a report doesn't depend on the time of its run; UDATE is the date
+this operation isn't supported: a report doesn't depend on the time of its run; UDATE is the date
  C 28-32 TIME_
-it isn't among the operations that are read: put * in column 7, and put values out by lines of type E (rpg2 fit rewrites it: A1)
+this operation isn't supported: put * in column 7, and print values with exception lines (E) (rpg2 fit rewrites it: A1)
  C 28-32 DEBUG
-it isn't among the operations that are read: no program outside the deck is called
+this operation isn't supported: no program outside the deck is called
  C 28-32 EXIT_
  C 28-32 RLABL
  C 28-32 ULABL
-it isn't among the operations that are read: use COMP, and GOTO or EXSR under its indicators
+this operation isn't supported: use COMP, and GOTO or EXSR under its indicators
  C 28-32 IF&&_
  C 28-32 DO___
  C 28-32 DOU&&
@@ -170,15 +170,15 @@ it isn't among the operations that are read: use COMP, and GOTO or EXSR under it
  C 28-32 CAS__
  C 28-32 ELSE_
  C 28-32 END__
-fetch overflow isn't supported: blank column 16; the overflow lines come with the next cycle's (rpg2 fit rewrites it: A19)
+fetch overflow isn't supported: blank column 16; the overflow lines then come after the total lines (rpg2 fit rewrites it: A19)
  O 16-16 F
-records aren't deleted from a file: write a new file without them (docs/OLD_PROGRAMS.md)
+deleting records isn't supported: write a new file without them (docs/OLD_PROGRAMS.md)
  O 16-16 DEL
 a line has no name: EXCPT puts out all lines of type E, so tell them apart by indicators; fields stand on cards of their own
  O 32-37
-fetch overflow isn't supported: blank column 16 (rpg2 fit rewrites it: A19)
+fetch overflow isn't supported: blank column 16; the overflow lines then come after the total lines
  A 16-16 F
-an AND or OR card has no spaces and skips of its own: write two lines (rpg2 fit rewrites it: A9)
+an AND or OR card can't have spaces or skips of its own: write two lines (rpg2 fit rewrites OR cards: A9)
  A 17-22
 *PLACE isn't supported: write the fields once more, with their ends (rpg2 fit rewrites it: A15)
  D 32-37 *PLACE

@@ -26,7 +26,7 @@ impl LineFault {
     /// What is wrong, as a person reads it.
     pub const fn sentence(self) -> &'static str {
         match self {
-            LineFault::NoCharacter => "a byte is no character: these are blank to ~",
+            LineFault::NoCharacter => "a byte isn't a character: characters run from blank to ~",
             LineFault::NoBlank => {
                 "after its first character, the form type, a line has a blank, and then COLUMN=TEXT for each text"
             }

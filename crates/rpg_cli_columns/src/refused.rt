@@ -100,7 +100,7 @@ fn has_small_letter(line: &[u8], columns: ColumnFault) -> bool {
 fn write_wanted(out: &mut TextWriter, line: &[u8], columns: ColumnFault, range: Option<Range>) {
     match range {
         Some(range) => out.write_str(range.wanted),
-        None => out.write_str("nothing stands there on such a card"),
+        None => out.write_str("it must be blank on such a card"),
     }
     if has_small_letter(line, columns) {
         out.write_str(CAPITALS);

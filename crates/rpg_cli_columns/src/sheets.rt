@@ -10,7 +10,7 @@ const FILE: &str = "07-14 N the file name
 16-16 : the designation: P or S with I in column 15, blank with O
 17-17 : the end of file: E or blank
 18-18 : the sequence: A or blank
-19-19 : the file format: F
+19-19 : the file format: F, records of one length
 24-27 # the record length
 33-34 : the overflow indicator: OA to OG or OV with O in column 15, or blank";
 

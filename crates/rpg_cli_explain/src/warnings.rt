@@ -2,15 +2,15 @@
 
 /// The pages, in the order of their codes, each as [`crate::page::Page`] reads it.
 pub(crate) const WARNINGS: &str = "\
-    W1%an indicator is asked for, and nothing turns it on%cards\
+    W1%an indicator is tested, and nothing turns it on%cards\
     %- where no card turns on 02, a line that is never put out:\n\n     OPRINT   D        02\
     %- an indicator that a record type, an input field, a result, SETON or a full page turns on:\n\n     IINPUT   AA  01\n     OPRINT   D        01\n\n- L0 to L9, LR and 1P, which the machine turns on\
     %look for the card that should turn it on: a record type (19-20), an input field\n(65-70), a result (54-59), or the F card of the printer (33-34). SETOF turns none on\
-    @W2%an indicator is turned on, and no card asks for it%cards\
+    @W2%an indicator is turned on, and no card tests it%cards\
     %- where no card asks for 30:\n\n     C           AMT       COMP 100                  30\
     %- record types, control levels, a full page, LR and H1 to H9, and the indicator of LOKUP, which\n  has to have one: no card need test these\
     %take it away, or look for the condition that should test it\
-    @W3%a field lies over another of the same line%cards\
+    @W3%a field overlaps another of the same line%cards\
     %- TOT takes places 6 to 10 of the line, and AMT 10 to 12:\n\n     O                         TOT       10\n     O                         AMT       12\
     %- fields side by side; a field with conditions (23-31) may stand where another does:\n\n     O                         TOT       10\n     O                         AMT       13\n     O                 30                13 'OUT'\
     %count the places: a number takes one for each digit, and what its edit code or word\nadds. rpg2 list draws each line with its places\
@@ -18,7 +18,7 @@ pub(crate) const WARNINGS: &str = "\
     %- TOT has 5 digits before its point, and SUM 4:\n\n     C           TOT       MULT AMT       SUM     40\
     %- a result with as many as the longer factor. So may a sum be, and a product with a number that\n  has none before its point may be shorter:\n\n     C           TOT       MULT AMT       SUM     80\n     C           TOT       ADD  AMT       TOT\n     C           TOT       MULT .05       TAX     42\
     %give the result field more digits (49-51); a product can have as many as both\nfactors together. Digits on the left that have no place are lost, and nothing halts\
-    @W5%a control level is asked for, and no field has it%cards\
+    @W5%a control level is tested, and no field has it%cards\
     %- where no input field has L2 in 59-60:\n\n     OPRINT   T        L2\
     %- a level that an input field has, or that a record type, a result or SETON turns on:\n\n     I                                        1   3 REGIONL2\n     OPRINT   T        L2\
     %write the level into 59-60 of its control field, or take the condition away. A level\nwithout a field is on where a higher one breaks, and at the end\

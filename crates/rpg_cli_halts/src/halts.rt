@@ -145,7 +145,7 @@ fn write_columns(out: &mut TextWriter, bad: BadInput, text: &[u8]) {
     let BadInput { input, column, .. } = bad;
     let character = text.get(column.saturating_sub(1)..column).unwrap_or(&[]);
     out.fill(
-        ": columns {} to {} are \"{}\", and {} in column {} is no digit",
+        ": columns {} to {} are \"{}\", and {} in column {} isn't a digit",
         &[
             input.from.into(),
             input.to.into(),

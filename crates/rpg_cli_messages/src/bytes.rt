@@ -62,7 +62,7 @@ pub fn write_byte_cause(out: &mut TextWriter, line: &[u8], place: usize) {
     let rest = line.get(place..).unwrap_or(&[]);
     let byte = rest.first().copied().unwrap_or(0);
     if looks_like_ebcdic(line) {
-        write!(out, "byte {byte:02x} is no character; {EBCDIC}");
+        write!(out, "byte {byte:02x} isn't a character; {EBCDIC}");
         return;
     }
     match cause_of(rest) {
@@ -73,7 +73,7 @@ pub fn write_byte_cause(out: &mut TextWriter, line: &[u8], place: usize) {
         ),
         None => write!(
             out,
-            "byte {byte:02x} is no character: those are from blank to ~"
+            "byte {byte:02x} isn't a character: characters run from blank to ~"
         ),
     }
 }
@@ -87,7 +87,7 @@ pub(crate) fn write_long_line(out: &mut TextWriter, line: &[u8]) {
         write!(out, "; {EBCDIC}");
     } else if line.contains(&b'\r') {
         out.write_str(
-            "; its lines end with carriage returns alone: `tr '\\r' '\\n'` makes line feeds of them",
+            "; it has carriage returns: if they end its lines, `tr '\\r' '\\n'` makes them line feeds",
         );
     } else if is_blank(rest) {
         write!(

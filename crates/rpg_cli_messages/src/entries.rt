@@ -121,7 +121,7 @@ pub(crate) fn write_bad_entry(out: &mut TextWriter, table: &TableSpec, bad: BadE
     write!(out, ", on card {card}, is \"");
     out.write_shown(text);
     match wrong {
-        Wrong::NoNumber => out.write_str("\", which is no number"),
+        Wrong::NoNumber => out.write_str("\", which isn't a number"),
         Wrong::LowerThanBefore => {
             let before = number.saturating_sub(1);
             write!(out, "\", which is lower than entry {before}");

@@ -114,22 +114,25 @@ fn write_follower(out: &mut TextWriter, path: &str, line: &[u8], fault: CardFaul
         Slip::Later(later) => {
             write!(
                 out,
-                "follows from card {} too, which is of a later sheet\n",
+                "also follows from card {}, which is of a later sheet\n",
                 later.card
             );
         }
         Slip::Root(Root::Text(card)) => {
-            write!(out, "follows from card {card} too, whose field is a text\n");
+            write!(
+                out,
+                "also follows from card {card}, whose field is a text\n"
+            );
         }
         Slip::Root(Root::Later(card)) => {
             write!(
                 out,
-                "follows from card {card} too, which is of a later time\n"
+                "also follows from card {card}, which is of a later time\n"
             );
         }
         Slip::Root(Root::Unknown(name)) => {
             out.write_shown(trimmed(&name));
-            out.write_str(" once more\n");
+            out.write_str(" again\n");
         }
     }
 }

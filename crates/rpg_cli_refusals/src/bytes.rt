@@ -43,7 +43,7 @@ fn write_wanted(out: &mut TextWriter, spot: Spot) {
     if let Some(row) = spot.row.number {
         out.fill(" of {} {}", &[spot.row.table.into(), row.into()]);
     }
-    out.write_str(" was looked for there");
+    out.write_str(" was expected");
 }
 
 /// What stands at an offset in the place of so many bytes.
@@ -55,9 +55,9 @@ fn write_found(out: &mut TextWriter, bytes: &[u8], offset: usize, count: usize) 
             out.fill(", and the file has {} {}", &[size.into(), unit.into()]);
             return;
         }
-        1 => (", and byte", " stands there"),
-        found if found <= MOST_SHOWN => (", and bytes", " stand there"),
-        _ => (", and bytes", " .. stand there"),
+        1 => (", and byte", " was found"),
+        found if found <= MOST_SHOWN => (", and bytes", " were found"),
+        _ => (", and bytes", " .. were found"),
     };
     out.write_str(bytes_stand);
     for byte in bytes.iter().skip(offset).take(count.min(MOST_SHOWN)) {

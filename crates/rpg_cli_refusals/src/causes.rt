@@ -22,12 +22,12 @@ fn type_sentence(cause: Cause) -> &'static str {
             "; its match field {}, of M{}, is columns {} to {}, and a record has {}"
         }
         Cause::Twice { .. } => "; its match field {} is of M{}, as one before it is",
-        Cause::LongLevel { .. } => "; the joined length of L{} is {}, and may be 256",
+        Cause::LongLevel { .. } => "; the joined length of L{} is {}, and may be 256 at most",
         Cause::OtherLevel { .. } => {
             "; the joined length of L{} is {}, and in the first type that has it {}"
         }
         Cause::LongMatches { .. } => {
-            "; the joined length of its match fields is {}, and may be 256"
+            "; the joined length of its match fields is {}, and may be 256 at most"
         }
         Cause::OtherMatches { .. } => {
             "; the joined length of M{} is {}, and in the first type that has match fields {}"

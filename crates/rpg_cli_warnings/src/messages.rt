@@ -21,26 +21,26 @@ fn write_sentence(out: &mut TextWriter, kind: WarningKind) {
             let indicator = Indicator(indicator);
             write!(
                 out,
-                "indicator {indicator} is asked for, and nothing turns it on"
+                "indicator {indicator} is tested, and nothing turns it on"
             );
         }
         WarningKind::NeverAsked { indicator } => {
             let indicator = Indicator(indicator);
             write!(
                 out,
-                "indicator {indicator} is turned on, and no card asks for it"
+                "indicator {indicator} is turned on, and no card tests it"
             );
         }
         WarningKind::Overlap { first, last, card } => {
             out.write_str("the field takes ");
             write_places(out, first, last);
-            write!(out, " of the line, and lies over that of card {card}");
+            write!(out, " of the line, and overlaps that of card {card}");
         }
         WarningKind::NoLevel { indicator } => {
             let indicator = Indicator(indicator);
             write!(
                 out,
-                "{indicator} is asked for, and no field has control level {indicator}"
+                "{indicator} is tested, and no field has control level {indicator}"
             );
         }
         WarningKind::PageConditions => out.write_str(

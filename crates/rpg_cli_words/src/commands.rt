@@ -9,11 +9,11 @@ pub(crate) const COMMANDS: &str =
     "compile: SRC OBJ.new allowance faults deny allow format quiet: Compiles the source SRC to the object program OBJ
 check: SRC.each faults deny allow format quiet: Reports all faults of each source SRC on standard error, and writes nothing
 list: SRC format: Lists the source SRC: its cards with their faults, record layouts, names, indicators and printed lines
-cards: SRC.short short ruler: Makes cards of the lines of shorthand in SRC, as O 32=TOT 42=10
-records: IN OUT by to file length rdw lines ascii low-blank drop deck format: Makes lines of a shop's records, by the cards of the deck that reads them, or records of such lines
+cards: SRC.short short ruler: Turns the lines of shorthand in SRC into cards, such as O 32=TOT 42=10
+records: IN OUT by to file length rdw lines ascii low-blank drop deck format: Converts a shop's records to lines, guided by the deck that reads them, or back
 fit: SRC.old NEW table switches forms format: Rewrites the old deck SRC as cards that are read, and reports each change
 verify: OBJ format quiet: Verifies the object program OBJ, and prints the most steps that a cycle can take
-explain: CODE list: Explains codes, as F16, S5, V21, B5 or halt 4, or all of them
+explain: CODE list: Explains codes, such as F16, S5, V21, B5 or halt 4, or all of them
 show: OBJ source rows format: Shows what the object program OBJ reads, writes and asks for, or its rows
 run: OBJ INPUT PRINT date secondary disk most keep source trace watch format quiet: Runs the object program OBJ over the records of INPUT, and prints to PRINT
 go: SRC INPUT PRINT.go date secondary disk most keep trace watch allowance faults deny allow format quiet: Compiles the source SRC and runs it over the records of INPUT";
@@ -48,11 +48,11 @@ OBJ R The object program
 OBJ.new R Where the object program goes
 INPUT R The records; - is standard input
 PRINT R Where the printed lines go; - is standard output, and the answer's line then goes to standard error
-PRINT.go P Where the printed lines go; standard output where it isn't given
+PRINT.go P Where the printed lines go; standard output if it isn't given
 IN R The records; - is standard input
 OUT R Where the lines go; with --to, IN has the lines and the records go here
 NEW P Where the new deck goes; without it the changes are only reported
-CODE M The codes, as F16 or halt 4; all where none is given
+CODE M The codes, such as F16 or halt 4; all if none is given
 allowance A=N How many backward branches and calls a cycle may take
 faults N=N The most faults or warnings to list
 deny F Rejects a source that has a warning
@@ -67,10 +67,10 @@ file V=NAME The file of the deck, if it isn't the primary one
 length L=N How many bytes a record has, if 24-27 of the F card don't say so
 rdw F!lines Each record follows its record descriptor word
 lines F Each record is a line
-ascii F Characters are as they are, and not in code page 037
+ascii F Characters are ASCII, not code page 037
 low-blank F!to A byte 00 among characters is a blank
-drop V=XX!to Leaves out records whose first byte is this one, as FF
-deck V=NEW!to Where the deck goes that reads the lines
+drop V=XX!to Leaves out records whose first byte is this one, such as FF
+deck V=NEW!to Where to write the deck that reads the lines
 table W=NAME=FILE The records of a table file, by its name on the cards; may be given several times
 switches V=00000000 A digit for each of U1 to U8: 1 if the job was run with it on; without this all are off
 forms F No form gets more lines than its L card has
