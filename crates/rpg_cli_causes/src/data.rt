@@ -41,7 +41,7 @@ fn write_too_wide(out: &mut TextWriter, per_card: u16, width: u32) {
     );
 }
 
-const ENTRY: &str = ": entry {} of {}, on card {}, is \"{}\", which is ";
+const ENTRY: &str = ": entry {} of {}, on card {}, is \"{}\", which ";
 
 /// Which entry of a table is wrong, and why.
 fn write_entry(out: &mut TextWriter, spot: Spot<'_>, cause: &EntryCause) {
@@ -58,10 +58,10 @@ fn write_entry(out: &mut TextWriter, spot: Spot<'_>, cause: &EntryCause) {
         ],
     );
     match cause.fault {
-        EntryFault::NoNumber => out.write_str("no number"),
+        EntryFault::NoNumber => out.write_str("isn't a number"),
         EntryFault::Lower => {
             let before = cause.number.saturating_sub(1);
-            out.fill("lower than entry {}", &[before.into()]);
+            out.fill("is lower than entry {}", &[before.into()]);
         }
     }
 }

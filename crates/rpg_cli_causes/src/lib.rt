@@ -21,6 +21,5 @@ mod sizes;
 mod spot;
 
 pub use cause::write_cause;
-pub use counted::noun;
 pub use root::{Root, root_of};
 pub use spot::SourceCards;

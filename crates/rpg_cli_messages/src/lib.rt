@@ -3,11 +3,9 @@
 
 mod bytes;
 mod card_lines;
-mod data;
-mod entries;
+mod cards;
 mod message;
 mod note;
-mod numbers;
 mod order;
 mod picture;
 mod unmarked;

@@ -2,7 +2,7 @@
 
 use crate::bytes::{write_byte_cause, write_long_line};
 use crate::card_lines::CardLines;
-use crate::numbers::{readable_cards, write_numbers};
+use crate::cards::readable_cards;
 use crate::order::{LaterCard, later_card, write_order};
 use crate::picture::write_picture;
 use crate::unmarked::write_unmarked;
@@ -234,7 +234,6 @@ pub(crate) fn write_sentence(
         SourceCode::Fault(code) => {
             if !write_cause(out, source, line, fault.card, fault.columns, code) {
                 out.write_str(code.sentence());
-                write_numbers(out, source.cards, fault.card, code);
             }
         }
         SourceCode::Sheet(SheetCode::S1) => write_long_line(out, line),

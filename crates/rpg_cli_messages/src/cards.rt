@@ -1,9 +1,6 @@
-//! What a sentence adds to the rule that is broken: the numbers of the cards that break it.
+//! The cards of a source that are on a sheet, with their numbers.
 
-use crate::data::write_data;
-use rpg_cards::{IndexedCards, SpecCard};
-use rpg_cli_text::TextWriter;
-use rpg_faults::FaultCode;
+use rpg_cards::SpecCard;
 use rpg_sheet::{SheetFault, Spec};
 use std::alloc::{AllocError, Global};
 
@@ -35,32 +32,5 @@ pub(crate) fn readable_cards(alloc: Global, source: &[u8]) -> Result<Vec<SpecCar
         Ok(cards) => numbered(alloc, cards.into_vec()),
         Err(SheetFault::At { .. }) => Ok(Vec::new(alloc)),
         Err(SheetFault::NoMemory) => Err(AllocError),
-    }
-}
-
-/// The card of a number, which is on a sheet.
-fn card_at(cards: &[SpecCard], number: u16) -> Option<&SpecCard> {
-    for card in cards {
-        if card.number == number {
-            return Some(card);
-        }
-    }
-    None
-}
-
-/// The numbers that show why a card breaks a rule.
-pub(crate) fn write_numbers(
-    out: &mut TextWriter,
-    source: &IndexedCards,
-    number: u16,
-    code: FaultCode,
-) {
-    let cards = source.as_slice();
-    let Some(card) = card_at(cards, number) else {
-        return;
-    };
-    match code {
-        FaultCode::F18 => write_data(out, cards, card),
-        _ => {}
     }
 }
