@@ -3,7 +3,7 @@ complete -c rpg2 -n __fish_use_subcommand -f -a compile -d 'Compiles the source 
 complete -c rpg2 -n __fish_use_subcommand -f -a check -d 'Reports all faults of each source SRC on standard error, and writes nothing'
 complete -c rpg2 -n __fish_use_subcommand -f -a list -d 'Lists the source SRC: its cards with their faults, record layouts, names, indicators and printed lines'
 complete -c rpg2 -n __fish_use_subcommand -f -a cards -d 'Turns the lines of shorthand in SRC into cards, such as O 32=TOT 42=10'
-complete -c rpg2 -n __fish_use_subcommand -f -a records -d 'Makes lines of a shop'\''s records, by the cards of the deck that reads them, or records of such lines'
+complete -c rpg2 -n __fish_use_subcommand -f -a records -d 'Converts a shop'\''s records to lines, guided by the deck that reads them, or back'
 complete -c rpg2 -n __fish_use_subcommand -f -a fit -d 'Rewrites the old deck SRC as cards that are read, and reports each change'
 complete -c rpg2 -n __fish_use_subcommand -f -a verify -d 'Verifies the object program OBJ, and prints the most steps that a cycle can take'
 complete -c rpg2 -n __fish_use_subcommand -f -a explain -d 'Explains codes, such as F16, S5, V21, B5 or halt 4, or all of them'

@@ -20,7 +20,7 @@ pub(crate) fn notes(alloc: Global, view: &View) -> Result<Vec<Note>, AllocError>
         if turns_halt_on(seen) {
             notes.push(Note {
                 card: seen.number,
-                text: "the job ends behind the lines of this record; the operator could go on",
+                text: "the job ends after the lines of this record; the operator could go on",
             })?;
         }
         if printer.is_none() && is_printer(seen) {

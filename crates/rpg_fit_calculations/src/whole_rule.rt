@@ -84,7 +84,7 @@ fn check(now: &Now, next: Option<&Group>) -> Result<(), Stop> {
     }
     if let Some(group) = next {
         if group.operation() == b"MVR".as_slice() {
-            let why = Sentence::of("MVR behind a DIV of whole arrays");
+            let why = Sentence::of("MVR after a DIV of whole arrays");
             return Err(Stop::refused(group.last.number, why));
         }
     }

@@ -175,7 +175,7 @@ fn put_entries(
 /// Takes the file from an E card, and gives it as many entries as a data card has.
 fn take_over(editor: &mut Editor, shape: &TableShape, records: usize, seen: &Seen) {
     let sentence = Sentence::of_two(
-        "% records of % stand behind ** now; compile again when they change",
+        "% records of % stand after ** now; compile again when they change",
         Word::of_number(records),
         Word::of(seen.card.value(11, 18)),
     );

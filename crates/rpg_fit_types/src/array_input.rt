@@ -208,7 +208,7 @@ fn check_field(kind: &RecordType, field: &Seen) -> Result<(), Stop> {
     if field_of(&field.card).has_index_field() && is_filled_from(kind, field, index) {
         return Err(Stop::refused(
             field.number,
-            Sentence::about("the index % is filled by a card behind it", Word::of(index)),
+            Sentence::about("the index % is filled by a card after it", Word::of(index)),
         ));
     }
     Ok(())

@@ -80,7 +80,7 @@ fn tell_order(editor: &mut Editor, file: &Word, marks: &Marks) {
     editor.tell(
         marks.card,
         Sentence::of_two(
-            "the order of % is tested by calculations: a record out of order ends the job by halt 6 (%), behind its own lines",
+            "the order of % is tested by calculations: a record out of order ends the job by halt 6 (%), after its own lines",
             *file,
             marks.halt.word(),
         ),
