@@ -1,5 +1,5 @@
 -- The cause of a fault: the rule of its code, with what breaks it.
-use Rattle.std.specs.Prelude.{ℕ, ◌==◌, List, [], ◌∷◌, ◌++◌, Bool, false, Option, None, is_some, option_and_then, if◌then◌else◌}
+use Rattle.std.specs.Prelude.{ℕ, ◌==◌, List, [], ◌∷◌, ◌++◌, Bool, false, Option, None, option_and_then, if◌then◌else◌}
 use Rattle.std.specs.Option.{option_map, option_or}
 use Rattle.rpg_cards.specs.Cards.{output_record_on}
 use Rattle.rpg_cards.specs.declared.spec_card.SpecCard.{SpecCard}
@@ -17,6 +17,7 @@ use Rattle.rpg_causes_flow.specs.Order.{order_cause}
 use Rattle.rpg_causes_flow.specs.Rounding.{rounding_cause}
 use Rattle.rpg_causes_flow.specs.Sections.{apart}
 use Rattle.rpg_causes_flow.specs.Strays.{stray_cause}
+use Rattle.rpg_causes_flow.specs.declared.labels.Target.{Target}
 use Rattle.rpg_causes_operands.specs.Fields.{field_cause}
 use Rattle.rpg_causes_operands.specs.Indexes.{index_cause}
 use Rattle.rpg_causes_operands.specs.Indicators as indicators
@@ -24,7 +25,7 @@ use Rattle.rpg_causes_operands.specs.Names.{redefined, undefined_name}
 use Rattle.rpg_causes_operands.specs.Operands.{operand_cause}
 use Rattle.rpg_causes_operands.specs.Sizes.{size_cause}
 use Rattle.rpg_faults.specs.Rules.{rule}
-use Rattle.rpg_faults_flow.specs.Kept.{Rule}
+use Rattle.rpg_faults_flow.specs.Flow.{calls_itself}
 use Rattle.rpg_faults_limits.specs.Causes.{limit_cause}
 use Rattle.rpg_faults.specs.declared.code.FaultCode.{FaultCode}
 use Rattle.rpg_faults.specs.declared.code.FaultCode.TheVariants.{F1, F2, F3, F4, F5, F6, F7, F8, F9, F10, F11, F12, F13, F14, F15, F16, F17, F18}
@@ -40,32 +41,15 @@ missing before c after =
 abbrev pub misordered : List SpecCard → SpecCard → List SpecCard → Option Cause
 misordered before c after = option_or (option_map cause.Order (order_cause before c after)) (option_map cause.Stray (stray_cause before c))
 
+-- F14: the subroutine that the calculation calls, if that one reaches the one it is in
+abbrev pub recursion : List SpecCard → SpecCard → List SpecCard → Option Target
+recursion before c after = if calls_itself (before ++ c ∷ after) before c after then target (before ++ c ∷ after) c after else None
+
 -- F16: of the card's own columns, or of control fields and match fields
 abbrev pub misplaced : List SpecCard → SpecCard → List SpecCard → Option Cause
 misplaced before c after = option_or (option_map cause.Outside (outside (before ++ c ∷ after) before c)) (option_map cause.Join (join_cause before c after))
 
 -- ---- each code
-
--- what gives a cause: the rule of the code; of F14 that the card names what is given
-unfoldable pub explained_rule : FaultCode → Rule
-explained_rule F1 before c after = rule F1 before c after
-explained_rule F2 before c after = rule F2 before c after
-explained_rule F3 before c after = rule F3 before c after
-explained_rule F4 before c after = rule F4 before c after
-explained_rule F5 before c after = rule F5 before c after
-explained_rule F6 before c after = rule F6 before c after
-explained_rule F7 before c after = rule F7 before c after
-explained_rule F8 before c after = rule F8 before c after
-explained_rule F9 before c after = rule F9 before c after
-explained_rule F10 before c after = rule F10 before c after
-explained_rule F11 before c after = rule F11 before c after
-explained_rule F12 before c after = rule F12 before c after
-explained_rule F13 before c after = rule F13 before c after
-explained_rule F14 before c after = is_some (target (before ++ c ∷ after) c after)
-explained_rule F15 before c after = rule F15 before c after
-explained_rule F16 before c after = rule F16 before c after
-explained_rule F17 before c after = rule F17 before c after
-explained_rule F18 before c after = rule F18 before c after
 
 -- why a card breaks the rule of a code
 unfoldable pub cause_of : FaultCode → List SpecCard → SpecCard → List SpecCard → Option Cause
@@ -82,7 +66,7 @@ cause_of F10 before c after = option_map cause.Nowhere (nowhere (before ++ c ∷
 cause_of F11 before c after = option_map cause.Twice (twice before c after)
 cause_of F12 before c after = misordered before c after
 cause_of F13 before c after = option_map cause.Apart (apart (before ++ c ∷ after) before c after)
-cause_of F14 before c after = option_map cause.Recursion (target (before ++ c ∷ after) c after)
+cause_of F14 before c after = option_map cause.Recursion (recursion before c after)
 cause_of F15 before c after = option_map cause.Rounding (rounding_cause before c after)
 cause_of F16 before c after = misplaced before c after
 cause_of F17 before c after = option_map cause.Editing (editing_cause (before ++ c ∷ after) c)
@@ -100,4 +84,4 @@ cause_at before (c ∷ after) number code =
 abbrev pub is_broken_at : List SpecCard → List SpecCard → ℕ → FaultCode → Bool
 is_broken_at before [] number code = false
 is_broken_at before (c ∷ after) number code =
-    if c.number == number then explained_rule code before c after else is_broken_at (before ++ c ∷ []) after number code
+    if c.number == number then rule code before c after else is_broken_at (before ++ c ∷ []) after number code

@@ -5,6 +5,8 @@ ghost use Rattle.rpg_cards.specs.Sheets.{AreSheets};
 ghost use Rattle.rpg_causes.specs.Causes as causes;
 ghost use Rattle.rpg_faults.specs.Rules as rules;
 ghost use Rattle.rpg_faults.specs.declared.code.FaultCode.TheVariants.{F9, F12, F16};
+ghost use Rattle.rpg_faults_flow.specs.Flow as flow_rules;
+ghost use Rattle.rpg_faults_flow.specs.Seen.{IsFlow};
 ghost use Rattle.rpg_faults_limits.specs.State.{AreLimits};
 
 use crate::editing::{EditingCause, editing_cause};
@@ -24,6 +26,7 @@ use rpg_causes_operands::{
     with_card,
 };
 use rpg_faults::FaultCode;
+use rpg_faults_flow::{Flow, Labels, calls_itself};
 use rpg_faults_limits::{LimitCause, Limits, limit_cause};
 use rpg_symbols::Name;
 
@@ -62,7 +65,7 @@ pub enum Cause {
     Stray(StrayCause),
     /// F13: the label, which is of another section.
     Apart(Target),
-    /// F14: the subroutine.
+    /// F14: the subroutine that is called.
     Recursion(Target),
     /// F15
     Rounding(RoundingCause),
@@ -76,22 +79,43 @@ pub enum Cause {
     Data(DataCause),
 }
 
-/// Why the first card with a number breaks the rule of a code; nothing where it doesn't.
-pub fn fault_cause(source: &IndexedCards, number: u16, code: FaultCode) -> Option<Cause>
-    requires { length source.now ≤ 2000 }
+/// What the cards before a card come to.
+#[derive(Clone, Copy)]
+struct Known {
+    sheets: Sheets,
+    limits: Limits,
+    flow: Flow,
+}
+
+/// Why the first card with a number breaks the rule of a code; nothing where it doesn't. The labels are those of the source.
+pub fn fault_cause(
+    source: &IndexedCards,
+    labels: &Labels,
+    number: u16,
+    code: FaultCode,
+) -> Option<Cause>
+    requires few { length source.now ≤ 2000 }
+    requires labels { labels.now ≡ source.now }
     ensures cause { result ≡ causes.cause_at [] source.now number code }
     ensures rule { is_some result ≡ causes.is_broken_at [] source.now number code }
 {
     let mut sheets = Sheets::none();
     let mut limits = Limits::nothing(source);
+    let mut flow = Flow::nothing();
     let mut before = no_cards(source);
     let mut rest = source.as_slice();
     while let Some((card, after)) = rest.split_first() {
         if card.number == number {
-            return cause_of(source, &sheets, &limits, before, card, after, code);
+            let known = Known {
+                sheets,
+                limits,
+                flow,
+            };
+            return cause_of(source, labels, &known, before, card, after, code);
         }
         sheets = sheets.with(source, before, card);
         limits = limits.with(source, before, card, after);
+        flow = flow.with(before, card, after);
         before = with_card(source, before, card, after);
         rest = after;
     }
@@ -104,11 +128,11 @@ fn no_cards<'a>(source: &IndexedCards<'a>) -> &'a [SpecCard]
     &source.as_slice()[..0]
 }
 
-#[tactic(auto, unfolding(crate::specs::Causes::cause_of, crate::specs::Causes::explained_rule, rpg_faults::specs::Rules::rule))]
+#[tactic(auto, unfolding(crate::specs::Causes::cause_of, rpg_faults::specs::Rules::rule))]
 fn cause_of(
     source: &IndexedCards,
-    sheets: &Sheets,
-    limits: &Limits,
+    labels: &Labels,
+    known: &Known,
     before: &[SpecCard],
     card: &SpecCard,
     after: &[SpecCard],
@@ -116,10 +140,12 @@ fn cause_of(
 ) -> Option<Cause>
     requires split { source.now ≡ before.now ++ card.now ∷ after.now }
     requires few { length source.now ≤ 2000 }
-    requires sheets { AreSheets source.now before.now sheets.now }
-    requires limits { AreLimits source.now before.now (card.now ∷ after.now) limits.now }
+    requires labels { labels.now ≡ source.now }
+    requires sheets { AreSheets source.now before.now known.now.sheets }
+    requires limits { AreLimits source.now before.now (card.now ∷ after.now) known.now.limits }
+    requires flow { IsFlow before.now (card.now ∷ after.now) known.now.flow }
     ensures cause { result ≡ causes.cause_of code before.now card.now after.now }
-    ensures rule { is_some result ≡ causes.explained_rule code before.now card.now after.now }
+    ensures rule { is_some result ≡ rules.rule code before.now card.now after.now }
 {
     match code {
         FaultCode::F1 => Some(Cause::UndefinedName(undefined_name(source, card, after)?)),
@@ -128,20 +154,66 @@ fn cause_of(
         FaultCode::F4 => Some(Cause::Operand(operand_cause(source, card, after)?)),
         FaultCode::F5 => Some(Cause::Index(index_cause(source, card, after)?)),
         FaultCode::F6 => Some(Cause::Limit(limit_cause(
-            source, sheets, limits, before, card, after,
+            source,
+            &known.sheets,
+            &known.limits,
+            before,
+            card,
+            after,
         )?)),
-        FaultCode::F7 => Some(Cause::File(file_cause(source, sheets, before, card)?)),
+        FaultCode::F7 => Some(Cause::File(file_cause(source, &known.sheets, before, card)?)),
         FaultCode::F8 => Some(Cause::Indicator(indicator_cause(source, card)?)),
         FaultCode::F9 => missing(source, before, card, after),
         FaultCode::F10 => Some(Cause::Nowhere(nowhere_cause(source, before, card, after)?)),
         FaultCode::F11 => Some(Cause::Twice(twice_cause(source, before, card, after)?)),
-        FaultCode::F12 => misordered(source, sheets, before, card, after),
+        FaultCode::F12 => misordered(source, &known.sheets, before, card, after),
         FaultCode::F13 => Some(Cause::Apart(apart_cause(source, before, card, after)?)),
-        FaultCode::F14 => Some(Cause::Recursion(target_on(source, card, after)?)),
+        FaultCode::F14 => {
+            let cause = recursion_cause(source, labels, &known.flow, before, card, after);
+            Some(Cause::Recursion(cause?))
+        }
         FaultCode::F15 => Some(Cause::Rounding(rounding_cause(before, card, after)?)),
         FaultCode::F16 => misplaced(source, before, card, after),
         FaultCode::F17 => Some(Cause::Editing(editing_cause(source, card)?)),
         FaultCode::F18 => Some(Cause::Data(data_cause(source, before, card)?)),
+    }
+}
+
+/// F14: the subroutine that the calculation calls, if that one leads back.
+fn recursion_cause(
+    source: &IndexedCards,
+    labels: &Labels,
+    flow: &Flow,
+    before: &[SpecCard],
+    card: &SpecCard,
+    after: &[SpecCard],
+) -> Option<Target>
+    requires split { source.now ≡ before.now ++ card.now ∷ after.now }
+    requires labels { labels.now ≡ source.now }
+    requires flow { IsFlow before.now (card.now ∷ after.now) flow.now }
+    ensures cause { result ≡ causes.recursion before.now card.now after.now }
+    ensures rule { is_some result ≡ flow_rules.calls_itself (before.now ++ card.now ∷ after.now) before.now card.now after.now }
+{
+    recursion(source, labels, flow, before, card, after)
+}
+
+fn recursion(
+    source: &IndexedCards,
+    labels: &Labels,
+    flow: &Flow,
+    before: &[SpecCard],
+    card: &SpecCard,
+    after: &[SpecCard],
+) -> Option<Target>
+    requires split { source.now ≡ before.now ++ card.now ∷ after.now }
+    requires labels { labels.now ≡ source.now }
+    requires flow { IsFlow before.now (card.now ∷ after.now) flow.now }
+    ensures { result ≡ causes.recursion before.now card.now after.now }
+{
+    if calls_itself(labels, flow, before, card, after) {
+        target_on(source, card, after)
+    } else {
+        None
     }
 }
 

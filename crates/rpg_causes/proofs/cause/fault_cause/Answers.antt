@@ -1,6 +1,7 @@
 use Rattle.std.proofs.Common.{[], ◌++◌, ◌∙◌, ap, sym, subst}
 use Rattle.rpg_cards.specs.Sheets.{AreSheets}
 use Rattle.rpg_causes.specs.Causes.{cause_at, is_broken_at}
+use Rattle.rpg_faults_flow.specs.Seen.{IsFlow}
 use Rattle.rpg_faults_limits.specs.State.{AreLimits}
 use Rattle.rpg_causes.proofs.cause.fault_cause.Goals as goal
 
@@ -18,6 +19,7 @@ loop-card-init c =
       limits =
           subst (λ cs. AreLimits source cs rest c.nothing-limits.result) (sym none)
           (subst (λ cs. AreLimits source [] cs c.nothing-limits.result) (sym all) c.nothing-limits.ensures);
+      flow = subst (λ cs. IsFlow cs rest c.nothing-flow.result) (sym none) (c.nothing-flow.ensures rest);
       cause = ap (λ cs. cause_at cs rest number code) none ∙ ap (λ cs. cause_at [] cs number code) all;
       rule = ap (λ cs. is_broken_at cs rest number code) none ∙ ap (λ cs. is_broken_at [] cs number code) all;
     }

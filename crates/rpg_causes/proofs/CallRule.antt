@@ -1,0 +1,84 @@
+-- A card has a cause exactly if the subroutine that it calls leads back to the one that it is in.
+use Rattle.std.proofs.Common.{◌≡◌, ℕ, Bool, true, false, cond, List, [], ◌∷◌, ◌++◌, Option, None, Some, refl, sym, ap, ◌∙◌}
+use Rattle.std.specs.Option.{is_some, option_and_then, option_map, option_map_or}
+use Rattle.rpg_cards.specs.Calculations.{calculation_ending, calculation_of, calculations, calculations_before, card_ending, group_with, open_calculation_group}
+use Rattle.rpg_cards.specs.Calls.{call_at, called_subroutine, calls, subroutine_in}
+use Rattle.rpg_cards.specs.Deeds.{Calculation, deed_of}
+use Rattle.rpg_cards.specs.Keys.{Key}
+use Rattle.rpg_cards.specs.Labels.{label_named, labels, section_of, wants}
+use Rattle.rpg_cards.specs.declared.labels.Label.{Label}
+use Rattle.rpg_cards.specs.declared.labels.Named.{Named}
+use Rattle.rpg_cards.specs.declared.spec_card.SpecCard.{SpecCard}
+use Rattle.rpg_causes.specs.Causes.{recursion}
+use Rattle.rpg_causes_flow.proofs.LabelLemmas.{is_given_is}
+use Rattle.rpg_causes_flow.specs.Labels.{giver, target, target_by, target_of}
+use Rattle.rpg_causes_flow.specs.declared.labels.Giver.{Giver}
+use Rattle.rpg_causes_flow.specs.declared.labels.Target.{Target}
+use Rattle.rpg_faults_flow.proofs.Facts.{last_with}
+use Rattle.rpg_faults_flow.proofs.Listed.{asked}
+use Rattle.rpg_faults_flow.specs.Flow.{calls_itself, comes_back}
+use Rattle.rpg_sheet_specs.specs.declared.calculation.CalculationSpec.{CalculationSpec}
+
+mapped_some : {X Y : Type 0} (f : X → Y) (o : Option X) → is_some (option_map f o) ≡ is_some o
+mapped_some f None = refl
+mapped_some f (Some x) = refl
+
+kept_if : {X : Type 0} (b : Bool) (o : Option X) → (b ≡ true → is_some o ≡ true) → is_some (cond b o None) ≡ b
+kept_if true o some = some refl
+kept_if false o some = refl
+
+module _ (cards before : List SpecCard) (c : SpecCard) (after : List SpecCard) where
+  abbrev given : List Label
+  given = labels (calculations cards)
+
+  abbrev front : List (Calculation Key)
+  front = calculations_before before (c ∷ after)
+
+  abbrev all : List (ℕ × ℕ)
+  all = calls (calculations cards)
+
+  -- a call by that caller of the subroutine that is wanted
+  abbrev called : Option ℕ → Option Named → Option (ℕ × ℕ)
+  called caller w = option_and_then (λ m. option_map (λ n. (m, n)) (option_and_then (called_subroutine given) w)) caller
+
+  abbrev own : CalculationSpec → Bool
+  own k = comes_back all (called (subroutine_in (section_of front (calculation_of (group_with (open_calculation_group before) k)))) (wants (deed_of k)))
+
+  by_ending : (g : Option (Calculation Key)) → comes_back all (option_and_then (call_at given front) g) ≡ option_map_or (λ g. comes_back all (call_at given front g)) g false
+  by_ending None = refl
+  by_ending (Some g) = refl
+
+  -- the rule, asked of the card that the calculation ends on
+  by_card : calls_itself cards before c after ≡ option_map_or own (card_ending c after) false
+  by_card =
+      by_ending (calculation_ending before c after)
+      ∙ asked before c after (λ g. comes_back all (call_at given front g)) own
+      (λ k. ap (λ d. comes_back all (called (subroutine_in (section_of front (calculation_of (group_with (open_calculation_group before) k)))) (wants (deed_of d)))) (last_with (open_calculation_group before) k))
+
+  -- what is called is given
+  is_label : (m : ℕ) (b : Bool) (l : Option Label)
+      → comes_back all (option_map (λ n. (m, n)) (cond b (option_and_then (λ (x : Label). cond x.named.is_subroutine (subroutine_in x.section) None) l) None)) ≡ true → is_some l ≡ true
+  is_label m false l e = absurd cc
+  is_label m true None e = absurd cc
+  is_label m true (Some l) e = refl
+
+  is_target : (caller : Option ℕ) (w : Option Named) → comes_back all (called caller w) ≡ true → is_some (option_and_then (target_by cards) w) ≡ true
+  is_target None w e = absurd cc
+  is_target (Some m) None e = absurd cc
+  is_target (Some m) (Some n) e =
+      mapped_some {X = Giver} {Y = Target} (λ (g : Giver). record { name = n.name; card = g.card }) (giver n.name cards [])
+      ∙ is_given_is n.name cards []
+      ∙ is_label m n.is_subroutine (label_named n.name given) e
+
+  names_one : (x : Option CalculationSpec) → option_map_or own x false ≡ true → is_some (option_and_then (target_of cards) x) ≡ true
+  names_one None e = absurd cc
+  names_one (Some k) e = is_target (subroutine_in (section_of front (calculation_of (group_with (open_calculation_group before) k)))) (wants (deed_of k)) e
+
+-- there is a cause exactly if the rule is broken
+pub recursion_rule : (before : List SpecCard) (c : SpecCard) (after : List SpecCard) → is_some (recursion before c after) ≡ calls_itself (before ++ c ∷ after) before c after
+recursion_rule before c after =
+    kept_if (calls_itself cards before c after) (target cards c after)
+    (λ e. names_one cards before c after (card_ending c after) (sym (by_card cards before c after) ∙ e))
+  where
+    cards : List SpecCard
+    cards = before ++ c ∷ after
