@@ -22,4 +22,4 @@ mod spot;
 
 pub use cause::write_cause;
 pub use root::{Root, root_of};
-pub use spot::SourceCards;
+pub use spot::{SourceCards, labels_of};

@@ -1,31 +1,47 @@
 //! A fault's card among the others, and what stands there.
 
+ghost use Rattle.std.specs.Prelude.{◌≡◌, ◌≤◌, IfOk, length};
+
 use rpg_cards::{Defined, IndexedCards, SpecCard};
 use rpg_causes::{Cause, fault_cause};
 use rpg_effect::form::FieldForm;
 use rpg_faults::FaultCode;
+use rpg_faults_flow::Labels;
 use rpg_sheet::{ColumnFault, ColumnRange, DataSpec, Entry, Factor, Word};
 use rpg_text::{first_line, trimmed};
+use std::alloc::{AllocError, Global};
 
-/// The cards of a source that can be read, and its text: none where only the card of the fault is known.
+/// No source has more cards.
+const MOST_CARDS: usize = 2000;
+
+/// The labels of a source.
+pub fn labels_of<'a>(alloc: Global, cards: &IndexedCards<'a>) -> Result<Labels<'a>, AllocError>
+    ensures labels { IfOk result (λ labels. labels ≡ cards.now) }
+    ensures few { IfOk result (λ labels. length cards.now ≤ 2000) }
+{
+    let cards = cards.as_slice();
+    if cards.len() > MOST_CARDS {
+        return Err(AllocError);
+    }
+    Labels::new(alloc, cards)
+}
+
+/// The cards of a source that can be read, its labels and its text. There are no cards where only the card of the fault is known.
 #[derive(Clone, Copy)]
 pub struct SourceCards<'a> {
     pub cards: &'a IndexedCards<'a>,
+    pub labels: &'a Labels<'a>,
     pub text: &'a [u8],
+    pub ghost few: { length cards.now ≤ 2000 },
+    pub ghost labelled: { labels.now ≡ cards.now },
 }
 
 impl SourceCards<'_> {
     /// Why a card has a fault.
     pub(crate) fn cause(self, number: u16, code: FaultCode) -> Option<Cause> {
-        if self.cards.as_slice().len() > MOST_CARDS {
-            return None;
-        }
-        fault_cause(self.cards, number, code)
+        fault_cause(self.cards, self.labels, number, code)
     }
 }
-
-/// No source has more cards.
-const MOST_CARDS: usize = 2000;
 
 /// A card with a fault.
 #[derive(Clone, Copy)]
