@@ -14,7 +14,6 @@ TOP = (
     "rpg_engine",
     "rpg_refusal_causes",
     "rpg_deck",
-    "rpg_compile",
     "rpg_causes",
     "rpg_source_run",
     "rpg_record_decks",
