@@ -145,7 +145,7 @@ def checked(room, folders):
     while left:
         it = left.pop()
         if it in uses and it not in wanted:
-            wanted[it] = library(it, folders) if it != "rpg_meaning" else None
+            wanted[it] = library(it, folders)
             left += uses[it]
     others = sorted({it for name in wanted for it in uses[name] if it not in uses})
     words = ["--crate-name", CRATE, "src/lib.rt", "--jobs", "1", "--links", f"{CRATE}="]
@@ -153,8 +153,7 @@ def checked(room, folders):
         words += ["--extern", f"{it}={KIT}/rlibs/{it}.rlib"]
     words += ["-L", f"dependency={KIT}/rlibs"]
     for it, path in wanted.items():
-        if path:
-            words += ["--extern", f"{it}={path}", "-L", f"dependency={path.parent}"]
+        words += ["--extern", f"{it}={path}", "-L", f"dependency={path.parent}"]
     words += ["--antt-project", KIT / "rattle/logic/antt-project.json", "--logic-built", KIT / "logic_built"]
     how = {"stdin": subprocess.DEVNULL, "stdout": subprocess.PIPE, "stderr": subprocess.STDOUT}
     return subprocess.run([KIT / "bin/rattle", "check", *words], cwd=room, text=True, errors="replace", check=False, **how).stdout
