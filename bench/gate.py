@@ -94,10 +94,8 @@ def look(top, known, used):
 
 
 def edits_of(crate):
-    try:
-        return sum(name.endswith(".edit") for name in os.listdir(f"crates/{crate}/refused"))
-    except OSError:
-        return 0
+    with open("tests/gate.edits", encoding="utf-8") as file:
+        return sum(line.startswith(f"{crate}/") for line in file)
 
 
 def crates_in_order():

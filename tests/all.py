@@ -1,6 +1,7 @@
 #!/usr/bin/env python3
-"""The whole gate: every proof, test and program by `rt ci`, then the wrong bodies (tests/edits.py), then the cases and sessions over both
-builds of rpg2 (tests/run.py). A part that fails ends it. The last line is 'N passed, M failed', over all parts that ran.
+"""The whole gate: every proof, test and program by `rt ci`, then the wrong bodies that tests/gate.edits lists (tests/edits.py), then the
+cases and sessions over both builds of rpg2 (tests/run.py). A part that fails ends it. The last line is 'N passed, M failed', over all
+parts that ran.
 
 usage, at the top of the repository: tests/all.py
 """
@@ -9,25 +10,7 @@ import re
 import subprocess
 import sys
 
-# The crates that no other proved crate rests on; `make edits` tries the wrong bodies of all.
-TOP = (
-    "rpg_engine",
-    "rpg_refusal_causes",
-    "rpg_deck",
-    "rpg_causes",
-    "rpg_source_run",
-    "rpg_record_decks",
-    "rpg_record_lines",
-    "rpg_fit_deck",
-    "rpg_fit_terms",
-    "rpg_fit",
-    "rpg_cli_files",
-    "rpg_cli_warnings",
-    "rpg_cli_answers",
-    "rpg_cli_run",
-    "rpg_cli",
-)
-PARTS = (["rt", "ci"], ["tests/edits.py", *TOP], ["tests/run.py"])
+PARTS = (["rt", "ci"], ["tests/edits.py", "--listed", "tests/gate.edits"], ["tests/run.py"])
 COUNT = re.compile(r"^(\d+) passed, (\d+) failed\b")
 
 

@@ -2,7 +2,7 @@
 """Tries the wrong bodies of crates/NAME/refused/*.edit against the contracts, those of a crate in one check.
 
 usage, at the top of the repository, after `rt ci` (or `rt all check`), which builds the libraries:
-    tests/edits.py [--jobs N] [--log FILE] [--controls] [CRATE..]
+    tests/edits.py [--jobs N] [--log FILE] [--controls] [--listed FILE | CRATE..]
 
 An edit file has lines 'file: PATH', 'old: TEXT', 'new: TEXT'; further pairs apply to what the earlier ones made. It turns the body of the
 function that has its first text, or of the one that a line 'fn: PATH' names. The edits of a crate are tried together, in as few
@@ -13,7 +13,8 @@ longer (which is a weaker result: a harmless change of form can do that too). Wh
 turned one, its edit goes into a later round. All else fails: an edit that is still proved, one that doesn't compile, and one that is
 refused only since a proof names what the edit took away.
 
-With --controls the same functions are tried as they are: each must be proved, or the refusals show nothing.
+With --controls the same functions are tried as they are: each must be proved, or the refusals show nothing. With --listed only the edits
+are tried that a file lists as CRATE/NAME, a line each.
 
 The last line is 'N passed, M failed'.
 """
@@ -251,9 +252,20 @@ def rounds_left(crate, taken, left, printed):
     return [*([others] if others else []), *([it] for it in alone)]
 
 
-def tried(crate, log, controls=False):
+def edits_of(crates, listed, names):
+    """The edit files by crate: those that a list has, or all of the crates with these names, or of all crates."""
+    found = {it: sorted((it.folder / "refused").glob("*.edit")) for it in crates.values() if it.name in (names or crates)}
+    if listed:
+        lines = {it for it in listed.read_text(encoding="utf-8").splitlines() if it and not it.startswith("#")}
+        found = {crate: [it for it in files if f"{crate.name}/{it.stem}" in lines] for crate, files in found.items()}
+        if sum(map(len, found.values())) != len(lines):
+            sys.exit(f"{listed}: each line must name an edit, as CRATE/NAME")
+    return {crate: files for crate, files in found.items() if files}
+
+
+def tried(crate, files, log, controls=False):
     """Tries a crate's edits, or their functions as they are, and gives the verdicts."""
-    rounds = rounds_of([read_edit(crate, it) for it in sorted((crate.folder / "refused").glob("*.edit"))])
+    rounds = rounds_of([read_edit(crate, it) for it in files])
     found = []
     while rounds:
         taken, left = rounds.pop(0), []
@@ -277,6 +289,7 @@ def tried(crate, log, controls=False):
 def main():
     parser = argparse.ArgumentParser(description=__doc__.split("\n", maxsplit=1)[0])
     parser.add_argument("crates", nargs="*", metavar="CRATE", help="the crates whose edits are tried; all where none is named")
+    parser.add_argument("--listed", type=Path, metavar="FILE", help="a file that lists the edits to try")
     parser.add_argument("--jobs", type=int, default=len(os.sched_getaffinity(0)), help="how many crates are tried side by side")
     parser.add_argument("--log", type=Path, help="a file for what rattle prints")
     parser.add_argument("--controls", action="store_true", help="try the functions as they are, which must all be proved")
@@ -284,9 +297,10 @@ def main():
     crates = crates_of(Path("crates.txt").read_text(encoding="utf-8"))
     # the longest checks first
     size = lambda it: sum(file.stat().st_size for file in it.folder.glob("src/**/*.rt"))
-    with_edits = [it for it in crates.values() if (it.folder / "refused").is_dir() and it.name in (words.crates or crates)]
+    files = edits_of(crates, words.listed, words.crates)
     with ThreadPoolExecutor(words.jobs) as pool:
-        found = [it for of in pool.map(lambda it: tried(it, words.log, words.controls), sorted(with_edits, key=size, reverse=True)) for it in of]
+        tries = pool.map(lambda it: tried(it, files[it], words.log, words.controls), sorted(files, key=size, reverse=True))
+        found = [it for of in tries for it in of]
     passed = sum(it is Verdict.PROVED if words.controls else it.is_good for it in found)
     if not words.controls:
         print(f"{sum(it is Verdict.BY_PROOF for it in found)} of the {passed} refused edits are refused by a written proof")
