@@ -23,14 +23,14 @@ one_if_heading (Heading h name) = 1
 one_if_heading (Follower f) = 0
 one_if_heading Apart = 0
 
--- the file of the groups behind a card
+-- the file of the groups after a card
 abbrev pub file_with : {H F : Type 0} → Option (List ℕ) → Role H F → Option (List ℕ)
 file_with file (Heading h name) = option_or name file
 file_with file (Follower f) = file
 file_with file Apart = file
 
 module _ {H F : Type 0} (role : Spec → Role H F) where
-  -- the groups of cards behind an open group, that one first
+  -- the groups of cards after an open group, that one first
   abbrev pub groups_on : Option (Group H F) → List SpecCard → List (Group H F)
   groups_on o cards = option_to_list (option_map (with_followers (followers role cards)) o) ++ groups_from role (file_of_group o) cards
 
@@ -64,7 +64,7 @@ module _ {H F : Type 0} (role : Spec → Role H F) where
   pub open_group-is : (cards : List SpecCard) → open_group role cards ≡ fold one_more None cards
   open_group-is cards = last_on None cards
 
-  -- the law: what is open behind a card
+  -- the law: what is open after a card
   pub open_group-push : (before : List SpecCard) (c : SpecCard) → open_group role (before ++ c ∷ []) ≡ with_card (open_group role before) (role c.spec)
   open_group-push before c = open_group-is (before ++ c ∷ []) ∙ fold-append one_more None before (c ∷ []) ∙ ap (λ o. one_more o c) (sym (open_group-is before))
 
@@ -80,7 +80,7 @@ module _ {H F : Type 0} (role : Spec → Role H F) where
       groups_on-card o c (cs ++ after) ∙ ap (λ gs. closing (role c.spec) o ++ gs) (groups_on-append (one_more o c) cs after)
       ∙ sym (append_assoc (closing (role c.spec) o) (closed (one_more o c) cs) (groups_on (fold one_more (one_more o c) cs) after))
 
-  -- the law: the cards behind go to the open group, up to the next heading
+  -- the law: the cards that follow go to the open group, up to the next heading
   pub groups-append : (before after : List SpecCard) → groups role (before ++ after) ≡ closed None before ++ groups_on (open_group role before) after
   groups-append before after = groups_on-append None before after ∙ ap (λ o. closed None before ++ groups_on o after) (sym (open_group-is before))
 

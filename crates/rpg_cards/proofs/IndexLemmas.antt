@@ -113,7 +113,7 @@ module _ {X Y : Type 0} (test : X → Bool) (made : ℕ → X → Y) where
     pub first_before : (n : ℕ) (xs : List X) → first_at test made 0 (take n xs) ≡ only_before place n (first_at test made 0 xs)
     first_before n xs = let n_is : 0 + n ≡ n = omega arith in before_from 0 n xs ∙ ap (λ k. only_before place k (first_at test made 0 xs)) n_is
 
-  -- ---- entries that find what a list has, and more items behind it
+  -- ---- entries that find what a list has, and more items after it
 
   pub noted_more : {K : Type 0} (found : K → Bool) (entries more : List (K × Y)) (xs items : List X) → lookup found entries ≡ first_at test made 0 xs
       → lookup found more ≡ option_or (lookup found entries) (first_at test made (length xs) items) → lookup found more ≡ first_at test made 0 (xs ++ items)

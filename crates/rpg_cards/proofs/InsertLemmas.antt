@@ -34,7 +34,7 @@ module _ {X : Type 0} (eq : X → X → Bool) (laws : IsEquivalence eq) where
       among x (insert_key eq known y) ys ∙ ap (λ b. b || list_any (eq x) ys) (one_more x known y)
       ∙ or_assoc (list_any (eq x) known) (eq x y) (list_any (eq x) ys)
 
-  -- one more item goes behind the others, unless it is among them
+  -- one more item goes after the others, unless it is among them
   pub with_one : (known items : List X) (x : X) → insert_all eq known (items ++ x ∷ []) ≡ cond (list_any (eq x) known || list_any (eq x) items) (insert_all eq known items) (insert_all eq known items ++ x ∷ [])
   with_one known items x =
       fold-append (insert_key eq) known items (x ∷ [])

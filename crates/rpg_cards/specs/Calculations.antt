@@ -1,4 +1,4 @@
--- The calculations of cards: a C card with the AN and OR cards right behind it is one, which ends on the last of them.
+-- The calculations of cards: a C card with the AN and OR cards right after it is one, which ends on the last of them.
 use Rattle.std.specs.Prelude.{ℕ, ◌==◌, ◌++◌, Bool, true, false, List, [], ◌∷◌, Option, None, Some, unwrap_or, map, slice_get, if◌then◌else◌}
 use Rattle.std.specs.List.{filter_map, last_or}
 use Rattle.std.specs.Option.{option_map, option_map_or, option_to_list}
@@ -112,7 +112,7 @@ open_behind o (c ∷ cs) = open_behind (open_with o c.spec) cs
 abbrev pub open_calculation_group : List SpecCard → Option CalculationGroup
 open_calculation_group before = open_behind None before
 
--- an AN or OR card stands right behind
+-- an AN or OR card comes right after
 abbrev pub goes_on : List SpecCard → Bool
 goes_on [] = false
 goes_on (c ∷ cs) = option_map_or (λ k. joins k.control_level) (calculation_on c.spec) false
@@ -121,7 +121,7 @@ goes_on (c ∷ cs) = option_map_or (λ k. joins k.control_level) (calculation_on
 abbrev pub group_at : Option CalculationGroup → SpecCard → List SpecCard → Option CalculationGroup
 group_at o c after = if goes_on after then None else open_with o c.spec
 
--- the calculations that end on the cards at the front, seen with those behind
+-- the calculations that end on the cards at the front, seen with those after them
 abbrev pub calculations_from : Option CalculationGroup → List SpecCard → List SpecCard → List (Calculation Key)
 calculations_from o [] after = []
 calculations_from o (c ∷ cs) after = option_to_list (option_map calculation_of (group_at o c (cs ++ after))) ++ calculations_from (open_with o c.spec) cs after
@@ -148,7 +148,7 @@ calculation_ending before c after = option_map calculation_of (group_ending befo
 abbrev pub card_ending : SpecCard → List SpecCard → Option CalculationSpec
 card_ending c after = if goes_on after then None else calculation_on c.spec
 
--- ---- a group with the AN and OR cards behind
+-- ---- a group with the AN and OR cards after it
 
 -- the group with the AN and OR cards right after it
 abbrev pub completed : CalculationGroup → List SpecCard → CalculationGroup

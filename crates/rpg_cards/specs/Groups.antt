@@ -36,7 +36,7 @@ following (Heading h name) fs = []
 following (Follower f) fs = f ∷ fs
 following Apart fs = fs
 
--- a heading opens a group with those that follow it, in front of the groups behind, which are told the file
+-- a heading opens a group with those that follow it, before the later groups, which are given the file
 abbrev pub opening : {H F : Type 0} → Role H F → Option (List ℕ) → List F → (Option (List ℕ) → List (Group H F)) → List (Group H F)
 opening (Heading h name) file fs behind = record { heading = h; followers = fs; file = option_or name file } ∷ behind (option_or name file)
 opening (Follower f) file fs behind = behind file
@@ -52,7 +52,7 @@ module _ {H F : Type 0} (role : Spec → Role H F) where
   followers [] = []
   followers (c ∷ cs) = following (role c.spec) (followers cs)
 
-  -- behind a group of that file
+  -- after a group of that file
   abbrev pub groups_from : Option (List ℕ) → List SpecCard → List (Group H F)
   groups_from file [] = []
   groups_from file (c ∷ cs) = opening (role c.spec) file (followers cs) (λ own. groups_from own cs)
@@ -131,7 +131,7 @@ output_card_role (output.Field f) = Follower (output.Field f)
 abbrev pub output_role : Spec → Role OutputRecord OutputSpec
 output_role s = role_on output_card_role (output_on s)
 
--- a `**` card, and the data behind it
+-- a `**` card, and the data after it
 abbrev pub data_card : DataSpec → Role (Unit {0}) (List ℕ)
 data_card deck.Begin = Heading tt None
 data_card (deck.Card text) = Follower text

@@ -17,7 +17,7 @@ control_level f = f.level
 abbrev pub match_level : InputField → Option ℕ
 match_level f = f.match_level
 
--- ---- the fields on cards behind a type
+-- ---- the fields on cards after a type
 
 -- the input fields among I cards
 abbrev pub input_fields : List InputSpec → List InputField

@@ -57,7 +57,7 @@ module _ {K : Type 0} where
   of_control test [] = []
   of_control test (g ∷ gs) = if test g.control then g ∷ of_control test gs else of_control test gs
 
-  -- ---- subroutines: each BEGSR with what stands behind it, up to the next one
+  -- ---- subroutines: each BEGSR with what stands after it, up to the next one
 
   -- the name on a BEGSR, which may be blank
   abbrev pub begun_by : Deed K → Option (Option Name)

@@ -1,4 +1,4 @@
-//! Groups: a calculation card with the AN and OR cards right behind it.
+//! Groups: a calculation card with the AN and OR cards right after it.
 
 ghost use Rattle.std.specs.Prelude.{◌≡◌, option_copied};
 ghost use Rattle.rpg_cards.specs.Calculations as calculations;
@@ -17,7 +17,7 @@ pub fn joins(calculation: &CalculationSpec) -> bool
     }
 }
 
-/// Whether an AN or OR card stands right behind.
+/// Whether an AN or OR card comes right after.
 pub fn goes_on(after: &[SpecCard]) -> bool
     ensures { result ≡ calculations.goes_on after.now }
 {

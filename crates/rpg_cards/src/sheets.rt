@@ -53,7 +53,7 @@ impl Sheets {
         }
     }
 
-    /// With the card behind those before.
+    /// With the card after those before.
     pub fn with(&self, source: &IndexedCards, before: &[SpecCard], card: &SpecCard) -> Self
         requires few { length before.now ≤ 2000 }
         requires sheets { AreSheets source.now before.now self.now }

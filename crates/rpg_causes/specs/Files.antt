@@ -70,7 +70,7 @@ unknown who name = Unknown who name
 abbrev pub of_named : List SpecCard → FileUser → (FileUse → Bool) → List ℕ → Option FileCause
 of_named cards who fits name = option_map_or (of_known who fits) (file_of_name name cards) (Some (unknown who name))
 
--- of a card that names a file, or leaves it out behind another card of its kind
+-- of a card that names a file, or leaves it out after another card of its kind
 abbrev pub of_user : List SpecCard → FileUser → (FileUse → Bool) → Bool → Option (List ℕ) → Option FileCause
 of_user cards who fits is_behind None = if is_behind then None else Some (Unnamed who)
 of_user cards who fits is_behind (Some name) = of_named cards who fits name

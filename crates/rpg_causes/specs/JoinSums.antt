@@ -16,7 +16,7 @@ abbrev pub are_some : List InputField → Bool
 are_some [] = false
 are_some (f ∷ fs) = true
 
--- a match field without columns, or whose level stands behind it
+-- a match field without columns, or whose level stands after it
 abbrev pub is_bad_match : InputField → List InputField → Bool
 is_bad_match f fs = is_match_field f && (input_columns f == 0 || repeats fs f)
 

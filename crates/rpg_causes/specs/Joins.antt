@@ -18,7 +18,7 @@ use Rattle.rpg_sheet_specs.specs.declared.input.InputSpec.TheVariants as input
 abbrev pub is_type : SpecCard → Bool
 is_type c = is_some (type_on c.spec)
 
--- the cards behind the last type among these: those of the open type
+-- the cards after the last type among these: those of the open type
 abbrev pub behind_last : List SpecCard → List SpecCard → List SpecCard
 behind_last own [] = own
 behind_last own (c ∷ cs) = if is_type c then behind_last cs cs else behind_last own cs
@@ -118,7 +118,7 @@ other_matches before after = of_matches (first_matched before) (good_matches (ma
 
 -- ---- of an I card
 
--- a field behind those cards of its type
+-- a field after those cards of its type
 abbrev pub on_field : List SpecCard → InputField → Option JoinCause
 on_field own f = option_or (level_cause own f) (match_cause own f)
 

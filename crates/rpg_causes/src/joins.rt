@@ -107,7 +107,7 @@ fn on_field(own: &[SpecCard], field: &InputField) -> Option<JoinCause>
     match_cause(own, field)
 }
 
-/// The cards of the open type, behind its own.
+/// The cards of the open type, after its own.
 fn open_cards(before: &[SpecCard]) -> &[SpecCard]
     ensures own { result.now ≡ causes.open_cards before.now }
     ensures few { length result.now ≤ length before.now }
@@ -334,7 +334,7 @@ fn has_matches(cards: &[SpecCard]) -> bool
     false
 }
 
-/// Whether a field is a match field without columns, or one whose level stands on the cards behind it.
+/// Whether a field is a match field without columns, or one whose level stands on the cards after it.
 #[tactic(auto, using(crate::proofs::JoinRule::matched_on_some))]
 fn is_bad_match(field: &InputField, behind: &[SpecCard]) -> bool
     ensures { result ≡ sums.is_bad_match field.now (causes.matched behind.now) }

@@ -46,7 +46,7 @@ module _ (t : TableSpec) (k : ℕ) (o : Option (List ℕ)) (entry : ℕ → Plac
       next ∙ or_none_is found (first_wrong t (k + 1) (Some (entry i).text) rest) right
       ∙ ap (λ j. first_wrong t j (Some (entry i).text) rest) (sym is) ∙ ap (λ y. first_wrong t m (Some y) rest) (sym text)
 
--- ---- the entries of a card, and those of the cards behind it
+-- ---- the entries of a card, and those of the cards after it
 
 module _ {C X : Type 0} (f : C → ℕ → X) (per_card : ℕ) where
   abbrev on : ℕ → C → List X
@@ -91,7 +91,7 @@ wrong_behind t k o (e ∷ es) gs =
     ∙ sym (option_or_assoc here (first_wrong t (k + 1) (Some e.text) es) (first_wrong t (k + 1 + length es) last gs))
     ∙ ap (λ m. option_or (option_or here (first_wrong t (k + 1) (Some e.text) es)) (first_wrong t m last gs)) same
 
--- ---- a step over the cards: so many entries of one, and those of the cards behind it
+-- ---- a step over the cards: so many entries of one, and those of the cards after it
 
 module _ (t : TableSpec) (k : ℕ) (o : Option (List ℕ)) (width from len n per_card count : ℕ) (d : DataCard) (ds cards : List DataCard) (all found : Option EntryCause)
     (least : count ≡ min n per_card) (split : cards ≡ d ∷ ds) (so_far : all ≡ first_wrong t k o (placed_entries n per_card width from len cards))

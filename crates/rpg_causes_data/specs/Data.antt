@@ -29,7 +29,7 @@ is_begin (deck.Card text) = false
 abbrev pub begins : SpecCard → Bool
 begins c = option_map_or is_begin (data_on c.spec) false
 
--- the cards behind the `**` card with this number, from 0
+-- the cards after the `**` card with this number, from 0
 abbrev pub behind_begin : ℕ → List SpecCard → Option (List SpecCard)
 behind_begin n [] = None
 behind_begin n (c ∷ cs) = if begins c then (if n == 0 then Some cs else behind_begin (n - 1) cs) else behind_begin n cs
@@ -108,7 +108,7 @@ first_wrong t number before (e ∷ es) = option_or (wrong_entry t number before 
 abbrev pub of_table : ExtensionSpec → ℕ → List DataCard → ℕ → TableSpec → Option EntryCause
 of_table e per_card cards from t = first_wrong t 1 None (placed_entries e.entries per_card (data_columns e) from t.length cards)
 
--- that of its tables, which stand one behind the other
+-- that of its tables, which stand one after the other
 abbrev pub of_tables : ExtensionSpec → ℕ → List DataCard → ℕ → List TableSpec → Option EntryCause
 of_tables e per_card cards from [] = None
 of_tables e per_card cards from (t ∷ ts) = option_or (of_table e per_card cards from t) (of_tables e per_card cards (from + t.length) ts)

@@ -216,7 +216,7 @@ fn begins(card: &SpecCard) -> bool
     }
 }
 
-/// The cards behind the `**` card with this number, from 0.
+/// The cards after the `**` card with this number, from 0.
 fn behind_begin(number: usize, cards: &[SpecCard]) -> Option<&[SpecCard]>
     ensures { option_map (λ behind. behind.now) result ≡ causes.behind_begin number cards.now }
 {

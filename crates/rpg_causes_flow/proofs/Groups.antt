@@ -11,7 +11,7 @@ use Rattle.rpg_faults_flow.proofs.Walk.{open_behind-push}
 use Rattle.rpg_faults_flow.specs.Rounding.{is_behind_division, leaves_remainder}
 use Rattle.rpg_sheet_specs.specs.declared.calculation.CalculationSpec.{CalculationSpec}
 
--- a group is open behind a C card
+-- a group is open after a C card
 pub is_open-push : (before : List SpecCard) (c : SpecCard) → is_some (open_calculation_group (before ++ c ∷ [])) ≡ is_some (calculation_on c.spec)
 is_open-push before c = ap is_some (open_behind-push None before c) ∙ by (calculation_on c.spec)
   where

@@ -49,7 +49,7 @@ mark_at n is_end = record { card = n; is_end = is_end }
 abbrev mark : SpecCard → Bool → Bracket
 mark c is_end = mark_at c.number is_end
 
--- a subroutine is open behind a bracket, or else as before
+-- a subroutine is open after a bracket, or else as before
 abbrev open_by : Option Bracket → Bool → Bool
 open_by b before = option_map_or (λ (x : Bracket). not x.is_end) b before
 
@@ -87,7 +87,7 @@ inside_from o d (c ∷ cs) after =
 pub inside_is : (before after : List SpecCard) → is_inside_subroutine (calculations_before before after) ≡ opens (last_bracket None before after)
 inside_is before after = inside_from None None before after
 
--- ---- the next bracket behind
+-- ---- the next bracket
 
 closed_is : (o : Option CalculationGroup) (after : List SpecCard) → is_closed (brackets (calculations_from o after [])) ≡ closes (next_bracket (level_of_group o) after)
 closed_is o [] = refl

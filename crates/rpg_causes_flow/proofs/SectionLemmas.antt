@@ -62,7 +62,7 @@ abbrev of_found : Option LabelOnCard → Option (Bool × Section)
 of_found l = option_map (λ (x : LabelOnCard). (x.is_subroutine, x.section)) l
 
 module _ (name : Name) where
-  -- what is left to compare behind a card
+  -- what is left to compare after a card
   abbrev Same : List SpecCard → List SpecCard → Type 0
   Same front cards =
       of_label (label_named name (labels_behind (calculations_before front cards) (calculations_from (open_calculation_group front) cards []))) ≡ of_found (first_label name front cards)

@@ -30,7 +30,7 @@ given_on c after = option_and_then (λ k. gives (deed_of k)) (card_ending c afte
 abbrev pub giver_if : List ℕ → ℕ → Named → Option Giver
 giver_if name card n = if pointwise nat_eq name n.name then Some (record { card = card; is_subroutine = n.is_subroutine }) else None
 
--- the first of the cards at the front that gives the name, seen with those behind
+-- the first of the cards at the front that gives the name, seen with those after it
 abbrev pub giver : List ℕ → List SpecCard → List SpecCard → Option Giver
 giver name [] after = None
 giver name (c ∷ cs) after = option_or (option_and_then (giver_if name c.number) (given_on c (cs ++ after))) (giver name cs after)

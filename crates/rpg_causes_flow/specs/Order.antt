@@ -20,7 +20,7 @@ use Rattle.rpg_sheet_specs.specs.declared.calculation.ControlLevel.{ControlLevel
 
 -- ---- BEGSR and ENDSR of SR groups, by the cards on which their groups end
 
--- the one that ends on a card, behind a group of that section
+-- the one that ends on a card, after a group of that section
 abbrev pub bracket_on : Option ControlLevel → SpecCard → List SpecCard → Option Bracket
 bracket_on group c after = option_map (λ is_end. record { card = c.number; is_end = is_end }) (bracket_at group c after)
 
@@ -34,7 +34,7 @@ abbrev pub next_bracket : Option ControlLevel → List SpecCard → Option Brack
 next_bracket group [] = None
 next_bracket group (c ∷ cs) = option_or (bracket_on group c cs) (next_bracket (level_with group c) cs)
 
--- a BEGSR: a subroutine is open behind it
+-- a BEGSR: a subroutine is open after it
 abbrev pub opens : Option Bracket → Bool
 opens b = option_map_or (λ (x : Bracket). not x.is_end) b false
 

@@ -50,7 +50,7 @@ label_by name front c after k = option_and_then (label_if name front c after k) 
 abbrev pub label_on : List ℕ → List SpecCard → SpecCard → List SpecCard → Option LabelOnCard
 label_on name front c after = option_and_then (label_by name front c after) (card_ending c after)
 
--- the first on the cards behind those at the front
+-- the first on the cards after those at the front
 abbrev pub first_label : List ℕ → List SpecCard → List SpecCard → Option LabelOnCard
 first_label name front [] = None
 first_label name front (c ∷ cs) = option_or (label_on name front c cs) (first_label name (front ++ c ∷ []) cs)

@@ -80,7 +80,7 @@ fn bracket_on(group: &Option<ControlLevel>, card: &SpecCard, after: &[SpecCard])
     }
 }
 
-/// The cards behind the first.
+/// The cards after the first.
 fn behind_first(cards: &[SpecCard]) -> &[SpecCard]
     ensures { (c : SpecCard) (cs : List SpecCard) → cards.now ≡ c ∷ cs → result.now ≡ cs }
 {
@@ -108,7 +108,7 @@ pub(crate) fn last_bracket(front: &[SpecCard], cards: &[SpecCard]) -> Option<Bra
     found
 }
 
-/// The first one on the cards behind a group of that section.
+/// The first one on the cards after a group of that section.
 pub(crate) fn next_bracket(level: &ControlLevel, after: &[SpecCard]) -> Option<Bracket>
     ensures { result ≡ causes.next_bracket (Some level.now) after.now }
 {
@@ -160,7 +160,7 @@ pub fn begins_on(before: &[SpecCard], card: &SpecCard, after: &[SpecCard]) -> bo
     opens(bracket_on(&group, card, after))
 }
 
-/// Whether a subroutine is open behind one.
+/// Whether a subroutine is open after one.
 pub(crate) fn opens(bracket: Option<Bracket>) -> bool
     ensures { result ≡ causes.opens bracket }
 {

@@ -28,13 +28,13 @@ pub enum OrderCause {
         later: ControlLevel,
         card: u16,
     },
-    /// SR in no subroutine: behind the ENDSR of that card, or before the first BEGSR.
+    /// SR in no subroutine: after the ENDSR of that card, or before the first BEGSR.
     Outside(Option<u16>),
     /// ENDSR, or else BEGSR, on a card without SR.
     OutsideSection {
         is_end: bool,
     },
-    /// ENDSR without BEGSR: behind the ENDSR of that card, or the first of all.
+    /// ENDSR without BEGSR: after the ENDSR of that card, or the first of all.
     NoBegsr(Option<u16>),
     /// BEGSR without ENDSR, with its name: the BEGSR of that card comes next, or none.
     NoEndsr {

@@ -39,14 +39,14 @@ pub first_listed : {Y : Type 0} (cause : Operand → Option Y) (t : Three (Optio
     ≡ option_or (option_or (option_or (option_and_then cause t.first) (option_and_then cause t.second)) (option_and_then cause t.third)) (option_and_then cause o)
 first_listed cause t o = first cause t.first t.second t.third o
 
--- an item without a cause, and those behind it
+-- an item without a cause, and those after it
 pub first_some_more : {X Y : Type 0} (cause : X → Option Y) (xs : List X) (i : ℕ) (x : X) → i < length xs → x ≡ get_or xs i x → cause x ≡ None
     → first_some cause (drop i xs) ≡ first_some cause (drop (i + 1) xs)
 first_some_more cause xs i x lt is none =
     let left : drop i xs ≡ x ∷ drop (i + 1) xs = rw (drop_more xs i x lt, ← is) refl in
     ap (first_some cause) left ∙ ap (λ o. option_or o (first_some cause (drop (i + 1) xs))) none
 
--- an item that doesn't pass a test, and those behind it
+-- an item that doesn't pass a test, and those after it
 pub list_any_more : {X : Type 0} (test : X → Bool) (xs : List X) (i : ℕ) (x : X) → i < length xs → x ≡ get_or xs i x → test x ≡ false
     → list_any test (drop i xs) ≡ list_any test (drop (i + 1) xs)
 list_any_more test xs i x lt is failed =

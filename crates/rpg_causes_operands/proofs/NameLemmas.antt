@@ -9,7 +9,7 @@ use Rattle.rpg_cards.specs.declared.spec_card.SpecCard.{SpecCard}
 use Rattle.rpg_causes_operands.specs.Names.{redefined_among, redefined_by}
 use Rattle.rpg_faults_limits.proofs.NameLemmas.{in_front}
 
--- a definition without a cause, and those behind it
+-- a definition without a cause, and those after it
 pub one_less : (cards : List SpecCard) (all front items back : List Definition) (place : ℕ) → place ≡ length front → all ≡ front ++ (items ++ back)
     → (i : ℕ) (d : Definition) → i < length items → d ≡ get_or items i d → redefined_by cards (take (place + i) all) d ≡ None
     → redefined_among cards (take (place + i) all) (drop i items) ≡ redefined_among cards (take (place + (i + 1)) all) (drop (i + 1) items)

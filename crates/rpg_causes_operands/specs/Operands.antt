@@ -87,11 +87,11 @@ of_result Subroutine g r = None
 
 -- ---- cards
 
--- factor 2, behind factor 1
+-- factor 2, after factor 1
 abbrev pub of_second : List SpecCard → Kinds → Held → Held → Option OperandCause
 of_second cards kinds f g = option_or (of_one cards kinds g) (of_pair kinds f.form g.form)
 
--- the result field, behind factor 2
+-- the result field, after factor 2
 abbrev pub of_third : List SpecCard → Kinds → Held → Held → Option OperandCause
 of_third cards kinds g r = option_or (of_one cards kinds r) (option_and_then (λ c. of_result c g.form r.form) r.content)
 

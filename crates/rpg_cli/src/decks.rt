@@ -84,7 +84,7 @@ fn wanted_text<L: Listener>(
     }
 }
 
-/// Shows cards, behind a ruler if the words want one, or shorthand.
+/// Shows cards, below a ruler if the words want one, or shorthand.
 fn show_text<L: Listener>(words: &CardsWords, text: &str, listener: &mut L) -> Result<(), Stop> {
     if let CardsWanted::RuledCards = words.wanted {
         listener.show(RULER)?;

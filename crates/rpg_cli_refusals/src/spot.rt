@@ -108,7 +108,7 @@ impl Walk<'_> {
         ControlFlow::Continue(())
     }
 
-    /// Goes past the first values of all fields, whose rows begin behind the header.
+    /// Goes past the first values of all fields, whose rows begin after the header.
     fn pass_values(&mut self) -> ControlFlow<Spot> {
         let mut row: usize = 32;
         for field in 1..=self.number(18) {

@@ -1,4 +1,4 @@
--- Writers that are flushed behind a run: what is told of them, and how often their calls failed.
+-- Writers that are flushed after a run: what is told of them, and how often their calls failed.
 use Rattle.std.proofs.Common.{◌≡◌, ℕ, ◌+◌, Result, Ok, Err, refl, ap, subst, ◌∙◌}
 use Rattle.rpg_cli_files.specs.declared.files.FileFault.{FileFault}
 use Rattle.rpg_cli_words.specs.declared.request.FileWord.{FileWord}
@@ -38,11 +38,11 @@ one_more before after given fault is failed = is ∙ ap (faults_after before) fa
 pub no_more : {X E : Type 0} (before after : ℕ) (given : Result X E) (x : X) → after ≡ faults_after before given → given ≡ Ok x → after ≡ before
 no_more before after given x is well = is ∙ ap (faults_after before) well
 
--- behind a run in which none failed, the printer's flush did
+-- after a run in which none failed, the printer's flush did
 pub print_failed : (old : Counts) (primary secondary print print' disk : ℕ) → counts primary secondary print disk ≡ old → print' ≡ print + 1 → counts primary secondary print' disk ≡ record old { print = old.print + 1 }
 print_failed old primary secondary print print' disk same more = subst (λ (o : Counts). counts primary secondary print' disk ≡ record o { print = o.print + 1 }) same (ap (λ n. counts primary secondary n disk) more)
 
--- the disk's did, behind the printer's that didn't
+-- the disk's did, after the printer's that didn't
 pub disk_failed : (old : Counts) (primary secondary print print' disk disk' : ℕ) → counts primary secondary print disk ≡ old → print' ≡ print → disk' ≡ disk + 1
     → counts primary secondary print' disk' ≡ record old { disk = old.disk + 1 }
 disk_failed old primary secondary print print' disk disk' same kept more =

@@ -59,7 +59,7 @@ pub(crate) fn broken_by(fault: VerifyFault) -> Result<BrokenRule, AllocError> {
     }
 }
 
-/// Writes the offset of a row of so many bytes, and goes on behind it.
+/// Writes the offset of a row of so many bytes, and goes on after it.
 pub(crate) fn write_offset(out: &mut TextWriter, at: &mut usize, bytes: usize) {
     out.fill("{:>6}", &[(*at).into()]);
     *at = (*at).saturating_add(bytes);
@@ -84,7 +84,7 @@ impl Shown<'_> {
         }
     }
 
-    /// Writes a field with its index, if it has one, and a constant with its value. Where the source is known, what its cards have stands behind.
+    /// Writes a field with its index, if it has one, and a constant with its value. Where the source is known, what its cards have comes after it.
     pub fn write_operand(self, out: &mut TextWriter, operand: Operand<u16>) {
         let constant = constant_of(self.rows, operand.field);
         out.fill("#{}", &[operand.field.into()]);

@@ -60,7 +60,7 @@ pub fn write_shows(out: &mut TextWriter, sentences: [&str; 3], shows: Shows) {
     write_named(out, zero, shows.zero);
 }
 
-/// Writes the card of a row behind it, where it is known.
+/// Writes the card of a row after it, where it is known.
 pub fn write_card(out: &mut TextWriter, card: Option<u16>) {
     if let Some(card) = card {
         out.fill(" (card {})", &[card.into()]);

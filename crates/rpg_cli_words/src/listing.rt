@@ -23,7 +23,7 @@ pub struct CardsWords<'a> {
 #[derive(Clone, Copy)]
 pub enum CardsWanted {
     Cards,
-    /// Cards behind a ruler.
+    /// Cards below a ruler.
     RuledCards,
     Shorthand,
 }

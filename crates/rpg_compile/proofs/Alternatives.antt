@@ -1,4 +1,4 @@
--- The tests of an alternative, and those of the alternatives behind it.
+-- The tests of an alternative, and those of the alternatives after it.
 use Rattle.std.proofs.Common.{◌≡◌, ℕ, ◌+◌, Bool, true, false, cond, List, [], ◌∷◌, ◌++◌, length, refl, ◌<◌, arith, zero, suc, take, drop, get_or, sym, ap, ◌∙◌, append-nil, append_assoc, length-append}
 use Rattle.std.proofs.lemmas.Grind.{flat_map-append}
 use Rattle.std.proofs.lemmas.List.{take-append-drop}
@@ -53,12 +53,12 @@ goes_on cards i c h e or so_far =
 
 -- ---- one alternative more
 
--- so many tests stand before and behind
+-- so many tests stand before and after
 pub split_tests : (cards : List SpecCard) (n : ℕ) → length (tests_in cards) ≡ length (tests_in (take n cards)) + length (tests_in (drop n cards))
 split_tests cards n =
     ap (λ cs. length (tests_in cs)) (sym (take-append-drop n cards)) ∙ ap length (tests_append (take n cards) (drop n cards)) ∙ length-append (tests_in (take n cards)) (tests_in (drop n cards))
 
--- an alternative is put behind the code, and the others are left
+-- an alternative is put after the code, and the others are left
 pub pushed : (now new target : List (Instruction ℕ)) (at count operation behind : ℕ) (rest alt others : List SpecCard)
     → now ++ tests_code at operation behind (alternatives_in rest) ≡ target → alternatives_in rest ≡ tests_in alt ∷ alternatives_in others → 0 < length others → count ≡ length (tests_in alt)
     → new ≡ now ++ alternative_code (at + count) operation (tests_in alt) → new ++ tests_code (at + count) operation behind (alternatives_in others) ≡ target

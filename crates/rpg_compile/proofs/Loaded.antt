@@ -195,7 +195,7 @@ module _ (cards : List SpecCard) (spelled : FitsText) (ranges : AreCards cards)
         good = good_deck e per_card texts (and_second (has_forms e) (bad_deck e per_card texts) (have_forms cards e (tables_on e) of_name) h) (each_got (Each IsDataText) (wanted before) (decks cards) texts is (decks_fit None cards ranges));
       }
 
-  -- what is loaded for cards behind others
+  -- what is loaded for cards after others
   abbrev Later : List SpecCard → List SpecCard → Type 0
   Later before after = Each (IsLoaded cards) (all_loaded (extensions after) (drop (wanted before) (decks cards)))
 

@@ -14,7 +14,7 @@ unnamed : (o : Option Name) → is_same_name None o ≡ false
 unnamed None = refl
 unnamed (Some n) = refl
 
--- the first one of that name, or one behind it
+-- the first one of that name, or one after it
 module _ (n : Name) (number : ℕ) (rest : NumberedNames) where
   first_or_later : (o : Option Name) (otherwise : ℕ) → unwrap_or (lookup (pointwise nat_eq n) (with_numbered_name o number rest)) otherwise ≡ cond (is_same_name (Some n) o) number (unwrap_or (lookup (pointwise nat_eq n) rest) otherwise)
   first_or_later None otherwise = refl

@@ -74,7 +74,7 @@ abbrev pub pending : Option CalculationGroup → Bool → ℕ
 pending None b = 0
 pending (Some g) b = cond b (tests_of g) 0
 
--- a C card, behind an open group
+-- a C card, after an open group
 one_card : (o : Option CalculationGroup) (k : CalculationSpec) → tests_of (group_with o k) ≤ pending o (joins k.control_level) + 1
 one_card None k = one_alone k
 one_card (Some g) k = by (joins k.control_level)

@@ -90,7 +90,7 @@ module _ (number : Key → ℕ) (place_of callee_of : Option Name → ℕ) (own 
 
   -- ---- sections
 
-  -- a group is put behind the code, and the others are left
+  -- a group is put after the code, and the others are left
   pub one_more : (now new all : List (Instruction ℕ)) (place : ℕ) (g : Calculation Key) (rest behind : List (Calculation Key)) → rest ≡ g ∷ behind → new ≡ now ++ group_code number place_of callee_of own place g
       → now ++ code_from number place_of callee_of own place rest ≡ all → new ++ code_from number place_of callee_of own (place + size g) behind ≡ all
   unfolding code_from

@@ -1,4 +1,4 @@
--- Groups of C cards, one behind the other.
+-- Groups of C cards, one after the other.
 use Rattle.std.proofs.Common.{◌≡◌, ℕ, suc, ◌+◌, ◌<◌, Bool, true, false, cond, List, [], ◌∷◌, ◌++◌, length, take, drop, get_or, Option, None, Some, unwrap_or, refl, sym, ap, ◌∙◌, append-nil, append_assoc, add-one, drop-cons}
 use Rattle.std.proofs.lemmas.List.{take_more}
 use Rattle.std.proofs.lemmas.List.Elements.{filter_map-append}
@@ -15,7 +15,7 @@ use Rattle.rpg_sheet_specs.specs.declared.calculation.CalculationSpec.{Calculati
 
 -- ---- one card
 
--- the calculations behind a card that leaves a group open
+-- the calculations after a card that leaves a group open
 abbrev pub behind_group : CalculationGroup → List SpecCard → List (Calculation Key)
 behind_group g cs = option_to_list (option_map calculation_of (cond (goes_on cs) None (Some g))) ++ calculations_from (Some g) cs []
 
@@ -45,7 +45,7 @@ joining_one c cs goes = ap (λ b. cond b (suc (joining cs)) 0) goes
 goes_by : (c : SpecCard) (cs : List SpecCard) (o : Option CalculationSpec) → calculation_on c.spec ≡ o → goes_on (c ∷ cs) ≡ option_map_or (λ k. joins k.control_level) o false
 goes_by c cs o is = ap (λ p. option_map_or (λ k. joins k.control_level) p false) is
 
--- no AN or OR card stands behind the group
+-- no AN or OR card stands after the group
 ends_here : (g : CalculationGroup) (c : SpecCard) (cs : List SpecCard) → goes_on (c ∷ cs) ≡ false → calculations_from (Some g) (c ∷ cs) [] ≡ calculations (c ∷ cs) → completed g (c ∷ cs) ≡ g
     → behind_group g (c ∷ cs) ≡ calculation_of (completed g (c ∷ cs)) ∷ calculations (drop (joining (c ∷ cs)) (c ∷ cs))
 ends_here g c cs no_more same whole =
@@ -124,7 +124,7 @@ whole g (c ∷ cs) = by_card (calculation_on c.spec) refl (λ h. whole h cs)
     by_card None is rest = ends (goes_by c cs None is) (ap (λ o. option_map_or (λ k. cond (joins k.control_level) (completed (joined_group g k) cs) g) o g) is)
     by_card (Some k) is rest = by_joins k (joins k.control_level) is refl rest
 
--- the group in front, and the calculations behind it
+-- the group in front, and the calculations after it
 pub front_group : (first : CalculationSpec) (cards : List SpecCard) → first_calculation cards ≡ Some first
     → calculations cards ≡ calculation_of (group_of first (take (joining (drop 1 cards) + 1) cards)) ∷ calculations (drop (joining (drop 1 cards) + 1) cards)
 front_group first [] is = absurd cc

@@ -56,7 +56,7 @@ module _ (source : List SpecCard) where
       by_card (Some (input.And cs)) e = refl
       by_card (Some (input.Field f)) e = refl
 
--- ---- a card behind a heading
+-- ---- a card after a heading
 
 pub next_input : (cards : List SpecCard) (i : ℕ) (c : SpecCard) (s : InputSpec) → i < length cards → c ≡ get_or cards i c → Some s ≡ input_on c.spec
     → followers input_role (drop i cards) ≡ following (input_card_role s) (followers input_role (drop (i + 1) cards))

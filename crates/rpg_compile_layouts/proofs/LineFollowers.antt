@@ -65,7 +65,7 @@ module _ (t : Table) (source : List SpecCard) where
       by_card (Some (output.Or cs)) e = refl
       by_card (Some (output.Field f)) e = refl
 
--- ---- a card behind a heading
+-- ---- a card after a heading
 
 pub next_output : (cards : List SpecCard) (i : ℕ) (c : SpecCard) (s : OutputSpec) → i < length cards → c ≡ get_or cards i c → Some s ≡ output_on c.spec
     → followers output_role (drop i cards) ≡ following (output_card_role s) (followers output_role (drop (i + 1) cards))

@@ -1,4 +1,4 @@
--- Types by their headings and the cards behind them.
+-- Types by their headings and the cards after them.
 use Rattle.std.specs.Prelude.{ℕ, List, map, Option, None}
 use Rattle.std.specs.List.{filter_map, flat_map}
 use Rattle.rpg_cards.specs.Keys.{Key}
@@ -17,7 +17,7 @@ use Rattle.rpg_compile_program.specs.Types.{and_card_codes, card_type, field_at_
 abbrev pub types_from : List SpecCard → Option (List ℕ) → List SpecCard → List (TypeRow Key)
 types_from source name cards = map (card_type source) (groups_from input_role name cards)
 
--- ---- a type by its heading and the cards behind it
+-- ---- a type by its heading and the cards after it
 
 -- the record type that begins with a card, with the cards after it
 abbrev pub type_behind : InputFile → RecordType → List SpecCard → TypeRow Key

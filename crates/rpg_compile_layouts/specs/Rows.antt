@@ -1,4 +1,4 @@
--- Lines at the numbers of their fields: by their headings and the cards behind them.
+-- Lines at the numbers of their fields: by their headings and the cards after them.
 use Rattle.std.specs.Prelude.{ℕ, List, map, Option, None}
 use Rattle.rpg_cards.specs.Keys.{Key}
 use Rattle.rpg_cards.specs.Groups.{followers, groups_from, output_role}
@@ -27,7 +27,7 @@ rows_from t source name cards = map (row_in_table t) (map (card_line source) (gr
 abbrev pub rows_of : Table → List SpecCard → List LineRow
 rows_of t source = map (row_in_table t) (lines_on source)
 
--- ---- a line by its heading and the cards behind it
+-- ---- a line by its heading and the cards after it
 
 -- the line that begins with a card, with the cards after it
 abbrev pub row_behind : Table → File → OutputRecord → List SpecCard → LineRow

@@ -11,7 +11,7 @@ use rpg_effect::condition::Condition;
 use rpg_sheet_specs::{OutputSpec, Three};
 use std::alloc::{AllocError, Global};
 
-/// Those of the record card and of the AND cards behind it, and others for each OR card, up to the next record card.
+/// Those of the record card and of the AND cards after it, and others for each OR card, up to the next record card.
 pub(crate) fn alternatives_of(
     alloc: Global,
     first: Three<Option<rpg_sheet_specs::Condition>>,
@@ -66,7 +66,7 @@ fn standing(
     Ok(standing)
 }
 
-/// Puts the conditions that stand behind the others.
+/// Puts the conditions that stand after the others.
 fn push_conditions(
     conditions: &mut Vec<Condition>,
     more: Three<Option<rpg_sheet_specs::Condition>>,

@@ -27,7 +27,7 @@ pub(crate) fn constants_of(
     Ok(constants)
 }
 
-/// Puts constants behind the others, each unless it is among them.
+/// Puts constants after the others, each unless it is among them.
 fn add(constants: &mut IndexSet<Constant>, items: ArrayVec<Constant, 2>) -> Result<(), AllocError>
     ensures { OnOk result (constants.new.keys ≡ insert_all known.is_same constants.old.keys items.items) }
 {
@@ -37,7 +37,7 @@ fn add(constants: &mut IndexSet<Constant>, items: ArrayVec<Constant, 2>) -> Resu
     Ok(())
 }
 
-/// Puts the forms and values of constants behind those of the names.
+/// Puts the forms and values of constants after those of the names.
 pub(crate) fn add_constants(
     alloc: Global,
     constants: &[Constant],

@@ -18,7 +18,7 @@ use rpg_effect::form::FieldForm;
 use rpg_effect::value::Value;
 use std::alloc::{AllocError, Global};
 
-/// The fields of a program in the order of their numbers: names, and constants behind them.
+/// The fields of a program in the order of their numbers: names, and constants after them.
 #[derive(Drop)]
 pub struct Fields {
     pub table: FieldTable,

@@ -51,7 +51,7 @@ pub(crate) fn matches_of(
     Ok(matches)
 }
 
-/// Puts a level that a field has behind the others.
+/// Puts a level that a field has after the others.
 fn push_level(levels: &mut Vec<ControlField>, level: Option<ControlField>) -> Result<(), AllocError>
     requires rows { All IsControlRow levels.old.items }
     requires row { IfSome level IsControlRow }

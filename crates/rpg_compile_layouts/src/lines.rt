@@ -43,7 +43,7 @@ pub fn lines_of(
     Ok(lines)
 }
 
-/// The line that a record card begins, with the cards behind it.
+/// The line that a record card begins, with the cards after it.
 fn line_of(
     alloc: Global,
     table: &FieldTable,

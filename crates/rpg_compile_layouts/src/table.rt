@@ -12,7 +12,7 @@ use rpg_sheet_specs::{Entry, EntryIndex, Factor};
 use rpg_symbols::{Name, Symbols};
 use std::marker::Model;
 
-/// The fields of a program: names, and constants behind them.
+/// The fields of a program: names, and constants after them.
 #[derive(Drop)]
 pub struct FieldTable {
     symbols: Symbols,

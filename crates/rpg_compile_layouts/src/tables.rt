@@ -24,7 +24,7 @@ pub(crate) struct TableData<'a> {
     pub width: u32,
     /// The first column of the first, from 0.
     pub from: u16,
-    /// The cards behind the `**` card.
+    /// The cards after the `**` card.
     pub deck: &'a [SpecCard],
 
     ghost sized: { bad_size_of_table table.now ≡ false },
@@ -52,7 +52,7 @@ impl TableData<'_> {
         Ok(values)
     }
 
-    /// Puts the first entries of a card behind other values, so many of them.
+    /// Puts the first entries of a card after other values, so many of them.
     fn add_entries(
         self,
         alloc: Global,
@@ -78,7 +78,7 @@ impl TableData<'_> {
     }
 }
 
-/// So many characters from a place on; of those behind the end none.
+/// So many characters from a place on; of those after the end none.
 fn part(text: &[u8], start: usize, count: usize) -> &[u8]
     requires { start + count < 2 ^ 64 }
     ensures value { result.now ≡ slice_range text.now start (start + count) }

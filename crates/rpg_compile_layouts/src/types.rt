@@ -46,7 +46,7 @@ pub fn types_of(
     Ok(types)
 }
 
-/// The type that a type card begins, with the cards behind it.
+/// The type that a type card begins, with the cards after it.
 fn type_of(
     alloc: Global,
     table: &FieldTable,

@@ -24,7 +24,7 @@ module _ {H F : Type 0} (cards : List SpecCard) (role : Spec → Role H F) (Know
   InFile g = Known g.file × (P g.file g.heading × Each (Q g.file) g.followers)
 
   module _ (heads : Heads) (follows : Follows) where
-    -- the file behind a card that is no heading
+    -- the file after a card that is no heading
     same_file : (o : Option (Group H F)) (f : F) → file_of_group (with_card o (Follower f)) ≡ file_of_group o
     same_file None f = refl
     same_file (Some g) f = refl

@@ -41,7 +41,7 @@ pub none_in_option : {X : Type 0} (test : X → Bool) (o : Option X) → list_an
 none_in_option test None e = refl
 none_in_option test (Some x) e = or_first (test x) false e
 
--- ---- cards, each seen with those before it and those behind it
+-- ---- cards, each seen with those before it and those after it
 
 abbrev pub Seen : List SpecCard → (List SpecCard → SpecCard → List SpecCard → Type 0) → Type 0
 Seen cards P = (before : List SpecCard) (c : SpecCard) (after : List SpecCard) → cards ≡ before ++ c ∷ after → P before c after

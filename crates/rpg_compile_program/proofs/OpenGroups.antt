@@ -11,7 +11,7 @@ use Rattle.rpg_sheet_specs.specs.declared.spec.Spec.{Spec}
 module _ {H F : Type 0} (role : Spec → Role H F) (cards : List SpecCard) where
   -- ---- where a group begins, with the groups before it
 
-  -- a group with those in front of it and behind it
+  -- a group with those in front of it and after it
   pub record IsAmong (P : List (Group H F) → Group H F → Type 0) (g : Group H F) : Type 0 where
     pub front : List (Group H F)
     pub behind : List (Group H F)

@@ -314,7 +314,7 @@ module _ (cards : List SpecCard) (allowance : ℕ) where
           record { asked = asked_three cards r.conditions asks range.conditions; still = still; movement = range.movement },
         )
 
-    -- ---- the cards behind it
+    -- ---- the cards after it
 
     text_on : (s : Spec) (f : OutputField) (x : List ℕ) → output_field_on s ≡ Some f → f.code ≡ None → f.text ≡ Some x → list_any (is_same (constant.Text x)) (constants_on s) ≡ true
     text_on s f x on code text =

@@ -70,7 +70,7 @@ stays xs d ys form good same e = by_given (defined_form given d.name) alike
 
 -- ---- of a card
 
--- the definitions of a card, each behind those before it
+-- the definitions of a card, each after those before it
 abbrev pub HasName : List SpecCard → Definition → Type 0
 HasName cards d = (form : FieldForm) → d.form ≡ Some form → form_of_name d.name cards ≡ Good form
 

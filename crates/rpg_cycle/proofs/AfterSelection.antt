@@ -64,7 +64,7 @@ tested p left s u a b h k e agree d = record {
       };
 }
 
--- the phases behind the selection with what was kept before the record
+-- the phases after the selection with what was kept before the record
 pub by_left : (p : Object) (t : Option ℕ) (text : List ℕ) (i : Inputs) (now old : Left) (a b : Running) (e : PhaseEnd) (k : Beside) → now ≡ renewed_by p t text old →
     Does (after_selection p now (finds_match p now)) a (holding i t text) e b k → Does (after_selection p old (finds_match p old)) a (holding i t text) e b k
 by_left p t text i now old a b e k h d =

@@ -105,7 +105,7 @@ own F {p} {a} {b} {s} {t} {e} same h = subst (λ (q : Object). Does (F q) a s e 
 pub passes_goes : {P Q : Phase} {a b c : Running} {e : PhaseEnd} → DoesAlone P a GoesOn b → DoesAlone Q b e c → DoesAlone (P before Q) a e c
 passes_goes h g = record { each = λ s. goes (h.each s) (g.each s) }
 
--- the program is the same behind it
+-- the program is the same after it
 pub same_program : {P : Phase} {a b : Running} {e : PhaseEnd} → DoesAlone P a e b → b.program ≡ a.program
 same_program h = (h.each (unselected unread)).program
 

@@ -60,7 +60,7 @@ next_in j f rs = next_of (needs_record j.program j.config j.inputs f) rs
 abbrev pub left_after : AtWork → Records → Records
 left_after j rs = left_behind j.program j.config j.inputs rs
 
--- a run from a job behind these records and this line
+-- a run from a job after these records and this line
 abbrev pub RunsFrom : AtWork → List Selected → Option Position → Records → Course → Type 0
 RunsFrom j earlier previous rs course = Runs j.program earlier rs (config_on previous j.config) j.inputs course
 

@@ -1,4 +1,4 @@
--- What a cycle puts out stands behind what was there.
+-- What a cycle puts out stands after what was there.
 use Rattle.std.proofs.Common.{◌≡◌}
 use Rattle.rpg_cycle.proofs.Spending.{some_before}
 use Rattle.rpg_cycle.specs.Doing.{Beside, Does, DoesAlone, unselected}
@@ -28,7 +28,7 @@ does_grow {P} {a} {b} {s} {t} {e} d =
 pub alone_grows : {P : Phase} {a b : Running} {e : PhaseEnd} → DoesAlone P a e b → OnlyGrows a.output b.output
 alone_grows d = does_grow (d.each (unselected unread))
 
--- one behind another, and one that puts nothing out
+-- one after another, and one that puts nothing out
 pub and_grows : {a b c : Bytes} → OnlyGrows a b → OnlyGrows b c → OnlyGrows a c
 and_grows {a} {b} {c} first next = grows_on a b c first next
 

@@ -41,7 +41,7 @@ one_more old new earlier previous x y order d = record {
       (keeps old.program earlier x y (config_on previous old.config) old.inputs d.there d.out order d.cycle);
 }
 
--- the cycle that a machine did, behind the records that left this
+-- the cycle that a machine did, after the records that left this
 cycle_of : (p : Object) (earlier : List Selected) (previous : Option Position) (x y : Option (List ℕ)) (m : Running) (left : Left) (i : Inputs) (e : PhaseEnd) (out : Output) (d : UnderWay) →
     m.program ≡ p → left ≡ left_by p earlier → AreMergedInOrder p earlier i → CycleBy p left x y (under_way (config_on previous (refilled m).config) (unselected i)) e d out →
     Cycle p earlier x y (begun p (config_on previous m.config) i) e d out

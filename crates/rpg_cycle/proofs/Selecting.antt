@@ -85,7 +85,7 @@ untaken p left f text full i a b e good is u = record {
   machine = u.machine;
 }
 
--- the machine behind the match fields
+-- the machine after the match fields
 pub charged_so : (p : Object) (f : InputFile) (full : List ℕ) (t : ℕ) (a b c : Running) → TakesType p f full a t b → c ≡ record b { config = charged (length (match_fields p t)) b.config } →
     c ≡ record a { config = taken p f full t a.config }
 charged_so p f full t a b c one two = two ∙ ap (λ (x : Running). let r : Running = record x { config = charged (length (match_fields p t)) x.config } in r) one.machine

@@ -75,7 +75,7 @@ fields_spend t text e a b d =
 pub of_same : (w : Object → ℕ) {p : Object} {a b : Running} → a.program ≡ p → Spends a.program (w a.program) a b → Spends p (w p) a b
 of_same w {p} {a} {b} same h = subst (λ (q : Object). Spends q (w q) a b) same h
 
--- ---- one phase behind another
+-- ---- one phase after another
 
 chained : (x y z n m : ℕ) → y ≤ x + n → z ≤ y + m → z ≤ x + (n + m)
 chained x y z n m h g = omega (arith, h, g)

@@ -27,7 +27,7 @@ left_few x y n m k h g = omega (arith, h, g)
 pub still_few : {p : Object} {n : ℕ} (m k : ℕ) {a b : Running} → Spends p n a b → reach p a + (n + m) ≤ k → reach p b + m ≤ k
 still_few {p} {n} m k {a} {b} s few = left_few (reach p a) (reach p b) n m k few s.few
 
--- behind a phase that costs nothing
+-- after a phase that costs nothing
 pub still_free : {p : Object} (m k : ℕ) {a b : Running} → Spends p 0 a b → reach p a + m ≤ k → reach p b + m ≤ k
 still_free {p} m k {a} {b} s few = free (reach p a) (reach p b) m k few s.few
   where

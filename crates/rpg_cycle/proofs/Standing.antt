@@ -223,7 +223,7 @@ module _ (p : Object) where
       ((cycle_stands (left_by p earlier) (has_match p earlier) (next_of (needs_record p c i Primary) rs.primary) (next_of (needs_record p c i Secondary) rs.secondary)).right (begun p c i) e d out cycle none)
       (λ on rest h. runs_stand n (left_behind p c i rs) (with_record d.selected earlier) d.config d.inputs rest on h) ends
 
-  -- a job starts behind detail calculations
+  -- a job starts after detail calculations
   starts_outside : (date : ℤ) (fields : Fields nat_cmp) → running_place p (job_start p date fields) ≡ None
   unfolding place_behind first_place
   starts_outside date fields = ap (λ (b : Bool). cond b None (Some (here (job_start p date fields)))) (eq-eqb (length p.detail) (0 + length p.detail) (omega arith))

@@ -245,7 +245,7 @@ module _ (p : Object) (orderly : IsOrderly p) where
   starts : (c : Config) (i : Inputs) → Holds p c.world → c.cells ≡ map.empty → AreWaiting p i → Rests (begun p c i)
   starts c i h none waiting = record { values = h; no_cell = none; waiting = waiting; taken = tt }
 
-  -- what it puts out, and where the form stands behind it
+  -- what it puts out, and where the form stands after it
   pub cycle_pays : (earlier : List Selected) (primary secondary : Option (List ℕ)) (previous : Option Position) (c : Config) (i : Inputs) (e : PhaseEnd) (d : UnderWay) (out : Output) →
       Holds p c.world → c.cells ≡ map.empty → AreWaiting p i → StandsNear previous c.world.here → Cycle p earlier primary secondary (begun p c i) e d out →
       PaysForOutput previous (begun p c i).config d.config out

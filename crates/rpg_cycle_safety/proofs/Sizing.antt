@@ -35,7 +35,7 @@ use Rattle.rpg_verify_rules.specs.Sound.{IsSoundLine}
 
 -- ---- bytes
 
--- of lines behind the line placed last, and of records
+-- of lines after the line placed last, and of records
 abbrev pub bytes_in : Option Position → List Placed → List (List ℕ) → ℕ
 bytes_in previous lines records = length (bytes_from previous lines) + length (disk_bytes records)
 

@@ -29,7 +29,7 @@ same_character x y e = ap (λ z. nat_cmp (rank x) (rank z)) (sym e) ∙ nat_cmp_
 abbrev pub compared_from : List ℕ → List ℕ → ℕ → Ordering
 compared_from a b i = slice_cmp character_cmp (drop i (padded_text (length b) a)) (drop i (padded_text (length a) b))
 
--- one character, and those behind it
+-- one character, and those after it
 pub compared_more : (a b : List ℕ) (i : ℕ) → i < max (length a) (length b) → compared_from a b i ≡ ordering_then (character_cmp (get_or a i 32) (get_or b i 32)) (compared_from a b (i + 1))
 compared_more a b i h =
     let p = padded_text (length b) a in

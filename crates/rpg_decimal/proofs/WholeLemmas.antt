@@ -175,7 +175,7 @@ mod-drop a p k len h =
     let divides : 10 ^ len ∣ 10 ^ k = subst (λ x. 10 ^ len ∣ x) (sym (ten-split len k h)) (dvd-mul_left (10 ^ len) (10 ^ (k - len))) in
     sym (mul-mod_first (a % 10 ^ k) p (10 ^ len)) ∙ ap (λ x. x * p % 10 ^ len) (mod-mod_of_dvd (10 ^ len) a divides) ∙ mul-mod_first a p (10 ^ len)
 
--- digits that are dropped before a shift are those that are dropped behind it
+-- digits that are dropped before a shift are those that are dropped after it
 pub fit-times : (n : ℤ) (p k len : ℕ) → len ≤ k → fit (fit n k *ℤ pos p) len ≡ fit (n *ℤ pos p) len
 fit-times (pos a) p k len h = ap pos (mod-drop a p k len h)
 fit-times (negsuc a) p k len h =

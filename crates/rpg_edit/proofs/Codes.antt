@@ -61,7 +61,7 @@ no_comma true e = cc
 pub none_between : (left : ℕ) → left % 3 ≢ 0 → comma_marks true left ≡ []
 none_between left h = no_comma (nat_lt 0 left && eqb (left % 3) 0) (grind (arith, nat_tests))
 
--- a full group is three digits, and a comma behind them
+-- a full group is three digits, and a comma after them
 group_marks : (left : ℕ) → left % 3 ≡ 0 → replicate 3 Digit ++ (comma_marks true left ++ whole_marks true left) ≡ whole_marks true (left + 3)
 group_marks left full =
     let same : left + 3 ≡ suc (suc (suc left)) = omega arith in

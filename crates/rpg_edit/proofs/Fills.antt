@@ -138,7 +138,7 @@ whole_places commas (suc left) =
 before_all : (commas : Bool) (left digits : ℕ) → left ≤ digits → marks_before commas left (digits - left) ++ whole_marks commas left ≡ whole_marks commas digits
 before_all commas left digits less = let same : (digits - left) + left ≡ digits = omega (arith, less) in before_whole commas left (digits - left) ∙ ap (whole_marks commas) same
 
--- they and those behind them are all marks of the digits
+-- they and those after them are all marks of the digits
 pub before_length : (commas : Bool) (left digits : ℕ) → left ≤ digits → length (marks_before commas left (digits - left)) + length (whole_marks commas left) ≡ length (whole_marks commas digits)
 before_length commas left digits less = sym (length-append (marks_before commas left (digits - left)) (whole_marks commas left)) ∙ ap length (before_all commas left digits less)
 

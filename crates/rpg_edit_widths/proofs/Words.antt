@@ -1,4 +1,4 @@
--- The part of an edit word behind its last place.
+-- The part of an edit word after its last place.
 use Rattle.std.proofs.Common.{◌≡◌, ℕ, ◌+◌, Bool, true, false, eqb, ◌&&◌, List, [], ◌∷◌, ◌++◌, map, drop, refl, sym, ap, ◌∙◌, arith, append_assoc}
 use Rattle.std.proofs.lemmas.List.{drop-drop}
 use Rattle.rpg_edit_marks.specs.declared.mark.Mark.{Mark}
@@ -14,7 +14,7 @@ pub sign_part-credit : (part : List ℕ) → begins_credit part ≡ true → sig
 sign_part-credit [] h = cc
 sign_part-credit (c ∷ rest) h = rw (not_minus c (begins_with_character 82 rest) h, h) refl
 
--- after these two marks come the characters behind them
+-- after these two marks come the characters after them
 pub credit_done : (part : List ℕ) (i : ℕ) (old before first second new : List Mark) → begins_credit (drop i part) ≡ true → before ++ sign_part (drop i part) ≡ old → first ≡ before ++ Sign 67 ∷ [] → second ≡ first ++ Sign 82 ∷ [] → new ≡ second ++ map always_mark (drop (i + 2) part) → new ≡ old
 credit_done part i old before first second new h whole is_first is_second is_new =
     let behind : drop 2 (drop i part) ≡ drop (i + 2) part = drop-drop 2 i part in

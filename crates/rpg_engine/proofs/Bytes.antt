@@ -17,7 +17,7 @@ use Rattle.rpg_machine.specs.Config.{Output, with_more}
 use Rattle.rpg_machine.specs.Running.{feed_behind, no_bytes}
 use Rattle.rpg_engine.proofs.Courses.{GoesOnWith, IsLast, more_none}
 
--- ---- a front of bytes, and what is behind it
+-- ---- a front of bytes, and what is after it
 
 pub record BeginsWith (all front : List ℕ) : Type 0 where
   pub more : List ℕ

@@ -94,7 +94,7 @@ goes_on_to (suc n) p earlier rs c i out there Then holds (d, first, more, cycle,
 
 -- ---- a run under way
 
--- From the start over all records, so many cycles were done, behind which these earlier records, this configuration, these files and these
+-- From the start over all records, so many cycles were done, after which these earlier records, this configuration, these files and these
 -- records are left: all these cycles went on, a course of what is left is one of all, and each course of all comes from one of what is left.
 pub record IsUnderWay (p : Object) (start : Config) (all : Records) (earlier : List Selected) (now : Config) (i : Inputs) (rest : Records) (cycles most : ℕ) (out : Output) : Type 0 where
   pub gone : GoesOnTo cycles p [] all start unread out (stand earlier rest now i)
@@ -209,7 +209,7 @@ ends p start all earlier now i rest after cycles most out e d o u head last =
 
 -- ---- what each run puts out
 
--- more is put out behind it, nothing where the cycle is the last
+-- more is put out after it, nothing where the cycle is the last
 pub record GoesOnWith (e : PhaseEnd) (all out : Output) : Type 0 where
   pub more : Output
   pub output : all ≡ with_more out more

@@ -47,7 +47,7 @@ module _ (first job : AtWork) (given others : Option (List ℕ)) (a b : Source) 
             (goes_out disk disk' job.output.disk gone_disk (disk_bytes f.streams.out.records) f.stored disk'' mid.output.disk gone_disk' d);
       }
 
-  -- behind one more cycle
+  -- after one more cycle
   module _ (mid : AtWork) (a' b' : Source) (e : PhaseEnd) (t : TakesNext f.streams.earlier (last_position f.streams.out.lines) job a b e mid a' b') where
     pub printed_behind : IsSent print print' mid.output.print gone_print (paper f.streams.out.lines ++ (put_by e f.streams.out t.does.out).print)
     printed_behind = put_more print print' job.output.print gone_print (paper f.streams.out.lines) f.printed mid.output.print _

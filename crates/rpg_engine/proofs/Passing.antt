@@ -175,7 +175,7 @@ pub record Takes (p : Object) (x y : Option (List ℕ)) (old new : Inputs) : Typ
   pub primary : HasTaken p Primary x old new
   pub secondary : HasTaken p Secondary y old new
 
--- what is taken of a file is the same, where the other is asked before or behind it
+-- what is taken of a file is the same, where the other is asked before or after it
 taken_within : (p : Object) (f : InputFile) (x : Option (List ℕ)) (old mid last new : Inputs) → input_at mid f ≡ input_at old f → (input_at new f).is_over ≡ (input_at last f).is_over →
     HasTaken p f x mid last → HasTaken p f x old new
 taken_within p f x old mid last new front back h = record {

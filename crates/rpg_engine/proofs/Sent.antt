@@ -28,7 +28,7 @@ pub none_gone : (a : Option (List ℕ)) (waiting : List ℕ) (sent : ℕ) → Go
 none_gone a waiting sent = record { front = []; out = Appends-nil a; order = refl; count = omega arith }
 
 module _ (a b : Option (List ℕ)) (waiting : List ℕ) (sent : ℕ) (all : List ℕ) (s : IsSent a b waiting sent all) where
-  -- bytes were put behind the others
+  -- bytes were put after the others
   pub put_more : (later bytes : List ℕ) → later ≡ waiting ++ bytes → IsSent a b later sent (all ++ bytes)
   put_more later bytes is = record {
     gone = s.gone;

@@ -312,7 +312,7 @@ module _ (first job : AtWork) (given others : Option (List ℕ)) (a b : Source) 
   abbrev stands_now : Config
   stands_now = config_on (last_position s.out.lines) job.config
 
-  -- the cycles that went on, and what holds behind them
+  -- the cycles that went on, and what holds after them
   went_on : (day : ℤ) → IsStart first day → (more behind : List ℕ) → CanFollow i.ended more → CanFollow j.ended behind → (Then : List Selected → Records → Config → Inputs → Type 0)
       → Then s.earlier (records_of (a.input.buffered ++ (one.read ++ more)) (b.input.buffered ++ (two.read ++ behind))) stands_now job.inputs
       → WentOn cycles first.program day (xs_of more) (ys_of behind) s.out Then
@@ -421,7 +421,7 @@ module _ (first : AtWork) (day : ℤ) (is : IsStart first day) (xs ys : List ℕ
   put_out_behind (Halt k) head = put_at_end (Halt k) head tt
   put_out_behind (Wrong f) head = put_at_end (Wrong f) head tt
 
--- behind a cycle, with its output
+-- after a cycle, with its output
 pub stopped_behind : (first job mid : AtWork) (given others : Option (List ℕ)) (a b a' b' : Source) (cycles most : ℕ) (fault : RunFault) (none_failed : Type 0) (e : PhaseEnd) (print print' disk disk' : Option (List ℕ))
     (s : Streams first given others job a b cycles most) (t : TakesNext s.earlier (last_position s.out.lines) job a b e mid a' b')
     → LeavesParts fault (paper s.out.lines ++ (put_by e s.out t.does.out).print) (disk_bytes s.out.records ++ (put_by e s.out t.does.out).disk) print print' disk disk'
@@ -455,7 +455,7 @@ stopped_behind first job mid given others a b a' b' cycles most fault none_faile
       };
     }
 
--- ---- what the writers have behind a fault
+-- ---- what the writers have after a fault
 
 -- all of these bytes were put out, and some of them wait
 module _ (print print' print'' disk disk' disk'' : Option (List ℕ)) (waiting held : List ℕ) (gone_print gone_disk : ℕ) (lines records : List ℕ)

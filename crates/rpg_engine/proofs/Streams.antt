@@ -70,7 +70,7 @@ follows old new F adv more can = λ ended. let none = adv.none_at_end ended in a
 abbrev IsCounted : (given : Option (List ℕ)) (a : Source) → SinceStart given a.input → Type 0
 IsCounted given a s = (more : List ℕ) → CanFollow a.input.ended more → length (records (s.read ++ more)) ≡ a.count + length (records (a.input.buffered ++ more))
 
--- what stands there behind it
+-- what stands there after it
 pub record Stands (given : Option (List ℕ)) (a : Source) : Type 0 where
   pub since : SinceStart given a.input
   pub counted : IsCounted given a since
@@ -182,7 +182,7 @@ module _ (first job : AtWork) (given others : Option (List ℕ)) (a b : Source) 
         (rest more behind) cycles most s.out
     under_way_still = reads_on a'.input b'.input _ _ t.primary.input t.secondary.input
 
--- what the job puts out in this cycle, behind what it had put out before
+-- what the job puts out in this cycle, after what it had put out before
 pub output_is : (job mid : AtWork) (earlier : List Selected) (out : Output) (x y : Option (List ℕ)) (e : PhaseEnd) (does : DoesCycle job earlier (last_position out.lines) x y e mid)
     → (mid.output.print ≡ job.output.print ++ (put_by e out does.out).print) × (mid.output.disk ≡ job.output.disk ++ (put_by e out does.out).disk)
 output_is job mid earlier out x y e does =
@@ -196,7 +196,7 @@ output_is job mid earlier out x y e does =
 pub steps_are : (job mid : AtWork) (earlier : List Selected) (out : Output) (x y : Option (List ℕ)) (e : PhaseEnd) (does : DoesCycle job earlier (last_position out.lines) x y e mid) → does.there.config.steps ≡ mid.config.steps
 steps_are job mid earlier out x y e does = ap (λ (c : Config). c.steps) does.config
 
--- behind a cycle that goes on this is what was put out in all
+-- after a cycle that goes on this is what was put out in all
 pub put_on : (out o : Output) (e : PhaseEnd) → e ≡ GoesOn
     → (paper out.lines ++ (put_by e out o).print ≡ paper (with_more out o).lines) × (disk_bytes out.records ++ (put_by e out o).disk ≡ disk_bytes (with_more out o).records)
 put_on out o e on = (ap (λ (x : PhaseEnd). paper out.lines ++ (put_by x out o).print) on ∙ print_goes_on out o, disk_goes_on e out o)

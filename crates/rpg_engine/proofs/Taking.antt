@@ -156,7 +156,7 @@ module _ {R : Type 0} (remaining : R → Option (List ℕ)) where
 
 -- ---- both
 
--- a job behind those earlier records, and behind a line placed before, did a cycle with what stands next in both inputs
+-- a job after those earlier records, and after a line placed before, did a cycle with what stands next in both inputs
 pub record TakesNext (earlier : List Selected) (previous : Option Position) (job : AtWork) (a b : Source) (e : PhaseEnd) (job' : AtWork) (a' b' : Source) : Type 0 where
   pub x : Option (List ℕ)
   pub y : Option (List ℕ)
@@ -190,7 +190,7 @@ module _ {R S : Type 0} (remaining : R → Option (List ℕ)) (others : S → Op
   asks_second : Asks others (needs_record job.program job.config job.inputs Secondary) secondary (Ok takes.second) secondary'
   asks_second = subst (λ (b : Bool). Asks others b secondary (Ok takes.second) secondary') (needs_of job Secondary going) takes.asks_secondary
 
-  -- behind all records that leave what the job keeps
+  -- after all records that leave what the job keeps
   pub takes_next : limit_of primary ≡ job.program.record_length → limit_of secondary ≡ job.program.secondary_length → (earlier : List Selected) → job.left ≡ left_by job.program earlier
       → AreMergedInOrder job.program earlier job.inputs → (previous : Option Position) → job.last ≡ line_of previous
       → (e : PhaseEnd) × TakesNext earlier previous job (source_of remaining primary) (source_of others secondary) e job' (source_of remaining primary') (source_of others secondary')
@@ -211,7 +211,7 @@ module _ {R S : Type 0} (remaining : R → Option (List ℕ)) (others : S → Op
         },
       )
 
-  -- where the job goes on the readers stand behind a record, as before
+  -- where the job goes on the readers stand after a record, as before
   behind_first : Takes job.program (record_with primary' takes.first) (record_with secondary' takes.second) job.inputs job'.inputs → IsBehindRecord job Primary primary → IsBehindRecord job' Primary primary'
   behind_first took = record_behind remaining job.program Primary job job' primary primary' (needs_record job.program job.config job.inputs Primary) takes.first asks_first
       (λ needs. took.primary.no_bad (needed_takes job.program job.config job.inputs Primary needs))

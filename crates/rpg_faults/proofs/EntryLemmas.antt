@@ -1,4 +1,4 @@
--- Entries, each judged behind the one before it.
+-- Entries, each judged after the one before it.
 use Rattle.std.proofs.Common.{◌≡◌, ℕ, suc, ◌+◌, ◌-◌, ◌≤◌, Bool, true, false, ◌&&◌, ◌||◌, List, [], ◌∷◌, ◌++◌, map, length, take, min, Option, None, Some, refl, sym, ap, ◌∙◌, arith, append-nil, ◌⊎◌, inl, inr, ◌<◌, ◌≢◌}
 use Rattle.std.proofs.Math.Seq.{take-append-add, take-nil}
 use Rattle.std.proofs.lemmas.Bool.{cases_lt}
@@ -21,7 +21,7 @@ or_and_false true a = refl
 or_and_false false true = refl
 or_and_false false false = refl
 
--- behind an entry that was good
+-- after an entry that was good
 behind_one : (t : TableSpec) (b : List ℕ) (xs : List (List ℕ)) → any_wrong t (Some b) xs ≡ (list_any (is_bad t.decimals) xs || (t.ascending && descends (is_lower t.decimals) (b ∷ xs)))
 behind_one t b [] = sym (or_and_false false t.ascending)
 behind_one t b (x ∷ xs) =
@@ -42,7 +42,7 @@ pub any_wrong-append : (t : TableSpec) (o : Option (List ℕ)) (xs ys : List (Li
 any_wrong-append t o [] ys = refl
 any_wrong-append t o (x ∷ xs) ys = ap (λ r. is_wrong t o x || r) (any_wrong-append t (Some x) xs ys) ∙ or_assoc (is_wrong t o x) (any_wrong t (Some x) xs) (any_wrong t (last_or (Some x) xs) ys)
 
--- those of a card, and those of the cards behind it
+-- those of a card, and those of the cards after it
 module _ (width from len : ℕ) where
   pub entries-none : (n per_card : ℕ) → data_entries n per_card width from len [] ≡ []
   entries-none n per_card = take-nil n
@@ -94,7 +94,7 @@ last_or-entries o entry n some =
     let split : n ≡ (n - 1) + 1 = omega arith in
     ap (λ k. last_or o (map entry (range_with_len 0 k))) split ∙ ap (last_or o) (map-range_with_len_more entry 0 (n - 1) (n - 1) (omega arith)) ∙ last_or-push o (map entry (range_with_len 0 (n - 1))) (entry (n - 1))
 
--- ---- the entries of a card and those behind it
+-- ---- the entries of a card and those after it
 
 pub any_wrong-card : (t : TableSpec) (o : Option (List ℕ)) (width from len n per_card : ℕ) (text : List ℕ) (texts : List (List ℕ))
     → any_wrong t o (data_entries n per_card width from len (text ∷ texts))

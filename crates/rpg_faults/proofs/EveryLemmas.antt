@@ -47,7 +47,7 @@ among_cases [] gs f h = inr h
 among_cases (x ∷ fs) gs f (inl e) = inl (inl e)
 among_cases (x ∷ fs) gs f (inr i) = elim (among_cases fs gs f i) [ inl j ↦ inl (inr j) | inr j ↦ inr j ]
 
--- each fault is before all that stand behind it
+-- each fault is before all that stand after it
 abbrev Ascend : List Fault → Type 0
 Ascend [] = ⊤
 Ascend (f ∷ fs) = ((g : Fault) → IsAmong g fs → IsBefore f g) × Ascend fs
@@ -85,7 +85,7 @@ from_card c test (k ∷ ks) f here t (inl e) =
 from_card c test (k ∷ ks) f here t (inr i) =
     cond_both (test k) (k ∷ filter test ks) (filter test ks) (λ l. IsAmong f (map (fault_on c) l)) (λ _. inr (from_card c test ks f here t i)) (λ _. from_card c test ks f here t i)
 
--- codes of which each is less than those behind it
+-- codes of which each is less than those after it
 abbrev rise : List FaultCode → Bool
 rise [] = true
 rise (k ∷ ks) = list_all (λ j. nat_lt (fault_number k) (fault_number j)) ks && rise ks

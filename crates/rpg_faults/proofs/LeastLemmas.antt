@@ -76,7 +76,7 @@ least_code test = least_in test codes refl (λ k p. all_codes k)
 abbrev IsLeast : List SpecCard → Option Fault → Type 0
 IsLeast cards o = MatchOption o (Faultless cards) (λ f. IsLeastFault cards f)
 
--- all faults are those of cards that stand behind others
+-- all faults are those of cards that stand after others
 abbrev AreBehind : List SpecCard → List SpecCard → List SpecCard → Type 0
 AreBehind cards before after = (g : Fault) → HasFault cards g ↔ Breaks (rule g.code) before after g.card
 

@@ -29,7 +29,7 @@ module _ (before : List SpecCard) (c : SpecCard) (after : List SpecCard) where
   abbrev pub type_group : RecordType → Group RecordType InputSpec
   type_group t = record { heading = t; followers = followers input_role after; file = option_or t.file last_file }
 
-  -- behind a type it counts with all its fields
+  -- after a type it counts with all its fields
   pub types_with : (t : RecordType) → input_role c.spec ≡ Heading t t.file → types_up_to with_c ≡ groups input_role before ++ type_group t ∷ []
   types_with t is =
       ap (λ n. take n (groups input_role all_cards)) (groups-push input_role before c ∙ ap (λ (r : Role RecordType InputSpec). length (groups input_role before) + one_if_heading r) is)

@@ -26,7 +26,7 @@ same_number n = grind (arith, common_steps)
 other_number : (m n : ℕ) → m + 1 ≤ n → (m == n) ≡ false
 other_number m n h = grind (arith, common_steps)
 
--- a card behind others has a number that is at least the first one's
+-- a card after others has a number that is at least the first one's
 at_least : (low : ℕ) (xs : List SpecCard) (c : SpecCard) (after : List SpecCard) → Numbered low (xs ++ c ∷ after) → low ≤ c.number
 at_least low [] c after h = h.0
 at_least low (x ∷ xs) c after h = let up = h.0 in let more = at_least (x.number + 1) xs c after h.1 in omega arith

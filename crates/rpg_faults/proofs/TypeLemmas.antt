@@ -45,7 +45,7 @@ module _ (before : List SpecCard) (c : SpecCard) (after : List SpecCard) where
   pub first_lengths-before : (t : RecordType) → input_role c.spec ≡ Heading t t.file → first_lengths (before ++ c ∷ after) before ≡ map first_before levels
   first_lengths-before t is = ap (λ gs. map (λ level. first_length level gs) levels) (types_before before c after t is)
 
-  -- behind a type it counts with all its fields
+  -- after a type it counts with all its fields
   first_lengths-type : (t : RecordType) → input_role c.spec ≡ Heading t t.file
       → first_lengths (before ++ c ∷ after) (before ++ c ∷ []) ≡ map (λ level. option_or (first_before level) (level_length level (followers input_role after))) levels
   first_lengths-type t is =

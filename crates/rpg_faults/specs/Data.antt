@@ -25,7 +25,7 @@ wants_data c = option_map_or (λ (e : ExtensionSpec). is_some e.entries_per_card
 abbrev pub wanted : List SpecCard → ℕ
 wanted cards = count_by wants_data cards
 
--- the texts of the deck with this number, from 0: of the cards behind its `**` card
+-- the texts of the deck with this number, from 0: of the cards after its `**` card
 abbrev pub deck_at : ℕ → List SpecCard → Option (List (List ℕ))
 deck_at n cards = option_map (λ g. g.followers) (slice_get (groups data_role cards) n)
 
@@ -81,7 +81,7 @@ data_columns e = sum_by (λ (t : TableSpec). t.length) (tables_on e)
 abbrev pub cards_for : ℕ → ℕ → ℕ
 cards_for n per_card = div_ceil n per_card
 
--- the tables of an E card stand one behind the other
+-- the tables of an E card stand one after the other
 abbrev pub bad_tables : ExtensionSpec → ℕ → List (List ℕ) → ℕ → List TableSpec → Bool
 bad_tables e per_card cards from [] = false
 bad_tables e per_card cards from (t ∷ ts) =

@@ -1,4 +1,4 @@
--- Entries one by one, each behind the one before it.
+-- Entries one by one, each after the one before it.
 use Rattle.std.specs.Prelude.{◌≤◌, List, [], ◌∷◌, ℕ, Bool, false, ◌&&◌, ◌||◌, Option, None, Some}
 use Rattle.std.specs.Option.{option_map_or}
 use Rattle.rpg_faults.specs.Data.{is_bad, is_lower}

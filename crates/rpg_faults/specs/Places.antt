@@ -94,7 +94,7 @@ lengths_differ first own = option_map_or (λ m. option_map_or (λ n. not (m == n
 unfoldable pub levels : List ℕ
 levels = range_with_len 1 9
 
--- a type has other joined lengths than the first types with its levels: its fields stand behind its card
+-- a type has other joined lengths than the first types with its levels: its fields stand after its card
 abbrev pub has_other_lengths : List SpecCard → List SpecCard → Bool
 has_other_lengths before after = list_any (λ level. lengths_differ (first_length level (groups input_role before)) (level_length level (followers input_role after))) levels
 
@@ -158,7 +158,7 @@ open_matches before = match_fields (open_specs before)
 abbrev pub passes_matches : List InputField → InputField → Bool
 passes_matches fs f = is_match_field f && (nat_le (sum_by input_columns fs) 256 && nat_lt 256 (sum_by input_columns fs + input_columns f))
 
--- behind these a match field may not stand
+-- after these a match field may not stand
 abbrev pub refuses : List InputField → InputField → Bool
 refuses fs f = repeats fs f || passes_matches fs f
 

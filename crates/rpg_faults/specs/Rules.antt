@@ -21,7 +21,7 @@ use Rattle.rpg_faults_operands.specs.Names.{lacks_name}
 use Rattle.rpg_faults.specs.Data.{breaks_data}
 use Rattle.rpg_faults.specs.Places.{misplaces}
 
--- what a card breaks, seen with the cards before it and those behind it
+-- what a card breaks, seen with the cards before it and those after it
 unfoldable pub rule : FaultCode → Rule
 rule F1 before c after = lacks_name (before ++ c ∷ after) c after
 rule F2 before c after = redefines before c

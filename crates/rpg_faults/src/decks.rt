@@ -1,4 +1,4 @@
-//! The data behind the sheets: a `**` card with the data behind it is a deck, and the E cards that want data take the decks in their order.
+//! The data after the sheets: a `**` card with the data after it is a deck, and the E cards that want data take the decks in their order.
 
 ghost use Rattle.std.specs.Prelude.{◌≡◌, [], ◌∷◌, ◌++◌, List, MatchOption};
 ghost use Rattle.std.specs.Option.{option_map};
@@ -49,7 +49,7 @@ impl<'a> Decks<'a> {
         }
     }
 
-    /// The cards behind the `**` card of the deck that the next E card takes.
+    /// The cards after the `**` card of the deck that the next E card takes.
     pub(crate) fn next(self) -> Option<&'a [SpecCard]>
         ensures { (cards before : List SpecCard) → AreDecks cards before self.entry → option_map (λ behind. followers data_role behind.now) result ≡ rules.deck_at (rules.wanted before) cards }
     {
@@ -81,7 +81,7 @@ pub fn begins_deck(card: &SpecCard) -> bool
     matches!(card.data(), Some(DataSpec::Begin))
 }
 
-/// The cards behind the next `**` card.
+/// The cards after the next `**` card.
 pub fn behind_next(cards: &[SpecCard]) -> Option<&[SpecCard]>
     ensures { MatchOption result (groups data_role cards.now ≡ []) (λ behind. groups data_role cards.now ≡ deck behind.now ∷ groups data_role behind.now) }
 {

@@ -88,7 +88,7 @@ pub fn last_entry<'a>(
     Some(layout.entry(card, number - 1))
 }
 
-/// Whether one of so many entries of a card is wrong behind the one before it.
+/// Whether one of so many entries of a card is wrong after the one before it.
 fn any_wrong(
     table: &TableSpec,
     before: Option<&[u8]>,

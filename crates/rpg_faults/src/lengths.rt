@@ -34,7 +34,7 @@ impl JoinedLengths {
         }
     }
 
-    /// With one more card, before those behind it.
+    /// With one more card, before those after it.
     pub(crate) fn with(self, card: &SpecCard, after: &[SpecCard]) -> Self
         requires { length after.now ≤ 2000 }
         ensures { AddsCard AreJoinedLengths card.now after.now self result }

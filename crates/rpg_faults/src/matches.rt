@@ -105,7 +105,7 @@ impl Matches {
         }
     }
 
-    /// With one more card, before those behind it.
+    /// With one more card, before those after it.
     pub(crate) fn with(self, card: &SpecCard, after: &[SpecCard]) -> Self
         ensures { AddsCard AreMatches card.now after.now self result }
     {

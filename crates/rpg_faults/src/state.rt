@@ -28,7 +28,7 @@ impl<'a> Places<'a> {
         }
     }
 
-    /// With the card behind those before.
+    /// With the card after those before.
     pub fn with(
         self,
         source: &IndexedCards,

@@ -296,7 +296,7 @@ flow_with before c after f new was group highest inside begun given defined rema
   remainder = remainder ∙ sym (remainder-next before c);
 }
 
--- ---- the next bracket behind
+-- ---- the next bracket
 
 abbrev pub closed_by : Option Bool → Bool → Bool
 closed_by o rest = option_map_or (λ b. b) o rest

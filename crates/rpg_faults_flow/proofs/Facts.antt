@@ -1,4 +1,4 @@
--- What the rules F9, F10, F12, F13, F14 say of each calculation, with those before and behind it.
+-- What the rules F9, F10, F12, F13, F14 say of each calculation, with those before and after it.
 use Rattle.std.proofs.Common.{◌≡◌, ℕ, ◌+◌, Bool, true, false, not, cond, ◌&&◌, ◌||◌, List, [], ◌∷◌, ◌++◌, length, Option, None, Some, refl, sym, ap, ◌∙◌, arith, length-append}
 use Rattle.std.specs.Prelude.{is_none, is_some, unwrap_or}
 use Rattle.std.specs.List.{last_or}

@@ -49,7 +49,7 @@ behind_behind (suc n) (t ∷ ts) rest s e = ap (λ k. behind_at k (t ∷ ts)) (m
 
 -- ---- where a calculation stands among the subroutines
 
--- what is begun so far, what is behind, and what the open subroutine has done
+-- what is begun so far, what follows, and what the open subroutine has done
 pub record At (all : List (Subroutine Key)) (front gs : List (Calculation Key)) : Type 0 where
   pub behind : behind_at (begun_count front) all ≡ subs gs
   pub done : List (Calculation Key)

@@ -241,7 +241,7 @@ module _ (cards : List SpecCard) where
     outside_caller front b control.And e = refl
     outside_caller front b control.Or e = refl
 
-    -- the calls behind, in the open subroutine and in those that follow
+    -- the calls that follow, in the open subroutine and in later ones
     abbrev calls_left : List (Calculation Key) → List (Calculation Key) → List Pair
     calls_left front gs = calls_in (subs all) (begun_count front - 1) (up_to_begin (bodies gs)) ++ calls_from (subs all) (begun_count front) (subs gs)
 

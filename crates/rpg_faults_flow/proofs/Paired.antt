@@ -122,7 +122,7 @@ are_paired cards front (g ∷ gs) h known =
 
 -- ---- subroutines end with their ENDSR
 
--- behind an ENDSR the next BEGSR follows, if anything does
+-- after an ENDSR the next BEGSR follows, if anything does
 pub none_before : (gs : List (Calculation Key)) → ArePaired gs false → up_to_begin gs ≡ []
 none_before [] h = refl
 none_before (g ∷ gs) h = by_deed g.deed h

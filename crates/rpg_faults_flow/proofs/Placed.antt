@@ -115,7 +115,7 @@ named_so m l = is_same_name (Some m) (Some l.named.name)
 abbrev label_here : Name → Bool → Section → Label
 label_here x is_subroutine section = record { named = record { name = x; is_subroutine = is_subroutine }; section = section }
 
--- the first label found is that of the first calculation, or of one behind
+-- the first label found is that of the first calculation, or of a later one
 pub find_label : (m : Name) (section : Section) (l : Option Name) (rest : List Label) (L : Label)
     → find (named_so m) (option_to_list (option_map (λ n. record { named = n; section = section }) (as_label l)) ++ rest) ≡ Some L
     → ((is_same_name (Some m) l ≡ true) × (L.named.is_subroutine ≡ false) × (L.section ≡ section)) ⊎ (find (named_so m) rest ≡ Some L)

@@ -59,7 +59,7 @@ reaches_itself (suc n) ps a = or_left (a == a) (list_any (λ (p : Pair). p.0 == 
 front : (n : ℕ) (ps : List Pair) (s u t : ℕ) → IsCallAmong s u ps → reaches_in n ps u t ≡ true → reaches_in (suc n) ps s t ≡ true
 front n ps s u t h r = or_right (s == t) (list_any (λ (p : Pair). p.0 == s && reaches_in n ps p.1 t) ps) (any_call (λ (p : Pair). p.0 == s && reaches_in n ps p.1 t) s u ps h (and_from (s == s) (reaches_in n ps u t) (same_itself s) r))
 
--- one call behind
+-- one call later
 behind : (n : ℕ) (ps : List Pair) (s a t : ℕ) → reaches_in n ps s a ≡ true → IsCallAmong a t ps → reaches_in (suc n) ps s t ≡ true
 behind zero ps s a t r h = let same = eqb-true s a r in front zero ps s t t (subst (λ x. IsCallAmong x t ps) (sym same) h) (reaches_itself zero ps t)
 behind (suc n) ps s a t r h = by_first (s == a) refl r (λ u. behind n ps u a t)

@@ -1,4 +1,4 @@
--- The calculations of cards with one more behind them.
+-- The calculations of cards with one more after them.
 use Rattle.std.proofs.Common.{◌≡◌, suc, ◌+◌, ◌≤◌, ◌&&◌, Bool, true, false, cond, List, [], ◌∷◌, ◌++◌, Option, None, Some, refl, sym, ap, ◌∙◌, arith, append_assoc, append-nil}
 use Rattle.std.proofs.lemmas.List.{length_push}
 use Rattle.std.proofs.lemmas.List.Sums.{sum_by_push}
@@ -17,7 +17,7 @@ use Rattle.rpg_faults_limits.specs.State.{AreCalculations, is_in_subroutine, is_
 use Rattle.rpg_faults_limits.specs.declared.calculations.Calculations.{Calculations}
 use Rattle.rpg_sheet_specs.specs.declared.calculation.CalculationSpec.{CalculationSpec}
 
--- ---- the group that is open behind a card
+-- ---- the group that is open after a card
 
 pub open_behind-push : (o : Option CalculationGroup) (before : List SpecCard) (c : SpecCard) → open_behind o (before ++ c ∷ []) ≡ open_with (open_behind o before) c.spec
 open_behind-push o [] c = refl

@@ -9,7 +9,7 @@ use Rattle.rpg_cards.specs.declared.spec_card.SpecCard.{SpecCard}
 use Rattle.rpg_faults_limits.specs.Names.{redefine, redefines_as}
 
 module _ (all front items back : List Definition) (place : ℕ) (at : place ≡ length front) (stand : all ≡ front ++ (items ++ back)) where
-  -- the items at the front of a card stand behind the definitions of the cards before
+  -- the items at the front of a card stand after the definitions of the cards before
   pub in_front : (i : ℕ) → i ≤ length items → take (place + i) all ≡ front ++ take i items
   in_front i within =
       ap (λ n. take (n + i) all) at ∙ ap (take (length front + i)) stand ∙ take-append-add front (items ++ back) i ∙ ap (λ (l : List Definition). front ++ l) (take-append-le i items back within)
@@ -25,7 +25,7 @@ module _ (all front items back : List Definition) (place : ℕ) (at : place ≡ 
       ap (λ (l : List Definition). l ++ d ∷ []) here ∙ append_assoc front (take i items) (d ∷ []) ∙ ap (λ (l : List Definition). front ++ l) (sym taken) ∙ sym next in
       ap (redefine (take (place + i) all)) left ∙ ap (λ b. b || redefine (take (place + i) all ++ d ∷ []) (drop (i + 1) items)) same ∙ ap (λ ds. redefine ds (drop (i + 1) items)) pushed
 
--- ---- the definitions of a card stand behind those of the cards before
+-- ---- the definitions of a card stand after those of the cards before
 
 pub card_stands : (cards before : List SpecCard) (c : SpecCard) (after : List SpecCard) (items : List Definition) → cards ≡ before ++ c ∷ after → items ≡ definitions_on c.spec
     → definitions cards ≡ definitions before ++ (items ++ definitions after)

@@ -1,4 +1,4 @@
--- What names and constants come to with one more behind them.
+-- What names and constants come to with one more after them.
 use Rattle.std.proofs.Common.{◌≡◌, ℕ, ◌+◌, ◌<◌, ◌≤◌, Bool, true, false, not, cond, ◌||◌, List, [], ◌∷◌, ◌++◌, length, take, drop, get_or, refl, sym, ap, ◌∙◌, subst, arith, append_assoc, append-nil, length-append}
 use Rattle.std.proofs.Math.Seq.{take-append_seam, take-length}
 use Rattle.std.proofs.lemmas.Cmp.{nat_list_eq_equiv, on_equiv}
@@ -69,7 +69,7 @@ module _ {X : Type 0} (items_of : List SpecCard → List X) (append : (cs ds : L
   pub items_in_front : (cards front : List SpecCard) (n : ℕ) → BeginsWith cards front → n ≡ length (items_of front) → take n (items_of cards) ≡ items_of front
   items_in_front cards front n h is = in_front (items_of cards) (items_of front) (items_of h.0) n (ap items_of h.1 ∙ append front h.0) is
 
--- what is seen of the first items of the next card, xs, behind those of the cards before it
+-- what is seen of the first items of the next card, xs, after those of the cards before it
 module _ {X : Type 0} (Has : List X → Totals → Type 0) (counted : (xs : List X) (t : Totals) → Has xs t → t.items ≡ length xs)
     (items_of : List SpecCard → List X) (append : (cs ds : List SpecCard) → items_of (cs ++ ds) ≡ items_of cs ++ items_of ds)
     (cards before : List SpecCard) (c : SpecCard) (xs : List X) (push : items_of (before ++ c ∷ []) ≡ items_of before ++ xs) (t : Totals) (seen : SeenBefore Has items_of cards c t before) where

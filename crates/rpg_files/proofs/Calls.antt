@@ -92,7 +92,7 @@ ends_told limit count left all bytes new r (Err fault.TooMany) no_record told gi
     let none : left ≡ 0 = let is = gives.0 in omega arith in
     subst (λ (n : ℕ). Told limit n bytes [] (Err fault.TooMany)) (sym none) (many_told limit (records bytes) (some_record bytes (sym (ne_eqb _ _ (λ empty. absurd (let some = gives.1 in omega arith))))))
 
--- These records were given of those that may still come, and so many more may come behind them.
+-- These records were given of those that may still come, and so many more may come after them.
 record Follows (limit count left : ℕ) (old : Input) (bytes : List ℕ) (rs : List (List ℕ)) (new : Input) : Type 0 where
   more : ℕ
   all : (count + length rs) + more ≡ max_records

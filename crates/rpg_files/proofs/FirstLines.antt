@@ -88,13 +88,13 @@ last_byte (x ∷ []) zero lt last = refl
 last_byte (x ∷ y ∷ xs) zero lt last = absurd (omega arith)
 last_byte (x ∷ xs) (suc n) lt last = last_byte xs n (omega arith) (omega arith)
 
--- characters, and characters behind them
+-- characters, and characters after them
 pub joined : (xs : List ℕ) (a n : ℕ) → list_all is_character (take a xs) ≡ true → list_all is_character (take n (take (length xs - a) (drop a xs))) ≡ true → list_all is_character (take (a + n) xs) ≡ true
 joined xs a n first behind =
     let all_behind : list_all is_character (take n (drop a xs)) ≡ true = rw (take_rest xs a) at behind in
     rw (take-add a n xs, list_all-append is_character (take a xs) (take n (drop a xs))) (and_from _ _ first all_behind)
 
--- the same of a slice behind them
+-- the same of a slice after them
 pub joined_slice : (xs : List ℕ) (a n : ℕ) → list_all is_character (take a xs) ≡ true → list_all is_character (take (a + n - a) (drop a xs)) ≡ true → list_all is_character (take (a + n) xs) ≡ true
 joined_slice xs a n first behind =
     let count : a + n - a ≡ n = omega arith in

@@ -16,7 +16,7 @@ open_short limit xs n is = elim is.behind [
 pub reads_longer : (a b : Option (List ℕ)) (old new : List ℕ) (ended ended' : Bool) → Reads a b old new ended ended' → length old ≤ length new
 reads_longer a b old new ended ended' reads = omega (arith, ap length reads.bytes, length-append old reads.read)
 
--- one read behind others
+-- one read after others
 pub reads_trans : (a b c : Option (List ℕ)) (xs ys zs : List ℕ) (e f g : Bool) → Reads a b xs ys e f → Reads b c ys zs f g → Reads a c xs zs e g
 reads_trans a b c xs ys zs e f g one two = record {
   read = one.read ++ two.read;

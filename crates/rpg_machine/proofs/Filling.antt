@@ -84,7 +84,7 @@ field_filled forms text part f k w right kind is =
     ∙ ap (λ l. filled_field l f (record_part f text) w) kind
     ∙ sym (ap (λ o. unless_wrong o w (filled_field (kind_of (form_at forms f.field)) f (record_part f text) w)) right)
 
--- one field went on, over a memory that differs in its world alone: what is left of a record is done behind it
+-- one field went on, over a memory that differs in its world alone: what is left of a record is done after it
 pub field_next : (m w : Working) (text : List ℕ) (all fs : List (InputField ℕ)) (f : InputField ℕ) (r : rust.End) (v : World nat_cmp) →
     w ≡ record m { world = w.world } → all ≡ f ∷ fs → r ≡ answers.GoesOn → quiet (end_of r) v ≡ field_in (forms_in w) text f w.world →
     record_in (forms_in m) text fs v ≡ record_in (forms_in m) text all w.world

@@ -1,4 +1,4 @@
--- The place that the fields of a line end at, and that nothing changes behind it.
+-- The place that the fields of a line end at, and that nothing changes after it.
 use Rattle.std.proofs.Common.{◌≡◌, ℕ, ◌+◌, ◌-◌, ◌≤◌, All, Bool, true, false, cond, max, List, [], ◌∷◌, ◌++◌, Option, None, Some, sym, ap, ◌∙◌, subst, arith, length, take, drop, replicate, nat_cmp, length-append, length-take-le}
 use Rattle.std.proofs.lemmas.List.{drop-replicate, length-drop, length-replicate}
 use Rattle.std.proofs.lemmas.List.Elements.{All-cons, All-head, All-nil, All-tail, All-weaker}
@@ -54,9 +54,9 @@ reach_in_line forms words len fs h =
     greatest_within len 0 fs (omega arith)
     (All-weaker (λ (f : LineField ℕ). field_fault forms words len f ≡ None) (λ (f : LineField ℕ). f.end ≤ len) (λ f is. (right forms words len f is).end) fs h)
 
--- ---- behind the greatest end
+-- ---- after the greatest end
 
--- a part that is laid over a line, and leaves it as long as it was, changes nothing behind its end
+-- a part that is laid over a line, and leaves it as long as it was, changes nothing after its end
 laid_behind : (text out part : List ℕ) (end n : ℕ) → out ≡ laid_over text end part → length out ≡ length text → end ≤ length text → end ≤ n → drop n out ≡ drop n text
 unfolding laid_over
 laid_behind text out part end n is long low high =
@@ -87,12 +87,12 @@ module _ (forms : ℕ → Option FieldForm) (words : ℕ → List ℕ) (d e : Dr
   put_by true o p h = faulty_by o p h
   put_by false o p h = same_behind _ h
 
-  -- a field changes nothing behind its end
+  -- a field changes nothing after its end
   pub field_behind : (on : sets.FinSet nat_cmp) (len : ℕ) → drafted r e ≡ with_field forms words on len d f → drop n e.text ≡ drop n d.text
   unfolding with_field
   field_behind on len h = put_by (three_hold on f.conditions) (field_fault forms words len f) (position_of forms d.fields f.operand) h
 
--- the first of them changes nothing behind that place
+-- the first of them changes nothing after that place
 pub first_behind : (forms : ℕ → Option FieldForm) (words : ℕ → List ℕ) (len n : ℕ) (all fs : List (LineField ℕ)) (f : LineField ℕ) (w v : Working) (text out : List ℕ)
     (es more : List (ℕ × ℕ)) (r : End) → all ≡ f ∷ fs → AreRight forms words len all → EndWithin n all → length text ≡ len → length out ≡ length text →
     drafted_in r v out more ≡ with_field_in w text es f → drop n out ≡ drop n text
@@ -103,7 +103,7 @@ first_behind forms words len n all fs f w v text out es more r is ok ends long s
     let high = All-head within f fs (subst (All within) is ends) in
     field_behind (forms_in w) (word_at w.program) (draft_in w text es) (draft_in v out more) r f n same (omega (arith, low, long)) high w.world.on (length text) h
 
--- a line that was blank is still blank behind its fields
+-- a line that was blank is still blank after its fields
 pub blank_behind : (fs gs : List (LineField ℕ)) (reach len : ℕ) (text out : List ℕ) → reach ≡ reach_of fs → gs ≡ fs → reach_of fs ≤ len → text ≡ replicate len 32 →
     length out ≡ length text → drop (reach_of gs) out ≡ drop (reach_of gs) text → IsBlankBehind reach out
 blank_behind fs gs reach len text out is same low blank long behind =

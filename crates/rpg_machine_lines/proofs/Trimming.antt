@@ -23,7 +23,7 @@ blanks_trimmed k front =
     let same : length whole - suffix_len is_blank whole ≡ length front - suffix_len is_blank front = omega (arith, long, blanks) in
     ap (λ n. take n whole) same ∙ take-append-le (length front - suffix_len is_blank front) front (replicate k 32) (omega arith)
 
--- a text prints as its front, where nothing but blanks is behind
+-- a text prints as its front, where nothing but blanks follows
 pub front_trimmed : (n : ℕ) (text : List ℕ) → drop n text ≡ replicate (length text - n) 32 → trimmed (take n text) ≡ trimmed text
 front_trimmed n text h =
     let whole : text ≡ take n text ++ replicate (length text - n) 32 = sym (take-append-drop n text) ∙ ap (λ t. take n text ++ t) h in

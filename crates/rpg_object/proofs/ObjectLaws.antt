@@ -141,7 +141,7 @@ same_spelling p q h k e = only_one (spelling p) p q (all_again p h) k e
 pub no_fault : (bytes : List ℕ) (d : Fault) (q : Object) → reading bytes ≡ Err d → body.Holds q → bytes ≡ spelling q → ⊥
 no_fault bytes d q e h s = let k : found q ≡ Err d = sym (all_again q h) ∙ ap reading (sym s) ∙ e in cc
 
--- ---- bytes behind
+-- ---- bytes that follow
 
 abbrev fails : {A : Type 0} → Fault → Result A Fault
 fails d = Err d

@@ -20,11 +20,11 @@ pub record Takes (bytes text rest : List ℕ) : Type 0 where
 pub Takes-then : (a x b y c : List ℕ) → Takes a x b → Takes b y c → Takes a (x ++ y) c
 Takes-then a x b y c p q = record { parts = p.parts ∙ ap (λ (t : List ℕ). x ++ t) q.parts ∙ sym (append_assoc x y c); rest_fits = q.rest_fits }
 
--- the same fault, with n more bytes behind it
+-- the same fault, with n more bytes after it
 abbrev pub further : ℕ → Fault → Fault
 further n d = record { left = d.left + n; code = d.code }
 
--- What is read is spelled so and holds; what holds is read again; a fault lies within the bytes; and bytes behind
+-- What is read is spelled so and holds; what holds is read again; a fault lies within the bytes; and bytes that follow
 -- change neither what was read before them nor a fault, but for that of a number that they may complete.
 pub record IsFormat {X : Type 0} (f : Format X) : Type 0 where
   pub takes : (bytes : List ℕ) (x : X) (rest : List ℕ) → IsBytes bytes → f.reading bytes ≡ Ok (x, rest) → Takes bytes (f.spelling x) rest × f.Holds x
@@ -149,7 +149,7 @@ two_law {X} rule code law = record { takes = takes; again = again; within = with
     fails_alike (a ∷ []) more d e not_end = absurd (at_end d e not_end)
     fails_alike (a ∷ b ∷ bytes) more d e not_end = ruled_fails (a ∷ b ∷ bytes) bytes (bytes ++ more) more (rule (256 * a + b)) d e
 
--- ---- one behind the other
+-- ---- one after the other
 
 pub pair_law : {A B : Type 0} (f : Format A) (g : A → Format B) → IsFormat f → ((a : A) → IsFormat (g a)) → IsFormat (pair f g)
 unfolding pair
@@ -232,7 +232,7 @@ row_law {A} {X} make parts f there back p = record { takes = takes; again = agai
           | inr a ↦ absurd (let k = a.2 in cc)
         ]
 
--- ---- rows, one behind the other
+-- ---- rows, one after the other
 
 abbrev nothing_read : {X : Type 0} → List ℕ → List X × List ℕ
 nothing_read bytes = ([], bytes)

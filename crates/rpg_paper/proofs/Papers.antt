@@ -5,7 +5,7 @@ use Rattle.rpg_text.specs.Texts.{trimmed}
 use Rattle.rpg_paper.specs.Paper.{Position, Placed, way, bytes_from, last_position_from, paper, last_position}
 use Rattle.rpg_paper.specs.Form.{Standing, StandsAt, HasPrinted, way_of, FormLine, position_after, placed_after, form_bytes}
 
--- lines behind lines add what they add to the paper that the first ones end
+-- lines after lines add what they add to the paper that the first ones end
 pub bytes_from-append : (last : Option Position) (xs ys : List Placed) → bytes_from last (xs ++ ys) ≡ bytes_from last xs ++ bytes_from (last_position_from last xs) ys
 bytes_from-append last [] ys = refl
 bytes_from-append last (x ∷ xs) ys =

@@ -81,7 +81,7 @@ module _ (len : ℕ) (all : List ControlField) where
   longer : (front : List ControlField) (c : ControlField) → length (front ++ c ∷ []) ≡ length front + 1
   longer front c = length-append front (c ∷ [])
 
-  -- one of the fields behind has that level, which stands before
+  -- one of the later fields has that level, which stands before
   again : (level : ℕ) (front cs : List ControlField) → all ≡ front ++ cs → list_any (is_of_level level) front ≡ true → list_any (is_of_level level) cs ≡ true → is_some (first_cause (match_cause len all) (length front) cs) ≡ true
   again level front [] split stands e = absurd (false≢true e)
   again level front (c ∷ cs) split stands e = by (is_of_level level c) refl e (λ more split stands h. again level more cs split stands h)

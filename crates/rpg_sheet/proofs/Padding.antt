@@ -1,4 +1,4 @@
--- A line with blanks behind its end.
+-- A line with blanks after its end.
 use Rattle.std.proofs.Common.{◌≡◌, ℕ, zero, suc, ◌-◌, ◌≤◌, ◌++◌, true, List, length, take, refl, arith, length-append}
 use Rattle.std.specs.Prelude.{IsTrue, replicate}
 use Rattle.std.specs.List.{list_all}

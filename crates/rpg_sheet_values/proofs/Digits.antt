@@ -44,7 +44,7 @@ all_digits (c ∷ cs) all = by (is_ascii_digit c) refl (all_digits cs) all
 pub digits_fit : (text : List ℕ) → IsTrue (list_all is_ascii_digit text) → digits_value 10 text < 10 ^ length text
 digits_fit text all = digits_value-lt 10 text (all_digits text all)
 
--- digits behind others
+-- digits after others
 pub digits_value_after-append : (xs ys : List ℕ) (n : ℕ) → digits_value_after 10 n (xs ++ ys) ≡ digits_value_after 10 (digits_value_after 10 n xs) ys
 digits_value_after-append [] ys n = refl
 digits_value_after-append (x ∷ xs) ys n = digits_value_after-append xs ys (n * 10 + digit_value x)

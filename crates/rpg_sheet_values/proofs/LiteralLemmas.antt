@@ -97,7 +97,7 @@ between inner =
     let i : length (39 ∷ inner ++ 39 ∷ []) - 1 - 1 ≡ length inner = omega arith in
     rw i (take-append_seam inner (39 ∷ []))
 
--- the last item behind the others
+-- the last item after the others
 last_cut : (xs : List ℕ) → 0 < length xs → xs ≡ take (length xs - 1) xs ++ get_or xs (length xs - 1) 0 ∷ []
 last_cut xs some = sym (take_all (suc (length xs - 1)) xs (omega arith)) ∙ take-suc xs (length xs - 1) 0 (omega arith)
 

@@ -49,7 +49,7 @@ before_stays area at w b len h l =
     ∙ in_append (take at area) (y ++ z) b len (omega arith)
     ∙ in_front area at b len h
 
--- bytes that lie in the area are put between what is before and what is behind
+-- bytes that lie in the area are put between what is before and what is after
 pub between : (area : List ℕ) (at : ℕ) (w : List ℕ) → at + length w ≤ length area → written_at area at w ≡ take at area ++ (w ++ drop (at + length w) area)
 between area at w h = grind (arith, common_steps)
 

@@ -4,7 +4,7 @@ use Rattle.std.proofs.lemmas.Option.{same_Some}
 use Rattle.rpg_store.specs.Slots.{entries_count, forms_of, AreInOrder}
 use Rattle.rpg_store.specs.declared.slot.Slot.{Slot}
 
--- the last field's entries end behind those of all others
+-- the last field's entries end after those of all others
 pub last_ends : (at : ℕ) (rs : List Slot) (r : Slot) → AreInOrder at rs → slice_get rs (length rs - 1) ≡ Some r → r.first + r.form.entries ≡ at + entries_count (forms_of rs)
 last_ends at [] r ordered is = cc
 last_ends at (q ∷ []) r ordered is =

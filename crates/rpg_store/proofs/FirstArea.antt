@@ -74,7 +74,7 @@ within (f ∷ fs) a b i p h = elim (cut (field_parts f.kind f.length (by_kind f.
       }
 ]
 
--- a part of the first field and one behind
+-- a part of the first field and one of a later field
 first_apart : (k j : Kind) (a b n : ℕ) (fs : List FieldForm) (p q : AreaPart) → a + (number_bytes k n + all_number_bytes fs) ≤ b → by_kind k a b ≤ p.at → p.at + p.len ≤ by_kind k a b + n → q.kind ≡ j → Within (a + number_bytes k n) (b + text_bytes k n) fs q → AreApart p q
 first_apart kinds.Number kinds.Number a b n fs p q room l h e w = let u = w.number e in let v = u.0 in inl (omega arith)
 first_apart kinds.Number kinds.Text a b n fs p q room l h e w = let u = w.text e in let v = u.0 in inl (omega arith)

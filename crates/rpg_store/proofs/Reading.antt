@@ -66,6 +66,6 @@ digit_is c h = grind (arith, nat_tests)
 pub sign_plain : (c : ℕ) → c ≤ 57 → is_minus c ≡ false
 sign_plain c h = grind (arith, nat_tests)
 
--- behind 9 a character of the last place stands for a number below zero
+-- after 9 a character of the last place stands for a number below zero
 pub sign_minus : (c : ℕ) → IsLastWritten c → 57 < c → is_minus c ≡ true
 sign_minus c w h = grind (arith, nat_tests)

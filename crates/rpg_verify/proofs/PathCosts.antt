@@ -11,7 +11,7 @@ use Rattle.rpg_verify.specs.Paths.{Stretch, at_place, Follows, IsPath, IsFrom, w
 abbrev pub stretch_of : ℕ → List (Instruction ℕ) → Stretch
 stretch_of n is = record { first = n; code = is }
 
--- ---- places of a section and of what is left of it behind its first place
+-- ---- places of a section and of what is left of it after its first place
 
 at_first : (n : ℕ) (i : Instruction ℕ) (is : List (Instruction ℕ)) → at_place (stretch_of n (i ∷ is)) n ≡ Some i
 at_first n i is = by_test (nat_le n n) refl
@@ -51,7 +51,7 @@ follows_later x y (Branch k cs t) f = f.0
 follows_later x y (Call s) f = omega arith
 follows_later x y (Return s) f = absurd f
 
--- a path that begins behind the first place is a path of what is left
+-- a path that begins after the first place is a path of what is left
 down : (n : ℕ) (i : Instruction ℕ) (is : List (Instruction ℕ)) (x : ℕ) (rest : List ℕ) → n < x → IsPath (stretch_of n (i ∷ is)) (x ∷ rest) → IsPath (stretch_of (n + 1) is) (x ∷ rest)
 down n i is x [] h p = (p.0, sym (at_later n i is x h) ∙ p.1)
 down n i is x (y ∷ rest) h p =
@@ -77,7 +77,7 @@ module _ (weight : Instruction ℕ → ℕ) where
       let there = same_weight n i is y rest (omega arith) p.1 in
       omega (arith, here, there)
 
-  -- the cost of a place behind the first one is that in what is left
+  -- the cost of a place after the first one is that in what is left
   behind : (n : ℕ) (i : Instruction ℕ) (is : List (Instruction ℕ)) (x c : ℕ) → n < x → IsCost weight (stretch_of (n + 1) is) x c → IsCost weight (stretch_of n (i ∷ is)) x c
   behind n i is x c h g = record { above = above; reached = (g.reached.0, reach g.reached.0 g.reached.1 g.reached.2, g.reached.2, sums g.reached.0 g.reached.1 g.reached.2 ∙ g.reached.3) }
     where
@@ -97,7 +97,7 @@ module _ (weight : Instruction ℕ → ℕ) where
       sums [] p f = refl
       sums (y ∷ rest) p f = let low : n < y = omega arith in same_weight n i is y rest low (up_again n i is y rest low p)
 
-  -- from behind the end nothing leads on
+  -- from after the end nothing leads on
   at_none : (n x : ℕ) → IsCost weight (stretch_of n []) x 0
   at_none n x = record { above = above; reached = ([], tt, tt, refl) }
     where
@@ -151,7 +151,7 @@ module _ (weight : Instruction ℕ → ℕ) where
       by_test true t = let l : a ≤ b = omega (arith, leb-true) in wider G b (max a b) right (omega arith) g.reached
       by_test false t = let l : b < a = omega (arith, leb-false) in wider F a (max a b) left (omega arith) f.reached
 
-  -- ---- the place behind, and a branch's target
+  -- ---- the next place, and a branch's target
 
   next_cost : (n : ℕ) (is : List (Instruction ℕ)) (costs : List ℕ) → AreCosts weight (stretch_of (n + 1) is) costs → IsCost weight (stretch_of (n + 1) is) (n + 1) (slice_index costs 0)
   next_cost n is costs g = subst (λ k. IsCost weight (stretch_of (n + 1) is) (n + 1) (slice_index costs k)) (omega arith) (g (n + 1) (omega arith))
@@ -227,7 +227,7 @@ module _ (weight : Instruction ℕ → ℕ) where
           let e = x.2.2 in
           (n ∷ x.0 ∷ x.2.0, ((i, at_first n i is, x.1), p), refl, omega (arith, h, sums, e))
 
-  -- the costs behind a place, and its own in front of them
+  -- the costs after a place, and its own in front of them
   one_more : (n : ℕ) (i : Instruction ℕ) (is : List (Instruction ℕ)) (rest : List ℕ) → AreCosts weight (stretch_of (n + 1) is) rest → AreCosts weight (stretch_of n (i ∷ is)) (with_cost weight n i rest)
   one_more n i is rest g x h = by_test (nat_lt n x) refl
     where

@@ -51,7 +51,7 @@ map-map test f (x ∷ xs) = ap (λ ys. test (f x) ∷ ys) (map-map test f xs)
 pub position_seen : {X Y : Type 0} (test : Y → Bool) (f : X → Y) (xs : List X) → first_true 0 (map test (map f xs)) ≡ position (λ x. test (f x)) xs
 position_seen test f xs = ap (first_true 0) (map-map test f xs) ∙ position_is (λ x. test (f x)) xs
 
--- what is found in one list, or in those behind it
+-- what is found in one list, or in those after it
 abbrev pub or_behind : ℕ → Option ℕ → Option ℕ → Option ℕ
 or_behind n None later = later
 or_behind n (Some k) later = Some (n + k)

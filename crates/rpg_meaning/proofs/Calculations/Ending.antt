@@ -19,7 +19,7 @@ IsAtEnd c (On t o) = is_finished c t ≡ true
 IsAtEnd c (Stops k t o) = Unit {0}
 IsAtEnd c Over = Unit {0}
 
--- the calculations left in a part, and behind the open EXSRs
+-- the calculations left in a part, and after the open EXSRs
 abbrev pub left : Sections Key → Part → ℕ → ℕ
 left c part n = length (calculations_in c part) - n
 

@@ -90,7 +90,7 @@ module _ {p : Object} {source : Source} {number : Key → ℕ} (orderly : IsOrde
 
   -- ---- the conditions of a calculation, and its deed
 
-  -- control reaches the deed or what is behind the calculation, and the deed's instruction stands there
+  -- control reaches the deed or what is after the calculation, and the deed's instruction stands there
   pub record IsReached (s : State) (d : Config) (g : Calculation Key) : Type 0 where
     pub op : ℕ
     pub reaches : Reaches p orderly d d.place (cond (is_done d.world.on g) op (op + 1))
@@ -120,14 +120,14 @@ module _ {p : Object} {source : Source} {number : Key → ℕ} (orderly : IsOrde
         next = omega arith;
       }
 
-  -- ---- going on behind the calculation
+  -- ---- going on after the calculation
 
   pub passed : (s : State) (d : Config) (x : ℕ) → AgreeAt p source number s d → Reaches p orderly d d.place x → x ≡ place_at (first s) (calculations s) (s.next + 1) → MachineFollows p source number d (On (at_next s (s.next + 1)) no_output)
   passed s d x a r e =
       let b = r.by d.steps a.fit in
       (at p orderly d x b.0, b.1, record { world = a.world; allowance = a.allowance; section = a.section; place = e; fit = b.2 }, refl)
 
-  -- ---- a deed that changes the world and goes on behind itself
+  -- ---- a deed that changes the world and goes on after itself
 
   pub affects : (s : State) (d : Config) (op : ℕ) (i : Instruction ℕ) (e : Effect key_cmp) → AgreeAt p source number s d → Reaches p orderly d d.place op → stands p orderly d op i → control d.world.on op i ≡ Goes (op + 1)
       → SameEffect source.forms number e (effect p i d.world) → op + 1 ≡ place_at (first s) (calculations s) (s.next + 1) → MachineFollows p source number d (affected s e)

@@ -1,4 +1,4 @@
--- The conditions of a calculation lead to its operation or behind it.
+-- The conditions of a calculation lead to its operation or after it.
 use Rattle.std.proofs.Common.{◌≡◌, ℕ, suc, ◌+◌, ◌<◌, ◌≤◌, Bool, true, false, not, cond, ◌&&◌, ◌||◌, eqb, List, [], ◌∷◌, ◌++◌, length, map, Option, Some, None, refl, sym, ap, ◌∙◌, subst, arith, leb-true, nat_le}
 use Rattle.std.specs.List.{list_any}
 use Rattle.std.specs.FinSet as set

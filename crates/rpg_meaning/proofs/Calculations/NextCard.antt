@@ -131,7 +131,7 @@ module _ (P : Entry → Type 0) where
 
 -- ---- each begins on its card
 
--- the group that is open behind these cards, from its first card on
+-- the group that is open after these cards, from its first card on
 pub record IsOpen (before : List SpecCard) (e : ℕ × CalculationGroup) : Type 0 where
   pub front : List SpecCard
   pub card : SpecCard

@@ -122,7 +122,7 @@ module _ {p : Object} {source : Source} {number : Key → ℕ} (orderly : IsOrde
 
   -- ---- EXSR and ENDSR
 
-  -- where its conditions fail, control is behind the calculation
+  -- where its conditions fail, control is after the calculation
   passed_open : (s : State) (d : Config) (x : ℕ) → Agrees s d → Open d.cells s.part s.back → Reaches p orderly d d.place x → x ≡ place_at (first_place p (part_section source.sections s.part)) (calculations_in source.sections s.part) (s.next + 1) → Did_so d (On (at_next s (s.next + 1)) no_output)
   passed_open s d x a opened r e = combine s d (On (at_next s (s.next + 1)) no_output) opened (refl, refl) (passed orderly is s d x a r e)
 

@@ -24,13 +24,13 @@ part_section c InDetail = sections.Detail
 part_section c InTotal = sections.Total
 part_section c (InSubroutine name) = sections.Subroutine (callee name c.subroutines)
 
--- the place of the n-th of these calculations, where the first one stands at a place; behind them all the place behind the last
+-- the place of the n-th of these calculations, where the first one stands at a place; after them all the place after the last
 abbrev pub place_at : ℕ → List (Calculation Key) → ℕ → ℕ
 place_at place [] n = place
 place_at place (g ∷ gs) zero = place
 place_at place (g ∷ gs) (suc n) = place_at (place + size g) gs n
 
--- the place of the n-th calculation of a part; behind them all the section's end
+-- the place of the n-th calculation of a part; after them all the section's end
 abbrev pub place_in : Object → Sections Key → Part → ℕ → ℕ
 place_in p c part n = place_at (first_place p (part_section c part)) (calculations_in c part) n
 

@@ -79,7 +79,7 @@ spending s t = if s.allowance == 0 then Stops 5 s no_output else On (record t { 
 abbrev pub gone_to : State → ℕ → MeantOutcome
 gone_to s n = if nat_lt n s.next then spending s (at_next s n) else On (at_next s n) no_output
 
--- behind the EXSR that was opened last
+-- after the EXSR that was opened last
 abbrev pub come_back : State → List (Part × ℕ) → MeantOutcome
 come_back s [] = Over
 come_back s (b ∷ bs) = On (record s { part = b.0; next = b.1; back = bs }) no_output
@@ -107,7 +107,7 @@ module _ (source : Source) where
 
 -- ---- one after the other
 
--- detail and total calculations end behind their last one
+-- detail and total calculations end after their last one
 abbrev pub part_has_end : Part → Bool
 part_has_end InDetail = true
 part_has_end InTotal = true
@@ -117,7 +117,7 @@ part_has_end (InSubroutine name) = false
 abbrev pub is_finished : Sections Key → State → Bool
 is_finished c s = part_has_end s.part && nat_le (length (calculations_in c s.part)) s.next
 
--- what is done behind what was put out before
+-- what is done after what was put out before
 abbrev pub told_before : Output → MeantOutcome → MeantOutcome
 told_before o (On t more) = On t (with_more o more)
 told_before o (Stops k t more) = Stops k t (with_more o more)
@@ -125,7 +125,7 @@ told_before o Over = Over
 
 -- Where the cards come to, one calculation after the other.
 pub data CardsCome (source : Source) : State → MeantOutcome → Type 0 where
-  -- detail or total calculations are behind their last one
+  -- detail or total calculations are after their last one
   AtEnd : (s : State) → is_finished source.sections s ≡ true → CardsCome source s (On s no_output)
   -- one calculation halts
   AtHalt : (s t : State) (o : Output) (k : ℕ) → is_finished source.sections s ≡ false → cards_step source s ≡ Stops k t o → CardsCome source s (Stops k t o)

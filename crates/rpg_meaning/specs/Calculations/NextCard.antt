@@ -41,7 +41,7 @@ abbrev pub up_to_next : List (ℕ × Calculation Key) → List (ℕ × Calculati
 up_to_next [] = []
 up_to_next (e ∷ es) = if is_some (begun_by e.1.deed) then [] else e ∷ up_to_next es
 
--- behind the BEGSR of a name
+-- after the BEGSR of a name
 abbrev pub behind_begin : Option Name → List (ℕ × Calculation Key) → List (ℕ × Calculation Key)
 behind_begin name [] = []
 behind_begin name (e ∷ es) = if option_map_or (is_same_name name) (begun_by e.1.deed) false then up_to_next es else behind_begin name es
@@ -64,7 +64,7 @@ next_card cards s = card_number cards s.part s.next
 
 -- ---- laws
 
--- the calculation is that of a card and the AN and OR cards right behind it
+-- the calculation is that of a card and the AN and OR cards right after it
 pub record BeginsOn (cards : List SpecCard) (g : Calculation Key) (number : Option ℕ) : Type 0 where
   pub before : List SpecCard
   pub card : SpecCard

@@ -25,7 +25,7 @@ calculations_in c (InSubroutine name) = body_named name c.subroutines
 abbrev pub bears : Option Name → Calculation Key → Bool
 bears name g = is_same_name name (label_on g.deed)
 
--- where the first one with a label stands among these, counted from 0; behind them all where there is none
+-- where the first one with a label stands among these, counted from 0; after them all where there is none
 abbrev pub label_position : Option Name → List (Calculation Key) → ℕ
 label_position name [] = 0
 label_position name (g ∷ gs) = if bears name g then 0 else suc (label_position name gs)

@@ -20,7 +20,7 @@ use Rattle.rpg_object_program.specs.declared.section.Section.TheVariants as sect
 abbrev pub return_place : Object → Sections Key → Part × ℕ → Place
 return_place p c b = record { section = part_section c b.0; number = place_in p c b.0 b.1 }
 
--- The cells are those of the open EXSRs: the running subroutine's leads behind the last one, and so on; with none open detail or
+-- The cells are those of the open EXSRs: the running subroutine's leads after the last one, and so on; with none open detail or
 -- total calculations run.
 abbrev pub AreOpen : Object → Sections Key → map.FinMap nat_cmp Place → Part → List (Part × ℕ) → Type 0
 AreOpen p c cells part [] = part_has_end part ≡ true

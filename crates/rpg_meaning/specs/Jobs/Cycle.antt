@@ -223,7 +223,7 @@ module _ (job : Job) where
 
   -- ---- 9 detail calculations
 
-  -- the whole cycle, behind those that selected the earlier records, the last of these first, with the record that is next in each file, if
+  -- the whole cycle, after those that selected the earlier records, the last of these first, with the record that is next in each file, if
   -- there is one
   abbrev pub MeantCycle : List Selected → Option (List ℕ) → Option (List ℕ) → MeantPhase
   MeantCycle earlier primary secondary =

@@ -29,7 +29,7 @@ meant_begun job w i = record { world = w; allowance = job.allowance; inputs = i;
 abbrev pub meant_needs : Job → JobState → InputFile → Bool
 meant_needs job s f = not (is_on_in last_record s || any_on_in halt_indicators s) && meant_takes_in job s.inputs f
 
--- what it takes of a file's records, and the records that are left behind it
+-- what it takes of a file's records, and the records that are left after it
 abbrev pub meant_next : Job → JobState → InputFile → List (List ℕ) → Option (List ℕ)
 meant_next job s f rs = next_of (meant_needs job s f) rs
 
@@ -50,7 +50,7 @@ last_cycle e out = record { ending = e; cycles = 1; output = out }
 abbrev pub with_cycle : Output → MeantCourse → MeantCourse
 with_cycle out rest = record { ending = rest.ending; cycles = 1 + rest.cycles; output = with_more out rest.output }
 
--- a run behind earlier records (the last first), over the records that are left: one cycle after another
+-- a run after earlier records (the last first), over the records that are left: one cycle after another
 pub data MeantRuns (job : Job) : List Selected → Records → World key_cmp → Inputs → MeantCourse → Type 0 where
   -- a cycle comes to the end of the job
   AtEndOfJob : (earlier : List Selected) (rs : Records) (w : World key_cmp) (i : Inputs) (t : JobState) (out : Output)

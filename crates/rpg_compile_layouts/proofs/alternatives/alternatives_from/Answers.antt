@@ -15,7 +15,7 @@ use Rattle.rpg_sheet_specs.specs.declared.output.OutputSpec.TheVariants as outpu
 abbrev AreRows : List (Vec Condition Global) → Type 0
 AreRows vs = All (λ (a : Vec Condition Global). All IsConditionRow a.items) vs
 
--- what was found, and what is found behind it
+-- what was found, and what is found after it
 abbrev found : Vec (Vec Condition Global) Global → List (List Condition)
 found v = map (λ (a : Vec Condition Global). a.items) v.items
 

@@ -27,7 +27,7 @@ returns-in-Err-clause-none g c = (
 pub returns-in-Err-clause-grows : goal.returns-in-Err-clause-grows
 returns-in-Err-clause-grows g c = grows_not c.args.job.now.output
 
--- the secondary's did, behind the primary's
+-- the secondary's did, after the primary's
 pub returns-in-Err-ask-clause-none : goal.returns-in-Err-ask-clause-none
 returns-in-Err-ask-clause-none g c = (
   (c.in-Ok.next, subst (λ (b : Bool). Asks g.R1.Read.remaining b c.args.primary.now (Ok c.in-Ok.next) c.ask.new.records) c.requires.needs_primary c.in-Ok.ensures.asks),

@@ -112,7 +112,7 @@ returns-in-Err-clause-faults g c =
     _ _ _ _ _ _ _ _ Report c.in-Err.ensures.none c.fault_behind.ensures.stops c.fault_behind.ensures.faults
     c.cycles.invariant.primary c.cycles.invariant.secondary (same.0 ∙ c.cycles.invariant.print) (same.1 ∙ c.cycles.invariant.disk)
 
--- behind a cycle
+-- after a cycle
 pub returns-in_err-send_where_enough-clause-early : goal.returns-in_err-send_where_enough-clause-early
 returns-in_err-send_where_enough-clause-early g c =
     let e = err_from_is_err_and c.from_residual-in_err-send_where_enough.result c.from_residual-in_err-send_where_enough.ensures.1 in
