@@ -141,7 +141,7 @@ module _ {H F : Type 0} (role : Spec → Role H F) where
   groups-taken before c after h name e =
       ap (take (length (groups role before))) (groups-heading None before c after h name e) ∙ take-append_seam (groups role before) (groups_from role (file_behind None before) (c ∷ after))
 
-  -- ---- rows that don't tell the file
+  -- ---- rows that don't name the file
 
   pub rows_from : {Y : Type 0} (row : Group H F → Y) → ((h : H) (fs : List F) (a b : Option (List ℕ)) → row (record { heading = h; followers = fs; file = a }) ≡ row (record { heading = h; followers = fs; file = b }))
       → (a b : Option (List ℕ)) (cards : List SpecCard) → map row (groups_from role a cards) ≡ map row (groups_from role b cards)

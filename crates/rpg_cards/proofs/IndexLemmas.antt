@@ -83,7 +83,7 @@ module _ {X Y : Type 0} (test : X → Bool) (made : ℕ → X → Y) where
       by_cases true rest = refl
       by_cases false rest = rest
 
-  -- what is found is told by its place
+  -- what is found is known by its place
   module _ (place : Y → ℕ) (kept : (i : ℕ) (x : X) → place (made i x) ≡ i) where
     from_place : (i : ℕ) (xs : List X) (y : Y) → first_at test made i xs ≡ Some y → i ≤ place y
     from_place i [] y e = absurd cc

@@ -16,7 +16,7 @@ use Rattle.rpg_sheet_specs.specs.declared.calculation.Operation.{Operation}
 use Rattle.rpg_sheet_specs.specs.declared.calculation.Operation.TheVariants as op
 use Rattle.rpg_sheet_specs.specs.declared.indicator.Three.{Three}
 
--- Labels and subroutines are said by name; none where the card has none.
+-- Labels and subroutines go by name; none where the card has none.
 pub data Deed (K : Type 0) : Type 0 where
   Acts : Action (Operand K) → Deed K
   PutsOut : Deed K  -- EXCPT

@@ -119,7 +119,7 @@ is_missing Missing = true
 is_missing Bad = false
 is_missing (Good form) = false
 
--- nothing is said of a name without a form
+-- nothing is required of a name without a form
 abbrev pub form_in : Defined → Option FieldForm
 form_in Missing = None
 form_in Bad = None

@@ -228,7 +228,7 @@ fn defined_first(first: Option<FirstDefinition>) -> Defined
     }
 }
 
-/// Notes definitions, whose places are counted on from this one, where their names have none before. Answers the place after them.
+/// Notes definitions, whose places are counted on from this one, where their names have none before. Returns the place after them.
 fn note_names(
     names: &mut IndexMap<Name, FirstDefinition>,
     start: usize,
@@ -247,7 +247,7 @@ fn note_names(
     Ok(place)
 }
 
-/// Notes constants, whose places are counted on from this one, where they have none before. Answers the place after them.
+/// Notes constants, whose places are counted on from this one, where they have none before. Returns the place after them.
 fn note_constants(
     constants: &mut IndexMap<Constant, usize>,
     start: usize,

@@ -131,7 +131,7 @@ of_deck e per_card cards =
     else if not (length cards == cards_for e.entries per_card) then Some (cause.OtherCards (need_of e per_card) (length cards))
     else option_map cause.Entry (of_tables e per_card cards 0 (tables_on e))
 
--- nothing more is said where a table has no form
+-- no further rule applies where a table has no form
 abbrev pub of_behind : ExtensionSpec → ℕ → List SpecCard → Option DataCause
 of_behind e per_card behind = if has_forms e then of_deck e per_card (deck_cards behind) else None
 

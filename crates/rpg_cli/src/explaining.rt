@@ -37,7 +37,7 @@ impl Topics {
         self.push_halts()
     }
 
-    /// Takes a word that is no number of a halt, and answers whether it is a code or `halt`.
+    /// Takes a word that is no number of a halt, and returns whether it is a code or `halt`.
     fn take_code(&mut self, word: &str) -> Result<bool, AllocError> {
         self.end_halt()?;
         if word.eq_ignore_ascii_case("halts") {
@@ -52,7 +52,7 @@ impl Topics {
         Ok(true)
     }
 
-    /// Takes a word, and answers whether it is a code, or part of one.
+    /// Takes a word, and returns whether it is a code, or part of one.
     fn take(&mut self, word: &str) -> Result<bool, AllocError> {
         if !self.is_halt {
             return self.take_code(word);

@@ -63,7 +63,7 @@ file_text files.NoMemory = codes "no memory"
 abbrev pub counts_text : ℕ → ℕ → ℕ → List ℕ
 counts_text records dropped columns = codes "records " ++ decimal records ++ codes ", dropped " ++ decimal dropped ++ codes ", columns " ++ decimal columns
 
--- the card, in front of what is said about it
+-- the card, before the message about it
 abbrev pub card_text : ℕ → List ℕ
 card_text card = codes "card " ++ decimal card ++ codes ": "
 

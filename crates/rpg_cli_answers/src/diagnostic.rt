@@ -142,7 +142,7 @@ fn place_of(text: &str) -> (Option<&str>, Option<&str>, &str) {
     }
 }
 
-/// What is said of a file, from a place in it on, or of the file as a whole.
+/// A message about a file, from a place in it on, or of the file as a whole.
 fn placed<'f, 't>(file: &'f str, rest: &'t str, uncoded: Severity) -> Diagnostic<'f, 't> {
     let (line, column, rest) = place_of(rest);
     let (code, topic, message) = code_of(rest.trim_start());

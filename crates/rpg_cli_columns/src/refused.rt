@@ -1,4 +1,4 @@
-//! What is said of columns that are refused.
+//! Messages about columns that are rejected.
 
 use crate::card::CardKind;
 use crate::pattern::{character_at, write_columns};

@@ -36,7 +36,7 @@ fn write_rule(out: &mut TextWriter, rule: Rule) {
     out.fill("A{}: ", &[Piece::from(rule.number())]);
 }
 
-/// Writes the changes of a card, and answers whether there are some.
+/// Writes the changes of a card, and returns whether there are some.
 fn write_changes(out: &mut TextWriter, path: &str, fitted: &Fitted, card: usize) -> bool {
     let mut is_changed = false;
     for told in fitted.told(card) {

@@ -2,7 +2,7 @@
 
 use std::io::ErrorKind;
 
-/// Why a file can't be opened, read, made or written, as far as the system tells one from another.
+/// Why a file can't be opened, read, made or written, as far as the system reports different reasons.
 #[derive(Clone, Copy)]
 pub enum Reason {
     Missing,

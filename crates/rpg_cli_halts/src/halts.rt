@@ -50,7 +50,7 @@ impl HaltedCycle {
             )
     }
 
-    /// How many cycles' records have to be read once more, so that the halt can be told in full: of one file only if its text is needed.
+    /// How many cycles' records have to be read once more, so that the halt can be reported in full: of one file only if its text is needed.
     pub fn cycles_again(self, program: &Verified) -> Option<u64> {
         if has_two_files(program) || self.is_of_text() {
             self.cycles_of_records()
@@ -237,7 +237,7 @@ impl Told<'_> {
     }
 }
 
-/// The record that a halt is about, and its number: of one file the cycles tell it, of two the files themselves.
+/// The record that a halt is about, and its number: of one file the cycles give it, of two the files themselves.
 fn place_of(
     program: &Verified,
     halted: HaltedCycle,

@@ -30,7 +30,7 @@ pub(crate) fn is_unread(fault: &CardFault) -> bool {
     matches!(&fault.code, SourceCode::Sheet(_))
 }
 
-/// Whether a card is among those that can't be read. Where some can't, other faults aren't told.
+/// Whether a card is among those that can't be read. Where some can't, other faults aren't reported.
 fn is_among(faults: &[CardFault], number: u16) -> bool {
     for fault in faults {
         if fault.card == number {

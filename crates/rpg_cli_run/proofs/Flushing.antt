@@ -1,4 +1,4 @@
--- Writers that are flushed after a run: what is told of them, and how often their calls failed.
+-- Writers that are flushed after a run: what is reported of them, and how often their calls failed.
 use Rattle.std.proofs.Common.{◌≡◌, ℕ, ◌+◌, Result, Ok, Err, refl, ap, subst, ◌∙◌}
 use Rattle.rpg_cli_files.specs.declared.files.FileFault.{FileFault}
 use Rattle.rpg_cli_words.specs.declared.request.FileWord.{FileWord}
@@ -8,7 +8,7 @@ use Rattle.rpg_cli_answers.specs.Named.{named_fault}
 use Rattle.rpg_cli_answers.specs.declared.answer.Answer.{Answer}
 use Rattle.rpg_cli_answers.specs.declared.answer.Answer.TheVariants as answers
 
--- ---- a fault that is told of the file that a word names
+-- ---- a fault that is reported for the file that a word names
 
 -- it is that of the call
 pub record IsOfCall {T : Type 0} (word : FileWord) (given : Result T FileFault) (answer : Answer) : Type 0 where
@@ -20,7 +20,7 @@ pub of_call : {T : Type 0} (word : FileWord) (given : Result T FileFault) (answe
 of_call word (Ok x) answer is = absurd cc
 of_call word (Err fault) answer is = record { fault = fault; failed = refl; told = cc }
 
--- and where none is told the call ended well
+-- and where none is reported the call ended well
 pub ended_well : {T : Type 0} (word : FileWord) (given : Result T FileFault) (x : T) → Ok x ≡ named_fault word given → given ≡ Ok x
 ended_well word (Ok y) x is = cc
 ended_well word (Err fault) x is = absurd cc

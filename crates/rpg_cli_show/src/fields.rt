@@ -10,7 +10,7 @@ use rpg_effect::value::Value;
 /// The bytes of a field's row.
 const FIELD: usize = 8;
 
-/// Whether entries that aren't all empty are told apart from their field.
+/// Whether entries that aren't all empty are shown apart from their field.
 fn are_listed(values: &[Value]) -> bool {
     values.len() > 1 && !values.iter().all(is_empty)
 }

@@ -10,7 +10,7 @@ const TABLES: &str =
 
 const ALLOWANCE: &str = "  spends   a cycle may take {} branches back and calls\n";
 
-/// Writes a sentence about a file whose records have so many columns or places, or what is said where there is no such file.
+/// Writes a sentence about a file whose records have so many columns or places, or the words if there is no such file.
 pub(crate) fn write_length(out: &mut TextWriter, sentence: &str, length: u16, none: &str) {
     if length > 0 {
         out.fill(sentence, &[length.into()]);

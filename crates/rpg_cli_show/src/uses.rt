@@ -9,7 +9,7 @@ use rpg_object_program::row::{Line, RecordType, Rows};
 use rpg_refusal_causes::placed_at;
 use std::alloc::{AllocError, Global};
 
-/// The most numbers that are told of a kind of use.
+/// The most numbers that are printed of a kind of use.
 const MOST_TOLD: usize = 12;
 
 /// A way of using a field: a type reads columns into it, an instruction sets it or only uses it, a line has it.

@@ -57,7 +57,7 @@ fn card_at(cards: &[RowCard], row: usize, place: usize) -> Option<u16> {
 }
 
 impl SourceRows {
-    /// What is said where the source isn't known.
+    /// The words if the source isn't known.
     pub fn none(alloc: Global) -> Self {
         SourceRows {
             fields: Vec::new(alloc),

@@ -16,7 +16,7 @@ pub struct JobNames<'p, 'f, 's> {
     pub source: Option<&'s SourceRows>,
 }
 
-/// Whether a field has entries that are told apart.
+/// Whether a field has entries that are shown apart.
 fn has_entries(form: FieldForm) -> bool {
     matches!(form.class, Class::Array | Class::Table)
 }

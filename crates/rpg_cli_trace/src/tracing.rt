@@ -39,7 +39,7 @@ impl Cycle {
     }
 }
 
-/// A job after the last cycle that was told.
+/// A job after the last cycle that was reported.
 #[derive(Drop)]
 pub(crate) struct Told {
     lights: Lights,

@@ -14,7 +14,7 @@ fn plain<'a>(alloc: Global, word: Word) -> Arg<'a> {
         .required(word.is_required())
 }
 
-/// With its name, unless its place tells it.
+/// With its name, unless it is known by its place.
 fn named<'a>(alloc: Global, word: Word) -> Arg<'a> {
     if word.is_placed() {
         plain(alloc, word)
@@ -97,7 +97,7 @@ fn lines_of(words: &[String]) -> &'static str {
     COMMANDS
 }
 
-/// What each exit status tells, below the commands.
+/// What each exit status means, below the commands.
 const STATUSES: &str =
     "Exit statuses:\n  0  success\n  1  a file or a device failed, or memory ran out\n  2  the command line or the date is wrong, or a disk file or a secondary file is missing\n  3  the source, or a record, is rejected\n  4  the object program is rejected\n  5  the job halted";
 

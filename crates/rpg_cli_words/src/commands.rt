@@ -25,7 +25,7 @@ go: SRC INPUT PRINT.go date secondary disk most keep trace watch allowance fault
 ///
 /// | | |
 /// |---|---|
-/// | `R`, `P` | a word that its place tells; with `P` it may be left out |
+/// | `R`, `P` | a word known by its place; with `P` it may be left out |
 /// | `S`, `M` | the words from its place on; with `M` there may be none |
 /// | `F` | nothing: a flag |
 /// | `Q` | nothing: the flag that `-q` stands for too |
@@ -155,7 +155,7 @@ impl Word {
         matches!(self.letter, b'R' | b'S')
     }
 
-    /// Whether its place tells it, and not its name.
+    /// Whether it is known by its place, and not by its name.
     pub fn is_placed(self) -> bool {
         matches!(self.letter, b'R' | b'P' | b'S' | b'M')
     }

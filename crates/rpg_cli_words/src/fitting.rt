@@ -19,7 +19,7 @@ pub struct FitWords<'a> {
     /// Where the new deck goes, a file or `-`, if it's written.
     pub new_deck: Option<&'a str>,
     pub tables: Vec<TableWord<'a>>,
-    /// Eight digits: for each of U1 to U8 whether it is on. All are off where the words don't tell.
+    /// Eight digits: for each of U1 to U8 whether it is on. All are off if the words don't say.
     pub switches: Option<&'a str>,
     /// Whether no form gets more lines than its L card has.
     pub keeps_forms: bool,

@@ -34,7 +34,7 @@ pub struct RecordsWords<'a> {
     pub way: RecordsWay,
     /// The file's name in the deck, if it isn't the primary one.
     pub file: Option<&'a str>,
-    /// How many bytes a record has, if the words tell it: 1 to 9,999.
+    /// How many bytes a record has, if the words have it: 1 to 9,999.
     pub length: Option<u16>,
     pub framing: RecordFraming,
     pub is_ascii: bool,
@@ -42,7 +42,7 @@ pub struct RecordsWords<'a> {
     pub low_blank: bool,
     /// Records that begin with this byte are left out.
     pub dropped: Option<u8>,
-    /// Where the deck goes that reads the lines, if the words tell it.
+    /// Where the deck goes that reads the lines, if the words name it.
     pub new_deck: Option<&'a str>,
     pub format: Format,
 }

@@ -99,11 +99,11 @@ pub struct RunWords<'a> {
     pub print: &'a str,
     /// The date, if the words have one.
     pub date: Option<DateWord<'a>>,
-    /// The records of a secondary file, if the words tell them.
+    /// The records of a secondary file, if the words name them.
     pub secondary: Option<&'a str>,
-    /// Where the records of a disk file go, if the words tell it.
+    /// Where the records of a disk file go, if the words name it.
     pub disk: Option<&'a str>,
-    /// The greatest bound that a program may have, if the words tell one.
+    /// The greatest bound that a program may have, if the words have one.
     pub most: Option<u64>,
     /// Whether the files that are written keep what they have until the job has ended well.
     pub keeps: bool,
@@ -209,7 +209,7 @@ pub enum Shared {
 }
 
 impl Shared {
-    /// What is said between the two words, and after them.
+    /// The texts between the two words, and after them.
     fn texts(self) -> (&'static str, &'static str) {
         match self {
             Shared::File => ("is the same file as", ""),
@@ -400,7 +400,7 @@ impl Refusal {
         self.error.kind() == ErrorKind::OutOfMemory
     }
 
-    /// Prints clap's text, a fault on standard error and help on standard output, and answers the exit status.
+    /// Prints clap's text, a fault on standard error and help on standard output, and returns the exit status.
     pub fn explain<R: Print + Eprint + AllocGlobal>(&self, rt: &R) -> u8
         ensures { result ≤ 2 }
     {
@@ -543,7 +543,7 @@ fn explain_words<'a>(
     })))
 }
 
-/// The words for sources and object programs that no standard stream stands for, and what is said where one does.
+/// The words for sources and object programs that no standard stream stands for, and the fault if one does.
 const PROGRAM_FILES: [(&str, &str); 4] = [
     (
         "OBJ",

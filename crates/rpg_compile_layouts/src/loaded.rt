@@ -54,7 +54,7 @@ impl<'a> Loaded<'a> {
         Ok(loaded)
     }
 
-    /// With the tables of an E card, which takes the first of these decks if it wants one. Answers the cards with the other decks.
+    /// With the tables of an E card, which takes the first of these decks if it wants one. Returns the cards with the other decks.
     fn take_deck(
         &mut self,
         extension: &'a ExtensionSpec,

@@ -175,7 +175,7 @@ own t j k (There s) (There r) there e =
     let same : s.place ≡ r.place = omega arith in
     same_Some j k (sym s.key ∙ ap (slice_get (all_keys t)) same ∙ r.key)
 
--- ---- the order of keys tells them apart
+-- ---- keys with the same place in the order are the same
 
 -- a numeral of its parts
 abbrev made : ℤ → ℕ → ℕ → Numeral

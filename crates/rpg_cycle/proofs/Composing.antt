@@ -183,7 +183,7 @@ pub passed_map : (A B : Type 0) (r : Result B Stop) (s : Stop) (P Q : JobEnd →
 passed_map A B (Ok x) s P Q f h g = tt
 passed_map A B (Err x) s P Q f h g = if_stops A B x P Q f (subst (λ (y : Stop). IfStops {A = A} (Err y) P) (sym h) g)
 
--- nothing is said of an answer that isn't there
+-- nothing holds for a result that isn't there
 pub ok_of_err : {A E : Type 0} (r : Result A E) (Q : E → Type 0) (P : A → Type 0) → IsErrAnd r Q → IfOk r P
 ok_of_err (Ok x) Q P h = absurd h
 ok_of_err (Err e) Q P h = tt

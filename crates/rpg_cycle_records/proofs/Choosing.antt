@@ -1,4 +1,4 @@
--- Of two records that wait the one goes first whose file the kept values tell.
+-- Of two records that wait, the one goes first whose file the kept values name.
 use Rattle.std.proofs.Common.{◌≡◌, ℕ, Some, ap, ◌∙◌}
 use Rattle.rpg_cycle_records.specs.Earlier.{match_value}
 use Rattle.rpg_cycle_records.specs.Holding.{HoldsRecord, record_as}

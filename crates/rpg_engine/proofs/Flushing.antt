@@ -1,4 +1,4 @@
--- What is said of a run stays true once its writers have kept what they hold.
+-- What holds for a run stays true once its writers have kept what they hold.
 use Rattle.std.proofs.Common.{◌≡◌, ℕ, ℤ, List, Option, Some}
 use Rattle.std.proofs.KnownBytes.{Appends-kept}
 use Rattle.std.specs.Io.KnownBytes.{Keeps}

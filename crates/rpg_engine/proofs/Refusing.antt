@@ -65,7 +65,7 @@ not_started a b print disk none_failed starting.NoMemory p day = no_room a b pri
 
 -- ---- a job that began
 
--- a run is told for the date that it was given
+-- a run is that of the date that it was given
 pub same_job : (date : List ℕ) (p : Object) (day : ℤ) (job : AtWork) (F : Object → ℤ → Type 0) → ((x : ℤ) → job ≡ job_started job.program x (first_fields job.program) → F job.program x)
     → Starts p date (first_fields p) job → date_in date ≡ Some day → F p day
 same_job date p day job F holds starts dated =
@@ -74,7 +74,7 @@ same_job date p day job F holds starts dated =
     let number : starts.number ≡ day = let a = starts.spelled in cc in
     subst (λ (x : ℤ). F p x) number (subst (λ (x : Object). F x starts.number) program (holds starts.number begun))
 
--- what is said of inputs, whatever they are called
+-- what holds for inputs, whatever they are called
 inputs_same : (a a' b b' c c' d d' : Option (List ℕ)) (Fact : List ℕ → List ℕ → Type 0) → a ≡ a' → b ≡ b' → c ≡ c' → d ≡ d' → OfInputs a b c d Fact → OfInputs a' b' c' d' Fact
 inputs_same a a' b b' c c' d d' Fact e f g h holds =
     subst (λ (x : Option (List ℕ)). OfInputs x b' c' d' Fact) e
@@ -142,7 +142,7 @@ undated date (Some day) is none = absurd (none (day, is))
 pub no_day : (object date : List ℕ) (p : Object) → SpellsProgram object p → IsAccepted p → (MayRun object date → ⊥) → date_in date ≡ None
 no_day object date p spells accepted none = undated date (date_in date) refl (λ has. none (may_run object date p spells accepted has))
 
--- what is said of the accepted program, of any that the bytes spell
+-- what holds for the accepted program holds for any that the bytes spell
 of_program : (object date : List ℕ) (q p : Object) (day : ℤ) (F : Object → ℤ → Type 0) → ((x : ℤ) → date_in date ≡ Some x → F q x) → ((r : Object) → SpellsProgram object r → q ≡ r) → IsJobOf object date p day → F p day
 of_program object date q p day F holds only is = subst (λ (r : Object). F r day) (only p is.spells) (holds day is.dated)
 

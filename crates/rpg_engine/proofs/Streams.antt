@@ -255,7 +255,7 @@ stays_bounded first job mid given others a b a' b' cycles most e s t small now_s
 pub few_given : {R : Type 0} (r : RecordReader R) → count_of r ≤ max_records
 few_given r = r.few
 
--- what is said of a job holds whatever waits at it
+-- what holds for a job holds whatever output waits in it
 pub stream_sends : (first job mid : AtWork) (given others : Option (List ℕ)) (a b : Source) (cycles most : ℕ) (s : Streams first given others job a b cycles most) → mid ≡ record job { output = mid.output }
     → (k : Streams first given others mid a b cycles most) × (k.out ≡ s.out)
 stream_sends first job mid given others a b cycles most s same =

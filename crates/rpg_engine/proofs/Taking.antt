@@ -28,7 +28,7 @@ use Rattle.rpg_engine.specs.Reporting.{AreAlike, IsBad}
 use Rattle.rpg_engine.specs.Streaming.{Asks, IsBehindRecord, TakesCycle, record_with}
 use Rattle.rpg_engine.proofs.Passing.{IfNeeded, Takes, cycle_takes, in_list, needed_takes}
 
--- what is told of the bytes to come, told otherwise
+-- what holds for the bytes to come, in another form
 abbrev pub told_of : (old new : Input) (F G : List ℕ → List ℕ → Type 0) → ((x y : List ℕ) → F x y → G x y) → Advances old new F → Advances old new G
 told_of old new F G tells adv = record {
   read = adv.read;

@@ -11,7 +11,7 @@ pub trait Watcher {
     /// Looks at a job before its first cycle.
     fn begin<S: Store + Drop>(&mut self, job: &Job<'_, S>);
 
-    /// Looks at a job after a cycle, before its output is sent. `ended` tells how the job ended, if it did.
+    /// Looks at a job after a cycle, before its output is sent. `ended` says how the job ended, if it did.
     fn look<S: Store + Drop>(&mut self, job: &Job<'_, S>, ended: Option<JobEnd>);
 }
 

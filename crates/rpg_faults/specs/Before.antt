@@ -12,7 +12,7 @@ module _ {X : Type 0} (Kept : List SpecCard → List SpecCard → X → Type 0) 
   abbrev pub AddsCard : SpecCard → List SpecCard → X → X → Type 0
   AddsCard c after old new = (before : List SpecCard) → Kept (before ++ c ∷ after) before old → Kept (before ++ c ∷ after) (before ++ c ∷ []) new
 
-  -- it tells whether an input card breaks a rule
+  -- it shows whether an input card breaks a rule
   abbrev pub TellsInput : (List SpecCard → List SpecCard → InputSpec → Bool) → SpecCard → List SpecCard → X → Bool → Type 0
   TellsInput breaks c after kept answer = (before : List SpecCard) → Kept (before ++ c ∷ after) before kept → answer ≡ option_map_or (breaks before after) (input_on c.spec) false
 

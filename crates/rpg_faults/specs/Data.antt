@@ -94,7 +94,7 @@ bad_deck e per_card cards =
 
 -- ---- the rule
 
--- nothing more is said where a table has no form
+-- no further rule applies where a table has no form
 abbrev pub has_forms : ExtensionSpec → Bool
 has_forms e = list_all (λ t. is_some (table_form e.entries t)) (tables_on e)
 

@@ -15,7 +15,7 @@ use Rattle.rpg_sheet_specs.specs.declared.spec.Spec.{Spec}
 abbrev pub numbered_specs : List (Option Spec) → List SpecCard
 numbered_specs specs = numbered_cards 1 specs
 
--- a card that can't be read, as it is told of a source
+-- a card that can't be read, as it is reported for a source
 abbrev pub unreadable_told : UnreadableCard → CardFault
 unreadable_told u = record { card = u.card; code = codes.Sheet u.code; columns = u.columns }
 

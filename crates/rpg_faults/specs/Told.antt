@@ -1,4 +1,4 @@
--- Faults of cards as they are told of a source, with the columns that they speak of.
+-- Faults of cards as they are reported for a source, with the columns that they mark.
 use Rattle.std.specs.Prelude.{◌≡◌, ◌==◌, List, [], ◌∷◌, ◌++◌, Option, None, map, filter, if◌then◌else◌}
 use Rattle.rpg_cards.specs.declared.spec_card.SpecCard.{SpecCard}
 use Rattle.rpg_faults.specs.Every.{AreAllFaults}

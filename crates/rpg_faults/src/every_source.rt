@@ -15,7 +15,7 @@ use std::alloc::{AllocError, Global};
 
 /// What is wrong with a source: all faults of its cards, in the order of cards and codes, each with the columns that it speaks of; or where
 /// cards can't be read, all of these, each with its least code, since what the others mean hangs on them. There is none exactly where
-/// `faultless_cards` answers the cards. The only error is `NoMemory`.
+/// `faultless_cards` returns the cards. The only error is `NoMemory`.
 pub fn source_faults(alloc: Global, text: &[u8]) -> Result<Vec<CardFault>, SourceFault>
     ensures faults { IfOk result (λ faults. every.AreSourceFaults text.now faults.items) }
     ensures memory { IfErr result (λ fault. fault ≡ NoMemory) }
@@ -43,7 +43,7 @@ fn unreadable(alloc: Global, text: &[u8]) -> Result<Vec<CardFault>, AllocError>
     told(alloc, &cards)
 }
 
-/// Cards that can't be read, as they are told of a source.
+/// Cards that can't be read, as they are reported for a source.
 fn told(alloc: Global, cards: &[UnreadableCard]) -> Result<Vec<CardFault>, AllocError>
     ensures { IfOk result (λ told. told.items ≡ map every.unreadable_told cards.now) }
 {

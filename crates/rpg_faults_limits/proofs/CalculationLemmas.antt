@@ -40,7 +40,7 @@ group_at-card o c after k e = by (goes_on after) (calculation_on c.spec) e
     by true m e = absurd cc
     by false m e = ap (option_map (group_with o)) (sym e)
 
--- the group's first card tells whether it is a subroutine's, and its last card whether that begins there
+-- the group's first card shows whether it is a subroutine's, and its last card whether that begins there
 pub begins-on : (before : List SpecCard) (c : SpecCard) (after : List SpecCard) (k : CalculationSpec) → Some k ≡ card_ending c after
     → option_map_or begins_subroutine (calculation_ending before c after) false ≡ (is_of_subroutine (group_with (open_calculation_group before) k) && is_begsr (deed_of k))
 begins-on before c after k e =

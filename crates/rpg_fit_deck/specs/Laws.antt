@@ -6,20 +6,20 @@ use Rattle.rpg_text.specs.Lines.{with_line_feed}
 use Rattle.rpg_fit_deck.specs.declared.fitted.Fitted.{Fitted}
 use Rattle.rpg_fit_deck.specs.New.{made_lines, new_cards, nothing_told, untold, IsPart}
 
--- NEW's cards where something is told
+-- NEW's cards where there is a sentence
 abbrev pub cards_of_new : List ℕ → Fitted → List (List ℕ)
 cards_of_new source f = new_cards (lines source) f.slots.items ++ made_lines f.end.items
 
 -- what a rewritten deck keeps of its source
 abbrev pub IsFitted : List ℕ → Fitted → Type 0
 IsFitted source f =
-    -- nothing told, nothing changed
+    -- no sentence, no change
     (nothing_told f.slots.items ≡ true → f.new.items ≡ source)
     × (nothing_told f.slots.items ≡ false → f.new.items ≡ flat_map with_line_feed (cards_of_new source f))
-    -- cards that aren't told keep their bytes and their order
+    -- cards without a sentence keep their bytes and their order
     × IsPart (untold (lines source) f.slots.items) (new_cards (lines source) f.slots.items)
     -- at most 2,000 cards
     × (nothing_told f.slots.items ≡ false → length (cards_of_new source f) ≤ 2000)
     × (f.cards ≤ 2000)
-    -- cards that are told are those of the source: Fitted::told answers for 1 to this number alone
+    -- cards with a sentence are those of the source: Fitted::told answers for 1 to this number alone
     × (f.cards ≡ length (lines source))

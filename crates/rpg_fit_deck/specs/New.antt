@@ -31,7 +31,7 @@ is_untold slot = vec_len slot.told == 0
 abbrev pub nothing_told : List Slot → Bool
 nothing_told slots = list_all is_untold slots
 
--- the cards of which nothing is told
+-- the cards without a sentence
 abbrev pub untold : List (List ℕ) → List Slot → List (List ℕ)
 untold [] _ = []
 untold (card ∷ cards) [] = card ∷ untold cards []
@@ -43,6 +43,6 @@ IsPart [] _ = Unit {0}
 IsPart (x ∷ xs) [] = ⊥
 IsPart (x ∷ xs) (y ∷ ys) = ((x ≡ y) × IsPart xs ys) ⊎ IsPart (x ∷ xs) ys
 
--- cards that aren't told keep their bytes and their order
+-- cards without a sentence keep their bytes and their order
 abbrev pub KeepsUntold : Type 0
 KeepsUntold = (cards : List (List ℕ)) (slots : List Slot) → IsPart (untold cards slots) (new_cards cards slots)

@@ -82,7 +82,7 @@ fn check_level(kind: &RecordType, field: &Seen, column: usize) -> Result<(), Sto
     Ok(())
 }
 
-/// Refuses relations that no alternative of the type answers, and levels that stand with and without one.
+/// Refuses relations that no alternative of the type has, and levels that stand with and without one.
 fn check_relations(kind: &RecordType) -> Result<(), Stop> {
     for field in kind.fields.iter() {
         let relation = relation(field);

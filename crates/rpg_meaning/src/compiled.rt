@@ -1,4 +1,4 @@
-//! What a call of the compiler answers, as its cards mean it.
+//! What a call of the compiler returns, as its cards mean it.
 
 ghost use Rattle.std.specs.Prelude.{◌<◌, IfErr, IfOk};
 ghost use Rattle.rpg_compile.specs.Compile.{Compiles};
@@ -10,7 +10,7 @@ use rpg_compile::{SourceFault, compile};
 use rpg_object_program::Program;
 use std::alloc::Global;
 
-/// Compiles a source as `compile` does, which answers a program that does what the cards mean.
+/// Compiles a source as `compile` does, and returns a program that does what the cards mean.
 pub fn compile_as_meant(alloc: Global, text: &[u8], allowance: u16) -> Result<Program, SourceFault>
     requires { 0 < allowance }
     ensures compiled { IfOk result (λ program. Compiles text.now allowance program) }

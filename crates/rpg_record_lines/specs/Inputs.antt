@@ -37,7 +37,7 @@ GivesFirst front remaining old new bytes = GivesFront front (remaining_in remain
 
 -- ---- its records
 
--- how records are told apart
+-- how records are separated
 abbrev pub framing_of : {R : Type 0} → Frames R → Framing
 framing_of frames = frames.framing
 

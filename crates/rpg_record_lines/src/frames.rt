@@ -76,7 +76,7 @@ fn described_length(word: &[u8], most: usize) -> Result<usize, RecordFault>
     Ok(length)
 }
 
-/// Cuts the last byte off if it is this one, and answers whether it was.
+/// Cuts the last byte off if it is this one, and returns whether it was.
 fn cut_last(bytes: &mut Vec<u8>, byte: u8) -> bool
     ensures bytes { bytes.new.items ≡ strip_last byte bytes.old.items }
     ensures was { result ≡ ends_with_byte byte bytes.old.items }

@@ -131,7 +131,7 @@ impl<R: Read> Input<R> {
         &all[self.start..self.end]
     }
 
-    /// Reads some bytes if all were given, and answers whether there are any; there are none where the input ends.
+    /// Reads some bytes if all were given, and returns whether there are any; there are none where the input ends.
     #[tactic(auto, using(crate::proofs::InputLemmas::filled, crate::proofs::InputLemmas::filled_end, crate::proofs::InputLemmas::unchanged))]
     fn fill(&mut self) -> Result<bool, InputFault>
         ensures kept { OnOk result (Keeps (remaining_in R.remaining self.old) (remaining_in R.remaining self.new)) }
@@ -171,7 +171,7 @@ impl<R: Read> Input<R> {
         Ok(())
     }
 
-    /// Appends bytes that were read, at most so many, up to a line feed, and answers whether it is there.
+    /// Appends bytes that were read, at most so many, up to a line feed, and returns whether it is there.
     #[tactic(auto, using(crate::proofs::InputLemmas::line_front, crate::proofs::InputLemmas::line_shorter))]
     fn append_line(&mut self, most: usize, line: &mut Vec<u8>) -> Result<bool, InputFault>
         ensures appended { OnOk result (line.new.items ≡ line.old.items ++ take_through 10 (take most (left_in self.old))) }

@@ -105,7 +105,7 @@ impl<'a> Maker<'a> {
         Ok(())
     }
 
-    /// Makes what is to be written for what was read, and answers whether there is anything.
+    /// Makes what is to be written for what was read, and returns whether there is anything.
     pub fn make(&self, room: &mut Room) -> Result<bool, LineFault>
         ensures text { IfOk result (λ is_made. text_by self.now room.old.given.items ≡ Ok (if is_made then Some room.new.made.items else None)) }
         ensures fault { IfErr result (IsFaultOf (text_by self.now room.old.given.items)) }

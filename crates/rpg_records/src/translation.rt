@@ -120,7 +120,7 @@ impl Translation {
         self.table[column.row() * 256 + usize::from(byte)]
     }
 
-    /// Writes the characters of a record's columns, and answers whether all are some: 0 is none.
+    /// Writes the characters of a record's columns, and returns whether all are some: 0 is none.
     #[inline(always)]
     pub fn write_image(&self, columns: &[Column], bytes: &[u8], text: &mut [u8]) -> bool
         requires columns { length columns.now ≡ length text.old }

@@ -165,7 +165,7 @@ least f low high p card e h =
 pub IsTable-lower : {X : Type 0} (a b c : ℕ) (f : Columns X) → a ≤ b → IsTable f b c → IsTable f a c
 IsTable-lower a b c f h p = record { good = p.good; first = p.first; rises = λ card. lower a b (f.bad card) c h (p.rises card) }
 
--- what a reader of the table answers
+-- what a reader of the table returns
 pub read_by : {X : Type 0} {f : Columns X} {low high : ℕ} → IsTable f low high → (card : List ℕ) (r : Result X ColumnFault) → r ≡ f.reading card
     → record { value : r ≡ f.reading card; good : OnOk r (f.bad card ≡ []); least : IfErr r (λ fault. IsLeastColumn (f.bad card) fault.column) }
 read_by p card (Ok x) e = record { value = e; good = p.good card x (sym e); least = tt }

@@ -1,4 +1,4 @@
--- What is told of a row.
+-- What is reported of a row.
 use Rattle.std.specs.Prelude.{◌≡◌, ℕ, true, List, nat_eq, codes}
 use Rattle.std.specs.List.{starts_with}
 

@@ -1,4 +1,4 @@
-//! What a run answers and puts out, as a text.
+//! What a run returns and puts out, as a text.
 
 use rpg_cli_text::TextWriter;
 use rpg_cycle::CycleEnd;
@@ -60,7 +60,7 @@ fn write_fault(out: &mut TextWriter, fault: RunFault) {
     }
 }
 
-/// Writes the line of `rpg2 run` for what a run answers, with the bytes that a writer that failed had taken.
+/// Writes the line of `rpg2 run` for what a run returns, with the bytes that a writer that failed had taken.
 pub fn write_answer(out: &mut TextWriter, told: &Result<Report, RunFault>) {
     match told {
         Ok(report) => {

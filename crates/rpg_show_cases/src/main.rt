@@ -43,7 +43,7 @@ fn do_program(
     }
 }
 
-/// Does what a row asks of an object. Nothing is told of a program that isn't accepted.
+/// Does what a row asks of an object. Nothing is reported of a program that isn't accepted.
 fn do_object(
     alloc: Global,
     out: &mut TextWriter,

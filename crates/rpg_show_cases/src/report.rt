@@ -5,7 +5,7 @@ ghost use Rattle.rpg_show_cases.specs.Outcome.{IsOkLine};
 
 use std::alloc::{AllocError, Global};
 
-/// The word, the row's name and what is told of it, with a line feed.
+/// The word, the row's name and what is reported of it, with a line feed.
 fn line_of(alloc: Global, word: &[u8], name: &str, told: &[u8]) -> Result<Vec<u8>, AllocError>
     ensures { IfOk result (λ line. line.items ≡ word.now ++ name.now ++ (58 ∷ 32 ∷ []) ++ told.now ++ (10 ∷ [])) }
 {

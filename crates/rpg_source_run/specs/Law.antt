@@ -1,4 +1,4 @@
--- What is said of every source that compiles.
+-- What holds for every source that compiles.
 use Rattle.std.specs.Prelude.{◌≡◌, ℕ, ℤ, List, Option, Some}
 use Rattle.rpg_compile.specs.Compile.{Compiles}
 use Rattle.rpg_cycle.specs.Runs.{Records}

@@ -43,6 +43,6 @@ width_parts true true worded text h w = h w
 width_parts true false worded text h w = w
 width_parts false edited worded text h w = w
 
--- a field that has a width: it can be told
+-- a field that has a width: it can be computed
 pub width_told : (p : Object) (f : LineField ℕ) → has_width p f ≡ true → may_have_width p f ≡ true
 width_told p f h = width_parts (is_field_there p f) (is_field_edited p f) (is_field_worded p f) (names_text p f.editing) (worded_text p (length_of (form_put_out p f)) f.editing) h

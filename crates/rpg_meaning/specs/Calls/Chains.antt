@@ -39,7 +39,7 @@ pub record IsLongest (ps : List Pair) (s n : ℕ) : Type 0 where
   pub chain : EndsChain ps s n
   pub longest : (callers : List ℕ) → IsChainAmong ps s callers → length callers + 1 ≤ n
 
--- what is said of any calls
+-- the statement for any calls
 pub record AreOfChains (ps : List Pair) : Type 0 where
   -- the calls, the chains and the levels of rpg_symbols
   pub call : (a b : ℕ) → symbols.IsCall ps a b ↔ IsCallAmong a b ps
@@ -48,7 +48,7 @@ pub record AreOfChains (ps : List Pair) : Type 0 where
   pub level : (s n : ℕ) → symbols.IsCallLevel ps s n ↔ IsLongest ps s n
   -- the test of the rule on calls
   pub tested : (a s : ℕ) → (reaches ps a s ≡ true) ↔ LeadsTo ps a s
-  -- that no call leads back, said of chains of any length
+  -- that no call leads back, stated for chains of any length
   pub forward : NoCallLeadsBack ps ↔ ((n : ℕ) → NoneComesBack n ps)
   -- the level that is computed
   pub computed : (n s : ℕ) → IsLongestWithin n ps s (level_within ps n s)
@@ -57,7 +57,7 @@ pub record AreOfChains (ps : List Pair) : Type 0 where
 abbrev pub subroutines : List SpecCard → List (Subroutine Key)
 subroutines cards = (sections cards).subroutines
 
--- what is said of the cards of a source
+-- the statement for the cards of a source
 pub record HasChains (cards : List SpecCard) : Type 0 where
   -- the rule on calls and the compiler find the same calls
   pub same_calls : calls (calculations cards) ≡ calls_of (subroutines cards)

@@ -4,7 +4,7 @@ use Rattle.rpg_engine.proofs.Refusing.{headline_of, no_day, object_refused, on_e
 use Rattle.rpg_engine.proofs.Headline.{with_run}
 use Rattle.rpg_engine.proofs.engine.execute.Goals as goal
 
--- what is told of an object that is refused
+-- what is reported of an object that is refused
 pub returns-in_err-program-clause-early : goal.returns-in_err-program-clause-early
 returns-in_err-program-clause-early g c =
     let e = err_from_is_err_and c.from_residual.result c.from_residual.ensures.1 in
@@ -21,7 +21,7 @@ returns-in_err-program-clause-faults g c =
     let e = err_from_is_err_and c.from_residual.result c.from_residual.ensures.1 in
     rw (e.1, e.2) refl
 
--- what is told of an accepted program
+-- what is reported of an accepted program
 pub returns-clause-refused : goal.returns-clause-refused
 returns-clause-refused g c =
     told_of_program c.execute_program.result c.args.object.now c.args.date.now c.in_ok-program.program c.in_ok-program.ensures.spelled c.in_ok-program.ensures.accepted c.execute_program.ensures.refused
