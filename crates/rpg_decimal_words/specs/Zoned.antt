@@ -1,24 +1,27 @@
 -- Texts of numbers: a digit in each place, and the sign over the last one.
-use Rattle.std.specs.Prelude.{◌≡◌, ℕ, ◌+◌, ◌-◌, ◌/◌, ◌%◌, ◌<◌, ℤ, unsigned_abs, [], ◌∷◌, ◌++◌, Bool, true, ◌&&◌, ◌||◌, if◌then◌else◌, ◌==◌, IsTrue, List, length, map, slice_index, Option, Some, None}
+use Rattle.std.specs.Prelude.{◌≡◌, ℕ, ◌+◌, ◌-◌, ◌/◌, ◌%◌, ◌<◌, ℤ, unsigned_abs, [], ◌∷◌, ◌++◌, Bool, true, ◌&&◌, ◌||◌, if◌then◌else◌, ◌==◌, nat_le, IsTrue, List, length, map, slice_index, Option, Some, None}
 use Rattle.std.specs.Int.{is_negative}
-use Rattle.rpg_text.specs.Texts.{is_between}
 use Rattle.rpg_decimal_words.specs.Place.{lowest_digits, signed_number}
 
 -- 0 to 9
 abbrev pub is_digit : ℕ → Bool
-is_digit c = is_between 48 57 c
+is_digit c = nat_le 48 c && nat_le c 57
+
+-- one of nine letters, by the first of them
+abbrev pub is_letter_from : ℕ → ℕ → Bool
+is_letter_from first c = nat_le first c && nat_le c (first + 8)
 
 -- { for 0, A to I for 1 to 9
 abbrev pub is_plus : ℕ → Bool
-is_plus c = c == 123 || is_between 65 73 c
+is_plus c = c == 123 || is_letter_from 65 c
 
 -- } for 0, J to R for 1 to 9
 abbrev pub is_minus : ℕ → Bool
-is_minus c = c == 125 || is_between 74 82 c
+is_minus c = c == 125 || is_letter_from 74 c
 
 -- the digit that a character means; a blank, { and } mean 0
 abbrev pub digit_of : ℕ → ℕ
-digit_of c = if is_digit c then c - 48 else (if is_between 65 73 c then c - 64 else (if is_between 74 82 c then c - 73 else 0))
+digit_of c = if is_digit c then c - 48 else (if is_letter_from 65 c then c - 64 else (if is_letter_from 74 c then c - 73 else 0))
 
 -- digits and blanks may be in any place, letters with a sign only in the last one
 abbrev pub may_stand : Bool → ℕ → Bool
