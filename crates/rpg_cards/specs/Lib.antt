@@ -6,6 +6,7 @@ pub mod Deeds
 pub mod Files
 pub mod Groups
 pub mod Index
+pub mod Insertions
 pub mod Keys
 pub mod Labels
 pub mod Levels

@@ -3,7 +3,7 @@ use Rattle.std.specs.Prelude.{ℕ, ◌+◌, ◌-◌, List, [], ◌∷◌, ◌++�
 use Rattle.std.specs.List.{list_any, flat_map}
 use Rattle.std.specs.Option.{option_map, option_and_then, option_to_list}
 use Rattle.std.specs.Cmp.Lexicographic.{pointwise}
-use Rattle.indexmap.specs.IndexSet.{insert_all}
+use Rattle.rpg_cards.specs.Insertions.{insert_all}
 use Rattle.rpg_cards.specs.Cards.{input_field_on, calculation_on, extension_on}
 use Rattle.rpg_symbols.specs.Fields.{given, defined_form}
 use Rattle.rpg_cards.specs.declared.names.Defined.{Defined}

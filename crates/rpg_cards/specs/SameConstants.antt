@@ -1,5 +1,5 @@
 -- Constants that one field can stand for, as keys of a map.
-use Rattle.std.specs.Prelude.{◌≡◌, ℕ, ℤ, ◌++◌, List, true, nat_eq}
+use Rattle.std.specs.Prelude.{◌≡◌, ℕ, ℤ, List, [], ◌∷◌, true, nat_eq}
 use Rattle.std.proofs.Common.{sym, ap}
 use Rattle.std.proofs.lemmas.Bool.{and_parts, eqb-true}
 use Rattle.std.proofs.lemmas.Bool.Decides.{Decides-int_eq}
@@ -49,10 +49,10 @@ is_same_equiv = record {
   congr = λ x y z e. ap (λ w. is_same w z) (is_same-equal x y e);
 }
 
--- what is hashed of a constant
+-- what is hashed of a constant: few constants differ only in length or decimals
 abbrev pub hashed : Constant → fed.HashWrites
-hashed (Number n) = fed.i64 n.value ++ fed.u8 n.length ++ fed.u8 n.decimals
-hashed (Text text) = fed.slice fed.u8 text
+hashed (Number n) = fed.i64 n.value
+hashed (Text text) = text ∷ []
 
 pub hashed_alike : (x y : Constant) → is_same x y ≡ true → hashed x ≡ hashed y
 hashed_alike x y e = ap hashed (is_same-equal x y e)

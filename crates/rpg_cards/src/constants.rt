@@ -152,12 +152,8 @@ impl Hash for Constant {
 
     fn hash<H: Hasher>(&self, state: &mut H) {
         match self {
-            Constant::Number(number) => {
-                number.value().hash(state);
-                number.length().hash(state);
-                number.decimals().hash(state);
-            }
-            Constant::Text(text) => text.as_slice().hash(state),
+            Constant::Number(number) => number.value().hash(state),
+            Constant::Text(text) => state.write(text.as_slice()),
         }
     }
 }
@@ -177,6 +173,7 @@ pub fn factor_constant(factor: &Factor) -> Option<Constant>
 
 impl SpecCard {
     /// The constants of the card: those of factor 1 and factor 2, or the constant or the edit word of an output field.
+    #[inline(always)]
     pub fn constants(&self) -> ArrayVec<Constant, 2>
         ensures { result.items ≡ constants.constants_on self.now.spec }
     {

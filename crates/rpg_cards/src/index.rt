@@ -21,11 +21,11 @@ use crate::levels::has_match_field;
 use crate::names::{Defined, Definition, given_form};
 use crate::spec_card::SpecCard;
 use arrayvec::ArrayVec;
-use indexmap::IndexMap;
 use rpg_effect::form::FieldForm;
 use rpg_sheet_specs::{Factor, FileSpec, Word};
 use rpg_symbols::Name;
 use std::alloc::{AllocError, Global};
+use std::collections::HashMap;
 use std::hash::Hash;
 use std::marker::Model;
 
@@ -43,8 +43,8 @@ const MOST_CARDS: usize = usize::MAX / 2;
 #[derive(Drop)]
 pub struct IndexedCards<'a> {
     cards: &'a [SpecCard],
-    names: IndexMap<Name, FirstDefinition>,
-    constants: IndexMap<Constant, usize>,
+    names: HashMap<Name, FirstDefinition>,
+    constants: HashMap<Constant, usize>,
     /// Those from the first F card to the last.
     around_files: &'a [SpecCard],
     has_match_field: bool,
@@ -71,8 +71,8 @@ impl<'a> IndexedCards<'a> {
         if cards.len() > MOST_CARDS {
             return Err(AllocError);
         }
-        let mut names = IndexMap::new(alloc);
-        let mut constants = IndexMap::new(alloc);
+        let mut names = HashMap::with_capacity(alloc, cards.len())?;
+        let mut constants = HashMap::with_capacity(alloc, cards.len())?;
         let mut name_place = 0;
         let mut constant_place = 0;
         for card in cards {
@@ -132,14 +132,8 @@ impl<'a> IndexedCards<'a> {
         ensures { result ≡ first_at (is_of name.now) placed_definition 0 (take place (names.definitions self.now)) }
     {
         match self.names.get(name) {
-            None => None,
-            Some(first) => {
-                if first.place < place {
-                    Some(*first)
-                } else {
-                    None
-                }
-            }
+            Some(first) if first.place < place => Some(*first),
+            _ => None,
         }
     }
 
@@ -230,7 +224,7 @@ fn defined_first(first: Option<FirstDefinition>) -> Defined
 
 /// Notes definitions, whose places are counted on from this one, where their names have none before. Returns the place after them.
 fn note_names(
-    names: &mut IndexMap<Name, FirstDefinition>,
+    names: &mut HashMap<Name, FirstDefinition>,
     start: usize,
     definitions: ArrayVec<Definition, 2>,
 ) -> Result<usize, AllocError>
@@ -249,7 +243,7 @@ fn note_names(
 
 /// Notes constants, whose places are counted on from this one, where they have none before. Returns the place after them.
 fn note_constants(
-    constants: &mut IndexMap<Constant, usize>,
+    constants: &mut HashMap<Constant, usize>,
     start: usize,
     items: ArrayVec<Constant, 2>,
 ) -> Result<usize, AllocError>
@@ -267,15 +261,12 @@ fn note_constants(
 
 /// Puts a value at a key that has none.
 fn note<K: Eq + Hash + Drop, V: Drop>(
-    map: &mut IndexMap<K, V>,
+    map: &mut HashMap<K, V>,
     key: K,
     value: V,
 ) -> Result<(), AllocError>
     ensures { OnOk result ((q : K) → lookup (K.eq q) map.new.entries ≡ option_or (lookup (K.eq q) map.old.entries) (if K.eq q key then Some value else None)) }
 {
-    if map.contains_key(&key) {
-        return Ok(());
-    }
-    map.insert(key, value)?;
+    map.entry(key)?.or_insert(value);
     Ok(())
 }

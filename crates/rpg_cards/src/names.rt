@@ -113,6 +113,7 @@ fn sized(
 
 impl SpecCard {
     /// What the card defines: the tables or arrays of an E card, an input field, or a result field.
+    #[inline(always)]
     pub fn definitions(&self) -> ArrayVec<Definition, 2>
         ensures { result.items ≡ names.definitions_on self.now.spec }
     {

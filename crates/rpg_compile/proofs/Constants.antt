@@ -6,7 +6,7 @@ use Rattle.std.proofs.lemmas.List.Sums.{AllPass-from_list_all}
 use Rattle.std.specs.List.{list_all, list_any}
 use Rattle.std.specs.Option.{ForSome, option_and_then, option_map, option_to_list}
 use Rattle.std.specs.Prelude.{IsTrue, ℕ, is_none}
-use Rattle.indexmap.specs.IndexSet.{insert_all, insert_key}
+use Rattle.rpg_cards.specs.Insertions.{insert_all, insert_key}
 use Rattle.rpg_cards.specs.Plain.{Each}
 use Rattle.rpg_cards.specs.Constants.{IsConstant, constant_form, constants, constants_in, constants_on, factor_constant, is_same}
 use Rattle.rpg_cards.specs.declared.constants.Constant.{Constant}

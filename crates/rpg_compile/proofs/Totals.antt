@@ -9,7 +9,7 @@ use Rattle.std.specs.List.{position_or_len}
 use Rattle.std.specs.Map.{keys_of}
 use Rattle.std.specs.Option.{option_map}
 use Rattle.std.specs.Prelude.{is_some, nat_eq, nat_lt, sum_by, unwrap_or}
-use Rattle.indexmap.specs.IndexSet.{insert_all, insert_key}
+use Rattle.rpg_cards.specs.Insertions.{insert_all, insert_key}
 use Rattle.rpg_cards.specs.Plain.{Each}
 use Rattle.rpg_cards.proofs.IndexLemmas.{known_fields}
 use Rattle.rpg_cards.specs.Constants.{constant_form, constants}

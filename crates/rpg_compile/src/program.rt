@@ -18,7 +18,7 @@ use crate::{
     faultless_sources_are_accepted, faultless_sources_fill_their_fields,
     faultless_sources_keep_limits,
 };
-use rpg_cards::{FileUse, IndexedCards, SpecCard, file_for};
+use rpg_cards::{FileUse, SpecCard, file_for, has_match_field};
 use rpg_compile_layouts::{Fields, fields_of, lines_of, types_of};
 use rpg_object_program::Program;
 use rpg_object_program::row::{Rows, Version};
@@ -50,14 +50,13 @@ fn program_of(alloc: Global, cards: &[SpecCard], allowance: u16) -> Result<Progr
     requires accepted { IsAccepted (programs.program_of cards.now allowance) }
     ensures { IfOk result (λ p. p ≡ programs.program_of cards.now allowance) }
 {
-    let source = IndexedCards::new(alloc, cards)?;
     let Fields {
         table,
         forms: fields,
         values,
     } = fields_of(alloc, cards)?;
-    let types = types_of(alloc, &table, &source)?;
-    let lines = lines_of(alloc, &table, &source)?;
+    let types = types_of(alloc, &table, cards)?;
+    let lines = lines_of(alloc, &table, cards)?;
     let SectionRows {
         detail,
         total,
@@ -66,7 +65,7 @@ fn program_of(alloc: Global, cards: &[SpecCard], allowance: u16) -> Result<Progr
     let secondary = file_for(FileUse::Secondary, cards);
     let printer = file_for(FileUse::Printer, cards);
     Ok(Program::build(Rows {
-        version: version_for(secondary, source.has_match_field()),
+        version: version_for(secondary, has_match_field(cards)),
         allowance,
         record_length: length_of(file_for(FileUse::Primary, cards)),
         secondary_length: length_of(secondary),

@@ -1,7 +1,7 @@
 -- The constants of cards are those that were put one by one, each unless it was there.
 use Rattle.std.proofs.Common.{◌≡◌, ℕ, ◌+◌, ◌<◌, List, [], take, get_or, length, ap, ◌∙◌}
 use Rattle.std.proofs.lemmas.List.Sums.{fold-append}
-use Rattle.indexmap.specs.IndexSet.{insert_all, insert_key}
+use Rattle.rpg_cards.specs.Insertions.{insert_all, insert_key}
 use Rattle.rpg_cards.proofs.ItemLemmas.{constants_in-take}
 use Rattle.rpg_cards.specs.Constants.{constants, constants_in, constants_on, is_same}
 use Rattle.rpg_cards.specs.declared.spec_card.SpecCard.{SpecCard}

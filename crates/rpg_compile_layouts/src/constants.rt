@@ -1,7 +1,7 @@
 //! The constants of a program.
 
 ghost use Rattle.std.specs.Prelude.{◌≡◌, ◌++◌, All, map, IfOk, OnOk};
-ghost use Rattle.indexmap.specs.IndexSet.{insert_all};
+ghost use Rattle.rpg_cards.specs.Insertions.{insert_all};
 ghost use Rattle.rpg_cards.specs.Constants as known;
 ghost use Rattle.rpg_effect.specs.Values.{held};
 ghost use Rattle.rpg_compile_program.specs.Data.{constant_value, constant_values};
@@ -20,7 +20,7 @@ pub(crate) fn constants_of(
 ) -> Result<IndexSet<Constant>, AllocError>
     ensures { IfOk result (λ set. set.keys ≡ known.constants cards.now) }
 {
-    let mut constants = IndexSet::new(alloc);
+    let mut constants = IndexSet::with_capacity(alloc, cards.len())?;
     for card in cards {
         add(&mut constants, card.constants())?;
     }

@@ -6,7 +6,7 @@ ghost use Rattle.rpg_cards.specs.Files as files;
 ghost use Rattle.rpg_compile_program.specs.Lines as lines;
 ghost use Rattle.rpg_compile_program.specs.Types as types;
 
-use rpg_cards::{FileUse, IndexedCards, use_of};
+use rpg_cards::{FileUse, SpecCard, file_named, use_of};
 use rpg_effect::input::InputFile;
 use rpg_effect::line::File;
 use rpg_sheet_specs::Word;
@@ -22,13 +22,13 @@ pub(crate) fn own_or<'a>(
 }
 
 /// The file of that name that lines are put out on; the printer where it isn't known.
-pub(crate) fn put_on(source: &IndexedCards, name: &Option<Word<8>>) -> File
-    ensures { result ≡ lines.output_file (files.file_by name.now source.now) }
+pub(crate) fn put_on(cards: &[SpecCard], name: &Option<Word<8>>) -> File
+    ensures { result ≡ lines.output_file (files.file_by name.now cards.now) }
 {
     let Some(name) = name else {
         return File::Printer;
     };
-    match source.file_named(name) {
+    match file_named(name, cards) {
         Some(file) => put_by(use_of(file)),
         None => File::Printer,
     }
@@ -44,13 +44,13 @@ fn put_by(file_use: FileUse) -> File
 }
 
 /// The file of that name that records are read from; the primary one where it isn't known.
-pub(crate) fn read_from(source: &IndexedCards, name: &Option<Word<8>>) -> InputFile
-    ensures { result ≡ types.input_file (files.file_by name.now source.now) }
+pub(crate) fn read_from(cards: &[SpecCard], name: &Option<Word<8>>) -> InputFile
+    ensures { result ≡ types.input_file (files.file_by name.now cards.now) }
 {
     let Some(name) = name else {
         return InputFile::Primary;
     };
-    match source.file_named(name) {
+    match file_named(name, cards) {
         Some(file) => read_by(use_of(file)),
         None => InputFile::Primary,
     }

@@ -11,7 +11,7 @@ use crate::alternatives::alternatives_of;
 use crate::files::{own_or, put_on};
 use crate::output_fields::fields_of;
 use crate::spacing::spacing_of;
-use rpg_cards::{IndexedCards, SpecCard, time_of};
+use rpg_cards::{SpecCard, time_of};
 use rpg_effect::line::File;
 use rpg_object_program::row::Line;
 use rpg_sheet_specs::OutputRecord;
@@ -22,20 +22,20 @@ use std::alloc::{AllocError, Global};
 pub fn lines_of(
     alloc: Global,
     table: &FieldTable,
-    source: &IndexedCards,
+    cards: &[SpecCard],
 ) -> Result<Vec<Line>, AllocError>
-    requires { All IsLineWithin (rows_of table.now source.now) }
-    ensures lines { IfOk result (λ v. map line_row v.items ≡ rows_of table.now source.now) }
+    requires { All IsLineWithin (rows_of table.now cards.now) }
+    ensures lines { IfOk result (λ v. map line_row v.items ≡ rows_of table.now cards.now) }
     ensures rows { IfOk result (λ v. All IsLineRow (map line_row v.items)) }
 {
     let mut lines = Vec::new(alloc);
     let nameless = None;
     let mut name = &nameless;
-    let mut rest = source.as_slice();
+    let mut rest = cards;
     while let Some((card, behind)) = rest.split_first() {
         if let Some(heading) = card.line() {
             name = own_or(&heading.file, name);
-            let file = put_on(source, name);
+            let file = put_on(cards, name);
             lines.push(line_of(alloc, table, file, heading, behind)?)?;
         }
         rest = behind;

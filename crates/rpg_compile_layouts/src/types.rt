@@ -13,7 +13,7 @@ use crate::FieldTable;
 use crate::codes::codes_of;
 use crate::files::{own_or, read_from};
 use crate::levels::{levels_of, matches_of};
-use rpg_cards::{IndexedCards, SpecCard, number_of, shows_of};
+use rpg_cards::{SpecCard, number_of, shows_of};
 use rpg_effect::input::{InputField, InputFile};
 use rpg_effect::operation::Shows;
 use rpg_object_program::row::RecordType;
@@ -25,20 +25,20 @@ use std::alloc::{AllocError, Global};
 pub fn types_of(
     alloc: Global,
     table: &FieldTable,
-    source: &IndexedCards,
+    cards: &[SpecCard],
 ) -> Result<Vec<RecordType>, AllocError>
-    requires { All IsTypeWithin (types.types_on source.now) }
-    ensures types { IfOk result (λ v. map type_row v.items ≡ map (renamed_type (key_number table.now)) (types.types_on source.now)) }
+    requires { All IsTypeWithin (types.types_on cards.now) }
+    ensures types { IfOk result (λ v. map type_row v.items ≡ map (renamed_type (key_number table.now)) (types.types_on cards.now)) }
     ensures rows { IfOk result (λ v. All IsTypeRow (map type_row v.items)) }
 {
     let mut types = Vec::new(alloc);
     let nameless = None;
     let mut name = &nameless;
-    let mut rest = source.as_slice();
+    let mut rest = cards;
     while let Some((card, behind)) = rest.split_first() {
         if let Some(record_type) = card.record_type() {
             name = own_or(&record_type.file, name);
-            let file = read_from(source, name);
+            let file = read_from(cards, name);
             types.push(type_of(alloc, table, file, record_type, behind)?)?;
         }
         rest = behind;

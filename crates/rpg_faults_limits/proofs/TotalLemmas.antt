@@ -7,7 +7,7 @@ use Rattle.std.proofs.lemmas.List.Sums.{sum_by_push}
 use Rattle.std.specs.Cmp.{IsEquivalence}
 use Rattle.std.specs.List.{list_any}
 use Rattle.std.specs.Prelude.{sum_by}
-use Rattle.indexmap.specs.IndexSet.{insert_all}
+use Rattle.rpg_cards.specs.Insertions.{insert_all}
 use Rattle.rpg_cards.proofs.InsertLemmas.{with_one}
 use Rattle.rpg_cards.proofs.ItemLemmas.{constants_in-push, definitions-push}
 use Rattle.rpg_cards.specs.Constants.{constants_in, constants_on}

@@ -1,6 +1,6 @@
 -- How many names and constants cards have, and the bytes that they take.
 use Rattle.std.specs.Prelude.{◌≡◌, ℕ, ◌+◌, ◌*◌, ◌≤◌, Bool, List, [], ◌∷◌, ◌++◌, length, sum_by}
-use Rattle.indexmap.specs.IndexSet.{insert_all}
+use Rattle.rpg_cards.specs.Insertions.{insert_all}
 use Rattle.rpg_cards.specs.Constants.{is_same}
 use Rattle.rpg_cards.specs.Names.{given_names, same_name}
 use Rattle.rpg_cards.specs.declared.constants.Constant.{Constant}

@@ -1,11 +1,9 @@
 //! Short texts.
 
 ghost use Rattle.std.specs.Prelude.{◌≡◌, ◌≤◌, ◌<◌, [], ◌∷◌, ◌++◌, length, nat_eq};
-ghost use Rattle.std.proofs.Common.{rules};
+ghost use Rattle.std.proofs.Common.{ap};
 ghost use Rattle.std.specs.Cmp.{partial_equiv_from_equiv};
-ghost use Rattle.std.specs.Cmp.Lexicographic.{pointwise, nat_list_eq_equiv};
-ghost use Rattle.std.specs.Cmp.Rules.{hashing};
-ghost use Rattle.std.specs.Hash as fed;
+ghost use Rattle.std.specs.Cmp.Lexicographic.{pointwise, bytes_decides, nat_list_eq_equiv};
 
 use arrayvec::ArrayVec;
 use std::hash::{Hash, Hasher};
@@ -31,10 +29,10 @@ impl<const N: usize> Word<N> {
         ensures { result ≡ text.now }
     {
         let mut characters = ArrayVec::new();
-        for c in text {
-            characters.push(*c);
+        match characters.try_extend_from_slice(text) {
+            Ok(()) => Word { characters },
+            Err(_) => unreachable!(),
         }
-        Word { characters }
     }
 
     pub fn push(&mut self, character: u8)
@@ -66,12 +64,13 @@ impl<const N: usize> Eq for Word<N> {
     ghost laws = { nat_list_eq_equiv };
 }
 
+/// All characters are hashed in one write.
 impl<const N: usize> Hash for Word<N> {
-    ghost hash_input = { fed.slice fed.u8 };
+    ghost hash_input = { λ w. w ∷ [] };
 
-    ghost respects_eq = { Prim.search (hashing, rules) };
+    ghost respects_eq = { λ v w same. ap (λ text. text ∷ []) ((bytes_decides v w).0 same) };
 
     fn hash<H: Hasher>(&self, state: &mut H) {
-        self.as_slice().hash(state);
+        state.write(self.as_slice());
     }
 }

@@ -2,7 +2,6 @@ use Rattle.std.proofs.Common.{◌∙◌, ℕ, List, map, sym, ap, subst, arith}
 use Rattle.std.specs.Option.{option_and_then}
 use Rattle.std.specs.Prelude.{All, is_some}
 use Rattle.rpg_cards.specs.Calculations.{calculations}
-use Rattle.rpg_cards.specs.Levels.{has_match_field}
 use Rattle.rpg_cards.specs.Sections.{sections_of}
 use Rattle.rpg_compile_program.specs.Levels.{subroutine_level}
 use Rattle.rpg_compile_program.specs.Whole as whole
@@ -15,7 +14,7 @@ use Rattle.rpg_object_program.specs.Kept.{IsLineRow, IsProgram, IsTypeRow}
 use Rattle.rpg_object_program.specs.Object.{LineRow, SubroutineRow}
 use Rattle.rpg_effect_renaming.specs.Naming.{renamed_type}
 use Rattle.rpg_compile_program.specs.Lines.{record_length_of}
-use Rattle.rpg_compile_program.specs.Program.{key_numbers, version_with}
+use Rattle.rpg_compile_program.specs.Program.{version_with}
 use Rattle.rpg_compile_program.specs.Table.{Table, key_number, table_of}
 use Rattle.rpg_compile_program.specs.Types.{types_on}
 use Rattle.rpg_compile.proofs.Programs.{is_program, made_of}
@@ -25,13 +24,13 @@ pub build-requires : goal.build-requires
 build-requires c =
     let cards = c.args.cards.now in
     let table = c.in_ok-table.ensures.table in
-    let types = c.in_ok-types.ensures.types ∙ ap (λ (t : Table). map (renamed_type (key_number t)) (types_on c.in_ok-source.source)) table ∙ ap (λ cs. map (renamed_type (key_numbers cards)) (types_on cs)) c.in_ok-source.ensures in
-    let lines = c.in_ok-lines.ensures.lines ∙ ap (λ (t : Table). rows_of t c.in_ok-source.source) table ∙ ap (rows_of (table_of cards)) c.in_ok-source.ensures in
+    let types = c.in_ok-types.ensures.types ∙ ap (λ (t : Table). map (renamed_type (key_number t)) (types_on cards)) table in
+    let lines = c.in_ok-lines.ensures.lines ∙ ap (λ (t : Table). rows_of t cards) table in
     let detail = c.in_ok-detail.ensures.detail ∙ ap (λ (t : Table). whole.detail_code (key_number t) (sections_of (calculations cards))) table in
     let total = c.in_ok-detail.ensures.total ∙ ap (λ (t : Table). whole.total_code (key_number t) (sections_of (calculations cards))) table in
     let bodies = c.in_ok-detail.ensures.subroutines ∙ ap (λ (t : Table). whole.subroutine_rows (key_number t) (subroutine_level (subroutines_in cards)) (sections_of (calculations cards))) table in
     let same = made_of cards _ c.args.allowance _ _ _ _ _ _ _ _ _ _ _ _
-    (c.version_for.ensures ∙ (λ i. version_with (is_some (c.file_for-secondary.ensures i)) ((c.has_match_field.ensures ∙ ap has_match_field c.in_ok-source.ensures) i)))
+    (c.version_for.ensures ∙ (λ i. version_with (is_some (c.file_for-secondary.ensures i)) (c.has_match_field.ensures i)))
     (c.length_of.ensures ∙ ap record_length_of c.file_for.ensures) (c.length_of-2.ensures ∙ ap record_length_of c.file_for-secondary.ensures) (c.length_of-3.ensures ∙ ap record_length_of c.file_for-printer.ensures)
     (c.length_of-4.ensures ∙ ap record_length_of c.file_for-2.ensures)
     (c.overflow_of.ensures ∙ ap (option_and_then (λ f. f.overflow)) c.file_for-printer.ensures)
@@ -49,13 +48,13 @@ returns c =
     let cards = c.args.cards.now in
     let table = c.in_ok-table.ensures.table in
     c.build.ensures ∙ made_of cards _ c.args.allowance _ _ _ _ _ _ _ _ _ _ _ _
-    (c.version_for.ensures ∙ (λ i. version_with (is_some (c.file_for-secondary.ensures i)) ((c.has_match_field.ensures ∙ ap has_match_field c.in_ok-source.ensures) i)))
+    (c.version_for.ensures ∙ (λ i. version_with (is_some (c.file_for-secondary.ensures i)) (c.has_match_field.ensures i)))
     (c.length_of.ensures ∙ ap record_length_of c.file_for.ensures) (c.length_of-2.ensures ∙ ap record_length_of c.file_for-secondary.ensures) (c.length_of-3.ensures ∙ ap record_length_of c.file_for-printer.ensures)
     (c.length_of-4.ensures ∙ ap record_length_of c.file_for-2.ensures)
     (c.overflow_of.ensures ∙ ap (option_and_then (λ f. f.overflow)) c.file_for-printer.ensures)
     c.in_ok-table.ensures.forms c.in_ok-table.ensures.values
-    (c.in_ok-types.ensures.types ∙ ap (λ (t : Table). map (renamed_type (key_number t)) (types_on c.in_ok-source.source)) table ∙ ap (λ cs. map (renamed_type (key_numbers cards)) (types_on cs)) c.in_ok-source.ensures)
-    (c.in_ok-lines.ensures.lines ∙ ap (λ (t : Table). rows_of t c.in_ok-source.source) table ∙ ap (rows_of (table_of cards)) c.in_ok-source.ensures)
+    (c.in_ok-types.ensures.types ∙ ap (λ (t : Table). map (renamed_type (key_number t)) (types_on cards)) table)
+    (c.in_ok-lines.ensures.lines ∙ ap (λ (t : Table). rows_of t cards) table)
     (c.in_ok-detail.ensures.detail ∙ ap (λ (t : Table). whole.detail_code (key_number t) (sections_of (calculations cards))) table)
     (c.in_ok-detail.ensures.total ∙ ap (λ (t : Table). whole.total_code (key_number t) (sections_of (calculations cards))) table)
     (c.in_ok-detail.ensures.subroutines ∙ ap (λ (t : Table). whole.subroutine_rows (key_number t) (subroutine_level (subroutines_in cards)) (sections_of (calculations cards))) table)

@@ -1,5 +1,5 @@
 use Rattle.std.proofs.Common.{◌∙◌, sym, ap}
-use Rattle.indexmap.specs.IndexSet.{insert_all}
+use Rattle.rpg_cards.specs.Insertions.{insert_all}
 use Rattle.rpg_cards.specs.Constants.{is_same}
 use Rattle.rpg_compile_layouts.proofs.constants.add.Goals as goal
 

@@ -1,5 +1,5 @@
 use Rattle.std.proofs.Common.{◌∙◌, sym, ap, arith}
-use Rattle.indexmap.specs.IndexSet.{insert_all}
+use Rattle.rpg_cards.specs.Insertions.{insert_all}
 use Rattle.rpg_cards.specs.Constants.{constants_on, is_same}
 use Rattle.rpg_compile_layouts.proofs.ConstantLemmas.{constants_more}
 use Rattle.rpg_compile_layouts.proofs.constants.constants_of.Goals as goal

@@ -8,9 +8,9 @@ use Rattle.rpg_compile_layouts.proofs.lines.lines_of.Given as goal
 
 abbrev pub invariant-loop-card : goal.invariant-loop-card
 invariant-loop-card l = record {
-  so_far : map line_row l.lines.items ++ rows_from l.table l.source l.name l.rest ≡ rows_of l.table l.source;
+  so_far : map line_row l.lines.items ++ rows_from l.table l.cards l.name l.rest ≡ rows_of l.table l.cards;
   rows : All IsLineRow (map line_row l.lines.items);
-  within : All IsLineWithin (rows_from l.table l.source l.name l.rest);
+  within : All IsLineWithin (rows_from l.table l.cards l.name l.rest);
 }
 
 abbrev pub decreases-loop-card : goal.decreases-loop-card

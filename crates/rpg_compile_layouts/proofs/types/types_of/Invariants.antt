@@ -11,9 +11,9 @@ use Rattle.rpg_compile_layouts.proofs.types.types_of.Given as goal
 
 abbrev pub invariant-loop-card : goal.invariant-loop-card
 invariant-loop-card l = record {
-  so_far : map type_row l.types.items ++ map (renamed_type (key_number l.table)) (types_from l.source l.name l.rest) ≡ map (renamed_type (key_number l.table)) (types_on l.source);
+  so_far : map type_row l.types.items ++ map (renamed_type (key_number l.table)) (types_from l.cards l.name l.rest) ≡ map (renamed_type (key_number l.table)) (types_on l.cards);
   rows : All IsTypeRow (map type_row l.types.items);
-  within : All IsTypeWithin (types_from l.source l.name l.rest);
+  within : All IsTypeWithin (types_from l.cards l.name l.rest);
 }
 
 abbrev pub decreases-loop-card : goal.decreases-loop-card

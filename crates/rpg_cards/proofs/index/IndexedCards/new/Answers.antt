@@ -20,7 +20,7 @@ note_constants-requires c =
     let few = few_constants front in
     let here = few_constants_on c.card-item.result.spec in
     let all = length-take-le c.loop-card.card-index c.args.cards.now (omega arith) in
-    omega (arith, ap length c.constants-in-loop-card.ensures)
+    omega (arith, ap length c.constants.ensures)
 
 pub loop-card-preserved : goal.loop-card-preserved
 loop-card-preserved c =
@@ -33,7 +33,7 @@ loop-card-preserved c =
     let constants_both = length-append (constants_in (take i cards)) (constants_on card.spec) in
     record {
       index = index_more _ _ _ _ cards i card _ _ _ _ c.loop-card-test.true c.card-item.is c.loop-card.invariant.index c.loop-card.invariant.names c.loop-card.invariant.constants
-          c.definitions.ensures c.constants-in-loop-card.ensures c.in_ok-name_place.ensures.noted c.in_ok-constant_place.ensures.noted;
+          c.definitions.ensures c.constants.ensures c.in_ok-name_place.ensures.noted c.in_ok-constant_place.ensures.noted;
       names = omega (arith, ap length c.definitions.ensures, c.in_ok-name_place.ensures.place);
-      constants = omega (arith, ap length c.constants-in-loop-card.ensures, c.in_ok-constant_place.ensures.place);
+      constants = omega (arith, ap length c.constants.ensures, c.in_ok-constant_place.ensures.place);
     }
