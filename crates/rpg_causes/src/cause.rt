@@ -14,7 +14,6 @@ use crate::files::{FileCause, FileOnCard, file_cause, moved_disk};
 use crate::joins::{JoinCause, join_cause};
 use crate::places::{PlaceCause, outside_cause};
 use rpg_cards::{IndexedCards, Sheets, SpecCard};
-use rpg_causes_data::{DataCause, data_cause};
 use rpg_causes_flow::{
     ColumnCause, NowhereCause, OrderCause, RoundingCause, StrayCause, Target, TwiceCause,
     apart_cause, nowhere_cause, on_calculation, order_cause, rounding_cause, stray_cause,
@@ -26,6 +25,7 @@ use rpg_causes_operands::{
     with_card,
 };
 use rpg_faults::FaultCode;
+use rpg_faults_data::{DataCause, data_cause};
 use rpg_faults_flow::{Flow, Labels, calls_itself};
 use rpg_faults_limits::{LimitCause, Limits, limit_cause};
 use rpg_symbols::Name;

@@ -12,11 +12,11 @@ pub use editing::{EditingCause, Misfit};
 pub use files::{FileCause, FileOnCard, FileUser};
 pub use joins::JoinCause;
 pub use places::PlaceCause;
-pub use rpg_causes_data::{DataCause, EntryCause, EntryFault, Need};
 pub use rpg_causes_flow::{
     ColumnCause, Giver, NowhereCause, OrderCause, RoundingCause, StrayCause, Target, TwiceCause,
 };
 pub use rpg_causes_operands::{
     FieldCause, IndexCause, IndicatorCause, OperandCause, Redefined, SizeCause, TextField,
 };
+pub use rpg_faults_data::{DataCause, EntryCause, EntryFault, Need};
 pub use rpg_faults_limits::{Limit, LimitCause};
