@@ -9,7 +9,8 @@ use crate::seen::Seen;
 use rpg_cards::{IndexedCards, SpecCard};
 use rpg_faults_flow::Labels;
 
-/// Whether a card breaks the rule of a code.
+/// Whether a card breaks the rule of a code. Each card is asked for each code, so it is compiled in place.
+#[inline(always)]
 #[tactic(auto, unfolding(crate::specs::Rules::rule))]
 pub(crate) fn breaks(
     code: FaultCode,
