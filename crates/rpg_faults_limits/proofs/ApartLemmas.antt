@@ -1,14 +1,14 @@
 -- A card of another sheet passes no limit of a sheet.
-use Rattle.std.proofs.Common.{◌≡◌, ℕ, ◌+◌, ◌<◌, ◌≤◌, Bool, true, false, cond, ◌&&◌, List, [], ◌∷◌, ◌++◌, length, Option, None, Some, refl, ap, ◌∙◌, arith, add-zero}
+use Rattle.std.proofs.Common.{◌≡◌, ℕ, ◌+◌, Bool, true, false, cond, ◌&&◌, List, [], ◌∷◌, ◌++◌, length, Option, None, Some, refl, ap, ◌∙◌, arith, add-zero}
 use Rattle.std.proofs.lemmas.Bool.{leb-true}
 use Rattle.std.proofs.lemmas.Bool.Decides.{nat_tests}
 use Rattle.std.specs.Option.{option_or}
 use Rattle.std.specs.Prelude.{nat_le, nat_lt}
 use Rattle.rpg_cards.proofs.GroupLemmas.{groups-push, one_if_heading, open_group-push}
 use Rattle.rpg_cards.specs.Cards.{input_on, output_on}
-use Rattle.rpg_cards.specs.Groups.{Apart, Group, Role, group_count, groups, input_card_role, input_role, open_group, output_card_role, output_role, role_on, with_card}
+use Rattle.rpg_cards.specs.Groups.{Apart, Role, group_count, groups, input_card_role, input_role, open_group, output_card_role, output_role, role_on, with_card}
 use Rattle.rpg_cards.specs.declared.spec_card.SpecCard.{SpecCard}
-use Rattle.rpg_faults_limits.specs.Causes.{count_of, first_past, is_past, of_count, on_lines, on_types}
+use Rattle.rpg_faults_limits.specs.Causes.{count_of, first_past, of_count, on_lines, on_types}
 use Rattle.rpg_faults_limits.specs.Limits.{alternative_count, code_count, condition_count, field_count, in_open, level_count, of_line, of_type, output_field_count}
 use Rattle.rpg_faults_limits.specs.declared.measures.Measure.{Measure}
 use Rattle.rpg_faults_limits.specs.declared.measures.Limit.TheVariants as limit

@@ -1,4 +1,4 @@
-use Rattle.std.proofs.Common.{◌≡◌, ℕ, zero, suc, ◌+◌, ◌-◌, ◌≤◌, List, ◌∙◌, length, subst, sym, arith}
+use Rattle.std.proofs.Common.{◌≡◌, ℕ, zero, suc, ◌+◌, ◌-◌, List, ◌∙◌, length, subst, sym, arith}
 use Rattle.rpg_faults_flow.specs.Index.{Call, IsReaching}
 use Rattle.rpg_faults_flow.proofs.cycles.reach.Goals as goal
 
