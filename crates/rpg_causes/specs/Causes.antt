@@ -10,7 +10,7 @@ use Rattle.rpg_causes.specs.Movements.{moved_disk}
 use Rattle.rpg_causes.specs.Places.{outside}
 use Rattle.rpg_causes.specs.declared.cause.Cause.{Cause}
 use Rattle.rpg_causes.specs.declared.cause.Cause.TheVariants as cause
-use Rattle.rpg_causes_data.specs.Data.{data_cause}
+use Rattle.rpg_faults_data.specs.Causes.{data_cause}
 use Rattle.rpg_causes_flow.specs.Columns.{on_calculation}
 use Rattle.rpg_causes_flow.specs.Labels.{nowhere, target, twice}
 use Rattle.rpg_causes_flow.specs.Order.{order_cause}

@@ -4,7 +4,7 @@ use Rattle.std.specs.Option.{option_or}
 use Rattle.rpg_cards.specs.declared.spec_card.SpecCard.{SpecCard}
 use Rattle.rpg_causes_operands.specs.declared.indicators.IndicatorCause.{IndicatorCause}
 use Rattle.rpg_causes_operands.specs.declared.indicators.IndicatorCause.TheVariants.{FirstPage, NeverSet, NoMatchFields, NotOfType, TextField}
-use Rattle.rpg_faults_limits.specs.Indicators.{cannot_be_set, cannot_mark_type, is_1p, is_barred_mr}
+use Rattle.rpg_faults_operands.specs.Indicators.{cannot_be_set, cannot_mark_type, is_1p, is_barred_mr}
 use Rattle.rpg_sheet_specs.specs.declared.calculation.CalculationSpec.{CalculationSpec}
 use Rattle.rpg_sheet_specs.specs.declared.indicator.Condition.{Condition}
 use Rattle.rpg_sheet_specs.specs.declared.indicator.Three.{Three}

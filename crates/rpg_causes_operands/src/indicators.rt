@@ -3,7 +3,7 @@
 ghost use Rattle.std.specs.Prelude.{◌≡◌, is_some, false, option_and_then};
 ghost use Rattle.std.specs.Option.{option_map_or};
 ghost use Rattle.rpg_causes_operands.specs.Indicators as causes;
-ghost use Rattle.rpg_faults_limits.specs.Indicators as rules;
+ghost use Rattle.rpg_faults_operands.specs.Indicators as rules;
 
 use rpg_cards::{IndexedCards, SpecCard};
 use rpg_sheet_specs::{

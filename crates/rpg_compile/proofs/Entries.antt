@@ -15,7 +15,7 @@ use Rattle.rpg_effect.specs.declared.form.FieldForm.{FieldForm}
 use Rattle.rpg_effect.specs.declared.form.Kind.{Kind}
 use Rattle.rpg_effect.specs.declared.form.Kind.TheVariants as kind
 use Rattle.rpg_decimal_words.specs.Zoned.{number_in}
-use Rattle.rpg_faults.specs.Data.{data_entries, entries_on, entry_on}
+use Rattle.rpg_faults_data.specs.Data.{data_entries, entries_on, entry_on}
 use Rattle.rpg_object_program.specs.Kept.{AreEntriesOf, IsCharacter, IsValueOf}
 use Rattle.rpg_sheet_specs.specs.declared.extension.TableSpec.{TableSpec}
 use Rattle.rpg_text.specs.Texts.{is_between}

@@ -12,7 +12,7 @@ use Rattle.rpg_faults_flow.specs.Flow.{calls_itself, goes_apart, goes_nowhere}
 use Rattle.rpg_faults_flow.specs.Kept.{KeepsRule, Rule}
 use Rattle.rpg_faults_flow.specs.Order.{breaks_order}
 use Rattle.rpg_faults_limits.specs.Files.{breaks_files, moves_disk}
-use Rattle.rpg_faults_limits.specs.Indicators.{bad_indicator}
+use Rattle.rpg_faults_operands.specs.Indicators.{bad_indicator}
 use Rattle.rpg_faults_limits.specs.Limits.{passes_limit}
 use Rattle.rpg_faults_limits.specs.Order.{strays}
 use Rattle.rpg_faults_operands.specs.Columns as operands
@@ -20,7 +20,7 @@ use Rattle.rpg_faults_operands.specs.Editing.{bad_editing}
 use Rattle.rpg_faults_operands.specs.Indexes.{bad_index}
 use Rattle.rpg_faults_operands.specs.Kinds.{wrong_operand}
 use Rattle.rpg_faults_operands.specs.Names.{lacks_name}
-use Rattle.rpg_faults.specs.Data.{breaks_data}
+use Rattle.rpg_faults_data.specs.Data.{breaks_data}
 use Rattle.rpg_faults.specs.Places.{misplaces}
 use Rattle.rpg_compile_program.specs.Rules.{KeepsCardRules}
 

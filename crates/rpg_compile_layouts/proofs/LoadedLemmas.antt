@@ -19,7 +19,7 @@ use Rattle.rpg_compile_layouts.specs.Tables.{values_on}
 use Rattle.rpg_compile_layouts.specs.declared.tables.TableData.{TableData}
 use Rattle.rpg_faults_flow.specs.Kept.{KeepsRule}
 use Rattle.rpg_faults_limits.specs.Names.{bad_size, bad_size_of_field, bad_size_of_result, bad_size_of_tables}
-use Rattle.rpg_faults.specs.Data.{data_columns, data_entries}
+use Rattle.rpg_faults_data.specs.Data.{data_columns, data_entries}
 use Rattle.rpg_sheet_specs.specs.declared.extension.ExtensionSpec.{ExtensionSpec}
 use Rattle.rpg_sheet_specs.specs.declared.extension.TableSpec.{TableSpec}
 use Rattle.rpg_symbols.specs.Fields.{NamedForms}

@@ -9,8 +9,8 @@ use Rattle.rpg_cards.specs.declared.spec_card.SpecCard.{SpecCard}
 use Rattle.rpg_effect.specs.Values.{Value}
 use Rattle.rpg_compile_layouts.specs.Tables.{values_on_card}
 use Rattle.rpg_compile_layouts.specs.declared.tables.TableData.{TableData}
-use Rattle.rpg_faults.proofs.EntryLemmas.{entries-card, entries-none}
-use Rattle.rpg_faults.specs.Data.{data_entries, entry_on}
+use Rattle.rpg_faults_data.proofs.EntryLemmas.{entries-card, entries-none}
+use Rattle.rpg_faults_data.specs.Data.{data_entries, entry_on}
 use Rattle.rpg_sheet_specs.specs.declared.data.DataSpec.{DataSpec}
 use Rattle.rpg_sheet_specs.specs.declared.data.DataSpec.TheVariants as deck
 use Rattle.rpg_compile_program.specs.Data.{entry_value}

@@ -14,7 +14,7 @@ use indexmap::IndexMap;
 use rpg_cards::SpecCard;
 use rpg_effect::form::FieldForm;
 use rpg_effect::value::Value;
-use rpg_faults::{behind_next, data_columns};
+use rpg_faults_data::{behind_next, data_columns};
 use rpg_sheet_specs::ExtensionSpec;
 use rpg_symbols::Name;
 use std::alloc::{AllocError, Global};

@@ -4,7 +4,7 @@ ghost use Rattle.std.specs.Prelude.{◌≡◌, ◌++◌, ◌+◌, ◌≤◌, ◌
 ghost use Rattle.rpg_effect.specs.Values.{held};
 ghost use Rattle.rpg_faults_limits.specs.Names.{bad_size_of_table};
 ghost use Rattle.rpg_decimal_words.specs.Zoned.{number_in};
-ghost use Rattle.rpg_faults.specs.Data.{entry_on};
+ghost use Rattle.rpg_faults_data.specs.Data.{entry_on};
 ghost use Rattle.rpg_compile_program.specs.Data.{entry_value};
 
 use crate::values::text_value;

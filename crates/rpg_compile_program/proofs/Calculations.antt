@@ -23,7 +23,7 @@ use Rattle.rpg_faults_flow.proofs.Walk.{Walk, each_calculation}
 use Rattle.rpg_faults_flow.specs.Columns as flow
 use Rattle.rpg_faults_flow.specs.Columns.{bad_by_end, bad_calculation, bad_last}
 use Rattle.rpg_faults_flow.specs.Kept.{KeepsRule}
-use Rattle.rpg_faults_limits.specs.Indicators.{bad_indicator, bad_on, bad_on_calculation}
+use Rattle.rpg_faults_operands.specs.Indicators.{bad_indicator, bad_on, bad_on_calculation}
 use Rattle.rpg_faults_operands.specs.Columns as operands
 use Rattle.rpg_faults_operands.specs.Columns.{bad_search}
 use Rattle.rpg_faults_operands.specs.Indexes.{bad_index, bad_index_of}

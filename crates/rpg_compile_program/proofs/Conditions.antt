@@ -14,7 +14,7 @@ use Rattle.rpg_cards.specs.declared.spec_card.SpecCard.{SpecCard}
 use Rattle.rpg_compile_program.proofs.Each.{each_append}
 use Rattle.rpg_effect.specs.Control.{has_conditions}
 use Rattle.rpg_effect.specs.declared.condition.Conditions.{Conditions}
-use Rattle.rpg_faults_limits.specs.Indicators.{any_of, bad_in_calculation, cannot_be_set, is_barred_mr}
+use Rattle.rpg_faults_operands.specs.Indicators.{any_of, bad_in_calculation, cannot_be_set, is_barred_mr}
 use Rattle.rpg_object_program.specs.Kept.{IsIndicator}
 use Rattle.rpg_object_program.specs.declared.row.Version.{Version}
 use Rattle.rpg_object_program.specs.declared.row.Version.TheVariants as versions

@@ -18,7 +18,7 @@ use Rattle.rpg_cards.specs.declared.files.FileUse.TheVariants as uses
 use Rattle.rpg_cards.specs.declared.spec_card.SpecCard.{SpecCard}
 use Rattle.rpg_faults_flow.specs.Kept.{KeepsRule}
 use Rattle.rpg_faults_limits.specs.Files.{bad_file, breaks_files, lacks_file, moves, moves_disk, moves_disk_by, is_disk}
-use Rattle.rpg_faults_limits.specs.Indicators.{any_of, bad_in_output, bad_indicator, bad_on, bad_on_output}
+use Rattle.rpg_faults_operands.specs.Indicators.{any_of, bad_in_output, bad_indicator, bad_on, bad_on_output}
 use Rattle.rpg_faults_operands.specs.Columns as columns
 use Rattle.rpg_faults_operands.specs.Editing.{bad_editing, edits_badly}
 use Rattle.rpg_faults_operands.specs.Indexes.{bad_index, bad_index_of}

@@ -14,7 +14,7 @@ use Rattle.rpg_effect.specs.Values.{Number, Text, Value}
 use Rattle.rpg_effect.specs.declared.form.FieldForm.{FieldForm}
 use Rattle.rpg_effect.specs.declared.form.Kind.{Kind}
 use Rattle.rpg_effect.specs.declared.form.Kind.TheVariants as kind
-use Rattle.rpg_faults.specs.Data.{data_columns, data_entries}
+use Rattle.rpg_faults_data.specs.Data.{data_columns, data_entries}
 use Rattle.rpg_sheet_specs.specs.declared.extension.ExtensionSpec.{ExtensionSpec}
 use Rattle.rpg_sheet_specs.specs.declared.extension.TableSpec.{TableSpec}
 use Rattle.rpg_compile_program.specs.Table.{table_of}

@@ -1,5 +1,3 @@
-pub mod DeckLemmas
-pub mod EntryLemmas
 pub mod EveryLemmas
 pub mod LeastLemmas
 pub mod LevelLemmas

@@ -1,9 +1,6 @@
 pub mod Before
 pub mod Cards
 pub mod Codes
-pub mod Data
-pub mod Decks
-pub mod Entries
 pub mod Every
 pub mod EverySource
 pub mod Faults

@@ -13,6 +13,7 @@ use Rattle.rpg_faults_flow.specs.Columns as calculations
 use Rattle.rpg_faults_flow.specs.Marks as flow
 use Rattle.rpg_faults_limits.specs.Marks as limits
 use Rattle.rpg_faults_operands.specs.Columns as columns
+use Rattle.rpg_faults_operands.specs.IndicatorMarks as indicators
 use Rattle.rpg_faults_operands.specs.Marks as operands
 use Rattle.rpg_sheet_specs.specs.Ranges.{columns_of}
 use Rattle.rpg_sheet_specs.specs.declared.column.ColumnFault.{ColumnFault}
@@ -88,7 +89,7 @@ fault_range F4 before c after = operands.wrong_columns (before ++ c ∷ after) c
 fault_range F5 before c after = Some (operands.wrong_index (before ++ c ∷ after) c after)
 fault_range F6 before c after = limits.limit_columns c
 fault_range F7 before c after = limits.file_columns before c.spec
-fault_range F8 before c after = limits.indicator_columns (before ++ c ∷ after) c.spec
+fault_range F8 before c after = indicators.indicator_columns (before ++ c ∷ after) c.spec
 fault_range F9 before c after = missing_columns before c after
 fault_range F10 before c after = Some flow.target_range
 fault_range F11 before c after = Some (flow.twice_range before c after)

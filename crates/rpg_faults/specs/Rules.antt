@@ -9,7 +9,7 @@ use Rattle.rpg_faults_flow.specs.Kept.{Rule}
 use Rattle.rpg_faults_flow.specs.Order.{breaks_order}
 use Rattle.rpg_faults_flow.specs.Rounding.{bad_rounding}
 use Rattle.rpg_faults_limits.specs.Files.{breaks_files, lacks_input, moves_disk}
-use Rattle.rpg_faults_limits.specs.Indicators.{bad_indicator}
+use Rattle.rpg_faults_operands.specs.Indicators.{bad_indicator}
 use Rattle.rpg_faults_limits.specs.Limits.{passes_limit}
 use Rattle.rpg_faults_limits.specs.Names.{bad_size, redefines}
 use Rattle.rpg_faults_limits.specs.Order.{strays}
@@ -18,7 +18,7 @@ use Rattle.rpg_faults_operands.specs.Editing.{bad_editing}
 use Rattle.rpg_faults_operands.specs.Indexes.{bad_index}
 use Rattle.rpg_faults_operands.specs.Kinds.{wrong_operand}
 use Rattle.rpg_faults_operands.specs.Names.{lacks_name}
-use Rattle.rpg_faults.specs.Data.{breaks_data}
+use Rattle.rpg_faults_data.specs.Data.{breaks_data}
 use Rattle.rpg_faults.specs.Places.{misplaces}
 
 -- what a card breaks, seen with the cards before it and those after it

@@ -1,7 +1,7 @@
 -- What is kept of the cards before a card.
 use Rattle.std.specs.Prelude.{List}
 use Rattle.rpg_cards.specs.declared.spec_card.SpecCard.{SpecCard}
-use Rattle.rpg_faults.specs.Decks.{AreDecks}
+use Rattle.rpg_faults_data.specs.Decks.{AreDecks}
 use Rattle.rpg_faults.specs.Lengths.{AreJoinedLengths}
 use Rattle.rpg_faults.specs.Matches.{AreMatches}
 use Rattle.rpg_faults.specs.declared.state.Places.{Places}

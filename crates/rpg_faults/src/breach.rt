@@ -9,7 +9,8 @@ use crate::seen::Seen;
 use rpg_cards::{IndexedCards, SpecCard};
 use rpg_faults_flow::Labels;
 
-/// Whether a card breaks the rule of a code.
+/// Whether a card breaks the rule of a code. Each card is asked for each code, so it is compiled in place.
+#[inline(always)]
 #[tactic(auto, unfolding(crate::specs::Rules::rule))]
 pub(crate) fn breaks(
     code: FaultCode,
@@ -34,7 +35,7 @@ pub(crate) fn breaks(
             rpg_faults_limits::passes_limit(source, &seen.sheets, &seen.limits, before, card, after)
         }
         FaultCode::F7 => rpg_faults_limits::breaks_files(source, &seen.sheets, before, card),
-        FaultCode::F8 => rpg_faults_limits::bad_indicator(source, card),
+        FaultCode::F8 => rpg_faults_operands::bad_indicator(source, card),
         FaultCode::F9 => {
             rpg_faults_flow::bad_columns(&seen.flow, before, card, after)
                 || rpg_faults_operands::bad_columns(source, card, after)
@@ -53,6 +54,6 @@ pub(crate) fn breaks(
         FaultCode::F15 => rpg_faults_flow::bad_rounding(&seen.flow, before, card, after),
         FaultCode::F16 => crate::misplaces(source, &seen.sheets, &seen.places, before, card, after),
         FaultCode::F17 => rpg_faults_operands::bad_editing(source, card),
-        FaultCode::F18 => crate::breaks_data(source, &seen.places, before, card),
+        FaultCode::F18 => rpg_faults_data::breaks_data(source, &seen.places.decks, before, card),
     }
 }

@@ -1,4 +1,4 @@
-//! Places that are wrong: columns of records and of lines, and the data of tables.
+//! Places that are wrong: columns of records and of lines.
 //! The least fault of a source.
 //! The cards of a source without a fault, or its least fault.
 #![tactic(auto)]
@@ -7,9 +7,6 @@ mod breach;
 mod cards;
 mod code;
 mod columns;
-mod data;
-mod decks;
-mod entries;
 mod every;
 mod every_source;
 mod fault;
@@ -24,9 +21,6 @@ mod state;
 
 pub use code::FaultCode;
 pub use columns::misplaces;
-pub use data::{breaks_data, data_cards, data_columns, has_forms, has_table};
-pub use decks::{begins_deck, behind_next, wants_data};
-pub use entries::{Layout, is_bad, is_lower, last_entry};
 pub use every::all_faults;
 pub use every_source::source_faults;
 pub use fault::Fault;

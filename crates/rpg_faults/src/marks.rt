@@ -57,7 +57,7 @@ fn fault_range(
         FaultCode::F5 => Some(rpg_faults_operands::wrong_index(source, card, after)),
         FaultCode::F6 => rpg_faults_limits::limit_columns(card),
         FaultCode::F7 => rpg_faults_limits::file_columns(before, card),
-        FaultCode::F8 => rpg_faults_limits::indicator_columns(source, card),
+        FaultCode::F8 => rpg_faults_operands::indicator_columns(source, card),
         FaultCode::F9 => missing_columns(source, seen, card, after),
         FaultCode::F10 | FaultCode::F13 | FaultCode::F14 => Some(rpg_faults_flow::target_range()),
         FaultCode::F11 => Some(rpg_faults_flow::twice_range(

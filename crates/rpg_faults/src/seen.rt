@@ -36,7 +36,8 @@ impl<'a> Seen<'a> {
         }
     }
 
-    /// Before the next card.
+    /// Before the next card. It is large, so it is made where it is kept.
+    #[inline(always)]
     pub fn behind(&self, source: &IndexedCards<'a>, card: &SpecCard, after: &[SpecCard]) -> Self
         requires { AreCardsSeen source.now (card.now ∷ after.now) self.now }
         ensures before { result.before.now ≡ self.now.before.now ++ card.now ∷ [] }

@@ -3,10 +3,10 @@
 ghost use Rattle.std.specs.Prelude.{◌≡◌, ◌≤◌, [], ◌∷◌, ◌++◌, length};
 ghost use Rattle.rpg_faults.specs.State.{IsPlaces};
 
-use crate::decks::Decks;
 use crate::lengths::JoinedLengths;
 use crate::matches::Matches;
 use rpg_cards::{IndexedCards, SpecCard};
+use rpg_faults_data::Decks;
 
 /// The decks of data that are left, the joined lengths of control fields, and the match fields.
 #[derive(Clone, Copy)]

@@ -1,6 +1,6 @@
 //! Calls between subroutines that come back to their caller.
 
-ghost use Rattle.std.specs.Prelude.{◌≡◌, ℕ, ◌+◌, ◌-◌, ◌≤◌, ◌<◌, ◌==◌, ◌&&◌, ◌||◌, length, slice_index, List, IfOk, OnOk};
+ghost use Rattle.std.specs.Prelude.{◌≡◌, ℕ, ◌+◌, ◌-◌, ◌≤◌, ◌<◌, ◌==◌, ◌&&◌, ◌||◌, length, slice_index, true, List, IfOk, OnOk};
 ghost use Rattle.std.specs.List.{list_any};
 ghost use Rattle.rpg_cards.specs.Calls.{reaches};
 ghost use Rattle.rpg_faults_flow.specs.Index as index;
@@ -56,7 +56,7 @@ fn reaching(
     Ok(words)
 }
 
-/// The same, by so many calls as there are.
+/// The same, by so many calls as there are: where one call more changes nothing, neither do further ones.
 fn reach(first: usize, calls: &[(u16, u16)], words: &mut [u64], next: &mut [u64])
     requires below { index.AreBelow (length words.old) calls.now }
     requires same { length next.old ≡ length words.old }
@@ -65,8 +65,17 @@ fn reach(first: usize, calls: &[(u16, u16)], words: &mut [u64], next: &mut [u64]
     reach_itself(first, words);
     for _ in 0..calls.len() {
         reach_further(first, calls, words, next);
+        if are_same(words, next) {
+            return;
+        }
         words.copy_from_slice(next);
     }
+}
+
+fn are_same(words: &[u64], others: &[u64]) -> bool
+    ensures { result ≡ true → others.now ≡ words.now }
+{
+    words == others
 }
 
 /// By one call more.

@@ -1,6 +1,8 @@
 //! What is known of the cards before a card.
 
 ghost use Rattle.std.specs.Prelude.{◌≡◌, ◌≤◌, [], ◌∷◌, ◌++◌, List, length};
+ghost use Rattle.std.specs.Option.{option_to_list};
+ghost use Rattle.rpg_cards.specs.Names as names;
 ghost use Rattle.rpg_cards.specs.declared.spec_card.SpecCard.{SpecCard};
 ghost use Rattle.rpg_faults_flow.specs.Seen.{IsFlow};
 ghost use Rattle.rpg_faults_flow.specs.ByCard as by_card;
@@ -8,7 +10,7 @@ ghost use Rattle.rpg_faults_flow.specs.ByCard as by_card;
 use crate::groups::{bracket_at, is_label_at, level_with, rank};
 use crate::rounding::leaves_remainder;
 use rpg_cards::SpecCard;
-use rpg_sheet_specs::ControlLevel;
+use rpg_sheet_specs::{CalculationSpec, ControlLevel, InputSpec, Spec};
 
 /// What is known of the cards before a card.
 #[derive(Clone, Copy)]
@@ -58,9 +60,33 @@ impl Flow {
             is_inside: inside_behind(self.is_inside, bracket),
             begun: begun_behind(self.begun, bracket),
             labels: self.labels + u16::from(is_label_at(card, after)),
-            definitions: self.definitions + card.definitions().len() as u16,
+            definitions: self.definitions + definition_count(card),
             is_behind_division: leaves_remainder(card),
         }
+    }
+}
+
+/// How many names a card defines, without their forms.
+fn definition_count(card: &SpecCard) -> u16
+    ensures { result ≡ length (names.definitions_on card.now.spec) }
+{
+    match &card.spec {
+        Spec::Extension(extension) => match &extension.alternating {
+            None => 1,
+            Some(_) => 2,
+        },
+        Spec::Input(InputSpec::Field(_)) => 1,
+        Spec::Calculation(calculation) => result_count(calculation),
+        _ => 0,
+    }
+}
+
+fn result_count(calculation: &CalculationSpec) -> u16
+    ensures { result ≡ length (option_to_list (names.definition_by calculation.now)) }
+{
+    match (&calculation.length, &calculation.result_field) {
+        (Some(_), Some(_)) => 1,
+        _ => 0,
     }
 }
 

@@ -19,11 +19,11 @@ ghost use Rattle.rpg_faults_flow.specs.ByCard as by_card;
 use crate::cycles::{cycles, has_call};
 use crate::flow::Flow;
 use crate::groups::level_in;
-use indexmap::IndexMap;
 use rpg_cards::{Label, Named, Section, SpecCard, begins_subroutine, gives, last_card, wants};
 use rpg_sheet_specs::{CalculationSpec, ControlLevel};
 use rpg_symbols::Name;
 use std::alloc::{AllocError, Global};
+use std::collections::HashMap;
 use std::marker::Model;
 
 /// What a name means as a target of control.
@@ -44,7 +44,7 @@ pub(crate) struct FirstLabel {
 #[derive(Drop)]
 pub struct Labels<'a> {
     cards: &'a [SpecCard],
-    names: IndexMap<Name, FirstLabel>,
+    names: HashMap<Name, FirstLabel>,
     /// The calls, by caller and callee, whose callee reaches their caller.
     cycles: Vec<(u16, u16)>,
 }
@@ -139,11 +139,11 @@ pub(crate) fn section_at(flow: &Flow, calculation: &CalculationSpec) -> Section
 }
 
 /// Each name with its first label.
-fn names_of(alloc: Global, cards: &[SpecCard]) -> Result<IndexMap<Name, FirstLabel>, AllocError>
+fn names_of(alloc: Global, cards: &[SpecCard]) -> Result<HashMap<Name, FirstLabel>, AllocError>
     requires { length cards.now ≤ 2000 }
     ensures { IfOk result (λ names. index.IsIndexOf names.entries cards.now) }
 {
-    let mut names = IndexMap::new(alloc);
+    let mut names = HashMap::new(alloc);
     let mut flow = Flow::nothing();
     let mut before = &cards[..0];
     let mut rest = cards;
@@ -158,7 +158,7 @@ fn names_of(alloc: Global, cards: &[SpecCard]) -> Result<IndexMap<Name, FirstLab
 
 /// Notes the label that a card gives, where its name has none before.
 fn note_label(
-    names: &mut IndexMap<Name, FirstLabel>,
+    names: &mut HashMap<Name, FirstLabel>,
     flow: &Flow,
     card: &SpecCard,
     after: &[SpecCard],
@@ -189,7 +189,7 @@ fn label_at(flow: &Flow, card: &SpecCard, after: &[SpecCard]) -> Option<Label>
 
 /// Puts a label at a name that has none.
 fn note(
-    names: &mut IndexMap<Name, FirstLabel>,
+    names: &mut HashMap<Name, FirstLabel>,
     name: Name,
     label: FirstLabel,
 ) -> Result<(), AllocError>
@@ -202,7 +202,7 @@ fn note(
     Ok(())
 }
 
-fn target_in(names: &IndexMap<Name, FirstLabel>, name: &Name) -> Option<Target>
+fn target_in(names: &HashMap<Name, FirstLabel>, name: &Name) -> Option<Target>
     ensures { (ls : List Label) → index.IsLabelIndex names.now.entries ls → result ≡ option_map index.target_of (labels.label_named name.now ls) }
 {
     Some(names.get(name)?.target)
@@ -212,7 +212,7 @@ fn target_in(names: &IndexMap<Name, FirstLabel>, name: &Name) -> Option<Target>
 fn calls_of(
     alloc: Global,
     cards: &[SpecCard],
-    names: &IndexMap<Name, FirstLabel>,
+    names: &HashMap<Name, FirstLabel>,
 ) -> Result<Vec<(u16, u16)>, AllocError>
     requires few { length cards.now ≤ 2000 }
     requires index { index.IsIndexOf names.now.entries cards.now }
@@ -244,7 +244,7 @@ fn add(calls: &mut Vec<(u16, u16)>, call: Option<(u16, u16)>) -> Result<(), Allo
 /// The call that ends on a card.
 fn call_at(
     flow: &Flow,
-    names: &IndexMap<Name, FirstLabel>,
+    names: &HashMap<Name, FirstLabel>,
     card: &SpecCard,
     after: &[SpecCard],
 ) -> Option<(u16, u16)>
@@ -255,7 +255,7 @@ fn call_at(
 
 fn call_in(
     flow: &Flow,
-    names: &IndexMap<Name, FirstLabel>,
+    names: &HashMap<Name, FirstLabel>,
     calculation: &CalculationSpec,
 ) -> Option<(u16, u16)>
     ensures { (ls : List Label) → index.IsLabelIndex names.now.entries ls → result ≡ by_card.calculation_call flow.now ls calculation.now }
@@ -275,7 +275,7 @@ fn subroutine_in(section: Section) -> Option<u16>
 }
 
 /// The number of the subroutine that is called.
-fn called(names: &IndexMap<Name, FirstLabel>, wanted: &Named) -> Option<u16>
+fn called(names: &HashMap<Name, FirstLabel>, wanted: &Named) -> Option<u16>
     ensures { (ls : List Label) → index.IsLabelIndex names.now.entries ls → result ≡ calls_of.called_subroutine ls wanted.now }
 {
     let target = target_in(names, &wanted.name)?;

@@ -1,3 +1,4 @@
+pub mod ApartLemmas
 pub mod CalculationLemmas
 pub mod LimitRule
 pub mod NameLemmas

@@ -1,6 +1,5 @@
 pub mod Causes
 pub mod Files
-pub mod Indicators
 pub mod Limits
 pub mod Marks
 pub mod Names

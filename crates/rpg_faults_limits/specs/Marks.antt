@@ -1,15 +1,13 @@
--- Which columns of a card the faults of names, limits, files, indicators and order point at.
+-- Which columns of a card the faults of names, limits, files and order point at.
 use Rattle.std.specs.Prelude.{ℕ, List, Bool, false, slice_get, Option, None, Some, is_some, if◌then◌else◌}
-use Rattle.std.specs.Option.{option_map, option_map_or, option_or}
+use Rattle.std.specs.Option.{option_map, option_map_or}
 use Rattle.rpg_cards.specs.Cards.{output_record_on}
 use Rattle.rpg_cards.specs.Files.{file_for, file_named, file_use}
 use Rattle.rpg_cards.specs.Names.{definitions, definitions_on, sized_form}
-use Rattle.rpg_cards.specs.Times.{line_conditions_on}
 use Rattle.rpg_cards.specs.declared.files.FileUse.{FileUse}
 use Rattle.rpg_cards.specs.declared.files.FileUse.TheVariants.{Primary, Secondary, Printer, Disk}
 use Rattle.rpg_cards.specs.declared.spec_card.SpecCard.{SpecCard}
 use Rattle.rpg_faults_limits.specs.Files.{ends_apart}
-use Rattle.rpg_faults_limits.specs.Indicators.{bad_in_calculation, bad_in_output, cannot_be_set}
 use Rattle.rpg_faults_limits.specs.Limits.{bad_entries}
 use Rattle.rpg_faults_limits.specs.Names.{bad_size_of_table, redefines_as}
 use Rattle.rpg_sheet_specs.specs.declared.calculation.CalculationSpec.{CalculationSpec}
@@ -18,10 +16,6 @@ use Rattle.rpg_sheet_specs.specs.declared.column_range.ColumnRange.TheVariants a
 use Rattle.rpg_sheet_specs.specs.declared.extension.ExtensionSpec.{ExtensionSpec}
 use Rattle.rpg_sheet_specs.specs.declared.extension.TableSpec.{TableSpec}
 use Rattle.rpg_sheet_specs.specs.declared.file.FileSpec.{FileSpec}
-use Rattle.rpg_sheet_specs.specs.declared.indicator.Condition.{Condition}
-use Rattle.rpg_sheet_specs.specs.declared.indicator.Three.{Three}
-use Rattle.rpg_sheet_specs.specs.declared.input.InputField.{InputField}
-use Rattle.rpg_sheet_specs.specs.declared.input.InputSpec.{InputSpec}
 use Rattle.rpg_sheet_specs.specs.declared.input.InputSpec.TheVariants as input
 use Rattle.rpg_sheet_specs.specs.declared.output.Movement.{Movement}
 use Rattle.rpg_sheet_specs.specs.declared.output.OutputSpec.TheVariants as output
@@ -110,57 +104,6 @@ file_columns before (spec.Input i) = Some range.TypeFile
 file_columns before (spec.Calculation k) = None
 file_columns before (spec.Output o) = Some range.LineFile
 file_columns before (spec.Data d) = None
-
--- ---- F8: the first indicator that isn't allowed
-
--- the columns of the first of three that passes
-abbrev pub first_of : {X : Type 0} → (X → Bool) → ColumnRange → ColumnRange → ColumnRange → Three (Option X) → Option ColumnRange
-first_of test a b c t =
-    if option_map_or test t.first false then Some a
-    else if option_map_or test t.second false then Some b
-    else if option_map_or test t.third false then Some c
-    else None
-
--- the first condition of a C card that passes
-abbrev pub first_condition : (Condition → Bool) → Three (Option Condition) → Option ColumnRange
-first_condition test t = first_of test range.FirstCondition range.SecondCondition range.ThirdCondition t
-
--- the first resulting indicator that can't be set
-abbrev pub first_result : Three (Option ℕ) → Option ColumnRange
-first_result t = first_of cannot_be_set range.ResultPlus range.ResultMinus range.ResultZero t
-
--- the first condition of an O card that isn't allowed
-abbrev pub first_line_condition : List SpecCard → Three (Option Condition) → Option ColumnRange
-first_line_condition cards t = first_of (bad_in_output cards) range.FirstLineCondition range.SecondLineCondition range.ThirdLineCondition t
-
--- that of a text field is for plus or minus
-abbrev pub text_indicator : InputField → ColumnRange
-text_indicator f = if is_some f.indicators.first then range.InputPlus else range.InputMinus
-
--- F8 of an input field
-abbrev pub indicator_on_field : InputField → Option ColumnRange
-indicator_on_field f = option_or (first_of cannot_be_set range.InputPlus range.InputMinus range.InputZero f.indicators) (Some (text_indicator f))
-
--- F8 of an I card
-abbrev pub indicator_on_input : InputSpec → Option ColumnRange
-indicator_on_input (input.Type t) = Some range.TypeIndicator
-indicator_on_input (input.And codes) = None
-indicator_on_input (input.Field f) = indicator_on_field f
-
--- F8 of a C card
-abbrev pub indicator_on_calculation : List SpecCard → CalculationSpec → Option ColumnRange
-indicator_on_calculation cards k =
-    option_or (first_condition (bad_in_calculation cards) k.conditions) (first_result k.resulting_indicators)
-
--- F8 of a card
-abbrev pub indicator_columns : List SpecCard → Spec → Option ColumnRange
-indicator_columns cards (spec.Header h) = None
-indicator_columns cards (spec.File f) = None
-indicator_columns cards (spec.Extension e) = None
-indicator_columns cards (spec.Input i) = indicator_on_input i
-indicator_columns cards (spec.Calculation k) = indicator_on_calculation cards k
-indicator_columns cards (spec.Output o) = first_line_condition cards (line_conditions_on o)
-indicator_columns cards (spec.Data d) = None
 
 -- ---- F9 of lines: the first space or skip
 

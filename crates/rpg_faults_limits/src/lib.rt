@@ -1,11 +1,9 @@
-//! Rules on names, limits, files, indicators and the order of cards.
+//! Rules on names, limits, files and the order of cards.
 #![tactic(auto)]
 
 mod calculations;
 mod files;
 mod filled;
-mod indicator_marks;
-mod indicators;
 mod limits;
 mod lines;
 mod marks;
@@ -18,8 +16,6 @@ mod totals;
 mod types;
 
 pub use files::{breaks_files, lacks_input, moves_disk};
-pub use indicator_marks::indicator_columns;
-pub use indicators::bad_indicator;
 pub use limits::{limit_cause, passes_limit};
 pub use marks::{
     file_columns, limit_columns, movement_columns, redefined_columns, size_columns, stray_columns,

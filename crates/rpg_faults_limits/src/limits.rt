@@ -106,7 +106,7 @@ pub(crate) fn has_bad_entries(card: &SpecCard) -> bool
     of_entries(card).is_some()
 }
 
-/// Record types, and what is on the cards of one.
+/// Record types, and what is on the cards of one: nothing changes with a card that isn't an I card.
 fn on_types(
     source: &IndexedCards,
     sheets: &Sheets,
@@ -120,6 +120,9 @@ fn on_types(
     requires few { HasFewOnType (length before.now) open_type }
     ensures { result ≡ causes.on_types before.now card.now }
 {
+    let Some(_) = card.input() else {
+        return None;
+    };
     let number = sheets.types.number as u64;
     let number_with = sheets.with(source, before, card).types.number as u64;
     let with = open_type.with(before, card);
@@ -131,7 +134,7 @@ fn on_types(
     ])
 }
 
-/// Lines, and what is on the cards of one.
+/// Lines, and what is on the cards of one: nothing changes with a card that isn't an O card.
 fn on_lines(
     source: &IndexedCards,
     sheets: &Sheets,
@@ -145,6 +148,9 @@ fn on_lines(
     requires few { HasFewOnLine (length before.now) line }
     ensures { result ≡ causes.on_lines before.now card.now }
 {
+    let Some(_) = card.output() else {
+        return None;
+    };
     let number = sheets.lines.number as u64;
     let number_with = sheets.with(source, before, card).lines.number as u64;
     let with = line.with(before, card);

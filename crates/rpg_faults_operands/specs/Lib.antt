@@ -1,6 +1,8 @@
 pub mod Columns
 pub mod Editing
 pub mod Indexes
+pub mod IndicatorMarks
+pub mod Indicators
 pub mod Kinds
 pub mod Marks
 pub mod Names

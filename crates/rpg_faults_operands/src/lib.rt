@@ -1,10 +1,13 @@
-//! Fields and constants on cards: whether they are defined, of the right kind and well indexed, and how they are edited.
+//! Fields, constants and indicators on cards: whether they are defined, of the right kind and well indexed, how they are edited, and which
+//! indicators are allowed.
 #![tactic(auto)]
 
 mod columns;
 mod editing;
 mod forms;
 mod indexes;
+mod indicator_marks;
+mod indicators;
 mod kinds;
 mod marks;
 mod names;
@@ -13,6 +16,8 @@ mod operands;
 pub use columns::bad_columns;
 pub use editing::{bad_editing, fill_in, width};
 pub use indexes::bad_index;
+pub use indicator_marks::indicator_columns;
+pub use indicators::bad_indicator;
 pub use kinds::wrong_operand;
 pub use marks::{editing_columns, missing_columns, unknown_name, wrong_columns, wrong_index};
 pub use names::lacks_name;

@@ -4,7 +4,7 @@ use Rattle.rpg_cards.specs.Groups.{data_role, followers}
 use Rattle.rpg_effect.specs.Values.{held}
 use Rattle.rpg_effect.specs.declared.value.Value.{Value}
 use Rattle.rpg_compile_layouts.proofs.TableLemmas.{at_card, values_in}
-use Rattle.rpg_faults.proofs.DeckLemmas.{texts-card, texts-other}
+use Rattle.rpg_faults_data.proofs.DeckLemmas.{texts-card, texts-other}
 use Rattle.rpg_sheet_specs.specs.declared.data.DataSpec.TheVariants as deck
 use Rattle.rpg_compile_layouts.proofs.tables.TableData.values.Goals as goal
 use Rattle.rpg_compile_layouts.proofs.tables.TableData.values.Goals.{in-None, in-Some-Card+in_ok-add_entries-in-Some-Card}

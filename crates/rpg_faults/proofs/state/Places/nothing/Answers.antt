@@ -1,6 +1,6 @@
 use Rattle.std.proofs.Common.{List, [], subst}
 use Rattle.rpg_cards.specs.declared.spec_card.SpecCard.{SpecCard}
-use Rattle.rpg_faults.specs.Decks.{AreDecks}
+use Rattle.rpg_faults_data.specs.Decks.{AreDecks}
 use Rattle.rpg_faults.proofs.state.Places.nothing.Goals as goal
 
 pub returns : goal.returns

@@ -1,4 +1,4 @@
-use Rattle.std.proofs.Common.{◌≡◌, ◌≤◌, ◌∙◌, ◌+◌, ◌∷◌, Bool, true, false, ap, arith, length, refl}
+use Rattle.std.proofs.Common.{◌≡◌, ◌≤◌, ◌∙◌, ◌+◌, ◌∷◌, Bool, true, false, ap, arith, refl}
 use mir.Val.{bool_byte}
 use Rattle.rpg_cards.proofs.ItemLemmas.{few_definitions_on}
 use Rattle.rpg_faults_flow.proofs.Carried.{few, flow_with, one_if}
@@ -27,7 +27,7 @@ pub overflow_add-result-2 : goal.overflow_add-result-2
 overflow_add-result-2 c =
     let f = few c.args.before.now (c.args.card.now ∷ c.args.after.now) c.args.self c.requires.flow in
     let two = few_definitions_on c.args.card.now.spec in
-    let len = c.len.ensures.value ∙ ap length c.definitions.ensures in
+    let is = c.definition_count.ensures in
     omega arith
 
 pub returns : goal.returns
@@ -37,5 +37,5 @@ returns c =
     (c.inside_behind.ensures ∙ ap (inside_behind c.args.self.is_inside) c.bracket_at-bracket.ensures)
     (c.begun_behind.ensures ∙ ap (begun_behind c.args.self.begun) c.bracket_at-bracket.ensures)
     (ap (λ n. c.args.self.labels + n) (c.from.ensures ∙ byte c.is_label_at.result ∙ ap one_if c.is_label_at.ensures))
-    (ap (λ n. c.args.self.definitions + n) (c.len.ensures.value ∙ ap length c.definitions.ensures))
+    (ap (λ n. c.args.self.definitions + n) c.definition_count.ensures)
     c.leaves_remainder.ensures

@@ -1,2 +1,0 @@
-pub mod DataRule
-pub mod EntryWalk

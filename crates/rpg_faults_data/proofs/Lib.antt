@@ -1,0 +1,4 @@
+pub mod DataRule
+pub mod DeckLemmas
+pub mod EntryLemmas
+pub mod EntryWalk

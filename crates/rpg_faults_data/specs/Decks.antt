@@ -1,0 +1,20 @@
+-- The decks that the E cards before a card have left.
+use Rattle.std.specs.Prelude.{◌≡◌, ◌-◌, List, ◌∷◌, ℕ, drop, Bool, true, false, None}
+use Rattle.rpg_cards.specs.Groups.{Group, data_role, followers, group_count, groups}
+use Rattle.rpg_cards.specs.declared.spec_card.SpecCard.{SpecCard}
+use Rattle.rpg_faults_data.specs.Data.{wanted}
+use Rattle.rpg_faults_data.specs.declared.decks.Decks.{Decks}
+
+-- the data after a ** card, up to the next one
+abbrev pub deck : List SpecCard → Group (Unit {0}) (List ℕ)
+deck behind = record { heading = tt; followers = followers data_role behind; file = None }
+
+-- what is left of the data for the E cards from here on
+pub record AreDecks (cards before : List SpecCard) (d : Decks) : Type 0 where
+  pub rest : groups data_role d.rest.now ≡ drop (wanted before) (groups data_role cards)
+  pub to_come : d.wanted ≡ wanted cards - group_count data_role before
+
+-- a `**` card begins a deck, any other card doesn't change the groups
+abbrev pub BeginsDeck : SpecCard → Bool → Type 0
+BeginsDeck c true = (behind : List SpecCard) → groups data_role (c ∷ behind) ≡ deck behind ∷ groups data_role behind
+BeginsDeck c false = (behind : List SpecCard) → groups data_role (c ∷ behind) ≡ groups data_role behind

@@ -1,0 +1,4 @@
+pub mod Causes
+pub mod Data
+pub mod Decks
+pub mod Entries

@@ -1,0 +1,237 @@
+//! F18: what is wrong with the data of a table.
+
+ghost use Rattle.std.specs.Prelude.{◌≡◌, ◌≤◌, ◌*◌, count_by, is_some, length, IsTrue};
+ghost use Rattle.std.specs.Option.{option_map};
+ghost use Rattle.rpg_cards.specs.Names.{tables_on};
+ghost use Rattle.rpg_faults_data.specs.Causes as causes;
+ghost use Rattle.rpg_faults_data.specs.Data as rules;
+
+use crate::data::{data_cards, data_columns, has_forms, has_table};
+use crate::decks::wants_data;
+use crate::entries::Layout;
+use crate::wrong_entry::{EntryCause, first_wrong};
+use rpg_cards::{IndexedCards, SpecCard};
+use rpg_sheet_specs::{DataSpec, ExtensionSpec, Spec};
+
+/// The cards of data that so many entries need.
+#[derive(Clone, Copy)]
+pub struct Need {
+    pub entries: u16,
+    pub per_card: u16,
+    pub cards: u16,
+}
+
+/// What is wrong with the data of a table.
+#[derive(Drop)]
+pub enum DataCause {
+    /// A table has data, and the E card has no entries per card.
+    NoData,
+    /// No `**` card is left for the E card, which has 0 entries per card.
+    NoDeck,
+    /// No `**` card is left for the E card.
+    Missing(Need),
+    /// The E card has 0 entries per card.
+    NonePerCard,
+    /// The entries of a card, each of so many columns, are wider than a card.
+    TooWide { per_card: u16, width: u32 },
+    /// There are other than so many cards.
+    OtherCards { need: Need, there: usize },
+    /// An entry is wrong.
+    Entry(EntryCause),
+    /// The `**` card is that many, from 1, and so many E cards want data.
+    Spare { deck: usize, wanted: usize },
+}
+
+/// F18: what is wrong with the data of an E card, or the `**` card of data that no E card wants.
+#[tactic(auto, using(crate::proofs::DataRule::data_rule))]
+pub fn data_cause(source: &IndexedCards, before: &[SpecCard], card: &SpecCard) -> Option<DataCause>
+    ensures cause { result ≡ causes.data_cause source.now before.now card.now }
+    ensures rule { is_some result ≡ rules.breaks_data source.now before.now card.now }
+{
+    of_card(source, before, card)
+}
+
+fn of_card(source: &IndexedCards, before: &[SpecCard], card: &SpecCard) -> Option<DataCause>
+    ensures { result ≡ causes.data_cause source.now before.now card.now }
+{
+    match &card.spec {
+        Spec::Extension(extension) => of_extension(source, before, extension),
+        Spec::Data(DataSpec::Begin) => of_begin(source, before),
+        _ => None,
+    }
+}
+
+fn of_extension(
+    source: &IndexedCards,
+    before: &[SpecCard],
+    extension: &ExtensionSpec,
+) -> Option<DataCause>
+    ensures { result ≡ causes.of_extension source.now before.now extension.now extension.now.entries_per_card }
+{
+    match extension.entries_per_card {
+        None => if has_table(extension) {
+            Some(DataCause::NoData)
+        } else {
+            None
+        },
+        Some(per_card) => match behind_begin(wanted(before), source.as_slice()) {
+            None => Some(missing(extension, per_card)),
+            Some(behind) => of_behind(extension, per_card, behind),
+        },
+    }
+}
+
+fn missing(extension: &ExtensionSpec, per_card: u16) -> DataCause
+    ensures { result ≡ causes.missing extension.now per_card }
+{
+    if per_card == 0 {
+        DataCause::NoDeck
+    } else {
+        DataCause::Missing(need_of(extension, per_card))
+    }
+}
+
+fn need_of(extension: &ExtensionSpec, per_card: u16) -> Need
+    requires { 1 ≤ per_card }
+    ensures { result ≡ causes.need_of extension.now per_card }
+{
+    Need {
+        entries: extension.entries,
+        per_card,
+        cards: extension.entries.div_ceil(per_card),
+    }
+}
+
+fn of_behind(extension: &ExtensionSpec, per_card: u16, behind: &[SpecCard]) -> Option<DataCause>
+    ensures { result ≡ causes.of_behind extension.now per_card behind.now }
+{
+    if has_forms(extension) {
+        of_deck(extension, per_card, behind)
+    } else {
+        None
+    }
+}
+
+#[tactic(auto, using(crate::proofs::DataRule::length_deck))]
+fn of_deck(extension: &ExtensionSpec, per_card: u16, behind: &[SpecCard]) -> Option<DataCause>
+    requires { IsTrue (rules.has_forms extension.now) }
+    ensures { result ≡ causes.of_deck extension.now per_card (causes.deck_cards behind.now) }
+{
+    if per_card == 0 {
+        return Some(DataCause::NonePerCard);
+    }
+    let width = data_columns(extension);
+    if per_card as u32 * width > 80 {
+        return Some(DataCause::TooWide { per_card, width });
+    }
+    let there = data_cards(behind);
+    let need = need_of(extension, per_card);
+    if there != need.cards as usize {
+        return Some(DataCause::OtherCards { need, there });
+    }
+    let entry = of_tables(extension, per_card as usize, width as usize, behind)?;
+    Some(DataCause::Entry(entry))
+}
+
+/// The first entry of the card's tables that is wrong.
+fn of_tables(
+    extension: &ExtensionSpec,
+    per_card: usize,
+    width: usize,
+    deck: &[SpecCard],
+) -> Option<EntryCause>
+    requires forms { IsTrue (rules.has_forms extension.now) }
+    requires width { width ≡ rules.data_columns extension.now }
+    requires fits { per_card * width ≤ 80 }
+    ensures { result ≡ causes.of_tables extension.now per_card (causes.deck_cards deck.now) 0 (tables_on extension.now) }
+{
+    let entries = extension.entries as usize;
+    let layout = Layout {
+        per_card,
+        width,
+        from: 0,
+        length: extension.table.length as usize,
+    };
+    let found = first_wrong(&extension.table, entries, layout, deck);
+    if found.is_some() {
+        return found;
+    }
+    match &extension.alternating {
+        None => None,
+        Some(table) => {
+            let layout = Layout {
+                per_card,
+                width,
+                from: layout.length,
+                length: table.length as usize,
+            };
+            first_wrong(table, entries, layout, deck)
+        }
+    }
+}
+
+/// Data that no E card wants.
+fn of_begin(source: &IndexedCards, before: &[SpecCard]) -> Option<DataCause>
+    ensures { result ≡ causes.of_begin source.now before.now }
+{
+    let wanted = wanted(source.as_slice());
+    let begun = begun(before);
+    if wanted <= begun {
+        let deck = begun + 1;
+        Some(DataCause::Spare { deck, wanted })
+    } else {
+        None
+    }
+}
+
+// ---- decks
+
+/// How many of these cards want data.
+fn wanted(cards: &[SpecCard]) -> usize
+    ensures { result ≡ rules.wanted cards.now }
+{
+    let mut count = 0;
+    for card in cards {
+        count += usize::from(wants_data(card));
+    }
+    count
+}
+
+/// How many of these cards begin data.
+fn begun(cards: &[SpecCard]) -> usize
+    ensures count { result ≡ count_by causes.begins cards.now }
+    ensures few { result ≤ length cards.now }
+{
+    let mut count = 0;
+    for card in cards {
+        count += usize::from(begins(card));
+    }
+    count
+}
+
+fn begins(card: &SpecCard) -> bool
+    ensures { result ≡ causes.begins card.now }
+{
+    match card.data() {
+        None => false,
+        Some(data) => matches!(data, DataSpec::Begin),
+    }
+}
+
+/// The cards after the `**` card with this number, from 0.
+fn behind_begin(number: usize, cards: &[SpecCard]) -> Option<&[SpecCard]>
+    ensures { option_map (λ behind. behind.now) result ≡ causes.behind_begin number cards.now }
+{
+    let mut number = number;
+    let mut rest = cards;
+    while let Some((card, behind)) = rest.split_first() {
+        if begins(card) {
+            if number == 0 {
+                return Some(behind);
+            }
+            number -= 1;
+        }
+        rest = behind;
+    }
+    None
+}

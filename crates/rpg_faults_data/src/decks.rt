@@ -1,0 +1,96 @@
+//! The data after the sheets: a `**` card with the data after it is a deck, and the E cards that want data take the decks in their order.
+
+ghost use Rattle.std.specs.Prelude.{◌≡◌, [], ◌∷◌, ◌++◌, List, MatchOption};
+ghost use Rattle.std.specs.Option.{option_map};
+ghost use Rattle.rpg_cards.specs.Groups.{data_role, followers, groups};
+ghost use Rattle.rpg_cards.specs.declared.spec_card.SpecCard.{SpecCard};
+ghost use Rattle.rpg_faults_data.specs.Data as rules;
+ghost use Rattle.rpg_faults_data.specs.Decks.{AreDecks, BeginsDeck, deck};
+
+use rpg_cards::SpecCard;
+use rpg_sheet_specs::DataSpec;
+
+/// The decks that no E card has taken.
+#[derive(Clone, Copy)]
+pub struct Decks<'a> {
+    /// The cards from the first of them on.
+    rest: &'a [SpecCard],
+    /// How many of the decks to come there are E cards for.
+    wanted: usize,
+}
+
+impl<'a> Decks<'a> {
+    /// Before all cards.
+    pub fn all(cards: &'a [SpecCard]) -> Self
+        ensures { AreDecks cards.now [] result }
+    {
+        Decks {
+            rest: cards,
+            wanted: cards.iter().filter(|card| wants_data(card)).count(),
+        }
+    }
+
+    /// With one more card.
+    pub fn with(self, card: &SpecCard) -> Self
+        ensures { (cards before : List SpecCard) → AreDecks cards before self.entry → AreDecks cards (before ++ card.now ∷ []) result }
+    {
+        if wants_data(card) {
+            Decks {
+                rest: behind_next(self.rest).unwrap_or(&[]),
+                wanted: self.wanted,
+            }
+        } else if begins_deck(card) {
+            Decks {
+                rest: self.rest,
+                wanted: self.wanted.saturating_sub(1),
+            }
+        } else {
+            self
+        }
+    }
+
+    /// The cards after the `**` card of the deck that the next E card takes.
+    pub(crate) fn next(self) -> Option<&'a [SpecCard]>
+        ensures { (cards before : List SpecCard) → AreDecks cards before self.entry → option_map (λ behind. followers data_role behind.now) result ≡ rules.deck_at (rules.wanted before) cards }
+    {
+        behind_next(self.rest)
+    }
+
+    /// Whether the next `**` card begins data that no E card wants.
+    pub(crate) fn are_taken(self) -> bool
+        ensures { (cards before : List SpecCard) → AreDecks cards before self.entry → result ≡ rules.are_taken cards before }
+    {
+        self.wanted == 0
+    }
+}
+
+/// Whether a card is of a table that has data in the source.
+pub(crate) fn wants_data(card: &SpecCard) -> bool
+    ensures { result ≡ rules.wants_data card.now }
+{
+    match card.extension() {
+        None => false,
+        Some(extension) => extension.entries_per_card.is_some(),
+    }
+}
+
+/// Whether a card is a `**` card.
+pub(crate) fn begins_deck(card: &SpecCard) -> bool
+    ensures { BeginsDeck card.now result }
+{
+    matches!(card.data(), Some(DataSpec::Begin))
+}
+
+/// The cards after the next `**` card.
+pub fn behind_next(cards: &[SpecCard]) -> Option<&[SpecCard]>
+    ensures { MatchOption result (groups data_role cards.now ≡ []) (λ behind. groups data_role cards.now ≡ deck behind.now ∷ groups data_role behind.now) }
+{
+    let mut rest = cards;
+    while let Some((card, behind)) = rest.split_first() {
+        if begins_deck(card) {
+            return Some(behind);
+        }
+        rest = behind;
+    }
+    None
+}

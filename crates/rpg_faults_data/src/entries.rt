@@ -1,0 +1,152 @@
+//! The entries of a table on the cards of its deck.
+
+ghost use Rattle.std.specs.Prelude.{◌≡◌, ◌≤◌, ◌<◌, ◌+◌, ◌*◌, map, length, IfSome, option_copied};
+ghost use Rattle.std.specs.List.{last_or, range_with_len};
+ghost use Rattle.rpg_cards.specs.Groups.{data_role, followers};
+ghost use Rattle.rpg_faults_data.specs.Data as rules;
+ghost use Rattle.rpg_faults_data.specs.Entries.{HasNumberSize, any_wrong, is_wrong};
+
+use rpg_cards::SpecCard;
+use rpg_decimal::{compare_text, read_zoned};
+use rpg_sheet_specs::{DataSpec, TableSpec};
+
+/// Where the entries of a table stand on each card of its deck.
+#[derive(Clone, Copy)]
+pub(crate) struct Layout {
+    pub per_card: usize,
+    /// How many columns each takes, with that of an alternating table.
+    pub width: usize,
+    /// The first column of the first, from 0.
+    pub from: usize,
+    pub length: usize,
+
+    ghost inside: { from + length ≤ width },
+    ghost fits: { per_card * width ≤ 80 },
+}
+
+impl Layout {
+    ghost use Rattle.rpg_faults_data.specs.Data.{entry_on};
+
+    /// The entry with this number on a card, from 0.
+    pub(crate) fn entry(self, card: &[u8], number: usize) -> &[u8]
+        requires card { length card.now ≡ 80 }
+        requires number { number < self.per_card }
+        ensures value { result.now ≡ entry_on self.width self.from self.length card.now number }
+        ensures length { length result.now ≡ self.length }
+    {
+        let start = number * self.width + self.from;
+        &card[start..start + self.length]
+    }
+}
+
+/// Whether one of so many entries of a table is bad or, in an ascending table, lower than the one before it.
+pub(crate) fn bad_entries(
+    table: &TableSpec,
+    entries: usize,
+    layout: Layout,
+    deck: &[SpecCard],
+) -> bool
+    requires { HasNumberSize table.now.decimals layout.length }
+    ensures { result ≡ rules.bad_table_data table.now (rules.data_entries entries layout.per_card layout.width layout.from layout.length (followers data_role deck.now)) }
+{
+    let mut left = entries;
+    let mut before = None;
+    for card in deck {
+        match card.data() {
+            None => {}
+            Some(DataSpec::Begin) => return false,
+            Some(DataSpec::Card(data)) => {
+                let text = data.as_slice();
+                let number = left.min(layout.per_card);
+                if any_wrong(table, before, number, layout, text) {
+                    return true;
+                }
+                before = last_entry(before, number, layout, text);
+                left -= number;
+            }
+        }
+    }
+    false
+}
+
+/// The last of so many entries of a card, else the one before them.
+pub(crate) fn last_entry<'a>(
+    before: Option<&'a [u8]>,
+    number: usize,
+    layout: Layout,
+    card: &'a [u8],
+) -> Option<&'a [u8]>
+    requires card { length card.now ≡ 80 }
+    requires number { number ≤ layout.per_card }
+    requires before { IfSome before (λ b. length b.now ≡ layout.length) }
+    ensures last { option_copied result ≡ last_or (option_copied before.entry) (map (rules.entry_on layout.width layout.from layout.length card.now) (range_with_len 0 number)) }
+    ensures length { IfSome result (λ b. length b.now ≡ layout.length) }
+{
+    if number == 0 {
+        return before;
+    }
+    Some(layout.entry(card, number - 1))
+}
+
+/// Whether one of so many entries of a card is wrong after the one before it.
+fn any_wrong(
+    table: &TableSpec,
+    before: Option<&[u8]>,
+    number: usize,
+    layout: Layout,
+    card: &[u8],
+) -> bool
+    requires card { length card.now ≡ 80 }
+    requires number { number ≤ layout.per_card }
+    requires table { HasNumberSize table.now.decimals layout.length }
+    requires before { IfSome before (λ b. length b.now ≡ layout.length) }
+    ensures { result ≡ any_wrong table.now (option_copied before.entry) (map (rules.entry_on layout.width layout.from layout.length card.now) (range_with_len 0 number)) }
+{
+    let mut before = before;
+    for i in 0..number {
+        let entry = layout.entry(card, i);
+        if is_wrong(table, before, entry) {
+            return true;
+        }
+        before = Some(entry);
+    }
+    false
+}
+
+/// Whether an entry is bad or, in an ascending table, lower than the one before it.
+fn is_wrong(table: &TableSpec, before: Option<&[u8]>, entry: &[u8]) -> bool
+    requires entry { HasNumberSize table.now.decimals (length entry.now) }
+    requires before { IfSome before (λ b. length b.now ≡ length entry.now) }
+    ensures { result ≡ is_wrong table.now (option_copied before.entry) entry.now }
+{
+    if is_bad(table.decimals, entry) {
+        return true;
+    }
+    match before {
+        None => false,
+        Some(before) => table.ascending && is_lower(table.decimals, entry, before),
+    }
+}
+
+/// Whether an entry should be a number, and is none.
+pub(crate) fn is_bad(decimals: Option<u8>, entry: &[u8]) -> bool
+    requires { HasNumberSize decimals (length entry.now) }
+    ensures { result ≡ rules.is_bad decimals entry.now }
+{
+    decimals.is_some() && read_zoned(entry).is_err()
+}
+
+/// Whether an entry is lower than another: a text by the collating sequence, a number by its value.
+pub(crate) fn is_lower(decimals: Option<u8>, entry: &[u8], other: &[u8]) -> bool
+    requires entry { HasNumberSize decimals (length entry.now) }
+    requires other { HasNumberSize decimals (length other.now) }
+    ensures { result ≡ rules.is_lower decimals entry.now other.now }
+{
+    if decimals.is_none() {
+        return compare_text(entry, other).is_lt();
+    }
+    match (read_zoned(entry), read_zoned(other)) {
+        (Ok(entry), Ok(other)) => entry < other,
+        _ => false,
+    }
+}

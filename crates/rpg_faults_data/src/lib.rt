@@ -1,0 +1,13 @@
+//! F18: the data of tables, behind the sheets of a source, and what is wrong with them.
+#![tactic(auto)]
+
+mod cause;
+mod data;
+mod decks;
+mod entries;
+mod wrong_entry;
+
+pub use cause::{DataCause, Need, data_cause};
+pub use data::{breaks_data, data_columns};
+pub use decks::{Decks, behind_next};
+pub use wrong_entry::{EntryCause, EntryFault};

@@ -1,0 +1,139 @@
+//! F18: the first entry of a table that is wrong.
+
+ghost use Rattle.std.specs.Prelude.{◌≡◌, ◌≤◌, None, length, IfSome, option_copied};
+ghost use Rattle.rpg_faults_data.specs.Causes as causes;
+ghost use Rattle.rpg_faults_data.specs.Entries.{HasNumberSize};
+
+use crate::entries::{Layout, is_bad, is_lower, last_entry};
+use rpg_cards::SpecCard;
+use rpg_sheet_specs::{DataSpec, TableSpec, Word};
+use rpg_symbols::Name;
+
+/// What is wrong with an entry.
+#[derive(Clone, Copy)]
+pub enum EntryFault {
+    NoNumber,
+    /// It is lower than the entry before it.
+    Lower,
+}
+
+/// An entry that is wrong.
+#[derive(Drop)]
+pub struct EntryCause {
+    /// The table or the array.
+    pub name: Name,
+    /// From 1.
+    pub number: usize,
+    /// The card of data that it stands on.
+    pub card: u16,
+    /// Its first column there.
+    pub column: usize,
+    pub length: u16,
+    pub fault: EntryFault,
+}
+
+/// The first of so many entries of a table that is wrong, on the cards of its deck.
+pub(crate) fn first_wrong(
+    table: &TableSpec,
+    entries: usize,
+    layout: Layout,
+    deck: &[SpecCard],
+) -> Option<EntryCause>
+    requires few { entries ≤ 65535 }
+    requires table { HasNumberSize table.now.decimals layout.length }
+    ensures { result ≡ causes.first_wrong table.now 1 None (causes.on_deck layout entries deck.now) }
+{
+    let mut left = entries;
+    let mut first = 1;
+    let mut before = None;
+    for card in deck {
+        match card.data() {
+            None => {}
+            Some(DataSpec::Begin) => return None,
+            Some(DataSpec::Card(data)) => {
+                let text = data.as_slice();
+                let count = left.min(layout.per_card);
+                let found = wrong_on(table, first, before, count, layout, card.number, text);
+                if found.is_some() {
+                    return found;
+                }
+                before = last_entry(before, count, layout, text);
+                first += count;
+                left -= count;
+            }
+        }
+    }
+    None
+}
+
+/// The first of so many entries of a card that is wrong; `first` is the number in the table of the first of them.
+fn wrong_on(
+    table: &TableSpec,
+    first: usize,
+    before: Option<&[u8]>,
+    count: usize,
+    layout: Layout,
+    card: u16,
+    text: &[u8],
+) -> Option<EntryCause>
+    requires text { length text.now ≡ 80 }
+    requires first { first ≤ 65536 }
+    requires count { count ≤ layout.per_card }
+    requires few { count ≤ 65535 }
+    requires table { HasNumberSize table.now.decimals layout.length }
+    requires before { IfSome before (λ b. length b.now ≡ layout.length) }
+    ensures { result ≡ causes.first_wrong table.now first (option_copied before.entry) (causes.on_card layout (causes.data_card card text.now) count) }
+{
+    let mut before = before;
+    for i in 0..count {
+        let entry = layout.entry(text, i);
+        let column = i * layout.width + layout.from + 1;
+        let found = wrong_entry(table, first + i, before, card, column, entry);
+        if found.is_some() {
+            return found;
+        }
+        before = Some(entry);
+    }
+    None
+}
+
+/// An entry, if it is wrong.
+fn wrong_entry(
+    table: &TableSpec,
+    number: usize,
+    before: Option<&[u8]>,
+    card: u16,
+    column: usize,
+    entry: &[u8],
+) -> Option<EntryCause>
+    requires entry { HasNumberSize table.now.decimals (length entry.now) }
+    requires before { IfSome before (λ b. length b.now ≡ length entry.now) }
+    ensures { result ≡ causes.wrong_entry table.now number (option_copied before.entry) (causes.placed_at card column entry.now) }
+{
+    let fault = fault_of(table, before, entry)?;
+    Some(EntryCause {
+        name: Word::new(table.name.as_slice()),
+        number,
+        card,
+        column,
+        length: table.length,
+        fault,
+    })
+}
+
+/// What is wrong with an entry, seen with the one before it.
+fn fault_of(table: &TableSpec, before: Option<&[u8]>, entry: &[u8]) -> Option<EntryFault>
+    requires entry { HasNumberSize table.now.decimals (length entry.now) }
+    requires before { IfSome before (λ b. length b.now ≡ length entry.now) }
+    ensures { result ≡ causes.fault_of table.now (option_copied before.entry) entry.now }
+{
+    if is_bad(table.decimals, entry) {
+        return Some(EntryFault::NoNumber);
+    }
+    match before {
+        Some(before) if table.ascending && is_lower(table.decimals, entry, before) => {
+            Some(EntryFault::Lower)
+        }
+        _ => None,
+    }
+}
