@@ -1,3 +1,4 @@
+mod Blanks
 mod CardLaws
 mod Laws
 mod Padding

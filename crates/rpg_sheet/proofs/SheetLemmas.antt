@@ -1,5 +1,5 @@
 -- What is kept of the lines before says what is wrong with the next.
-use Rattle.std.proofs.Common.{◌≡◌, ℕ, ◌+◌, ◌<◌, Bool, true, false, List, [], ◌∷◌, ◌++◌, length, Option, Some, None, refl, sym, ap, ◌∙◌, arith, length-append, map}
+use Rattle.std.proofs.Common.{◌≡◌, ℕ, ◌+◌, ◌<◌, ◌≤◌, Bool, true, false, List, [], ◌∷◌, ◌++◌, length, Option, Some, None, refl, sym, ap, ◌∙◌, arith, length-append, map}
 use Rattle.std.specs.Prelude.{if◌then◌else◌, ◌||◌, ◌&&◌, not, nat_lt, nat_le, is_none}
 use Rattle.std.specs.List.{list_any, list_all}
 use Rattle.std.specs.Option.{option_map_or, option_or}
@@ -16,6 +16,7 @@ use Rattle.rpg_sheet_specs.specs.Specs.{spec_of, specs_from}
 use Rattle.rpg_sheet.specs.Readable.{has_bad_column}
 use Rattle.rpg_sheet.specs.Sheet.{comes_after, is_data_behind, line_code, fault_columns, fault_behind, source}
 use Rattle.rpg_sheet.specs.Seen.{AreLinesSeen, form_code, sheet_code, code_seen}
+use Rattle.rpg_sheet.proofs.Padding.{card_characters}
 
 -- which of six tests is the first that passes
 abbrev pub first_code : Bool → Bool → Bool → Bool → Bool → Bool → Option SheetCode
@@ -76,6 +77,42 @@ few_seen count latest behind line h = by (nat_lt 80 (length line)) (not (list_al
     by false true x e = absurd cc
     by false false (Some c) e = absurd cc
     by false false None e = grind (arith, common_steps)
+
+-- ---- the code of a line by its columns
+
+not_long : (n : ℕ) → n ≤ 80 → nat_lt 80 n ≡ false
+not_long n h = grind (arith, common_steps)
+
+same_characters : (line columns : List ℕ) → length line ≤ 80 → columns ≡ card_of line → list_all is_character line ≡ list_all is_character columns
+same_characters line columns short is = sym (ap (list_all is_character) is ∙ card_characters line short)
+
+-- a byte that is no character
+pub code_unfit : (count latest : ℕ) (behind : Bool) (line columns : List ℕ) → length line ≤ 80 → columns ≡ card_of line → list_all is_character columns ≡ false
+    → code_seen count latest behind line ≡ Some S2
+code_unfit count latest behind line columns short is bad = rw (not_long (length line) short, same_characters line columns short is ∙ bad) refl
+
+-- characters alone
+pub code_fit : (count latest : ℕ) (behind : Bool) (line columns : List ℕ) → length line ≤ 80 → columns ≡ card_of line → list_all is_character columns ≡ true
+    → code_seen count latest behind line ≡ option_or (sheet_code latest behind columns) (if nat_le 2000 count then Some S6 else None)
+code_fit count latest behind line columns short is good = rw (not_long (length line) short, same_characters line columns short is ∙ good, is) refl
+
+few_cards : (count : ℕ) → count < 2000 → nat_le 2000 count ≡ false
+few_cards count few = grind (arith, common_steps)
+
+many_cards : (count : ℕ) → 2000 ≤ count → nat_le 2000 count ≡ true
+many_cards count many = grind (arith, common_steps)
+
+pub code_good : (count latest : ℕ) (behind : Bool) (line columns : List ℕ) → length line ≤ 80 → columns ≡ card_of line → list_all is_character columns ≡ true
+    → sheet_code latest behind columns ≡ None → count < 2000 → code_seen count latest behind line ≡ None
+code_good count latest behind line columns short is characters good few = code_fit count latest behind line columns short is characters ∙ rw (good, few_cards count few) refl
+
+pub code_many : (count latest : ℕ) (behind : Bool) (line columns : List ℕ) → length line ≤ 80 → columns ≡ card_of line → list_all is_character columns ≡ true
+    → sheet_code latest behind columns ≡ None → 2000 ≤ count → code_seen count latest behind line ≡ Some S6
+code_many count latest behind line columns short is characters good many = code_fit count latest behind line columns short is characters ∙ rw (good, many_cards count many) refl
+
+pub code_bad : (count latest : ℕ) (behind : Bool) (line columns : List ℕ) (code : SheetCode) → length line ≤ 80 → columns ≡ card_of line → list_all is_character columns ≡ true
+    → sheet_code latest behind columns ≡ Some code → code_seen count latest behind line ≡ Some code
+code_bad count latest behind line columns code short is characters bad = code_fit count latest behind line columns short is characters ∙ rw bad refl
 
 -- ---- a line more
 

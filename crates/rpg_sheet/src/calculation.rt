@@ -1,4 +1,5 @@
 //! The calculation sheet (C).
+#![tactic(auto, unfolding(rpg_sheet_specs::specs::Columns::values, rpg_sheet_specs::specs::Columns::at_with, rpg_sheet_specs::specs::Columns::also, rpg_sheet_specs::specs::Columns::past, rpg_sheet_specs::specs::Columns::blank, rpg_sheet_specs::specs::Tables::calculation_card))]
 
 ghost use Rattle.std.specs.Prelude.{◌≡◌, [], codes, OnOk, IfErr};
 ghost use Rattle.rpg_sheet_specs.specs.Columns as columns;
@@ -12,7 +13,6 @@ use rpg_sheet_specs::{
     CalculationSpec, ColumnFault, Condition, ControlLevel, Factor, Operation, Three,
 };
 
-#[tactic(auto, unfolding(rpg_sheet_specs::specs::Tables::calculation_card, rpg_sheet_specs::specs::Columns::values, rpg_sheet_specs::specs::Columns::at_with, rpg_sheet_specs::specs::Columns::also, rpg_sheet_specs::specs::Columns::past, rpg_sheet_specs::specs::Columns::blank))]
 pub(crate) fn calculation_card(card: &Card) -> Result<CalculationSpec, ColumnFault>
     ensures { result ≡ tables.calculation_card.reading card.now }
 {
@@ -32,7 +32,6 @@ pub(crate) fn calculation_card(card: &Card) -> Result<CalculationSpec, ColumnFau
 }
 
 /// The calculation of these factors, with the columns after them.
-#[tactic(auto, unfolding(rpg_sheet_specs::specs::Columns::values, rpg_sheet_specs::specs::Columns::at_with, rpg_sheet_specs::specs::Columns::also))]
 fn calculation_with(
     card: &Card,
     control_level: ControlLevel,

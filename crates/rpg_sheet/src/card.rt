@@ -4,17 +4,16 @@ ghost use Rattle.std.specs.Prelude.{◌≡◌, ◌+◌, ◌-◌, ◌≤◌, ◌+
 ghost use Rattle.std.specs.List.{list_all};
 ghost use Rattle.rpg_sheet.specs.Ranges.{AreColumns};
 ghost use Rattle.rpg_sheet_specs.specs.Columns.{cols, is_filled, fault_if_some};
-ghost use Rattle.rpg_text.specs.Texts.{is_character};
+ghost use Rattle.rpg_text.specs.Texts.{all_blank, is_character};
 
-use crate::line::padded;
-use arrayvec::ArrayVec;
+use crate::line::columns_of;
 use rpg_sheet_specs::ColumnFault;
 use std::marker::Model;
 
 /// A card: its 80 columns, each with a character.
 #[derive(Drop)]
 pub struct Card {
-    characters: ArrayVec<u8, 80>,
+    characters: [u8; 80],
 }
 
 impl Model for Card {
@@ -24,9 +23,9 @@ impl Model for Card {
 
     ghost Value = { List ℕ };
 
-    ghost view = { λ c. c.characters.items };
+    ghost view = { λ c. c.characters };
 
-    ghost invariant = { λ c. (length c.characters.items ≡ 80) × IsTrue (list_all is_character c.characters.items) };
+    ghost invariant = { λ c. (length c.characters ≡ 80) × IsTrue (list_all is_character c.characters) };
 }
 
 impl Card {
@@ -37,7 +36,17 @@ impl Card {
         ensures { result ≡ take 80 line.now ++ replicate (80 - length line.now) 32 }
     {
         Card {
-            characters: padded(line),
+            characters: columns_of(line),
+        }
+    }
+
+    /// A card of these columns.
+    pub(crate) fn of(characters: &[u8; 80]) -> Self
+        requires { IsTrue (list_all is_character characters.now) }
+        ensures { result ≡ characters.now }
+    {
+        Card {
+            characters: *characters,
         }
     }
 
@@ -46,25 +55,37 @@ impl Card {
         ensures columns { length self.now ≡ 80 }
         ensures characters { IsTrue (list_all is_character self.now) }
     {
-        self.characters.as_slice()
+        &self.characters
+    }
+
+    pub(crate) fn as_array(&self) -> &[u8; 80]
+        ensures { result.now ≡ self.now }
+    {
+        &self.characters
     }
 
     /// The columns from `first` to `last`, counted from 1.
+    #[inline(always)]
     pub(crate) fn columns(&self, first: u8, last: u8) -> &[u8]
         requires columns { AreColumns first last }
         ensures value { result.now ≡ cols first last self.now }
         ensures len { length result.now ≡ last + 1 - first }
         ensures characters { IsTrue (list_all is_character result.now) }
     {
-        &self.characters.as_slice()[first as usize - 1..last as usize]
+        &self.characters[first as usize - 1..last as usize]
     }
 
     /// The columns from `first` to `last` have no value of their own.
+    #[inline(always)]
     pub(crate) fn blank(&self, first: u8, last: u8) -> Result<(), ColumnFault>
         requires columns { AreColumns first last }
         ensures { result ≡ fault_if_some first (position is_filled (cols first last self.now)) }
     {
-        match first_filled(self.columns(first, last)) {
+        let text = self.columns(first, last);
+        if has_only_blanks(text) {
+            return Ok(());
+        }
+        match first_filled(text) {
             None => Ok(()),
             Some(i) => {
                 let column = first + i as u8;
@@ -81,4 +102,16 @@ fn first_filled(text: &[u8]) -> Option<usize>
     ensures { result ≡ position is_filled text.now }
 {
     text.iter().position(|c| *c != b' ')
+}
+
+/// Whether a text has nothing but blanks. No character ends the loop early, so that many are tested at a time.
+#[inline(always)]
+pub(crate) fn has_only_blanks(text: &[u8]) -> bool
+    ensures { result ≡ all_blank text.now }
+{
+    let mut are_all = true;
+    for character in text {
+        are_all = (*character == b' ') & are_all;
+    }
+    are_all
 }

@@ -1,5 +1,5 @@
 //! What ranges of columns hold, each range read by one call. An error names the range's first column.
-#![tactic(auto, unfolding(rpg_sheet_specs::specs::Values::blank_or))]
+#![tactic(auto, unfolding(rpg_sheet_specs::specs::Columns::values, rpg_sheet_specs::specs::Columns::at_with, rpg_sheet_specs::specs::Columns::also, rpg_sheet_specs::specs::Values::blank_or, rpg_sheet_specs::specs::Tables::conditions, rpg_sheet_specs::specs::Tables::indicators))]
 
 ghost use Rattle.std.specs.Prelude.{◌≡◌, ◌+◌, ◌≤◌, None, Some, ok_or, option_map, if◌then◌else◌};
 ghost use Rattle.rpg_sheet.specs.Ranges.{AreColumns};
@@ -8,11 +8,12 @@ ghost use Rattle.rpg_sheet_specs.specs.Tables as tables;
 ghost use Rattle.rpg_sheet_specs.specs.Values as values;
 ghost use Rattle.rpg_text.specs.Texts.{all_blank};
 
-use crate::card::Card;
+use crate::card::{Card, has_only_blanks};
 use rpg_sheet_specs::{
-    ColumnFault, Condition, EditCode, Entry, Factor, Indicator, Operation, RecordCode, TextLiteral,
-    Three, Within, Word,
+    ColumnFault, Condition, Entry, Factor, Indicator, Operation, RecordCode, TextLiteral, Three,
+    Within, Word,
 };
+use rpg_text::is_blank;
 
 /// What columns mean, or that they have a bad value.
 pub(crate) type Read<T> = Result<T, ColumnFault>;
@@ -29,22 +30,18 @@ pub(crate) fn at<T>(first: u8, last: u8, value: Option<T>) -> Read<T>
 
 /// Blank, or the value of the text in these columns.
 #[inline(always)]
-fn optional<T: Drop>(first: u8, last: u8, text: &[u8], value: Option<T>) -> Read<Option<T>>
+pub(crate) fn optional<T: Drop>(
+    first: u8,
+    last: u8,
+    text: &[u8],
+    value: Option<T>,
+) -> Read<Option<T>>
     ensures { result ≡ ok_or (if all_blank text.now then Some None else option_map Some value) (column_fault first last) }
 {
     at(first, last, rpg_sheet_values::blank_or(text, value))
 }
 
 impl Card {
-    /// Blank: a value that isn't read yet.
-    pub(crate) fn unused(&self, first: u8, last: u8) -> Read<()>
-        requires columns { AreColumns first last }
-        ensures { result ≡ ok_or (values.unused (cols first last self.now)) (column_fault first last) }
-    {
-        let value = rpg_sheet_values::unused(self.columns(first, last));
-        at(first, last, value)
-    }
-
     /// A name of at most `N` characters.
     pub(crate) fn name<const N: usize>(&self, first: u8, last: u8) -> Read<Word<N>>
         requires columns { AreColumns first last }
@@ -60,7 +57,10 @@ impl Card {
         ensures { result ≡ ok_or (values.blank_or (values.name N) (cols first last self.now)) (column_fault first last) }
     {
         let text = self.columns(first, last);
-        optional(first, last, text, rpg_sheet_values::name(text))
+        if is_blank(text) {
+            return Ok(None);
+        }
+        at(first, last, rpg_sheet_values::name(text).map(Some))
     }
 
     /// Blank or a factor.
@@ -70,7 +70,10 @@ impl Card {
         ensures { result ≡ ok_or (values.blank_or values.factor (cols first last self.now)) (column_fault first last) }
     {
         let text = self.columns(first, last);
-        optional(first, last, text, rpg_sheet_values::factor_of(text))
+        if is_blank(text) {
+            return Ok(None);
+        }
+        at(first, last, rpg_sheet_values::factor_of(text).map(Some))
     }
 
     /// Right-aligned digits after blanks.
@@ -137,20 +140,10 @@ impl Card {
         ensures { result ≡ ok_or (values.blank_or values.entry (cols first last self.now)) (column_fault first last) }
     {
         let text = self.columns(first, last);
-        optional(first, last, text, rpg_sheet_values::entry(text))
-    }
-
-    /// Blank or an indicator with a number in these bounds.
-    pub(crate) fn optional_indicator_within<const FIRST: u8, const LAST: u8>(
-        &self,
-        first: u8,
-        last: u8,
-    ) -> Read<Option<Within<FIRST, LAST>>>
-        requires columns { AreColumns first last }
-        ensures { result ≡ ok_or (values.blank_or (values.indicator_within FIRST LAST) (cols first last self.now)) (column_fault first last) }
-    {
-        let text = self.columns(first, last);
-        optional(first, last, text, rpg_sheet_values::indicator_within(text))
+        if is_blank(text) {
+            return Ok(None);
+        }
+        at(first, last, rpg_sheet_values::entry(text).map(Some))
     }
 
     /// Blank or a level after its letter.
@@ -196,15 +189,6 @@ impl Card {
         optional(first, last, text, rpg_sheet_values::skip(text))
     }
 
-    /// Blank or an edit code.
-    pub(crate) fn optional_edit_code(&self, first: u8, last: u8) -> Read<Option<EditCode>>
-        requires columns { AreColumns first last }
-        ensures { result ≡ ok_or (values.blank_or values.edit_code (cols first last self.now)) (column_fault first last) }
-    {
-        let text = self.columns(first, last);
-        optional(first, last, text, rpg_sheet_values::edit_code(text))
-    }
-
     /// Blank or a text.
     pub(crate) fn optional_text<const N: usize>(
         &self,
@@ -216,17 +200,26 @@ impl Card {
         ensures { result ≡ ok_or (values.blank_or values.quoted (cols first last self.now)) (column_fault first last) }
     {
         let text = self.columns(first, last);
-        optional(first, last, text, rpg_sheet_values::quoted(text))
+        if is_blank(text) {
+            return Ok(None);
+        }
+        at(first, last, rpg_sheet_values::quoted(text).map(Some))
     }
 }
 
 /// Three conditions.
-#[tactic(auto, unfolding(rpg_sheet_specs::specs::Tables::conditions, rpg_sheet_specs::specs::Columns::values, rpg_sheet_specs::specs::Columns::at_with, rpg_sheet_specs::specs::Columns::also))]
 pub(crate) fn conditions(card: &Card, first: u8) -> Read<Three<Option<Condition>>>
     requires counted { 1 ≤ first }
     requires within { first ≤ 72 }
     ensures { result ≡ (tables.conditions first (first + 2) (first + 3) (first + 5) (first + 6) (first + 8)).reading card.now }
 {
+    if has_only_blanks(card.columns(first, first + 8)) {
+        return Ok(Three {
+            first: None,
+            second: None,
+            third: None,
+        });
+    }
     let one = card.optional_condition(first, first + 2)?;
     let two = card.optional_condition(first + 3, first + 5)?;
     let three = card.optional_condition(first + 6, first + 8)?;
@@ -238,12 +231,18 @@ pub(crate) fn conditions(card: &Card, first: u8) -> Read<Three<Option<Condition>
 }
 
 /// Three indicators.
-#[tactic(auto, unfolding(rpg_sheet_specs::specs::Tables::indicators, rpg_sheet_specs::specs::Columns::values, rpg_sheet_specs::specs::Columns::at_with, rpg_sheet_specs::specs::Columns::also))]
 pub(crate) fn indicators(card: &Card, first: u8) -> Read<Three<Option<Indicator>>>
     requires counted { 1 ≤ first }
     requires within { first ≤ 75 }
     ensures { result ≡ (tables.indicators first (first + 1) (first + 2) (first + 3) (first + 4) (first + 5)).reading card.now }
 {
+    if has_only_blanks(card.columns(first, first + 5)) {
+        return Ok(Three {
+            first: None,
+            second: None,
+            third: None,
+        });
+    }
     let one = card.optional_indicator(first, first + 1)?;
     let two = card.optional_indicator(first + 2, first + 3)?;
     let three = card.optional_indicator(first + 4, first + 5)?;

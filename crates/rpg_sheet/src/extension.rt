@@ -1,4 +1,5 @@
 //! The extension sheet (E).
+#![tactic(auto, unfolding(rpg_sheet_specs::specs::Columns::values, rpg_sheet_specs::specs::Columns::at_with, rpg_sheet_specs::specs::Columns::also, rpg_sheet_specs::specs::Columns::past, rpg_sheet_specs::specs::Columns::blank, rpg_sheet_specs::specs::Columns::where_card, rpg_sheet_specs::specs::Tables::extension, rpg_sheet_specs::specs::Tables::alternating, rpg_sheet_specs::specs::Tables::alternating_table))]
 
 ghost use Rattle.std.specs.Prelude.{◌≡◌, [], codes, OnOk, IfErr};
 ghost use Rattle.rpg_sheet_specs.specs.Columns as columns;
@@ -6,12 +7,10 @@ ghost use Rattle.rpg_sheet_specs.specs.Columns.{IsLeastColumn, ◌⊛◌, ◌⊘
 ghost use Rattle.rpg_sheet_specs.specs.Tables as tables;
 ghost use Rattle.rpg_sheet_specs.specs.Values as values;
 
-use crate::card::Card;
+use crate::card::{Card, has_only_blanks};
 use crate::columns::at;
 use rpg_sheet_specs::{ColumnFault, ExtensionSpec, TableSpec, Word};
-use rpg_text::is_blank;
 
-#[tactic(auto, unfolding(rpg_sheet_specs::specs::Tables::extension, rpg_sheet_specs::specs::Columns::values, rpg_sheet_specs::specs::Columns::at_with, rpg_sheet_specs::specs::Columns::also, rpg_sheet_specs::specs::Columns::past, rpg_sheet_specs::specs::Columns::blank))]
 pub(crate) fn extension(card: &Card) -> Result<ExtensionSpec, ColumnFault>
     ensures { result ≡ tables.extension.reading card.now }
 {
@@ -24,7 +23,6 @@ pub(crate) fn extension(card: &Card) -> Result<ExtensionSpec, ColumnFault>
 }
 
 /// The table of this name and these sizes, with the columns after them.
-#[tactic(auto, unfolding(rpg_sheet_specs::specs::Columns::values, rpg_sheet_specs::specs::Columns::at_with, rpg_sheet_specs::specs::Columns::also, rpg_sheet_specs::specs::Columns::past, rpg_sheet_specs::specs::Columns::blank))]
 fn extension_with(
     card: &Card,
     name: Word<6>,
@@ -66,11 +64,10 @@ impl Card {
     }
 }
 
-#[tactic(auto, unfolding(rpg_sheet_specs::specs::Tables::alternating, rpg_sheet_specs::specs::Columns::values, rpg_sheet_specs::specs::Columns::at_with, rpg_sheet_specs::specs::Columns::also, rpg_sheet_specs::specs::Columns::past, rpg_sheet_specs::specs::Columns::blank, rpg_sheet_specs::specs::Columns::where_card))]
 fn alternating(card: &Card) -> Result<Option<TableSpec>, ColumnFault>
     ensures { result ≡ tables.alternating.reading card.now }
 {
-    if is_blank(card.columns(46, 51)) {
+    if has_only_blanks(card.columns(46, 51)) {
         card.blank(46, 57)?;
         Ok(None)
     } else {
@@ -78,7 +75,6 @@ fn alternating(card: &Card) -> Result<Option<TableSpec>, ColumnFault>
     }
 }
 
-#[tactic(auto, unfolding(rpg_sheet_specs::specs::Tables::alternating_table, rpg_sheet_specs::specs::Columns::values, rpg_sheet_specs::specs::Columns::at_with, rpg_sheet_specs::specs::Columns::also, rpg_sheet_specs::specs::Columns::past, rpg_sheet_specs::specs::Columns::blank))]
 fn alternating_table(card: &Card) -> Result<TableSpec, ColumnFault>
     ensures { result ≡ tables.alternating_table.reading card.now }
 {

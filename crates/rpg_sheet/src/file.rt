@@ -1,4 +1,5 @@
 //! The file description sheet (F).
+#![tactic(auto, unfolding(rpg_sheet_specs::specs::Columns::values, rpg_sheet_specs::specs::Columns::at_with, rpg_sheet_specs::specs::Columns::also, rpg_sheet_specs::specs::Columns::past, rpg_sheet_specs::specs::Columns::blank, rpg_sheet_specs::specs::Columns::where_card, rpg_sheet_specs::specs::Values::blank_or, rpg_sheet_specs::specs::Tables::file, rpg_sheet_specs::specs::Tables::file_overflow, rpg_sheet_specs::specs::Tables::overflow, rpg_sheet_specs::specs::Tables::role))]
 
 ghost use Rattle.std.specs.Prelude.{◌≡◌, [], ◌∷◌, codes, if◌then◌else◌, OnOk, IfErr};
 ghost use Rattle.rpg_sheet_specs.specs.Columns as columns;
@@ -8,10 +9,9 @@ ghost use Rattle.rpg_sheet_specs.specs.Values as values;
 ghost use Rattle.rpg_sheet_specs.specs.declared.file.FileRole.TheVariants as roles;
 
 use crate::card::Card;
-use crate::columns::at;
+use crate::columns::{at, optional};
 use rpg_sheet_specs::{ColumnFault, FileRole, FileSpec, Within, Word};
 
-#[tactic(auto, unfolding(rpg_sheet_specs::specs::Tables::file, rpg_sheet_specs::specs::Columns::values, rpg_sheet_specs::specs::Columns::at_with, rpg_sheet_specs::specs::Columns::also, rpg_sheet_specs::specs::Columns::past, rpg_sheet_specs::specs::Columns::blank))]
 pub(crate) fn file(card: &Card) -> Result<FileSpec, ColumnFault>
     ensures { result ≡ tables.file.reading card.now }
 {
@@ -25,7 +25,6 @@ pub(crate) fn file(card: &Card) -> Result<FileSpec, ColumnFault>
 }
 
 /// The file of this name and role, with the columns after them.
-#[tactic(auto, unfolding(rpg_sheet_specs::specs::Columns::values, rpg_sheet_specs::specs::Columns::at_with, rpg_sheet_specs::specs::Columns::also, rpg_sheet_specs::specs::Columns::past, rpg_sheet_specs::specs::Columns::blank))]
 fn file_with(
     card: &Card,
     name: Word<8>,
@@ -54,7 +53,6 @@ fn file_with(
     })
 }
 
-#[tactic(auto, unfolding(rpg_sheet_specs::specs::Tables::file_overflow, rpg_sheet_specs::specs::Columns::values, rpg_sheet_specs::specs::Columns::at_with, rpg_sheet_specs::specs::Columns::also, rpg_sheet_specs::specs::Columns::past, rpg_sheet_specs::specs::Columns::blank))]
 fn file_overflow(card: &Card) -> Result<Option<Within<112, 119>>, ColumnFault>
     ensures { result ≡ tables.file_overflow.reading card.now }
 {
@@ -65,14 +63,14 @@ fn file_overflow(card: &Card) -> Result<Option<Within<112, 119>>, ColumnFault>
 }
 
 /// With O the indicator of a full page.
-#[tactic(auto, unfolding(rpg_sheet_specs::specs::Tables::overflow, rpg_sheet_specs::specs::Columns::values, rpg_sheet_specs::specs::Columns::at_with, rpg_sheet_specs::specs::Columns::also, rpg_sheet_specs::specs::Columns::past, rpg_sheet_specs::specs::Columns::blank, rpg_sheet_specs::specs::Columns::where_card))]
 fn overflow(card: &Card) -> Result<Option<Within<112, 119>>, ColumnFault>
     ensures { result ≡ tables.overflow.reading card.now }
 {
     if card.columns(15, 15) == b"O".as_slice() {
-        Ok(card.optional_indicator_within(33, 34)?)
+        let text = card.columns(33, 34);
+        optional(33, 34, text, rpg_sheet_values::indicator_within(text))
     } else {
-        card.unused(33, 34)?;
+        at(33, 34, rpg_sheet_values::unused(card.columns(33, 34)))?;
         Ok(None)
     }
 }
@@ -89,7 +87,6 @@ impl Card {
 }
 
 /// P or S with I, blank with O.
-#[tactic(auto, unfolding(rpg_sheet_specs::specs::Tables::role))]
 fn role(card: &Card) -> Option<FileRole>
     ensures { result ≡ tables.role card.now (cols 16 16 card.now) }
 {

@@ -1,51 +1,42 @@
-//! The sheets of a source, and which of them a card is on.
+//! The sheets of a source, and which of them a card is on: by any 80 bytes, or by a card.
 
-ghost use Rattle.std.specs.Prelude.{◌≡◌, length};
+ghost use Rattle.std.specs.Prelude.{◌≡◌};
 ghost use Rattle.rpg_sheet_specs.specs.Cards as cards;
 
-use crate::card::Card;
+use crate::card::{Card, has_only_blanks};
 use rpg_sheet_specs::FormType;
-use rpg_text::is_blank;
 
-// ---- 80 columns of any bytes
-
-pub(crate) fn ends_source(card: &[u8]) -> bool
-    requires { length card.now ≡ 80 }
+pub(crate) fn ends_source(card: &[u8; 80]) -> bool
     ensures { result ≡ cards.ends_source card.now }
 {
     &card[..3] == b"/* ".as_slice()
 }
 
-pub(crate) fn begins_data(card: &[u8]) -> bool
-    requires { length card.now ≡ 80 }
+pub(crate) fn begins_data(card: &[u8; 80]) -> bool
     ensures { result ≡ cards.begins_data card.now }
 {
     &card[..3] == b"** ".as_slice()
 }
 
-fn is_skipped(card: &[u8]) -> bool
-    requires { length card.now ≡ 80 }
+fn is_skipped(card: &[u8; 80]) -> bool
     ensures { result ≡ cards.is_skipped card.now }
 {
-    is_blank(card) || &card[6..7] == b"*".as_slice()
+    has_only_blanks(card) || &card[6..7] == b"*".as_slice()
 }
 
-fn is_sheet(card: &[u8], behind: bool) -> bool
-    requires { length card.now ≡ 80 }
+fn is_sheet(card: &[u8; 80], behind: bool) -> bool
     ensures { result ≡ cards.is_sheet behind card.now }
 {
     !(behind || begins_data(card) || ends_source(card) || is_skipped(card))
 }
 
-fn form_type(card: &[u8]) -> Option<FormType>
-    requires { length card.now ≡ 80 }
+fn form_type(card: &[u8; 80]) -> Option<FormType>
     ensures { result ≡ cards.form_type card.now }
 {
     rpg_sheet_values::form_type_of(&card[5..6])
 }
 
-pub(crate) fn sheet(card: &[u8], behind: bool) -> Option<FormType>
-    requires { length card.now ≡ 80 }
+pub(crate) fn sheet(card: &[u8; 80], behind: bool) -> Option<FormType>
     ensures { result ≡ cards.sheet_of behind card.now }
 {
     if is_sheet(card, behind) {
@@ -55,47 +46,45 @@ pub(crate) fn sheet(card: &[u8], behind: bool) -> Option<FormType>
     }
 }
 
-// ---- cards
-
 impl Card {
     /// Whether it is the last card of its source.
     pub fn ends_source(&self) -> bool
         ensures { result ≡ cards.ends_source self.now }
     {
-        ends_source(self.as_slice())
+        ends_source(self.as_array())
     }
 
     /// Whether it begins data.
     pub fn begins_data(&self) -> bool
         ensures { result ≡ cards.begins_data self.now }
     {
-        begins_data(self.as_slice())
+        begins_data(self.as_array())
     }
 
     /// Whether it is blank or a comment.
     pub fn is_skipped(&self) -> bool
         ensures { result ≡ cards.is_skipped self.now }
     {
-        is_skipped(self.as_slice())
+        is_skipped(self.as_array())
     }
 
     /// Whether it must have a form type. `behind` says whether a card before it begins data.
     pub fn is_sheet(&self, behind: bool) -> bool
         ensures { result ≡ cards.is_sheet behind self.now }
     {
-        is_sheet(self.as_slice(), behind)
+        is_sheet(self.as_array(), behind)
     }
 
     pub fn form_type(&self) -> Option<FormType>
         ensures { result ≡ cards.form_type self.now }
     {
-        form_type(self.as_slice())
+        form_type(self.as_array())
     }
 
     /// The sheet that the card is on: none where it is data or skipped, or ends the source.
     pub fn sheet(&self, behind: bool) -> Option<FormType>
         ensures { result ≡ cards.sheet_of behind self.now }
     {
-        sheet(self.as_slice(), behind)
+        sheet(self.as_array(), behind)
     }
 }

@@ -1,4 +1,5 @@
 //! The input sheet (I).
+#![tactic(auto, unfolding(rpg_sheet_specs::specs::Columns::values, rpg_sheet_specs::specs::Columns::at_with, rpg_sheet_specs::specs::Columns::also, rpg_sheet_specs::specs::Columns::past, rpg_sheet_specs::specs::Columns::blank, rpg_sheet_specs::specs::Columns::where_card, rpg_sheet_specs::specs::Tables::input_card, rpg_sheet_specs::specs::Tables::type_or_field_card, rpg_sheet_specs::specs::Tables::type_card, rpg_sheet_specs::specs::Tables::type_and_card, rpg_sheet_specs::specs::Tables::and_codes, rpg_sheet_specs::specs::Tables::record_codes, rpg_sheet_specs::specs::Tables::field_card))]
 
 ghost use Rattle.std.specs.Prelude.{◌≡◌, [], OnOk, IfErr};
 ghost use Rattle.rpg_sheet_specs.specs.Columns as columns;
@@ -6,12 +7,10 @@ ghost use Rattle.rpg_sheet_specs.specs.Columns.{IsLeastColumn, ◌⊛◌, ◌⊘
 ghost use Rattle.rpg_sheet_specs.specs.Tables as tables;
 ghost use Rattle.rpg_sheet_specs.specs.Values as values;
 
-use crate::card::Card;
+use crate::card::{Card, has_only_blanks};
 use crate::columns::{at, indicators};
 use rpg_sheet_specs::{ColumnFault, InputField, InputSpec, RecordCode, RecordType, Three, Word};
-use rpg_text::is_blank;
 
-#[tactic(auto, unfolding(rpg_sheet_specs::specs::Tables::input_card, rpg_sheet_specs::specs::Columns::values, rpg_sheet_specs::specs::Columns::also, rpg_sheet_specs::specs::Columns::where_card))]
 pub(crate) fn input_card(card: &Card) -> Result<InputSpec, ColumnFault>
     ensures { result ≡ tables.input_card.reading card.now }
 {
@@ -33,7 +32,6 @@ impl Card {
     }
 }
 
-#[tactic(auto, unfolding(rpg_sheet_specs::specs::Tables::type_or_field_card, rpg_sheet_specs::specs::Columns::values, rpg_sheet_specs::specs::Columns::also, rpg_sheet_specs::specs::Columns::where_card))]
 fn type_or_field_card(card: &Card) -> Result<InputSpec, ColumnFault>
     ensures { result ≡ tables.type_or_field_card.reading card.now }
 {
@@ -48,16 +46,15 @@ fn type_or_field_card(card: &Card) -> Result<InputSpec, ColumnFault>
 pub(crate) fn is_and_card(card: &Card) -> bool
     ensures { result ≡ tables.is_and_card card.now }
 {
-    is_blank(card.columns(7, 13)) && card.columns(14, 16) == b"AND".as_slice()
+    has_only_blanks(card.columns(7, 13)) && card.columns(14, 16) == b"AND".as_slice()
 }
 
 pub(crate) fn is_field_card(card: &Card) -> bool
     ensures { result ≡ tables.is_field_card card.now }
 {
-    is_blank(card.columns(7, 16))
+    has_only_blanks(card.columns(7, 16))
 }
 
-#[tactic(auto, unfolding(rpg_sheet_specs::specs::Tables::type_card, rpg_sheet_specs::specs::Columns::values, rpg_sheet_specs::specs::Columns::at_with, rpg_sheet_specs::specs::Columns::also, rpg_sheet_specs::specs::Columns::past, rpg_sheet_specs::specs::Columns::blank))]
 fn type_card(card: &Card) -> Result<RecordType, ColumnFault>
     ensures { result ≡ tables.type_card.reading card.now }
 {
@@ -75,7 +72,6 @@ fn type_card(card: &Card) -> Result<RecordType, ColumnFault>
     })
 }
 
-#[tactic(auto, unfolding(rpg_sheet_specs::specs::Tables::type_and_card, rpg_sheet_specs::specs::Columns::values, rpg_sheet_specs::specs::Columns::at_with, rpg_sheet_specs::specs::Columns::also, rpg_sheet_specs::specs::Columns::past, rpg_sheet_specs::specs::Columns::blank))]
 fn type_and_card(card: &Card) -> Result<Three<Option<RecordCode>>, ColumnFault>
     ensures { result ≡ tables.type_and_card.reading card.now }
 {
@@ -86,21 +82,16 @@ fn type_and_card(card: &Card) -> Result<Three<Option<RecordCode>>, ColumnFault>
 }
 
 /// At least one code.
-#[tactic(auto, unfolding(rpg_sheet_specs::specs::Tables::and_codes, rpg_sheet_specs::specs::Columns::values, rpg_sheet_specs::specs::Columns::at_with, rpg_sheet_specs::specs::Columns::also, rpg_sheet_specs::specs::Columns::past, rpg_sheet_specs::specs::Columns::blank, rpg_sheet_specs::specs::Columns::where_card))]
 fn further_codes(card: &Card) -> Result<Three<Option<RecordCode>>, ColumnFault>
     ensures { result ≡ tables.and_codes.reading card.now }
 {
-    if is_blank(card.columns(21, 41)) {
-        Err(ColumnFault {
-            column: 21,
-            last: 41,
-        })
+    if has_only_blanks(card.columns(21, 41)) {
+        at(21, 41, None)
     } else {
         record_codes(card)
     }
 }
 
-#[tactic(auto, unfolding(rpg_sheet_specs::specs::Tables::record_codes, rpg_sheet_specs::specs::Columns::values, rpg_sheet_specs::specs::Columns::at_with, rpg_sheet_specs::specs::Columns::also, rpg_sheet_specs::specs::Columns::past, rpg_sheet_specs::specs::Columns::blank))]
 fn record_codes(card: &Card) -> Result<Three<Option<RecordCode>>, ColumnFault>
     ensures { result ≡ tables.record_codes.reading card.now }
 {
@@ -114,7 +105,6 @@ fn record_codes(card: &Card) -> Result<Three<Option<RecordCode>>, ColumnFault>
     })
 }
 
-#[tactic(auto, unfolding(rpg_sheet_specs::specs::Tables::field_card, rpg_sheet_specs::specs::Columns::values, rpg_sheet_specs::specs::Columns::at_with, rpg_sheet_specs::specs::Columns::also, rpg_sheet_specs::specs::Columns::past, rpg_sheet_specs::specs::Columns::blank))]
 fn field_card(card: &Card) -> Result<InputField, ColumnFault>
     ensures { result ≡ tables.field_card.reading card.now }
 {
@@ -127,7 +117,6 @@ fn field_card(card: &Card) -> Result<InputField, ColumnFault>
 }
 
 /// The field with these columns and this name, and the columns after them.
-#[tactic(auto, unfolding(rpg_sheet_specs::specs::Columns::values, rpg_sheet_specs::specs::Columns::at_with, rpg_sheet_specs::specs::Columns::also, rpg_sheet_specs::specs::Columns::past, rpg_sheet_specs::specs::Columns::blank))]
 fn field_with(
     card: &Card,
     from: u16,

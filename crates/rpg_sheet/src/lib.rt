@@ -1,5 +1,4 @@
 //! From a source's bytes to what its cards mean, or the fault of the first card that has one.
-//! A card, the sheet that it is on, and the readers of its columns.
 #![tactic(auto)]
 
 mod calculation;

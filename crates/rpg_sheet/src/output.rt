@@ -1,18 +1,17 @@
 //! The output sheet (O).
+#![tactic(auto, unfolding(rpg_sheet_specs::specs::Columns::values, rpg_sheet_specs::specs::Columns::at_with, rpg_sheet_specs::specs::Columns::also, rpg_sheet_specs::specs::Columns::past, rpg_sheet_specs::specs::Columns::blank, rpg_sheet_specs::specs::Columns::where_card, rpg_sheet_specs::specs::Values::blank_or, rpg_sheet_specs::specs::Tables::output_card, rpg_sheet_specs::specs::Tables::line_or_card, rpg_sheet_specs::specs::Tables::line_or_field_card, rpg_sheet_specs::specs::Tables::record_card, rpg_sheet_specs::specs::Tables::movement, rpg_sheet_specs::specs::Tables::line_conditions, rpg_sheet_specs::specs::Tables::output_field_card))]
 
 ghost use Rattle.std.specs.Prelude.{◌≡◌, [], OnOk, IfErr};
 ghost use Rattle.rpg_sheet_specs.specs.Columns.{IsLeastColumn};
 ghost use Rattle.rpg_sheet_specs.specs.Tables as tables;
 
-use crate::card::Card;
-use crate::columns::{at, conditions};
+use crate::card::{Card, has_only_blanks};
+use crate::columns::{at, conditions, optional};
 use crate::input::{is_and_card, is_field_card};
 use rpg_sheet_specs::{
     ColumnFault, Condition, Movement, OutputField, OutputRecord, OutputSpec, Three,
 };
-use rpg_text::is_blank;
 
-#[tactic(auto, unfolding(rpg_sheet_specs::specs::Tables::output_card, rpg_sheet_specs::specs::Columns::values, rpg_sheet_specs::specs::Columns::also, rpg_sheet_specs::specs::Columns::where_card))]
 pub(crate) fn output_card(card: &Card) -> Result<OutputSpec, ColumnFault>
     ensures { result ≡ tables.output_card.reading card.now }
 {
@@ -38,10 +37,9 @@ impl Card {
 fn is_or_card(card: &Card) -> bool
     ensures { result ≡ tables.is_or_card card.now }
 {
-    is_blank(card.columns(7, 13)) && card.columns(14, 15) == b"OR".as_slice()
+    has_only_blanks(card.columns(7, 13)) && card.columns(14, 15) == b"OR".as_slice()
 }
 
-#[tactic(auto, unfolding(rpg_sheet_specs::specs::Tables::line_or_card, rpg_sheet_specs::specs::Columns::values, rpg_sheet_specs::specs::Columns::at_with, rpg_sheet_specs::specs::Columns::also, rpg_sheet_specs::specs::Columns::past, rpg_sheet_specs::specs::Columns::blank, rpg_sheet_specs::specs::Columns::where_card))]
 fn line_or_card(card: &Card) -> Result<OutputSpec, ColumnFault>
     ensures { result ≡ tables.line_or_card.reading card.now }
 {
@@ -53,7 +51,6 @@ fn line_or_card(card: &Card) -> Result<OutputSpec, ColumnFault>
     }
 }
 
-#[tactic(auto, unfolding(rpg_sheet_specs::specs::Tables::line_or_field_card, rpg_sheet_specs::specs::Columns::values, rpg_sheet_specs::specs::Columns::also, rpg_sheet_specs::specs::Columns::where_card))]
 fn line_or_field_card(card: &Card) -> Result<OutputSpec, ColumnFault>
     ensures { result ≡ tables.line_or_field_card.reading card.now }
 {
@@ -64,7 +61,6 @@ fn line_or_field_card(card: &Card) -> Result<OutputSpec, ColumnFault>
     }
 }
 
-#[tactic(auto, unfolding(rpg_sheet_specs::specs::Tables::record_card, rpg_sheet_specs::specs::Columns::values, rpg_sheet_specs::specs::Columns::at_with, rpg_sheet_specs::specs::Columns::also, rpg_sheet_specs::specs::Columns::past, rpg_sheet_specs::specs::Columns::blank))]
 fn record_card(card: &Card) -> Result<OutputRecord, ColumnFault>
     ensures { result ≡ tables.record_card.reading card.now }
 {
@@ -82,7 +78,6 @@ fn record_card(card: &Card) -> Result<OutputRecord, ColumnFault>
     })
 }
 
-#[tactic(auto, unfolding(rpg_sheet_specs::specs::Tables::movement, rpg_sheet_specs::specs::Columns::values, rpg_sheet_specs::specs::Columns::at_with, rpg_sheet_specs::specs::Columns::also, rpg_sheet_specs::specs::Columns::past, rpg_sheet_specs::specs::Columns::blank))]
 fn movement(card: &Card) -> Result<Movement, ColumnFault>
     ensures { result ≡ tables.movement.reading card.now }
 {
@@ -99,7 +94,6 @@ fn movement(card: &Card) -> Result<Movement, ColumnFault>
 }
 
 /// Further conditions of a line.
-#[tactic(auto, unfolding(rpg_sheet_specs::specs::Tables::line_conditions, rpg_sheet_specs::specs::Columns::values, rpg_sheet_specs::specs::Columns::at_with, rpg_sheet_specs::specs::Columns::also, rpg_sheet_specs::specs::Columns::past, rpg_sheet_specs::specs::Columns::blank))]
 fn line_conditions(card: &Card) -> Result<Three<Option<Condition>>, ColumnFault>
     ensures { result ≡ tables.line_conditions.reading card.now }
 {
@@ -109,14 +103,14 @@ fn line_conditions(card: &Card) -> Result<Three<Option<Condition>>, ColumnFault>
     Ok(conditions)
 }
 
-#[tactic(auto, unfolding(rpg_sheet_specs::specs::Tables::output_field_card, rpg_sheet_specs::specs::Columns::values, rpg_sheet_specs::specs::Columns::at_with, rpg_sheet_specs::specs::Columns::also, rpg_sheet_specs::specs::Columns::past, rpg_sheet_specs::specs::Columns::blank))]
 fn output_field_card(card: &Card) -> Result<OutputField, ColumnFault>
     ensures { result ≡ tables.output_field_card.reading card.now }
 {
     card.blank(17, 22)?;
     let conditions = conditions(card, 23)?;
     let operand = card.optional_entry(32, 37)?;
-    let code = card.optional_edit_code(38, 38)?;
+    let code = card.columns(38, 38);
+    let code = optional(38, 38, code, rpg_sheet_values::edit_code(code))?;
     let blank_after = at(39, 39, rpg_sheet_values::marked(b"B", card.columns(39, 39)))?;
     let end = card.number(40, 43)?;
     card.blank(44, 44)?;

@@ -6,7 +6,6 @@ ghost use Rattle.rpg_sheet_specs.specs.Specs.{data_spec_of, spec_of};
 ghost use Rattle.rpg_sheet.specs.Codes as codes;
 ghost use Rattle.rpg_sheet.specs.Seen.{sheet_code};
 ghost use Rattle.rpg_sheet.specs.Sheet.{fault_columns};
-ghost use Rattle.rpg_sheet.specs.declared.sheet.SheetCode.TheVariants.{S5};
 ghost use Rattle.rpg_sheet.specs.declared.sheet.SheetFault.TheVariants.{NoMemory};
 
 use crate::Card;
@@ -99,17 +98,6 @@ impl From<SheetCode> for CardFault {
     }
 }
 
-impl From<ColumnFault> for CardFault {
-    ghost from_gives = { λ bad fault. (fault.code ≡ S5) × (fault.columns ≡ Some bad) };
-
-    fn from(bad: ColumnFault) -> Self {
-        CardFault {
-            code: SheetCode::S5,
-            columns: Some(bad),
-        }
-    }
-}
-
 /// Why a source has no cards.
 #[derive(Clone, Copy)]
 pub enum SheetFault {
@@ -177,7 +165,13 @@ pub(crate) fn read(card: &Card, latest: u8, behind: bool) -> Result<Option<Spec>
     if sheet_place(sheet) < latest {
         return Err(SheetCode::S4.into());
     }
-    Ok(Some(card.read(sheet)?))
+    match card.read(sheet) {
+        Ok(spec) => Ok(Some(spec)),
+        Err(bad) => Err(CardFault {
+            code: SheetCode::S5,
+            columns: Some(bad),
+        }),
+    }
 }
 
 /// What a card that is on no sheet means.

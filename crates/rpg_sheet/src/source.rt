@@ -1,23 +1,60 @@
 //! From the bytes of a source to what its cards mean.
 
-ghost use Rattle.std.specs.Prelude.{◌≡◌, ℕ, ◌<◌, ◌||◌, length, None, Some, map, nat_lt, OnOk, IfOk, IfErr};
-ghost use Rattle.rpg_sheet.specs.Seen as seen;
+ghost use Rattle.std.specs.Prelude.{◌≡◌, ℕ, ◌≤◌, ◌||◌, ◌∷◌, ◌++◌, List, [], None, Some, map, nat_lt, OnOk, IfOk, IfErr};
+ghost use Rattle.rpg_sheet.specs.Seen.{AreLinesSeen, code_seen};
 ghost use Rattle.rpg_sheet.specs.Sheet as sheets;
 ghost use Rattle.rpg_sheet_specs.specs.Cards.{card_of};
 ghost use Rattle.rpg_sheet_specs.specs.Specs.{spec_of, specs_of};
 
 use crate::Card;
-use crate::form::sheet;
+use crate::form::{begins_data, ends_source, sheet};
+use crate::line::columns_of;
 use crate::sheet::{CardFault, Cards, SheetCode, SheetFault, read, sheet_place};
 use rpg_sheet_specs::Spec;
 use rpg_text::{first_line, has_only_characters};
 use std::alloc::Global;
 
-/// How many columns a card has.
-const COLUMNS: usize = 80;
-
 /// How many cards a source has at most.
-pub(crate) const CARDS: usize = 2000;
+pub(crate) const CARDS: u16 = 2000;
+
+/// The lines before a line: how many they are, the place of the latest sheet, and whether data has begun.
+#[derive(Clone, Copy)]
+pub(crate) struct Earlier {
+    pub count: u16,
+    pub latest: u8,
+    pub behind: bool,
+}
+
+/// No lines.
+pub(crate) const NO_LINES: Earlier = Earlier {
+    count: 0,
+    latest: 0,
+    behind: false,
+};
+
+impl Earlier {
+    /// The same with one more line, which has these columns.
+    pub(crate) fn with(self, columns: &[u8; 80]) -> Self
+        requires { self.count ≤ 2000 }
+        ensures { (lines : List (List ℕ)) → (line : List ℕ) → columns.now ≡ card_of line → AreLinesSeen lines self.count self.latest self.behind → AreLinesSeen (lines ++ line ∷ []) result.count result.latest result.behind }
+    {
+        Earlier {
+            count: self.count + 1,
+            latest: latest_with(self.latest, columns),
+            behind: self.behind | begins_data(columns),
+        }
+    }
+}
+
+/// The place of the latest sheet, with a card of these columns.
+fn latest_with(latest: u8, columns: &[u8; 80]) -> u8
+    ensures { (n : ℕ) → nat_lt n result ≡ (nat_lt n latest || sheets.comes_after n columns.now) }
+{
+    match sheet(columns, false) {
+        Some(sheet) => latest.max(sheet_place(sheet)),
+        None => latest,
+    }
+}
 
 /// What the cards of a source mean, or the first card that has a fault, with its least code. Nothing is read after the card `/*`.
 /// `NoMemory` is returned if memory ran out, in place of any fault after that.
@@ -27,74 +64,51 @@ pub fn cards(alloc: Global, text: &[u8]) -> Result<Cards, SheetFault>
     ensures fault { IfErr result (λ fault. sheets.IsSheetRefusal fault text.now) }
 {
     let mut specs = Vec::new(alloc);
+    let mut earlier = NO_LINES;
     let mut rest = text;
-    let mut latest = 0;
-    let mut behind = false;
     while !rest.is_empty() {
         let (line, more) = first_line(rest);
-        let count = specs.len();
-        let (card, spec) = match checked(count, latest, behind, line) {
-            Ok(read) => read,
+        let columns = columns_of(line);
+        match checked(earlier, line, &columns) {
+            Ok(spec) => specs.push(spec)?,
             Err(CardFault { code, columns }) => {
                 return Err(SheetFault::At {
-                    card: count as u16 + 1,
+                    card: earlier.count + 1,
                     code,
                     columns,
                 });
             }
-        };
-        latest = latest_after(latest, &card);
-        behind = behind | card.begins_data();
-        specs.push(spec)?;
-        if card.ends_source() {
+        }
+        if ends_source(&columns) {
             return Ok(Cards::new(specs));
         }
+        earlier = earlier.with(&columns);
         rest = more;
     }
     Ok(Cards::new(specs))
 }
 
-/// The card of a line that follows `count` others and what it means, or what is wrong with it.
+/// What the card of a line with these columns means, after others, or what is wrong with it.
 pub(crate) fn checked(
-    count: usize,
-    latest: u8,
-    behind: bool,
+    earlier: Earlier,
     line: &[u8],
-) -> Result<(Card, Option<Spec>), CardFault>
-    ensures card { IfOk result (λ read. read.0 ≡ card_of line.now) }
-    ensures spec { IfOk result (λ read. read.1 ≡ spec_of behind (card_of line.now)) }
-    ensures good { OnOk result (seen.code_seen count latest behind line.now ≡ None) }
-    ensures code { IfErr result (λ fault. seen.code_seen count latest behind line.now ≡ Some fault.code) }
-    ensures columns { IfErr result (λ fault. fault.columns ≡ sheets.fault_columns behind (card_of line.now) fault.code) }
+    columns: &[u8; 80],
+) -> Result<Option<Spec>, CardFault>
+    requires { columns.now ≡ card_of line.now }
+    ensures spec { IfOk result (λ spec. spec ≡ spec_of earlier.behind columns.now) }
+    ensures good { OnOk result (code_seen earlier.count earlier.latest earlier.behind line.now ≡ None) }
+    ensures code { IfErr result (λ fault. code_seen earlier.count earlier.latest earlier.behind line.now ≡ Some fault.code) }
+    ensures columns { IfErr result (λ fault. fault.columns ≡ sheets.fault_columns earlier.behind columns.now fault.code) }
 {
-    if line.len() > COLUMNS {
+    if line.len() > 80 {
         return Err(SheetCode::S1.into());
     }
-    if !has_only_characters(line) {
+    if !has_only_characters(columns) {
         return Err(SheetCode::S2.into());
     }
-    let card = Card::new(line);
-    let spec = read(&card, latest, behind)?;
-    if count >= CARDS {
-        return Err(SheetCode::S6.into());
-    }
-    Ok((card, spec))
-}
-
-/// The place of the latest sheet, once this card is read too.
-fn latest_after(latest: u8, card: &Card) -> u8
-    ensures { (n : ℕ) → nat_lt n result ≡ (nat_lt n latest || sheets.comes_after n card.now) }
-{
-    latest_with(latest, card.as_slice())
-}
-
-/// The place of the latest sheet, with these 80 columns of any bytes.
-pub(crate) fn latest_with(latest: u8, card: &[u8]) -> u8
-    requires { length card.now ≡ 80 }
-    ensures { (n : ℕ) → nat_lt n result ≡ (nat_lt n latest || sheets.comes_after n card.now) }
-{
-    match sheet(card, false) {
-        Some(sheet) => latest.max(sheet_place(sheet)),
-        None => latest,
+    match read(&Card::of(columns), earlier.latest, earlier.behind) {
+        Ok(_) if earlier.count >= CARDS => Err(SheetCode::S6.into()),
+        Ok(spec) => Ok(spec),
+        Err(fault) => Err(fault),
     }
 }

@@ -1,15 +1,15 @@
 //! All cards of a source that can't be read.
 
-ghost use Rattle.std.specs.Prelude.{◌≡◌, ℕ, ◌≤◌, ◌∷◌, ◌++◌, List, [], length, IfOk, OnOk};
+ghost use Rattle.std.specs.Prelude.{◌≡◌, ℕ, ◌≤◌, ◌++◌, List, IfOk, OnOk};
 ghost use Rattle.rpg_sheet.specs.Seen.{AreLinesSeen};
 ghost use Rattle.rpg_sheet.specs.Sheet as sheets;
 ghost use Rattle.rpg_sheet.specs.Unreadable as every;
 ghost use Rattle.rpg_sheet_specs.specs.Cards.{card_of};
 
-use crate::form::{begins_data, ends_source};
-use crate::line::{padded, within_card};
+use crate::form::ends_source;
+use crate::line::columns_of;
 use crate::sheet::{CardFault, SheetCode};
-use crate::source::{CARDS, checked, latest_with};
+use crate::source::{CARDS, Earlier, NO_LINES, checked};
 use rpg_sheet_specs::ColumnFault;
 use rpg_text::first_line;
 use std::alloc::{AllocError, Global};
@@ -23,17 +23,6 @@ pub struct UnreadableCard {
     pub columns: Option<ColumnFault>,
 }
 
-/// The lines before a line: how many they are, the place of the latest sheet, and whether data has begun.
-#[derive(Clone, Copy)]
-struct Earlier {
-    count: u16,
-    latest: u8,
-    behind: bool,
-}
-
-/// The most cards before one that is still checked.
-const LAST: u16 = CARDS as u16;
-
 /// All cards of a source that can't be read, each with its least code, in their order. Nothing is read after the card `/*` or after card
 /// 2,001. It fails only when memory runs out.
 #[tactic(auto, using(crate::proofs::UnreadableLemmas::cut_short))]
@@ -41,43 +30,36 @@ pub fn unreadable_cards(alloc: Global, text: &[u8]) -> Result<Vec<UnreadableCard
     ensures { IfOk result (λ cards. cards.items ≡ every.unreadable_cards (sheets.source text.now)) }
 {
     let mut found = Vec::new(alloc);
-    let mut earlier = Earlier {
-        count: 0,
-        latest: 0,
-        behind: false,
-    };
+    let mut earlier = NO_LINES;
     let mut rest = text;
     while !rest.is_empty() {
-        if earlier.count > LAST {
+        if earlier.count > CARDS {
             return Ok(found);
         }
         let (line, more) = first_line(rest);
-        put_if_unreadable(&mut found, earlier, line)?;
-        let card = padded(within_card(line));
-        if ends_source(&card) {
+        let columns = columns_of(line);
+        put_if_unreadable(&mut found, earlier, line, &columns)?;
+        if ends_source(&columns) {
             return Ok(found);
         }
-        earlier = earlier.with(&card);
+        earlier = earlier.with(&columns);
         rest = more;
     }
     Ok(found)
 }
 
-/// Appends a line that can't be read.
+/// Appends a line that can't be read. It has these columns.
 fn put_if_unreadable(
     found: &mut Vec<UnreadableCard>,
     earlier: Earlier,
     line: &[u8],
+    columns: &[u8; 80],
 ) -> Result<(), AllocError>
-    requires { earlier.count ≤ 2000 }
+    requires few { earlier.count ≤ 2000 }
+    requires columns { columns.now ≡ card_of line.now }
     ensures { OnOk result ((lines : List (List ℕ)) → AreLinesSeen lines earlier.count earlier.latest earlier.behind → found.new.items ≡ found.old.items ++ every.unreadable_at lines line.now) }
 {
-    match checked(
-        usize::from(earlier.count),
-        earlier.latest,
-        earlier.behind,
-        line,
-    ) {
+    match checked(earlier, line, columns) {
         Ok(_) => Ok(()),
         Err(CardFault { code, columns }) => {
             found.push(UnreadableCard {
@@ -86,21 +68,6 @@ fn put_if_unreadable(
                 columns,
             })?;
             Ok(())
-        }
-    }
-}
-
-impl Earlier {
-    /// The same with one more line, which has these columns.
-    fn with(self, card: &[u8]) -> Self
-        requires few { self.count ≤ 2000 }
-        requires columns { length card.now ≡ 80 }
-        ensures { (lines : List (List ℕ)) → (line : List ℕ) → card.now ≡ card_of line → AreLinesSeen lines self.count self.latest self.behind → AreLinesSeen (lines ++ line ∷ []) result.count result.latest result.behind }
-    {
-        Earlier {
-            count: self.count + 1,
-            latest: latest_with(self.latest, card),
-            behind: self.behind | begins_data(card),
         }
     }
 }

@@ -1,2 +1,3 @@
 pub mod Blanks
+mod LineFeeds
 pub mod LineLemmas

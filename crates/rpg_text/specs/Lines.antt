@@ -7,9 +7,13 @@ use Rattle.std.specs.Str.Lines.{lines, strip_carriage_return}
 abbrev pub is_line_feed : ℕ → Bool
 is_line_feed b = b == 10
 
+-- any other byte
+abbrev pub is_no_line_feed : ℕ → Bool
+is_no_line_feed b = not (is_line_feed b)
+
 -- bytes with no line feed among them
 abbrev pub is_line : List ℕ → Bool
-is_line = list_all (λ b. not (is_line_feed b))
+is_line = list_all is_no_line_feed
 
 -- a text with a line feed at its end
 abbrev pub with_line_feed : List ℕ → List ℕ

@@ -1,8 +1,9 @@
 //! Lines: a source's cards and an input's records.
 
-ghost use Rattle.std.specs.Prelude.{◌≡◌, ◌<◌, ◌∷◌, length, position, IfSome};
+ghost use Rattle.std.specs.Prelude.{◌≡◌, ◌+◌, ◌<◌, ◌≤◌, ◌∷◌, drop, length, position, IfSome};
+ghost use Rattle.std.specs.List.{prefix_len};
 ghost use Rattle.std.specs.Str.Lines.{lines, strip_carriage_return};
-ghost use Rattle.rpg_text.specs.Lines.{is_line_feed, LinesEndAtLineFeeds};
+ghost use Rattle.rpg_text.specs.Lines.{is_line, is_line_feed, is_no_line_feed, LinesEndAtLineFeeds};
 
 /// The first line of a text, and what follows it. A line feed ends a line, and one carriage return before it is dropped.
 pub fn first_line(text: &[u8]) -> (&[u8], &[u8])
@@ -21,7 +22,43 @@ fn line_feed(text: &[u8]) -> Option<usize>
     ensures place { result ≡ position is_line_feed text.now }
     ensures within { IfSome result (λ end. end < length text.now) }
 {
+    let before = before_line_feed(text);
+    match line_feed_one_by_one(&text[before..]) {
+        Some(end) => Some(before + end),
+        None => None,
+    }
+}
+
+/// The same, byte by byte.
+fn line_feed_one_by_one(text: &[u8]) -> Option<usize>
+    ensures place { result ≡ position is_line_feed text.now }
+    ensures within { IfSome result (λ end. end < length text.now) }
+{
     text.iter().position(|b| *b == b'\n')
+}
+
+/// How many bytes come before the first sixteen that have a line feed.
+fn before_line_feed(text: &[u8]) -> usize
+    ensures within { result ≤ length text.now }
+    ensures before { prefix_len is_no_line_feed text.now ≡ result + prefix_len is_no_line_feed (drop result text.now) }
+{
+    let mut at = 0;
+    while text.len() - at >= 16 && has_no_line_feed(&text[at..at + 16]) {
+        at += 16;
+    }
+    at
+}
+
+/// Whether no byte of a text is a line feed. No byte ends the loop early, so that many are tested at a time.
+#[inline(always)]
+fn has_no_line_feed(text: &[u8]) -> bool
+    ensures { result ≡ is_line text.now }
+{
+    let mut has_none = true;
+    for byte in text {
+        has_none = (*byte != b'\n') & has_none;
+    }
+    has_none
 }
 
 /// A line without the one carriage return at its end.

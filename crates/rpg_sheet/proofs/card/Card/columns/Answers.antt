@@ -6,5 +6,4 @@ use Rattle.rpg_sheet.proofs.card.Card.columns.Goals as goal
 
 pub returns-clause-characters : goal.returns-clause-characters
 returns-clause-characters c =
-    rw c.as_slice.ensures.value
-    (all-take is_character (c.args.last - (c.args.first - 1)) (drop (c.args.first - 1) c.self.inside.characters.items) (all-drop is_character (c.args.first - 1) c.self.inside.characters.items c.self.invariant.1))
+    all-take is_character (c.args.last - (c.args.first - 1)) (drop (c.args.first - 1) c.self.inside.characters) (all-drop is_character (c.args.first - 1) c.self.inside.characters c.self.invariant.1)
