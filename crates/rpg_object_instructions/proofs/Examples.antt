@@ -12,10 +12,10 @@ use Rattle.rpg_object_format.specs.declared.fault.Code.{Code}
 use Rattle.rpg_object_format.specs.declared.fault.Code.TheVariants.{CutShort, NotAllowed, Unused}
 use Rattle.rpg_object_format.specs.declared.fault.Fault.{Fault}
 use Rattle.rpg_object_format.specs.Format.{byte, pair, read_byte, read_two, row, two_bytes}
-use Rattle.rpg_object_rows.specs.Indicators.{shows_format}
-use Rattle.rpg_object_rows.specs.Operands.{operand, unused_operand}
-use Rattle.rpg_object_rows.specs.Shapes.{row_where}
-use Rattle.rpg_object_rows.specs.Instructions.{instruction, no_shows, numbers_format, unused_shows, used_numbers}
+use Rattle.rpg_object_instructions.specs.Indicators.{shows_format}
+use Rattle.rpg_object_instructions.specs.Operands.{operand, unused_operand}
+use Rattle.rpg_object_instructions.specs.Shapes.{row_where}
+use Rattle.rpg_object_instructions.specs.Instructions.{instruction, no_shows, numbers_format, unused_shows, used_numbers}
 
 abbrev of_field : ℕ → Operand ℕ
 of_field k = record { field = k; index = Blank }

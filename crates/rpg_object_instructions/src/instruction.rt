@@ -3,7 +3,7 @@
 ghost use Rattle.std.specs.Prelude.{◌≡◌, ◌++◌, OnOk};
 ghost use Rattle.rpg_object_format.specs.Reading.{Gives};
 ghost use Rattle.rpg_object_program.specs.Kept.{IsInstructionRow, IsIndexRow};
-ghost use Rattle.rpg_object_rows.specs.Instructions as rows;
+ghost use Rattle.rpg_object_instructions.specs.Instructions as rows;
 
 use crate::condition::{conditions_of, indicators_of, negations_of};
 use crate::indicator::indicator_number;

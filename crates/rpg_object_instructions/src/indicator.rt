@@ -3,7 +3,7 @@
 ghost use Rattle.std.specs.Prelude.{◌≡◌};
 ghost use Rattle.rpg_object_format.specs.Format.{read_byte};
 ghost use Rattle.rpg_object_format.specs.Reading.{Gives};
-ghost use Rattle.rpg_object_rows.specs.Indicators.{indicator_by_number, indicator_number, shows_format};
+ghost use Rattle.rpg_object_instructions.specs.Indicators.{indicator_by_number, indicator_number, shows_format};
 
 use rpg_effect::operation::Shows;
 use rpg_object_format::fault::{Code, ReadFault};

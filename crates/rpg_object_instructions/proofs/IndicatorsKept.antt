@@ -10,9 +10,9 @@ use Rattle.rpg_object_format.specs.Format.{byte, pair, row, two_bytes}
 use Rattle.rpg_object_format.specs.Numbers.{allowed}
 use Rattle.rpg_object_format.proofs.Rules.{chosen, stands_for}
 use Rattle.rpg_object_program.specs.Kept.{AreConditions, AreIndicators, IsAlternativeRow, IsConditionRow, IsIndicator}
-use Rattle.rpg_object_rows.specs.Indicators.{alternative, are_negations, condition_format, conditions_format, has_bit, indicator_by_number, indicator_format, indicator_in, indicators_of, is_negation, may_negate, negations_of, shows_format}
-use Rattle.rpg_object_rows.proofs.Choices.{all_from_table, between, counted, few, flag_from, some_is, table_from_all, taken, within}
-use Rattle.rpg_object_rows.proofs.IndicatorLaws.{has_bits}
+use Rattle.rpg_object_instructions.specs.Indicators.{alternative, are_negations, condition_format, conditions_format, has_bit, indicator_by_number, indicator_format, indicator_in, indicators_of, is_negation, may_negate, negations_of, shows_format}
+use Rattle.rpg_object_instructions.proofs.Choices.{all_from_table, between, counted, few, flag_from, some_is, table_from_all, taken, within}
+use Rattle.rpg_object_instructions.proofs.IndicatorLaws.{has_bits}
 
 -- ---- indicators
 

@@ -6,7 +6,7 @@ use Rattle.rpg_effect.specs.declared.operation.Operand.{Operand}
 use Rattle.rpg_object_format.specs.declared.fault.Code.{Code}
 use Rattle.rpg_object_format.specs.Format.{Format, two_bytes, pair, row}
 use Rattle.rpg_object_format.specs.Numbers.{any_number}
-use Rattle.rpg_object_rows.specs.Shapes.{unused_number}
+use Rattle.rpg_object_instructions.specs.Shapes.{unused_number}
 
 -- 0 for no index, 1 to 9,999 for a literal, and 10,000 plus its number for a field
 abbrev pub index_by_number : ℕ → Index ℕ

@@ -1,7 +1,7 @@
 //! The table of operations: their numbers, and the columns that each uses.
 
 ghost use Rattle.std.specs.Prelude.{◌≡◌};
-ghost use Rattle.rpg_object_rows.specs.Instructions as rows;
+ghost use Rattle.rpg_object_instructions.specs.Instructions as rows;
 
 use rpg_effect::operation::{Operand, Shows};
 use rpg_object_format::fault::Code;

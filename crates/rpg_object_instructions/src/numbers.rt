@@ -3,7 +3,7 @@
 ghost use Rattle.std.specs.Prelude.{◌≡◌, ◌++◌};
 ghost use Rattle.rpg_object_format.specs.Format.{read_byte};
 ghost use Rattle.rpg_object_format.specs.Reading.{Gives};
-ghost use Rattle.rpg_object_rows.specs.Instructions as rows;
+ghost use Rattle.rpg_object_instructions.specs.Instructions as rows;
 
 use crate::condition::negations_at;
 use crate::indicator::shows_at;

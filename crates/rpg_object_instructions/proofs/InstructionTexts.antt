@@ -10,12 +10,12 @@ use Rattle.rpg_effect.specs.declared.operation.Shows.{Shows}
 use Rattle.rpg_effect.specs.declared.operation.Side.TheVariants as sides
 use Rattle.rpg_object_format.specs.Format.{byte, two_bytes, pair, row}
 use Rattle.rpg_object_program.specs.Kept.{IsIndexRow, IsInstructionRow, IsOptionalRow}
-use Rattle.rpg_object_rows.specs.declared.operation.Numbers.{Numbers}
-use Rattle.rpg_object_rows.specs.declared.operation.Operation.{Operation}
-use Rattle.rpg_object_rows.specs.Indicators.{shows_format}
-use Rattle.rpg_object_rows.specs.Instructions.{action_numbers, instruction, numbers_format, numbers_of, numbers_text, unused_shows, used_numbers}
-use Rattle.rpg_object_rows.specs.Operands.{operand, operand_or_none, unused_operand}
-use Rattle.rpg_object_rows.specs.Shapes.{row_where}
+use Rattle.rpg_object_instructions.specs.declared.operation.Numbers.{Numbers}
+use Rattle.rpg_object_instructions.specs.declared.operation.Operation.{Operation}
+use Rattle.rpg_object_instructions.specs.Indicators.{shows_format}
+use Rattle.rpg_object_instructions.specs.Instructions.{action_numbers, instruction, numbers_format, numbers_of, numbers_text, unused_shows, used_numbers}
+use Rattle.rpg_object_instructions.specs.Operands.{operand, operand_or_none, unused_operand}
+use Rattle.rpg_object_instructions.specs.Shapes.{row_where}
 
 -- ---- an action by its columns
 

@@ -9,9 +9,9 @@ use Rattle.rpg_object_format.specs.Format.{pair, row, two_bytes}
 use Rattle.rpg_object_format.proofs.Laws.{IsFormat, IsRule, pair_law, row_law, two_law}
 use Rattle.rpg_object_format.proofs.Rules.{any_number_law, value_is}
 use Rattle.rpg_object_program.specs.Kept.{IsAnOperand, IsIndexRow, IsOperandRow}
-use Rattle.rpg_object_rows.specs.Operands.{if_operand, index_by_number, index_number, index_rule, no_operand, operand, operand_or_none, optional_of, unused_operand}
-use Rattle.rpg_object_rows.proofs.Choices.{decided, some_is}
-use Rattle.rpg_object_rows.proofs.ShapeLaws.{unused_number_law}
+use Rattle.rpg_object_instructions.specs.Operands.{if_operand, index_by_number, index_number, index_rule, no_operand, operand, operand_or_none, optional_of, unused_operand}
+use Rattle.rpg_object_instructions.proofs.Choices.{decided, some_is}
+use Rattle.rpg_object_instructions.proofs.ShapeLaws.{unused_number_law}
 
 -- ---- indexes
 

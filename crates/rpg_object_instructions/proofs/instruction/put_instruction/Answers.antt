@@ -1,5 +1,5 @@
-use Rattle.rpg_object_rows.proofs.InstructionTexts.{indexes_fit, instruction_text}
-use Rattle.rpg_object_rows.proofs.instruction.put_instruction.Goals as goal
+use Rattle.rpg_object_instructions.proofs.InstructionTexts.{indexes_fit, instruction_text}
+use Rattle.rpg_object_instructions.proofs.instruction.put_instruction.Goals as goal
 
 pub put_numbers-requires-clause-factor1 : goal.put_numbers-requires-clause-factor1
 put_numbers-requires-clause-factor1 c = rw c.numbers_of.ensures (indexes_fit c.args.instruction c.requires).factor1

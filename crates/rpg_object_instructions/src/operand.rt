@@ -4,7 +4,7 @@ ghost use Rattle.std.specs.Prelude.{◌≡◌, ◌<◌, ◌+◌, ◌^◌};
 ghost use Rattle.rpg_object_format.specs.Format.{read_two};
 ghost use Rattle.rpg_object_format.specs.Reading.{Gives};
 ghost use Rattle.rpg_object_program.specs.Kept.{IsIndexRow};
-ghost use Rattle.rpg_object_rows.specs.Operands as rows;
+ghost use Rattle.rpg_object_instructions.specs.Operands as rows;
 
 use rpg_effect::operation::{Index, Operand};
 use rpg_object_format::fault::{Code, ReadFault};

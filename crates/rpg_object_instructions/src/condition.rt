@@ -4,7 +4,7 @@ ghost use Rattle.std.specs.Prelude.{◌≡◌, ◌<◌};
 ghost use Rattle.rpg_object_format.specs.Format.{read_byte};
 ghost use Rattle.rpg_object_format.specs.Numbers.{allowed};
 ghost use Rattle.rpg_object_format.specs.Reading.{Gives};
-ghost use Rattle.rpg_object_rows.specs.Indicators.{are_negations, bit, condition_with, conditions_format, conditions_of, has_bit, indicator_in, indicators_of, is_negation, may_negate, negations_of};
+ghost use Rattle.rpg_object_instructions.specs.Indicators.{are_negations, bit, condition_with, conditions_format, conditions_of, has_bit, indicator_in, indicators_of, is_negation, may_negate, negations_of};
 
 use crate::indicator::shows_at;
 use rpg_effect::condition::{Condition, Conditions};

@@ -12,18 +12,18 @@ use Rattle.rpg_object_format.specs.Format.{byte, pair, row}
 use Rattle.rpg_object_format.specs.Numbers.{any_number, byte_where, yes_or_no}
 use Rattle.rpg_object_format.proofs.Laws.{IsFormat, byte_law, pair_law, row_law}
 use Rattle.rpg_object_format.proofs.Rules.{any_number_law, byte_where_law, choice_rule, yes_or_no_law}
-use Rattle.rpg_object_rows.specs.declared.operation.Columns.{Columns}
-use Rattle.rpg_object_rows.specs.declared.operation.Numbers.{Numbers}
-use Rattle.rpg_object_rows.specs.declared.operation.Operation.{Operation}
-use Rattle.rpg_object_rows.specs.declared.operation.Operation.TheVariants as op
-use Rattle.rpg_object_rows.specs.Indicators.{are_negations, conditions_of, indicators_of, negations_of, shows_format}
-use Rattle.rpg_object_rows.specs.Instructions.{HasOneSpelling, instruction, instruction_of, no_shows, numbers_format, numbers_of, operation_number, operations, unused_shows, used_columns, used_numbers}
-use Rattle.rpg_object_rows.specs.Operands.{no_operand, operand, unused_operand}
-use Rattle.rpg_object_rows.specs.Shapes.{unused_byte, unused_number}
-use Rattle.rpg_object_rows.proofs.Choices.{passed}
-use Rattle.rpg_object_rows.proofs.IndicatorLaws.{conditions_back, indicators_there, negations_there, shows_law}
-use Rattle.rpg_object_rows.proofs.OperandLaws.{operand_again, operand_law, operand_there, optional_back, unused_operand_law}
-use Rattle.rpg_object_rows.proofs.ShapeLaws.{cleared, if_used, row_where_law, unused_byte_law, unused_number_law, where_used_law}
+use Rattle.rpg_object_instructions.specs.declared.operation.Columns.{Columns}
+use Rattle.rpg_object_instructions.specs.declared.operation.Numbers.{Numbers}
+use Rattle.rpg_object_instructions.specs.declared.operation.Operation.{Operation}
+use Rattle.rpg_object_instructions.specs.declared.operation.Operation.TheVariants as op
+use Rattle.rpg_object_instructions.specs.Indicators.{are_negations, conditions_of, indicators_of, negations_of, shows_format}
+use Rattle.rpg_object_instructions.specs.Instructions.{HasOneSpelling, instruction, instruction_of, no_shows, numbers_format, numbers_of, operation_number, operations, unused_shows, used_columns, used_numbers}
+use Rattle.rpg_object_instructions.specs.Operands.{no_operand, operand, unused_operand}
+use Rattle.rpg_object_instructions.specs.Shapes.{unused_byte, unused_number}
+use Rattle.rpg_object_instructions.proofs.Choices.{passed}
+use Rattle.rpg_object_instructions.proofs.IndicatorLaws.{conditions_back, indicators_there, negations_there, shows_law}
+use Rattle.rpg_object_instructions.proofs.OperandLaws.{operand_again, operand_law, operand_there, optional_back, unused_operand_law}
+use Rattle.rpg_object_instructions.proofs.ShapeLaws.{cleared, if_used, row_where_law, unused_byte_law, unused_number_law, where_used_law}
 
 -- ---- the numbers of an instruction
 

@@ -6,7 +6,7 @@ use Rattle.rpg_object_format.specs.Format.{Format, ◌>>=◌, made, pair, table,
 use Rattle.rpg_object_format.specs.Numbers.{count, is_any_number}
 use Rattle.rpg_object_format.proofs.Laws.{IsBytes, IsFormat, Takes, bind_err, bind_ok, further, ok_is, pair_law, row_law, table_law}
 use Rattle.rpg_object_format.proofs.Rules.{byte_where_law, count_law, only_byte_law, only_number_law}
-use Rattle.rpg_object_rows.specs.Shapes.{any_byte, always, counted_rows, no_number, row_where, unused_byte, unused_number, where_used}
+use Rattle.rpg_object_instructions.specs.Shapes.{any_byte, always, counted_rows, no_number, row_where, unused_byte, unused_number, where_used}
 
 pub any_byte_law : IsFormat any_byte
 any_byte_law = byte_where_law is_any_number

@@ -8,7 +8,7 @@ use Rattle.rpg_object_format.specs.declared.fault.Code.TheVariants.{NotAllowed}
 use Rattle.rpg_object_format.specs.Format.{Format, byte, pair, row}
 use Rattle.rpg_object_format.specs.Numbers.{byte_where, yes_or_no}
 use Rattle.rpg_text.specs.Texts.{is_between}
-use Rattle.rpg_object_rows.specs.Shapes.{counted_rows}
+use Rattle.rpg_object_instructions.specs.Shapes.{counted_rows}
 
 -- ---- indicators
 

@@ -11,17 +11,17 @@ use Rattle.rpg_effect.specs.declared.operation.Shows.{Shows}
 use Rattle.rpg_effect.specs.declared.operation.Side.TheVariants as sides
 use Rattle.rpg_object_format.specs.Format.{byte, pair, row, two_bytes}
 use Rattle.rpg_object_program.specs.Kept.{AreConditions, AreIndicators, IsAnOperand, IsInstructionRow, IsOperandRow, IsOptionalRow, IsTwoBytes}
-use Rattle.rpg_object_rows.specs.declared.operation.Columns.{Columns}
-use Rattle.rpg_object_rows.specs.declared.operation.Numbers.{Numbers}
-use Rattle.rpg_object_rows.specs.declared.operation.Operation.{Operation}
-use Rattle.rpg_object_rows.specs.declared.operation.Operation.TheVariants as op
-use Rattle.rpg_object_rows.specs.Indicators.{indicators_of, negations_of}
-use Rattle.rpg_object_rows.specs.Instructions.{arithmetic, assignment, bare, branch_columns, call, comparison, half_column, indicators_column, instruction, move, negations_column, no_columns, no_shows, numbers_format, operand_column, operation_number, operation_of, remainder, search, setting, target_column, unused_shows, used_columns, used_numbers}
-use Rattle.rpg_object_rows.specs.Operands.{no_operand, operand_or_none, unused_operand}
-use Rattle.rpg_object_rows.specs.Shapes.{row_where}
-use Rattle.rpg_object_rows.proofs.Choices.{flag_from, some_is}
-use Rattle.rpg_object_rows.proofs.IndicatorsKept.{are_conditions, indicators_in, negations_hold, shows_from, shows_kept}
-use Rattle.rpg_object_rows.proofs.OperandLaws.{no_operand_row, operand_from, operand_kept}
+use Rattle.rpg_object_instructions.specs.declared.operation.Columns.{Columns}
+use Rattle.rpg_object_instructions.specs.declared.operation.Numbers.{Numbers}
+use Rattle.rpg_object_instructions.specs.declared.operation.Operation.{Operation}
+use Rattle.rpg_object_instructions.specs.declared.operation.Operation.TheVariants as op
+use Rattle.rpg_object_instructions.specs.Indicators.{indicators_of, negations_of}
+use Rattle.rpg_object_instructions.specs.Instructions.{arithmetic, assignment, bare, branch_columns, call, comparison, half_column, indicators_column, instruction, move, negations_column, no_columns, no_shows, numbers_format, operand_column, operation_number, operation_of, remainder, search, setting, target_column, unused_shows, used_columns, used_numbers}
+use Rattle.rpg_object_instructions.specs.Operands.{no_operand, operand_or_none, unused_operand}
+use Rattle.rpg_object_instructions.specs.Shapes.{row_where}
+use Rattle.rpg_object_instructions.proofs.Choices.{flag_from, some_is}
+use Rattle.rpg_object_instructions.proofs.IndicatorsKept.{are_conditions, indicators_in, negations_hold, shows_from, shows_kept}
+use Rattle.rpg_object_instructions.proofs.OperandLaws.{no_operand_row, operand_from, operand_kept}
 
 -- ---- what an operation has
 

@@ -9,9 +9,9 @@ use Rattle.rpg_object_format.specs.Format.{byte, pair}
 use Rattle.rpg_object_format.proofs.Laws.{IsFormat, IsRule, byte_law, pair_law, row_law}
 use Rattle.rpg_object_format.proofs.Rules.{byte_where_law, chosen, guarded, stands_for, value_is, yes_or_no_law}
 use Rattle.rpg_text.specs.Texts.{is_between}
-use Rattle.rpg_object_rows.specs.Indicators.{alternative, are_negations, bit, condition_format, condition_with, conditions_format, conditions_of, has_bit, indicator_by_number, indicator_format, indicator_in, indicator_number, indicators_of, is_negation, may_negate, negations_of, shows_format}
-use Rattle.rpg_object_rows.proofs.Choices.{passed}
-use Rattle.rpg_object_rows.proofs.ShapeLaws.{counted_law}
+use Rattle.rpg_object_instructions.specs.Indicators.{alternative, are_negations, bit, condition_format, condition_with, conditions_format, conditions_of, has_bit, indicator_by_number, indicator_format, indicator_in, indicator_number, indicators_of, is_negation, may_negate, negations_of, shows_format}
+use Rattle.rpg_object_instructions.proofs.Choices.{passed}
+use Rattle.rpg_object_instructions.proofs.ShapeLaws.{counted_law}
 
 indicator_rule : IsRule indicator_by_number indicator_number
 indicator_rule n x e =

@@ -3,7 +3,7 @@
 ghost use Rattle.std.specs.Prelude.{ℕ};
 ghost use Rattle.rpg_effect.specs.declared.operation.Instruction.{Instruction};
 ghost use Rattle.rpg_object_program.specs.Kept.{IsInstructionRow};
-ghost use Rattle.rpg_object_rows.specs.Instructions.{instruction};
+ghost use Rattle.rpg_object_instructions.specs.Instructions.{instruction};
 
 /// What an instruction keeps, in plain words, and back.
 #[tactic(auto, using(crate::proofs::InstructionKept::instruction_kept, crate::proofs::InstructionKept::instruction_from))]
