@@ -10,7 +10,7 @@ use Rattle.rpg_verify_rules.specs.declared.rule.TypeRule.TheVariants.{V3, V4, V5
 use Rattle.rpg_verify_rules.specs.declared.rule.LineRule.TheVariants.{V2, V8, V9, V10, V11, V12, V13, V14, V15}
 use Rattle.rpg_verify_rules.specs.declared.rule.PlaceRule.TheVariants.{V16, V17, V18, V19, V20, V21, V22}
 use Rattle.rpg_verify_rules.specs.declared.rule.SubroutineRule.TheVariants.{V23, V24}
-use Rattle.rpg_verify_rules.proofs.LeastLaws.{IsOneOf, Ascends, least}
+use Rattle.rpg_verify.proofs.LeastLaws.{IsOneOf, Ascends, least}
 
 module _ (broken_by : Rule → List Bool) where
   ascend : Ascends rule_number broken_by 0 all_rules

@@ -7,7 +7,7 @@ use Rattle.rpg_verify_rules.specs.PlaceRules.{subroutines_judged}
 use Rattle.rpg_object_program.specs.Spans.{IsSpan}
 use Rattle.rpg_verify_rules.proofs.Sectioning.{left, found_here, found_later, fewer_left}
 use Rattle.rpg_verify_rules.proofs.Spanning.{at_zero, first_behind, subroutine_at, subroutine_span}
-use Rattle.rpg_verify_rules.proofs.places.first_in_subroutines.Goals as goal
+use Rattle.rpg_verify.proofs.places.first_in_subroutines.Goals as goal
 
 pub loop-subroutine-init : goal.loop-subroutine-init
 loop-subroutine-init c =

@@ -5,7 +5,7 @@ use Rattle.rpg_verify_rules.specs.Least.{first_true}
 use Rattle.rpg_verify_rules.specs.PlaceRules.{judged_behind_detail, place_breaks}
 use Rattle.rpg_verify_rules.specs.Rules.{broken}
 use Rattle.rpg_verify_rules.proofs.Sectioning.{in_first, in_later}
-use Rattle.rpg_verify_rules.proofs.places.first_place.Goals as goal
+use Rattle.rpg_verify.proofs.places.first_place.Goals as goal
 
 pub returns-in-Some : goal.returns-in-Some
 unfolding broken

@@ -8,12 +8,10 @@ ghost use Rattle.rpg_verify_rules.specs.Least.{first_true};
 ghost use Rattle.rpg_verify_rules.specs.Least as leasts;
 ghost use Rattle.rpg_verify_rules.specs.Rules as rules;
 
-use crate::lines::first_line;
 use crate::places::first_place;
-use crate::rule::{BrokenRule, LineRule, PlaceRule, Rule, SubroutineRule, TypeRule};
-use crate::subroutines::first_subroutine;
-use crate::types::first_type;
+use crate::tables::{first_line, first_subroutine, first_type};
 use rpg_object_program::row::Rows;
+use rpg_verify_rules::{BrokenRule, LineRule, PlaceRule, Rule, SubroutineRule, TypeRule};
 
 /// All rules in the order of their numbers.
 pub const RULES: [Rule; 26] = [
@@ -80,7 +78,7 @@ fn first_row(rule: Rule, rows: &Rows) -> Option<usize>
 }
 
 /// V1: an overflow indicator requires a printer.
-#[tactic(auto, unfolding(crate::specs::Rules::broken))]
+#[tactic(auto, unfolding(rpg_verify_rules::specs::Rules::broken))]
 fn first_overflow(rows: &Rows) -> Option<usize>
     ensures { result ≡ first_true 0 (rules.broken (seen rows.now) Rule.Overflow) }
 {

@@ -6,8 +6,8 @@ use Rattle.rpg_verify_rules.specs.Least.{IsLeast}
 use Rattle.rpg_verify_rules.specs.Rules.{broken, rule_number}
 use Rattle.rpg_verify_rules.specs.declared.rule.BrokenRule.{BrokenRule}
 use Rattle.rpg_verify_rules.specs.declared.rule.Rule.{Rule}
-use Rattle.rpg_verify_rules.proofs.AllRules.{least_rule}
-use Rattle.rpg_verify_rules.proofs.least.first_broken.Goals as goal
+use Rattle.rpg_verify.proofs.AllRules.{least_rule}
+use Rattle.rpg_verify.proofs.least.first_broken.Goals as goal
 
 -- the pair that is found is the one that is answered
 as_answered : (p : Object) (o : Option BrokenRule) (l : Option (Rule × ℕ)) → option_map (λ b. (b.rule, b.row)) o ≡ l → MatchOption l (IsAccepted p) (λ x. IsLeast rule_number (broken p) x.0 x.1) → MatchOption o (IsAccepted p) (λ b. IsLeastBroken p b)

@@ -1,7 +1,7 @@
 use Rattle.std.proofs.Common.{rules, ◌≡◌, length}
 use Rattle.rpg_object_program.specs.Object.{seen}
 use Rattle.rpg_verify_rules.proofs.Spanning.{detail_span}
-use Rattle.rpg_verify_rules.proofs.places.first_in_detail.Goals as goal
+use Rattle.rpg_verify.proofs.places.first_in_detail.Goals as goal
 
 pub first_in-requires : goal.first_in-requires
 first_in-requires c =

@@ -2,7 +2,7 @@ use Rattle.std.proofs.Common.{◌≡◌, map, drop}
 use Rattle.rpg_object_program.specs.Object.{subroutine_row}
 use Rattle.rpg_verify_rules.specs.Least.{first_true}
 use Rattle.rpg_verify_rules.specs.PlaceRules.{bodies_judged}
-use Rattle.rpg_verify_rules.proofs.subroutines.first_bad_body.Given as goal
+use Rattle.rpg_verify.proofs.tables.first_bad_body.Given as goal
 
 abbrev pub invariant-loop-subroutine : goal.invariant-loop-subroutine
 invariant-loop-subroutine l = record {
