@@ -178,14 +178,9 @@ impl Condition {
         self.terms().iter().any(|one| other.has(one.opposite()))
     }
 
-    /// Whether it never holds: some indicator has to be on and off.
-    pub fn is_never(&self) -> bool {
-        self.is_against(self)
-    }
-
-    /// Whether it never holds together with another one.
+    /// Whether it never holds together with another one: some indicator has to be on and off.
     pub fn clashes_with(&self, other: &Condition) -> bool {
-        self.is_never() || other.is_never() || self.is_against(other)
+        self.is_against(self) || other.is_against(other) || self.is_against(other)
     }
 
     /// Whether it has the same terms in the same order as another one.

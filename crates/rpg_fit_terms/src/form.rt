@@ -1,6 +1,7 @@
 //! The forms of names: lengths and decimals.
 
 use crate::cards::is_card;
+use crate::name::is_date_part;
 use crate::stop::Stop;
 use rpg_fit_deck::{Card, View, Word};
 use std::alloc::Global;
@@ -55,14 +56,9 @@ fn table_at(card: &Card, first: usize, length: usize) -> Option<Array> {
     })
 }
 
-/// The second name of an E card.
-fn second_table(card: &Card) -> Option<Array> {
-    table_at(card, 46, 52)
-}
-
-/// The first name of an E card.
-fn first_table(card: &Card) -> Option<Array> {
-    table_at(card, 27, 40)
+/// The names of an E card.
+fn tables_of(card: &Card) -> [Option<Array>; 2] {
+    [table_at(card, 27, 40), table_at(card, 46, 52)]
 }
 
 fn push_array(found: &mut Vec<Array>, array: Option<Array>) -> Result<(), Stop> {
@@ -83,8 +79,9 @@ pub fn arrays(alloc: Global, view: &View) -> Result<Vec<Array>, Stop> {
     let mut found = Vec::new(alloc);
     for seen in view.cards.iter() {
         if is_card(seen, b'E') {
-            push_array(&mut found, first_table(&seen.card))?;
-            push_array(&mut found, second_table(&seen.card))?;
+            let [first, second] = tables_of(&seen.card);
+            push_array(&mut found, first)?;
+            push_array(&mut found, second)?;
         }
     }
     Ok(found)
@@ -114,8 +111,9 @@ fn form_by_tables(view: &View, name: &[u8]) -> Option<Form> {
     let mut found = None;
     for seen in view.cards.iter() {
         if is_card(seen, b'E') {
-            found = table_form(second_table(&seen.card), name)
-                .or(table_form(first_table(&seen.card), name))
+            let [first, second] = tables_of(&seen.card);
+            found = table_form(second, name)
+                .or(table_form(first, name))
                 .or(found);
         }
     }
@@ -187,12 +185,9 @@ fn form_of_date_or_page(name: &[u8]) -> Option<Form> {
     None
 }
 
-/// The parts of the date.
-const DATE_PARTS: [&str; 3] = ["UDAY", "UMONTH", "UYEAR"];
-
 /// The form of the parts of the date where no card defines them.
 fn form_of_date_part(name: &[u8]) -> Option<Form> {
-    if DATE_PARTS.iter().any(|part| part.as_bytes() == name) {
+    if is_date_part(name) {
         return Some(Form {
             length: 2,
             decimals: b'0',

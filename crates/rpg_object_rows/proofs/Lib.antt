@@ -1,14 +1,5 @@
-pub mod Choices
-pub mod Examples
-pub mod IndicatorLaws
-pub mod IndicatorsKept
-pub mod InstructionKept
-pub mod InstructionLaws
-pub mod InstructionTexts
 pub mod LetterLaws
 pub mod LineLaws
-pub mod OperandLaws
 pub mod RowExamples
-pub mod ShapeLaws
 pub mod TableTexts
 pub mod TypeLaws

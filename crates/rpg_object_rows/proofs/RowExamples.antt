@@ -19,10 +19,10 @@ use Rattle.rpg_object_format.specs.declared.fault.Fault.{Fault}
 use Rattle.rpg_object_format.specs.Format.{byte, pair, read_byte, read_times, read_two, row, times_with, two_bytes}
 use Rattle.rpg_object_program.specs.Object.{LineRow}
 use Rattle.rpg_object_program.specs.declared.row.Version.TheVariants.{One, Two}
-use Rattle.rpg_object_rows.specs.Indicators.{alternative, condition_format, conditions_format, shows_format}
-use Rattle.rpg_object_rows.specs.Operands.{operand}
+use Rattle.rpg_object_instructions.specs.Indicators.{alternative, condition_format, conditions_format, shows_format}
+use Rattle.rpg_object_instructions.specs.Operands.{operand}
 use Rattle.rpg_object_rows.specs.Lines.{line, line_field, line_field_parts, line_parts, spacing}
-use Rattle.rpg_object_rows.specs.Shapes.{no_number, row_where}
+use Rattle.rpg_object_instructions.specs.Shapes.{no_number, row_where}
 use Rattle.rpg_object_rows.specs.Types.{control_field_format, input_field_format, record_code_format, record_type_format, type_parts}
 
 abbrev of_field : ℕ → Operand ℕ

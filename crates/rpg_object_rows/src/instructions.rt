@@ -5,12 +5,12 @@ ghost use Rattle.rpg_effect.specs.declared.operation.Instruction as spec;
 ghost use Rattle.rpg_object_format.specs.Format.{table};
 ghost use Rattle.rpg_object_format.specs.Reading.{Gives};
 ghost use Rattle.rpg_object_program.specs.Kept.{IsInstructionRow};
-ghost use Rattle.rpg_object_rows.specs.Instructions as rows;
+ghost use Rattle.rpg_object_instructions.specs.Instructions as rows;
 
 use crate::table::{Row, put_rows, rows_at};
-use crate::{instruction_at, put_instruction};
 use rpg_effect::operation::Instruction;
 use rpg_object_format::fault::ReadFault;
+use rpg_object_instructions::{instruction_at, put_instruction};
 use std::alloc::{AllocError, Global};
 
 impl Row for Instruction<u16> {

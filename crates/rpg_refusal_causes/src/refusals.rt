@@ -13,7 +13,8 @@ use crate::subroutines::subroutine_cause;
 use crate::types::type_cause;
 use rpg_object_program::Program;
 use rpg_object_program::row::Rows;
-use rpg_verify_rules::{BrokenRule, Rule, first_broken};
+use rpg_verify::first_broken;
+use rpg_verify_rules::{BrokenRule, Rule};
 
 #[tactic(auto, unfolding(crate::specs::Causes::cause_in))]
 fn cause_in(rows: &Rows, broken: BrokenRule) -> Option<RefusalCause>

@@ -9,7 +9,8 @@ ghost use Rattle.rpg_refusal_causes.specs.SubroutineCauses as words;
 use crate::cause::RefusalCause;
 use rpg_effect::operation::Instruction;
 use rpg_object_program::row::{Rows, Subroutine};
-use rpg_verify_rules::{SubroutineRule, is_return};
+use rpg_verify_rules::SubroutineRule;
+use rpg_verify_rules::subroutines::is_return;
 
 /// The first RET of calculations outside subroutines, whose first place this is.
 fn return_cause(first: usize, code: &[Instruction<u16>]) -> Option<RefusalCause>

@@ -1,3 +1,5 @@
+pub mod AllRules
+pub mod LeastLaws
 pub mod Left
 pub mod Most
 pub mod PathCosts

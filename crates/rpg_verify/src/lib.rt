@@ -3,8 +3,12 @@
 
 mod bound;
 mod costs;
+mod least;
+mod places;
+mod tables;
 mod verified;
 mod weights;
 
+pub use least::{RULES, first_broken};
 pub use rpg_verify_rules::{BrokenRule, LineRule, PlaceRule, Rule, SubroutineRule, TypeRule};
 pub use verified::{Verified, VerifyFault, verify};

@@ -12,9 +12,10 @@ ghost use Rattle.rpg_verify.specs.Paths.{IsCost};
 ghost use Rattle.rpg_verify.specs.Verified.{IsRefusal};
 
 use crate::bound::{Measured, measure};
+use crate::least::first_broken;
 use rpg_object_program::Program;
 use rpg_object_program::section::Place;
-use rpg_verify_rules::{Rule, first_broken};
+use rpg_verify_rules::Rule;
 use std::alloc::Global;
 use std::marker::Model;
 

@@ -1,7 +1,5 @@
-pub mod AllRules
 pub mod Columns
 pub mod Kept
-pub mod LeastLaws
 pub mod Lists
 pub mod Measures
 pub mod Rooms

@@ -21,6 +21,8 @@ use Rattle.rpg_object_program.specs.declared.section.Section.{Section}
 use Rattle.rpg_object_program.specs.declared.section.Section.TheVariants.{Detail, Total, Subroutine}
 use Rattle.rpg_text.specs.Texts.{is_between}
 use Rattle.rpg_verify_rules.specs.Indicators.{all_asked, are_settable, has_shows}
+use Rattle.rpg_verify_rules.specs.declared.places.OperandTest.{OperandTest}
+use Rattle.rpg_verify_rules.specs.declared.places.OperandTest.TheVariants.{Good, Known, Writable, Current}
 use Rattle.rpg_verify_rules.specs.declared.rule.PlaceRule.{PlaceRule}
 use Rattle.rpg_verify_rules.specs.declared.rule.PlaceRule.TheVariants.{V16, V17, V18, V19, V20, V21, V22}
 
@@ -92,6 +94,13 @@ knows_kinds p i = not (compares i) || all_used (is_good_operand (form_at p.field
 -- the operand has the kind that its use asks for, if kinds are known here
 abbrev pub has_known_kind : Object → Instruction ℕ → Use (Operand ℕ) → Bool
 has_known_kind p i u = not (knows_kinds p i) || has_kind (form_at p.fields) u
+
+-- the operand passes the test
+abbrev pub passes : Object → OperandTest → Use (Operand ℕ) → Bool
+passes p Good = is_good_operand (form_at p.fields)
+passes p (Known i) = has_known_kind p i
+passes p Writable = is_writable_use (form_at p.fields)
+passes p Current = is_current_table (form_at p.fields)
 
 -- the operands that V16 allows; of these, those that V17 allows; of these, with the result only where V18 allows it
 abbrev pub good_columns : Object → Instruction ℕ → Row (Operand ℕ)

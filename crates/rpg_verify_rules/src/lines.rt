@@ -1,7 +1,7 @@
 //! V2 and V8 to V15: output lines.
 
 ghost use Rattle.std.specs.Prelude.{◌≡◌, true, map, Some};
-ghost use Rattle.std.specs.List.{list_all, list_any, position};
+ghost use Rattle.std.specs.List.{list_all, list_any};
 ghost use Rattle.std.specs.Global.{Vec};
 ghost use Rattle.rpg_edit_marks.specs.How.{width_of};
 ghost use Rattle.rpg_effect.specs.Editing as edits;
@@ -11,10 +11,7 @@ ghost use Rattle.rpg_object_program.specs.Constants.{word_at};
 ghost use Rattle.rpg_object_program.specs.Kept.{IsFieldRow, IsProgram};
 ghost use Rattle.rpg_object_program.specs.Object.{seen, line_row};
 ghost use Rattle.rpg_verify_rules.specs.Indicators as marks;
-ghost use Rattle.rpg_verify_rules.specs.Least.{first_true};
 ghost use Rattle.rpg_verify_rules.specs.LineRules as words;
-ghost use Rattle.rpg_verify_rules.specs.Rules.{broken};
-ghost use Rattle.rpg_verify_rules.specs.declared.rule.Rule.TheVariants as rule_names;
 
 use crate::indicators::{all_asked, may_be_asked};
 use crate::rule::LineRule;
@@ -30,24 +27,9 @@ use rpg_object_program::forms::{
 };
 use rpg_object_program::row::{Line, Rows, Version};
 
-/// The first line that breaks a rule.
-#[tactic(auto, using(crate::proofs::Lists::position_seen), unfolding(crate::specs::Rules::broken))]
-pub(crate) fn first_line(rule: LineRule, rows: &Rows) -> Option<usize>
-    requires { IsProgram (seen rows.now) }
-    ensures { result ≡ first_true 0 (broken (seen rows.now) (rule_names.Line rule)) }
-{
-    first_by(rule, rows)
-}
-
-fn first_by(rule: LineRule, rows: &Rows) -> Option<usize>
-    requires { IsProgram (seen rows.now) }
-    ensures { result ≡ position (λ l. words.line_breaks rule (seen rows.now) (line_row l)) rows.now.lines.items }
-{
-    rows.lines.iter().position(|l| breaks(rule, rows, l))
-}
-
+/// Whether a line breaks a rule.
 #[tactic(auto, unfolding(crate::specs::LineRules::line_breaks))]
-fn breaks(rule: LineRule, rows: &Rows, line: &Line) -> bool
+pub fn breaks(rule: LineRule, rows: &Rows, line: &Line) -> bool
     requires { IsProgram (seen rows.now) }
     ensures { result ≡ words.line_breaks rule (seen rows.now) (line_row line.now) }
 {

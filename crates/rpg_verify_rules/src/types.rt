@@ -1,16 +1,13 @@
 //! V3 to V7, V25 and V26: record types.
 
 ghost use Rattle.std.specs.Prelude.{◌≡◌, ◌≤◌, ◌^◌, map};
-ghost use Rattle.std.specs.List.{list_all, list_any, position};
+ghost use Rattle.std.specs.List.{list_all, list_any};
 ghost use Rattle.rpg_effect.specs.Input as inputs;
 ghost use Rattle.rpg_object_program.specs.Object.{seen, type_row};
-ghost use Rattle.rpg_verify_rules.specs.Least.{first_true};
-ghost use Rattle.rpg_verify_rules.specs.Rules.{broken};
 ghost use Rattle.rpg_verify_rules.specs.TypeRules as words;
-ghost use Rattle.rpg_verify_rules.specs.declared.rule.Rule.TheVariants as rule_names;
 
 use crate::indicators::{are_settable, is_of_type};
-use crate::matches::{are_matches, first_widths};
+use crate::matches::are_matches;
 use crate::rule::TypeRule;
 use rpg_effect::form::{Kind, is_plain};
 use rpg_effect::input::{ControlField, InputField, RecordCode};
@@ -18,28 +15,9 @@ use rpg_effect::operation::Shows;
 use rpg_object_program::forms::{form_at, kind_of};
 use rpg_object_program::row::{RecordType, Rows};
 
-/// The first record type that breaks a rule.
-#[tactic(auto, using(crate::proofs::Lists::position_seen), unfolding(crate::specs::Rules::broken))]
-pub(crate) fn first_type(rule: TypeRule, rows: &Rows) -> Option<usize>
-    ensures { result ≡ first_true 0 (broken (seen rows.now) (rule_names.Type rule)) }
-{
-    let measures = measures(&rows.types);
-    let widths = first_widths(&rows.types);
-    first_by(rule, rows, &measures, &widths)
-}
-
-fn first_by(rule: TypeRule, rows: &Rows, measures: &[u128; 9], widths: &[u128; 9]) -> Option<usize>
-    requires measures { measures.now ≡ words.measures (map type_row rows.now.types.items) }
-    requires widths { widths.now ≡ words.joined_widths (words.first_matches (map type_row rows.now.types.items)) }
-    ensures { result ≡ position (λ t. words.type_breaks rule (seen rows.now) (type_row t)) rows.now.types.items }
-{
-    rows.types
-        .iter()
-        .position(|t| breaks(rule, rows, measures, widths, t))
-}
-
+/// Whether a record type breaks a rule, given the lengths of levels and of match fields in the first types that have some.
 #[tactic(auto, unfolding(crate::specs::TypeRules::type_breaks))]
-fn breaks(
+pub fn breaks(
     rule: TypeRule,
     rows: &Rows,
     measures: &[u128; 9],

@@ -1,0 +1,9 @@
+pub mod Choices
+pub mod Examples
+pub mod IndicatorLaws
+pub mod IndicatorsKept
+pub mod InstructionKept
+pub mod InstructionLaws
+pub mod InstructionTexts
+pub mod OperandLaws
+pub mod ShapeLaws

@@ -1,0 +1,4 @@
+pub mod Indicators
+pub mod Instructions
+pub mod Operands
+pub mod Shapes
