@@ -7,7 +7,7 @@ use Rattle.rpg_paper.specs.Paper.{Position, skipped, spaced, turns_overflow_on}
 use Rattle.rpg_effect.specs.Effect.{Effect, Leaves, go_on, then_go, unless_wrong}
 use Rattle.rpg_effect.specs.Ends.{End, Fault, GoesOn, Halt, Wrong}
 use Rattle.rpg_effect.specs.LineFaults.{line_fault}
-use Rattle.rpg_effect.specs.Lines.{Draft, Line, after_movement, after_skip, after_space, assembled, blank_line, blanked_all, detail_output, is_asked, line_out, lines_out, one_out, put_on, put_out, settled, spaced_after, spaced_before, where_asked}
+use Rattle.rpg_effect.specs.Lines.{Draft, Line, after_movement, after_skip, after_space, assembled, blank_line, blanked_all, detail_output, is_asked, line_out, lines_out, one_out, put_on, put_out, settled, spaced_after, spaced_before, where_asked, with_fields}
 use Rattle.rpg_effect.specs.Showing.{turned_off, turned_on}
 use Rattle.rpg_effect.specs.World.{World}
 use Rattle.rpg_effect.specs.declared.form.FieldForm.{FieldForm}
@@ -41,7 +41,7 @@ turned_off_other (Some k) n s h = remove_other s k n (h k refl)
 
 -- the indicator is as it was
 pub record Keeps (n : ℕ) (w v : World nat_cmp) : Type 0 where
-  pub same : set.contains v.on n ≡ set.contains w.on n
+  pub same : set.contains v.data.on n ≡ set.contains w.data.on n
 
 nothing : (n : ℕ) (w : World nat_cmp) → Keeps n w w
 nothing n w = record { same = refl }
@@ -63,16 +63,16 @@ turned_or_not n true o s h = turned_off_other o n s h
 turned_or_not n false o s h = refl
 
 settled_keeps : (n : ℕ) (o : Option ℕ) (w : World nat_cmp) → IsOther o n → Keeps n w (settled o w)
-settled_keeps n o w h = record { same = turned_or_not n (w.was_overflow && not w.has_turned_on) o w.on h }
+settled_keeps n o w h = record { same = turned_or_not n (w.paper.was_overflow && not w.paper.has_turned_on) o w.data.on h }
 
 moved : (n : ℕ) (b : Bool) (o : Option ℕ) (to : Position) (w : World nat_cmp) → IsOther o n →
-    Keeps n w (cond b (record w { here = to; on = turned_on o w.on; has_turned_on = true }) (record w { here = to }))
-moved n true o to w h = record { same = turned_on_other o n w.on h }
+    Keeps n w (cond b (record { «data» = record w.data { on = turned_on o w.data.on }; paper = record w.paper { here = to; has_turned_on = true } }) (record w { paper = record w.paper { here = to } }))
+moved n true o to w h = record { same = turned_on_other o n w.data.on h }
 moved n false o to w h = record { same = refl }
 
 movement_keeps : (n : ℕ) (o : Option ℕ) (to : Position) (w : World nat_cmp) → IsOther o n → Keeps n w (after_movement o to w)
 unfolding after_movement
-movement_keeps n o to w h = moved n (turns_overflow_on w.here to) o to w h
+movement_keeps n o to w h = moved n (turns_overflow_on w.paper.here to) o to w h
 
 skip_or_not : (n : ℕ) (b : Bool) (o : Option ℕ) (to : Position) (w : World nat_cmp) → IsOther o n → Keeps n w (cond b w (after_movement o to w))
 skip_or_not n true o to w h = nothing n w
@@ -80,7 +80,7 @@ skip_or_not n false o to w h = movement_keeps n o to w h
 
 moves_keep : (n : ℕ) (o : Option ℕ) (skip space : ℕ) (w : World nat_cmp) → IsOther o n → Keeps n w (after_space o space (after_skip o skip w))
 moves_keep n o skip space w h =
-    then_keeps n w (after_skip o skip w) (after_space o space (after_skip o skip w)) (skip_or_not n (eqb skip 0) o (skipped skip w.here) w h) (movement_keeps n o (spaced space (after_skip o skip w).here) (after_skip o skip w) h)
+    then_keeps n w (after_skip o skip w) (after_space o space (after_skip o skip w)) (skip_or_not n (eqb skip 0) o (skipped skip w.paper.here) w h) (movement_keeps n o (spaced space (after_skip o skip w).paper.here) (after_skip o skip w) h)
 
 put_on_keeps : (n : ℕ) (o : Option ℕ) (file : File) (s : Spacing) (text : List ℕ) (w : World nat_cmp) → IsOther o n → Keeps n w (put_on o file s text w).world
 unfolding put_on
@@ -91,9 +91,9 @@ put_on_keeps n o Disk s text w h = nothing n w
 module _ (forms : ℕ → Option FieldForm) (words : ℕ → List ℕ) where
   put_out_keeps : (n : ℕ) (o : Option ℕ) (l : Line ℕ) (w : World nat_cmp) (e : End) (d : Draft nat_cmp) → IsOther o n → Keeps n w (put_out forms words o l w e d).world
   put_out_keeps n o l w GoesOn d h =
-      let drawn : World nat_cmp = record w { fields = d.fields } in
+      let drawn = with_fields d.fields w in
       let put = put_on_keeps n o l.file l.spacing d.text drawn h in
-      both n w (put_on o l.file l.spacing d.text drawn) (λ v. Leaves (record v { fields = blanked_all d.to_blank v.fields })) (record { same = put.same }) (λ v. record { same = refl })
+      both n w (put_on o l.file l.spacing d.text drawn) (λ v. Leaves (with_fields (blanked_all d.to_blank v.data.fields) v)) (record { same = put.same }) (λ v. record { same = refl })
   put_out_keeps n o l w (Halt k) d h = record { same = refl }
   put_out_keeps n o l w (Wrong f) d h = record { same = refl }
 
@@ -104,7 +104,7 @@ module _ (forms : ℕ → Option FieldForm) (words : ℕ → List ℕ) where
   line_keeps : (n : ℕ) (o : Option ℕ) (l : Line ℕ) (w : World nat_cmp) → IsOther o n → Keeps n w (line_out forms words o l w).world
   unfolding line_out
   line_keeps n o l w h =
-      let drawn = assembled forms words w.on l.len l.fields (blank_line l.len w) in
+      let drawn = assembled forms words w.data.on l.len l.fields (blank_line l.len w) in
       unless_keeps n (line_fault l.len l.spacing) w (put_out forms words o l w drawn.ending drawn.draft) (put_out_keeps n o l w drawn.ending drawn.draft h)
 
   asked_keeps : (n : ℕ) (b : Bool) (e : Effect nat_cmp) (w : World nat_cmp) → Keeps n w e.world → Keeps n w (where_asked forms words b e w).world
@@ -113,7 +113,7 @@ module _ (forms : ℕ → Option FieldForm) (words : ℕ → List ℕ) where
 
   one_keeps : (n : ℕ) (o : Option ℕ) (pass : Pass) (l : Line ℕ) (w : World nat_cmp) → IsOther o n → Keeps n w (one_out forms words o pass l w).world
   unfolding one_out
-  one_keeps n o pass l w h = asked_keeps n (is_asked o pass w.on l.time l.alternatives) (line_out forms words o l w) w (line_keeps n o l w h)
+  one_keeps n o pass l w h = asked_keeps n (is_asked o pass w.data.on l.time l.alternatives) (line_out forms words o l w) w (line_keeps n o l w h)
 
   lines_keep : (n : ℕ) (o : Option ℕ) (pass : Pass) (ls : List (Line ℕ)) (w : World nat_cmp) → IsOther o n → Keeps n w (lines_out forms words o pass ls w).world
   unfolding lines_out

@@ -37,8 +37,8 @@ any_same c d [] h = refl
 any_same c d (n ∷ ns) h = ap (λ b. b || any_on d ns) h.0 ∙ ap (λ b. is_on c n || b) (any_same c d ns h.1)
 
 one_stays : (k n : ℕ) (on : Bool) (c : Config) → eqb n k ≡ false → is_on (with_one k on c) n ≡ is_on c n
-one_stays k n true c h = insert_other c.world.on k n h
-one_stays k n false c h = remove_other c.world.on k n h
+one_stays k n true c h = insert_other c.world.data.on k n h
+one_stays k n false c h = remove_other c.world.data.on k n h
 
 abbrev AllFar : ℕ → List ℕ → Type 0
 AllFar n [] = Unit {0}

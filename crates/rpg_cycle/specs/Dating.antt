@@ -1,9 +1,9 @@
 -- The date in a memory.
 use Rattle.std.specs.Prelude.{ℕ, ℤ, List}
 use Rattle.rpg_effect.specs.declared.form.FieldForm.{FieldForm}
-use Rattle.rpg_memory.specs.Memory.{Working}
+use Rattle.rpg_memory.specs.Memory.{Working, data_put}
 use Rattle.rpg_cycle.specs.Starting.{dated}
 
 -- the date goes into each date field of these; the first of them has that number
 abbrev pub memory_dated : ℤ → ℕ → List FieldForm → Working → Working
-memory_dated date field fs w = record w { world = record w.world { fields = dated date field fs w.world.fields } }
+memory_dated date field fs w = data_put (record w.world.data { fields = dated date field fs w.world.data.fields }) w

@@ -3,6 +3,7 @@ use Rattle.std.specs.Prelude.{ℕ, Bool, true, false, ◌||◌, ◌==◌, List, 
 use Rattle.std.specs.FinSet as set
 use Rattle.std.specs.Ordering.{nat_cmp}
 use Rattle.rpg_effect.specs.Input.{TypeRow}
+use Rattle.rpg_effect.specs.World.{with_data}
 use Rattle.rpg_machine.specs.Config.{Config}
 
 -- LR
@@ -31,7 +32,7 @@ halt_indicators = 120 ∷ 121 ∷ 122 ∷ 123 ∷ 124 ∷ 125 ∷ 126 ∷ 127 �
 
 -- the indicator is on
 abbrev pub is_on : Config → ℕ → Bool
-is_on c n = set.contains c.world.on n
+is_on c n = set.contains c.world.data.on n
 
 -- one of the indicators is on
 abbrev pub any_on : Config → List ℕ → Bool
@@ -44,7 +45,7 @@ indicators_turned n on indicators = if on then set.insert indicators n else set.
 
 -- one indicator turned on or off
 abbrev pub with_one : ℕ → Bool → Config → Config
-with_one n on c = record c { world = record c.world { on = indicators_turned n on c.world.on } }
+with_one n on c = record c { world = with_data (record c.world.data { on = indicators_turned n on c.world.data.on }) c.world }
 
 -- these indicators turned on or off
 abbrev pub with_all : List ℕ → Bool → Config → Config

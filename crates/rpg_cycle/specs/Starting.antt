@@ -27,12 +27,8 @@ dated date field (f ∷ fs) fields = dated date (field + 1) fs (if is_date f.cla
 -- L0 and 1P are on, no division has left anything, and the form is at line 1 of page 1
 abbrev pub job_first_world : Fields nat_cmp → World nat_cmp
 job_first_world fields = record {
-  fields = fields;
-  on = set.from_list (level_zero ∷ first_page ∷ []);
-  remainder = with_decimals (pos 0) 0;
-  here = record { page = 1; line = 1 };
-  was_overflow = false;
-  has_turned_on = false;
+  «data» = record { fields = fields; on = set.from_list (level_zero ∷ first_page ∷ []); remainder = with_decimals (pos 0) 0 };
+  paper = record { here = record { page = 1; line = 1 }; was_overflow = false; has_turned_on = false };
 }
 
 -- a job's configuration before its first cycle, over these values and current entries: after detail calculations, as before every other

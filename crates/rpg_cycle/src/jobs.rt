@@ -119,8 +119,8 @@ impl<'a, S: Store + Drop> Job<'a, S> {
         date: &[u8],
         memory: Memory<'a, S>,
     ) -> Result<Job<'a, S>, StartFault>
-        requires first { memory ≡ first_working program.now memory.world.fields }
-        ensures start { IfOk result (λ j. of.Starts program.now date.now memory.entry.world.fields j) }
+        requires first { memory ≡ first_working program.now memory.world.data.fields }
+        ensures start { IfOk result (λ j. of.Starts program.now date.now memory.entry.world.data.fields j) }
         ensures date { IsErrOf result StartFault.BadDate ↔ (date_in date.now ≡ None) }
     {
         let Some(date) = Date::read(date) else {
@@ -136,8 +136,8 @@ impl<'a, S: Store + Drop> Job<'a, S> {
         date: Date,
         mut memory: Memory<'a, S>,
     ) -> Result<Job<'a, S>, AllocError>
-        requires first { memory ≡ first_working program.now memory.world.fields }
-        ensures { IfOk result (λ j. j ≡ of.job_started program.now date.value memory.entry.world.fields) }
+        requires first { memory ≡ first_working program.now memory.world.data.fields }
+        ensures { IfOk result (λ j. j ≡ of.job_started program.now date.value memory.entry.world.data.fields) }
     {
         put_date(&mut memory, date.value);
         let machine = Machine::new(alloc, program, memory)?;

@@ -30,7 +30,7 @@ use Rattle.rpg_paper.specs.Paper.{Position, last_position_from}
 -- ---- from one configuration to another
 
 -- nothing was put out, and the form stayed
-pub nothing_paid : (previous : Option Position) (n : ℕ) (c d : Config) → d.steps ≡ c.steps + n → d.world.here ≡ c.world.here → StandsNear previous c.world.here →
+pub nothing_paid : (previous : Option Position) (n : ℕ) (c d : Config) → d.steps ≡ c.steps + n → d.world.paper.here ≡ c.world.paper.here → StandsNear previous c.world.paper.here →
     PaysForOutput previous c d no_output
 nothing_paid previous n c d steps same near = record { few = omega (arith, steps); near = subst (λ (x : Position). StandsNear previous x) (sym same) near }
 
@@ -48,7 +48,7 @@ paid_then previous c d e o more h k =
     let both = bytes_both previous o.lines more.lines o.records more.records in
     let one = h.few in
     let two = k.few in
-    record { few = omega (arith, both, one, two); near = near_both previous o.lines more.lines e.world.here k.near }
+    record { few = omega (arith, both, one, two); near = near_both previous o.lines more.lines e.world.paper.here k.near }
 
 -- ---- a step
 
@@ -68,11 +68,11 @@ module _ (p : Object) (orderly : IsOrderly p) where
   ended_paid (Wrong f) previous n c m a e one two h = effect_paid previous n c (record m { world = e.world }) e one refl h
 
   spent_paid : (b : Bool) (previous : Option Position) (n : ℕ) (c m a : Config) (e : Effect nat_cmp) → m.steps ≡ c.steps + n → a.steps ≡ c.steps + n →
-      m.world.here ≡ c.world.here → StandsNear previous c.world.here → PutsFew previous n e → PaysFor previous c (cond b (Stop (Halt 5) m no_output) (went m a e))
+      m.world.paper.here ≡ c.world.paper.here → StandsNear previous c.world.paper.here → PutsFew previous n e → PaysFor previous c (cond b (Stop (Halt 5) m no_output) (went m a e))
   spent_paid true previous n c m a e one two same near h = nothing_paid previous n c m one same near
   spent_paid false previous n c m a e one two same near h = ended_paid e.ending previous n c m a e one two h
 
-  by_instruction : (o : Option (Instruction ℕ)) (previous : Option Position) (c : Config) → instruction_at p (here c) ≡ o → is_end p c ≡ false → IsSteady p c → StandsNear previous c.world.here →
+  by_instruction : (o : Option (Instruction ℕ)) (previous : Option Position) (c : Config) → instruction_at p (here c) ≡ o → is_end p c ≡ false → IsSteady p c → StandsNear previous c.world.paper.here →
       PaysFor previous c (step p c)
   by_instruction None previous c at more steady near = absurd (never_none p c steady.control.place more at)
   by_instruction (Some i) previous c at more steady near =
@@ -85,7 +85,7 @@ module _ (p : Object) (orderly : IsOrderly p) where
       subst (λ (x : Outcome). PaysFor previous c x) (sym is)
       (spent_paid (spends k && eqb c.allowance 0) previous n c m a (effect p i c.world) refl (arrived_steps m k (destination p c k)) refl near few)
 
-  step_paid : (previous : Option Position) (c : Config) → is_end p c ≡ false → IsSteady p c → StandsNear previous c.world.here → PaysFor previous c (step p c)
+  step_paid : (previous : Option Position) (c : Config) → is_end p c ≡ false → IsSteady p c → StandsNear previous c.world.paper.here → PaysFor previous c (step p c)
   step_paid previous c more steady near = by_instruction (instruction_at p (here c)) previous c refl more steady near
 
   -- ---- a section
@@ -96,14 +96,14 @@ module _ (p : Object) (orderly : IsOrderly p) where
   before_paid previous c d o (Stop f e more) h k = paid_then previous c d e o more h k
 
   abbrev RunPays : (Config → Outcome) → Type 0
-  RunPays go = (previous : Option Position) (c : Config) → IsSteady p c → StandsNear previous c.world.here → PaysFor previous c (go c)
+  RunPays go = (previous : Option Position) (c : Config) → IsSteady p c → StandsNear previous c.world.paper.here → PaysFor previous c (go c)
 
   onward_paid : (previous : Option Position) (c : Config) (x : Outcome) (go : Config → Outcome) → StepsWell p x → PaysFor previous c x → RunPays go →
       PaysFor previous c (onward x go)
   onward_paid previous c (Next d o) go steady h next = before_paid previous c d o (go d) h (next (last_position_from previous o.lines) d steady h.near)
   onward_paid previous c (Stop e d o) go steady h next = h
 
-  one_more : (n : ℕ) → RunPays (run p n) → (b : Bool) (previous : Option Position) (c : Config) → is_end p c ≡ b → IsSteady p c → StandsNear previous c.world.here →
+  one_more : (n : ℕ) → RunPays (run p n) → (b : Bool) (previous : Option Position) (c : Config) → is_end p c ≡ b → IsSteady p c → StandsNear previous c.world.paper.here →
       PaysFor previous c (cond b (Stop GoesOn c no_output) (onward (step p c) (run p n)))
   one_more n next true previous c at_end steady near = nothing_paid previous 0 c c (omega arith) refl near
   one_more n next false previous c at_end steady near = onward_paid previous c (step p c) (run p n) (leads_well p orderly c steady at_end) (step_paid previous c at_end steady near) next
@@ -114,7 +114,7 @@ module _ (p : Object) (orderly : IsOrderly p) where
 
   -- however it ends
   pub section_paid : (section : Section) (previous : Option Position) (c : Config) (e : End) (d : Config) (o : Output) → has_end section ≡ true → c.cells ≡ map.empty →
-      Holds p c.world → StandsNear previous c.world.here → RunsTo p section c e d o → PaysForOutput previous c d o
+      Holds p c.world.data → StandsNear previous c.world.paper.here → RunsTo p section c e d o → PaysForOutput previous c d o
   section_paid section previous c e d o ended none h near runs =
       let first = at_first p section c in
       let steady : IsSteady p first = record { values = h; control = record { place = first_is_place p section ended; cells = []; chain = (ended, none) } } in

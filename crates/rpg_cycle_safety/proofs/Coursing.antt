@@ -37,7 +37,7 @@ record HasCourse (n : ℕ) (p : Object) (earlier : List Selected) (records : Rec
 module _ (p : Object) (orderly : IsOrderly p) where
   -- there is a run from wherever fewer records than that wait or are left
   abbrev RunsFrom : ℕ → Type 0
-  RunsFrom n = (earlier : List Selected) (rs : Records) (c : Config) (i : Inputs) → Holds p c.world → c.cells ≡ map.empty → AreWaiting p i → merging.AreMergedInOrder p earlier i →
+  RunsFrom n = (earlier : List Selected) (rs : Records) (c : Config) (i : Inputs) → Holds p c.world.data → c.cells ≡ map.empty → AreWaiting p i → merging.AreMergedInOrder p earlier i →
       waiting_count i + records_count rs < n → HasCourse n p earlier rs c i
 
   by_cycle : (n : ℕ) → RunsFrom n → (earlier : List Selected) (rs : Records) (c : Config) (i : Inputs) → merging.AreMergedInOrder p earlier i → waiting_count i + records_count rs < suc n →
@@ -62,7 +62,7 @@ module _ (p : Object) (orderly : IsOrderly p) where
       by_cycle n (courses n) earlier rs c i order enough one.ending one.last one.output one.cycle one.well
 
   -- there is a run, on any date
-  pub has_run : (date : ℤ) (fields : Fields nat_cmp) (records : Records) → unsigned_abs date < 10 ^ 6 → Holds p (job_first_world fields) →
+  pub has_run : (date : ℤ) (fields : Fields nat_cmp) (records : Records) → unsigned_abs date < 10 ^ 6 → Holds p (job_first_world fields).data →
       HasRun p date fields records
   has_run date fields records small h =
       let start = job_start p date fields in
@@ -78,7 +78,7 @@ module _ (p : Object) (orderly : IsOrderly p) where
 
   -- and each run is that one
   pub runs_well : (date : ℤ) (fields : Fields nat_cmp) (records : Records) (course : Course) (bytes : Bytes) → unsigned_abs date < 10 ^ 6 →
-      Holds p (job_first_world fields) →
+      Holds p (job_first_world fields).data →
       IsRun p date fields records course bytes → RunsWell p (records_count records) course
   runs_well date fields records course bytes small h run =
       let one = has_run date fields records small h in

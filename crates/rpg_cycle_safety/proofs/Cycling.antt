@@ -12,6 +12,7 @@ use Rattle.rpg_cycle.specs.Staging.{after_selection}
 use Rattle.rpg_cycle.specs.Spending.{section_cost}
 use Rattle.rpg_effect.specs.Ends as effects
 use Rattle.rpg_effect.specs.Forms.{form_at}
+use Rattle.rpg_effect.specs.Ended.{on_data}
 use Rattle.rpg_effect.specs.Input.{input_fault, record_in}
 use Rattle.rpg_effect.specs.declared.input.InputFile.{InputFile}
 use Rattle.rpg_effect.specs.declared.input.InputFile.TheVariants.{Primary, Secondary}
@@ -34,6 +35,7 @@ use Rattle.rpg_object_program.specs.declared.section.Section.TheVariants as sect
 use Rattle.rpg_cycle_safety.proofs.Selecting.{Picks, levels_alone, selects, takes}
 use Rattle.rpg_cycle_safety.proofs.Turning.{off_still, one_still, still_holds, still_reach}
 use Rattle.rpg_cycle_safety.proofs.Weighing.{all_weights, moving_weight, taking_weight}
+use Rattle.rpg_cycle_safety.proofs.Writing.{on_data_keeps}
 use Rattle.rpg_cycle_safety.proofs.Working.{Acted, Comes, Outcome, Owed, Ready, Works, both, does_work, effect_acts, ends, goes, going, its_fields, machine_works, nothing, overflow_works, unless_works}
 use Rattle.rpg_cycle_safety.specs.Coming.{CyclesWell, HasCycle, IsCycleEnd}
 use Rattle.rpg_cycle_safety.specs.Waiting.{AreWaiting}
@@ -55,7 +57,7 @@ module _ (p : Object) (orderly : IsOrderly p) where
   abbrev owing : Owed
   owing s = its_fields p s
 
-  section_acts : (s : Section) (c : Config) → has_end s ≡ true → Holds p c.world → c.cells ≡ map.empty → Acted p (RunsTo p s) (section_cost p s) c
+  section_acts : (s : Section) (c : Config) → has_end s ≡ true → Holds p c.world.data → c.cells ≡ map.empty → Acted p (RunsTo p s) (section_cost p s) c
   section_acts s c ended h none =
       let run = sections_run.has_run p orderly s c ended none h in
       let bound = run.ends.bound in
@@ -187,8 +189,8 @@ module _ (p : Object) (orderly : IsOrderly p) where
   filled_at config i (Some s) n r =
       let inputs = inputs_at p s.type in
       let right = subst (λ (len : ℕ). All (λ f. input_fault (form_at p.fields) len f ≡ None) inputs) (sym r.taken.long) (inputs_right p s.type orderly.sound) in
-      let keeps = record_keeps p orderly.forms s.text inputs config.world right r.taken.characters r.values in
-      let o = effect_acts p (length inputs) (record_in (form_at p.fields) s.text inputs) config keeps r.no_cell in
+      let keeps = record_keeps p orderly.forms s.text inputs config.world.data right r.taken.characters r.values in
+      let o = effect_acts p (length inputs) (on_data (record_in (form_at p.fields) s.text inputs)) config (on_data_keeps p (record_in (form_at p.fields) s.text inputs) config.world keeps) r.no_cell in
       let grown = o.few in
       let few = r.few in
       record {
@@ -252,7 +254,7 @@ module _ (p : Object) (orderly : IsOrderly p) where
   -- ---- cycles
 
   -- there is a cycle, from any configuration whose values are what they are to be, in which no subroutine runs and whose waiting records are well kept
-  pub has_cycle : (earlier : List Selected) (primary secondary : Option (List ℕ)) (c : Config) (i : Inputs) → Holds p c.world → c.cells ≡ map.empty → AreWaiting p i →
+  pub has_cycle : (earlier : List Selected) (primary secondary : Option (List ℕ)) (c : Config) (i : Inputs) → Holds p c.world.data → c.cells ≡ map.empty → AreWaiting p i →
       HasCycle p earlier primary secondary c i
   has_cycle earlier primary secondary c i h none waiting =
       let start : Ready p owing (p.allowance * most p) (begun p c i) = record { values = h; no_cell = none; waiting = waiting; taken = tt; few = omega arith } in
@@ -269,7 +271,7 @@ module _ (p : Object) (orderly : IsOrderly p) where
       }
 
   -- and each cycle is that one
-  pub cycles_well : (earlier : List Selected) (primary secondary : Option (List ℕ)) (c : Config) (i : Inputs) (e : PhaseEnd) (d : UnderWay) (out : Output) → Holds p c.world →
+  pub cycles_well : (earlier : List Selected) (primary secondary : Option (List ℕ)) (c : Config) (i : Inputs) (e : PhaseEnd) (d : UnderWay) (out : Output) → Holds p c.world.data →
       c.cells ≡ map.empty → AreWaiting p i → Cycle p earlier primary secondary (begun p c i) e d out → CyclesWell p e d
   cycles_well earlier primary secondary c i e d out h none waiting cycle =
       let one = has_cycle earlier primary secondary c i h none waiting in

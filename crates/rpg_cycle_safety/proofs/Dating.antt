@@ -38,8 +38,8 @@ date_small text date h =
 
 module _ (p : Object) (kept : IsProgram p) (date : ℤ) (small : unsigned_abs date < 10 ^ 6) where
   one_dated : (b : Bool) (field : ℕ) (f : FieldForm) (fields : Fields nat_cmp) → is_date f.class ≡ b → form_at p.fields field ≡ Some f →
-      Holds p (job_first_world fields) →
-      Holds p (job_first_world (cond b (with_value (field, 1) (Number date) fields) fields))
+      Holds p (job_first_world fields).data →
+      Holds p (job_first_world (cond b (with_value (field, 1) (Number date) fields) fields)).data
   one_dated false field f fields is there h = h
   one_dated true field f fields is there h = record {
     fits = date_fits p.fields fields.values fields.current field f date h.fits there (row_at p.fields field f kept.fields there) is small;
@@ -48,8 +48,8 @@ module _ (p : Object) (kept : IsProgram p) (date : ℤ) (small : unsigned_abs da
   }
 
   all_dated : (fs : List FieldForm) (field : ℕ) (fields : Fields nat_cmp) →
-      ((i : ℕ) (f : FieldForm) → slice_get fs i ≡ Some f → form_at p.fields (field + i) ≡ Some f) → Holds p (job_first_world fields) →
-      Holds p (job_first_world (dated date field fs fields))
+      ((i : ℕ) (f : FieldForm) → slice_get fs i ≡ Some f → form_at p.fields (field + i) ≡ Some f) → Holds p (job_first_world fields).data →
+      Holds p (job_first_world (dated date field fs fields)).data
   all_dated [] field fields there h = h
   all_dated (f ∷ fs) field fields there h =
       let here : field + 0 ≡ field = omega arith in
@@ -59,5 +59,5 @@ module _ (p : Object) (kept : IsProgram p) (date : ℤ) (small : unsigned_abs da
       (one_dated (is_date f.class) field f fields refl at h)
 
   -- values that are what they are to be still are with the date
-  pub start_holds : (fields : Fields nat_cmp) → Holds p (job_first_world fields) → Holds p (job_start p date fields).world
+  pub start_holds : (fields : Fields nat_cmp) → Holds p (job_first_world fields).data → Holds p (job_start p date fields).world.data
   start_holds fields h = all_dated p.fields 1 fields (λ i f is. let first : suc i ≡ 1 + i = omega arith in subst (λ (k : ℕ). form_at p.fields k ≡ Some f) first is) h

@@ -7,7 +7,7 @@ use Rattle.rpg_effect.specs.Entries.{position_of}
 use Rattle.rpg_effect.specs.Forms.{form_at, kind_of, length_of}
 use Rattle.rpg_effect.specs.LineFaults.{AreRight, field_fault}
 use Rattle.rpg_effect.specs.Lines.{Draft, Drafted, assembled, counted, drafted, go_on_with, laid, laid_over, unless_faulty, with_field}
-use Rattle.rpg_effect.specs.World.{Fields, World, three_hold, value_in}
+use Rattle.rpg_effect.specs.World.{Data, Fields, three_hold, value_in}
 use Rattle.rpg_effect.specs.declared.form.FieldForm.{FieldForm}
 use Rattle.rpg_effect.specs.declared.line.LineField.{LineField}
 use Rattle.rpg_cycle_safety.proofs.Printing.{Draws, field_keeps, laid_keeps}
@@ -31,7 +31,7 @@ over_long text part end fits within =
     let rest = length-drop end text in
     omega (arith, whole, more, short, rest, fits, within)
 
-module _ (p : Object) (kept : IsProgram p) (len : ℕ) (w : World nat_cmp) where
+module _ (p : Object) (kept : IsProgram p) (len : ℕ) (w : Data nat_cmp) where
   abbrev forms : ℕ → Option FieldForm
   forms field = form_at p.fields field
 

@@ -13,7 +13,6 @@ pub mod Moving
 pub mod Outputting
 pub mod Pending
 pub mod Printing
-pub mod Quieting
 pub mod Running
 pub mod Selecting
 pub mod Sizing

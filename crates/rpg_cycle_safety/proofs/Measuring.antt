@@ -11,6 +11,7 @@ use Rattle.rpg_cycle.specs.Runs.{Records, left_behind, next_of}
 use Rattle.rpg_cycle.specs.Starting.{job_first_world, job_start}
 use Rattle.rpg_effect.specs.Effect.{Effect}
 use Rattle.rpg_effect.specs.Forms.{form_at}
+use Rattle.rpg_effect.specs.Ended.{on_data}
 use Rattle.rpg_effect.specs.Input.{input_fault, record_in}
 use Rattle.rpg_effect.specs.World.{Fields, World}
 use Rattle.rpg_effect.specs.declared.input.InputFile.{InputFile}
@@ -22,13 +23,13 @@ use Rattle.rpg_cycle_safety.proofs.Dating.{start_holds}
 use Rattle.rpg_cycle_safety.proofs.Filling.{record_keeps}
 use Rattle.rpg_cycle_safety.proofs.Instructing.{output_keeps}
 use Rattle.rpg_cycle_safety.proofs.Outputting.{output_few}
-use Rattle.rpg_cycle_safety.proofs.Quieting.{quiet_few, record_quiet}
 use Rattle.rpg_cycle_safety.proofs.Running.{ends_well}
 use Rattle.rpg_cycle_safety.proofs.Selecting.{Picks, levels_alone, selects, takes, unread_waits}
-use Rattle.rpg_cycle_safety.proofs.Sizing.{PutsFew, few_more}
+use Rattle.rpg_cycle_safety.proofs.Sizing.{PutsFew, data_few, few_more}
 use Rattle.rpg_cycle_safety.proofs.Turning.{Still, all_still, off_still, one_still, still_holds}
 use Rattle.rpg_cycle_safety.proofs.Weighing.{moving_weight, taking_weight}
 use Rattle.rpg_cycle_safety.proofs.Working.{IsTaken, going}
+use Rattle.rpg_cycle_safety.proofs.Writing.{on_data_keeps}
 use Rattle.rpg_cycle_safety.specs.Holding.{Holds, Keeps}
 use Rattle.rpg_cycle_safety.specs.Waiting.{AreWaiting}
 use Rattle.rpg_cycle_safety.specs.Measuring.{StandsNear, IsOfCycles, IsPutInRun, PaysForOutput, StaysInOutput}
@@ -48,7 +49,7 @@ module _ (p : Object) (orderly : IsOrderly p) where
 
   -- the values are what they are to be, no subroutine runs, and a record that was selected is good
   record Rests (c : UnderWay) : Type 0 where
-    pub values : Holds p c.config.world
+    pub values : Holds p c.config.world.data
     pub no_cell : c.config.cells ≡ map.empty
     pub waiting : AreWaiting p c.inputs
     pub taken : IsTaken p c.selected
@@ -59,7 +60,7 @@ module _ (p : Object) (orderly : IsOrderly p) where
     pub rests : e ≡ GoesOn → Rests d
 
   abbrev IsPaid : Phase → Type 0
-  IsPaid P = (previous : Option Position) (c : UnderWay) (e : PhaseEnd) (d : UnderWay) (out : Output) → Rests c → StandsNear previous c.config.world.here → P c e d out →
+  IsPaid P = (previous : Option Position) (c : UnderWay) (e : PhaseEnd) (d : UnderWay) (out : Output) → Rests c → StandsNear previous c.config.world.paper.here → P c e d out →
       Pays previous c e d out
 
   rests_as : (d : UnderWay) (x : Config) (i : Inputs) (s : Option Selected) → d.config ≡ x → d.inputs ≡ i → d.selected ≡ s → Rests (record { config = x; inputs = i; selected = s }) → Rests d
@@ -95,7 +96,7 @@ module _ (p : Object) (orderly : IsOrderly p) where
 
   -- ---- phases without output
 
-  still_paid : (n : ℕ) (previous : Option Position) (c : UnderWay) (e : PhaseEnd) (d : UnderWay) (out : Output) → Rests c → StandsNear previous c.config.world.here →
+  still_paid : (n : ℕ) (previous : Option Position) (c : UnderWay) (e : PhaseEnd) (d : UnderWay) (out : Output) → Rests c → StandsNear previous c.config.world.paper.here →
       Still n c.config d.config → AreWaiting p d.inputs → IsTaken p d.selected → out ≡ no_output → Pays previous c e d out
   still_paid n previous c e d out r near s waiting taken same = record {
     pays = subst (λ (o : Output). PaysForOutput previous c.config d.config o) (sym same) (nothing_paid previous n c.config d.config s.steps s.form near);
@@ -204,16 +205,17 @@ module _ (p : Object) (orderly : IsOrderly p) where
   overflow_paid = unless_paid (has_no_overflow p.overflow) (output p times.Overflow) (output_paid times.Overflow)
 
   filled_paid : (config : Config) (i : Inputs) (s : Option Selected) (previous : Option Position) (e : PhaseEnd) (d : UnderWay) (out : Output) →
-      Rests (record { config = config; inputs = i; selected = s }) → StandsNear previous config.world.here → fill_from p s (record { config = config; inputs = i; selected = s }) e d out →
+      Rests (record { config = config; inputs = i; selected = s }) → StandsNear previous config.world.paper.here → fill_from p s (record { config = config; inputs = i; selected = s }) e d out →
       Pays previous (record { config = config; inputs = i; selected = s }) e d out
   filled_paid config i None previous e d out r near h = pass_paid previous (record { config = config; inputs = i; selected = None }) e d out r near h
   filled_paid config i (Some s) previous e d out r near h =
       let inputs = inputs_at p s.type in
-      let fill = record_in (form_at p.fields) s.text inputs in
       let right = subst (λ (len : ℕ). All (λ f. input_fault (form_at p.fields) len f ≡ None) inputs) (sym r.taken.long) (inputs_right p s.type orderly.sound) in
-      let few = few_more previous 0 (length inputs) (fill config.world) (omega arith) (quiet_few previous config.world (fill config.world) (record_quiet (form_at p.fields) s.text inputs config.world) near) in
-      by_effect_paid (length inputs) fill previous (record { config = config; inputs = i; selected = Some s }) e d out r
-      (record_keeps p orderly.forms s.text inputs config.world right r.taken.characters r.values) few h
+      let keeps = record_keeps p orderly.forms s.text inputs config.world.data right r.taken.characters r.values in
+      let few = few_more previous 0 (length inputs) (on_data (record_in (form_at p.fields) s.text inputs) config.world) (omega arith)
+      (data_few previous (record_in (form_at p.fields) s.text inputs) config.world near) in
+      by_effect_paid (length inputs) (on_data (record_in (form_at p.fields) s.text inputs)) previous (record { config = config; inputs = i; selected = Some s }) e d out r
+      (on_data_keeps p (record_in (form_at p.fields) s.text inputs) config.world keeps) few h
 
   filling_paid : IsPaid (fill_fields p)
   filling_paid previous c e d out r near h = filled_paid c.config c.inputs c.selected previous e d out r near h
@@ -242,18 +244,18 @@ module _ (p : Object) (orderly : IsOrderly p) where
         (both_paid (show_match matches) behind_match (showing_paid matches)
         (both_paid (fill_fields p) (detail_calculations p) filling_paid (section_rests sections.Detail refl)))))))))
 
-  starts : (c : Config) (i : Inputs) → Holds p c.world → c.cells ≡ map.empty → AreWaiting p i → Rests (begun p c i)
+  starts : (c : Config) (i : Inputs) → Holds p c.world.data → c.cells ≡ map.empty → AreWaiting p i → Rests (begun p c i)
   starts c i h none waiting = record { values = h; no_cell = none; waiting = waiting; taken = tt }
 
   -- what it puts out, and where the form stands after it
   pub cycle_pays : (earlier : List Selected) (primary secondary : Option (List ℕ)) (previous : Option Position) (c : Config) (i : Inputs) (e : PhaseEnd) (d : UnderWay) (out : Output) →
-      Holds p c.world → c.cells ≡ map.empty → AreWaiting p i → StandsNear previous c.world.here → Cycle p earlier primary secondary (begun p c i) e d out →
+      Holds p c.world.data → c.cells ≡ map.empty → AreWaiting p i → StandsNear previous c.world.paper.here → Cycle p earlier primary secondary (begun p c i) e d out →
       PaysForOutput previous (begun p c i).config d.config out
   cycle_pays earlier primary secondary previous c i e d out h none waiting near cycle =
       (cycle_paid (left_by p earlier) (has_match p earlier) primary secondary previous (begun p c i) e d out (starts c i h none waiting) near cycle).pays
 
   pub cycle_in_output : (earlier : List Selected) (primary secondary : Option (List ℕ)) (previous : Option Position) (c : Config) (i : Inputs) (e : PhaseEnd) (d : UnderWay) (out : Output) →
-      Holds p c.world → c.cells ≡ map.empty → AreWaiting p i → StandsNear previous c.world.here → Cycle p earlier primary secondary (begun p c i) e d out → StaysInOutput p previous out
+      Holds p c.world.data → c.cells ≡ map.empty → AreWaiting p i → StandsNear previous c.world.paper.here → Cycle p earlier primary secondary (begun p c i) e d out → StaysInOutput p previous out
   cycle_in_output earlier primary secondary previous c i e d out h none waiting near cycle =
       let pays = (cycle_pays earlier primary secondary previous c i e d out h none waiting near cycle).few in
       let few = (cycles_well p orderly earlier primary secondary c i e d out h none waiting cycle).few in
@@ -261,8 +263,8 @@ module _ (p : Object) (orderly : IsOrderly p) where
 
   -- ---- runs
 
-  of_cycles : (n : ℕ) (earlier : List Selected) (rs : Records) (previous : Option Position) (c : Config) (i : Inputs) (last : Option Position) (out : Output) → Holds p c.world →
-      c.cells ≡ map.empty → AreWaiting p i → StandsNear previous c.world.here → IsOfCycles n p earlier rs previous c i last out → StaysInOutput p last out
+  of_cycles : (n : ℕ) (earlier : List Selected) (rs : Records) (previous : Option Position) (c : Config) (i : Inputs) (last : Option Position) (out : Output) → Holds p c.world.data →
+      c.cells ≡ map.empty → AreWaiting p i → StandsNear previous c.world.paper.here → IsOfCycles n p earlier rs previous c i last out → StaysInOutput p last out
   of_cycles zero earlier rs previous c i last out h none waiting near put = absurd put
   of_cycles (suc n) earlier rs previous c i last out h none waiting near (inl (is, e, d, cycle)) =
       subst (λ (o : Option Position). StaysInOutput p o out) (sym is)
@@ -275,7 +277,7 @@ module _ (p : Object) (orderly : IsOrderly p) where
 
   -- every cycle of a run
   pub run_in_output : (date : ℤ) (fields : Fields nat_cmp) (records : Records) (last : Option Position) (out : Output) → unsigned_abs date < 10 ^ 6 →
-      Holds p (job_first_world fields) → IsPutInRun p date fields records last out → StaysInOutput p last out
+      Holds p (job_first_world fields).data → IsPutInRun p date fields records last out → StaysInOutput p last out
   run_in_output date fields records last out small h (n, put) =
       of_cycles n [] records None (job_start p date fields) unread last out (start_holds p orderly.program date small fields h) refl (unread_waits p)
       (record { line = omega arith; page = omega arith }) put

@@ -58,24 +58,24 @@ skip_by false line page from low up = let pages = up.page in record { line = low
 
 module _ (overflow : Option ℕ) where
   moved_by : (b : Bool) (page : ℕ) (to : Position) (w : World nat_cmp) → IsUpTo page to →
-      IsUpTo page (cond {A = World nat_cmp} b (record w { here = to; on = turned_on overflow w.on; has_turned_on = true }) (record w { here = to })).here
+      IsUpTo page (cond {A = World nat_cmp} b (record { «data» = record w.data { on = turned_on overflow w.data.on }; paper = record w.paper { here = to; has_turned_on = true } }) (record w { paper = record w.paper { here = to } })).paper.here
   moved_by true page to w up = up
   moved_by false page to w up = up
 
-  moved : (page : ℕ) (to : Position) (w : World nat_cmp) → IsUpTo page to → IsUpTo page (after_movement overflow to w).here
+  moved : (page : ℕ) (to : Position) (w : World nat_cmp) → IsUpTo page to → IsUpTo page (after_movement overflow to w).paper.here
   unfolding after_movement
-  moved page to w up = moved_by (turns_overflow_on w.here to) page to w up
+  moved page to w up = moved_by (turns_overflow_on w.paper.here to) page to w up
 
-  after_space_up : (n page : ℕ) (w : World nat_cmp) → n ≤ 66 → IsUpTo page w.here → IsUpTo (page + 1) (after_space overflow n w).here
-  after_space_up n page w few up = moved (page + 1) (spaced n w.here) w (space_by (leb (w.here.line + n) 66) n page w.here refl few up)
+  after_space_up : (n page : ℕ) (w : World nat_cmp) → n ≤ 66 → IsUpTo page w.paper.here → IsUpTo (page + 1) (after_space overflow n w).paper.here
+  after_space_up n page w few up = moved (page + 1) (spaced n w.paper.here) w (space_by (leb (w.paper.here.line + n) 66) n page w.paper.here refl few up)
 
-  skipped_by : (b : Bool) (line page : ℕ) (w : World nat_cmp) → line ≤ 66 → IsUpTo page w.here →
-      IsUpTo (page + 1) (cond {A = World nat_cmp} b w (after_movement overflow (skipped line w.here) w)).here
+  skipped_by : (b : Bool) (line page : ℕ) (w : World nat_cmp) → line ≤ 66 → IsUpTo page w.paper.here →
+      IsUpTo (page + 1) (cond {A = World nat_cmp} b w (after_movement overflow (skipped line w.paper.here) w)).paper.here
   skipped_by true line page w low up = let here = up.line in let pages = up.page in record { line = here; page = omega (arith, pages) }
-  skipped_by false line page w low up = moved (page + 1) (skipped line w.here) w (skip_by (leb w.here.line line) line page w.here low up)
+  skipped_by false line page w low up = moved (page + 1) (skipped line w.paper.here) w (skip_by (leb w.paper.here.line line) line page w.paper.here low up)
 
-  after_both : (skip space page : ℕ) (w : World nat_cmp) → skip ≤ 66 → space ≤ 66 → IsUpTo page w.here →
-      IsUpTo (page + 2) (after_space overflow space (after_skip overflow skip w)).here
+  after_both : (skip space page : ℕ) (w : World nat_cmp) → skip ≤ 66 → space ≤ 66 → IsUpTo page w.paper.here →
+      IsUpTo (page + 2) (after_space overflow space (after_skip overflow skip w)).paper.here
   after_both skip space page w low few up =
       let one = skipped_by (eqb skip 0) skip page w low up in
       let two = after_space_up space (page + 1) (after_skip overflow skip w) few one in
@@ -83,10 +83,10 @@ module _ (overflow : Option ℕ) where
       record { line = two.line; page = omega (arith, pages) }
 
   -- a line's movements begin two pages at most
-  pub before_up : (s : Spacing) (page : ℕ) (w : World nat_cmp) → IsShort s → IsUpTo page w.here → IsUpTo (page + 2) (spaced_before overflow s w).here
+  pub before_up : (s : Spacing) (page : ℕ) (w : World nat_cmp) → IsShort s → IsUpTo page w.paper.here → IsUpTo (page + 2) (spaced_before overflow s w).paper.here
   before_up s page w short up = after_both s.skip_before s.space_before page w short.skip_before short.space_before up
 
-  pub after_up : (s : Spacing) (page : ℕ) (w : World nat_cmp) → IsShort s → IsUpTo page w.here → IsUpTo (page + 2) (spaced_after overflow s w).here
+  pub after_up : (s : Spacing) (page : ℕ) (w : World nat_cmp) → IsShort s → IsUpTo page w.paper.here → IsUpTo (page + 2) (spaced_after overflow s w).paper.here
   after_up s page w short up = after_both s.skip_after s.space_after page w short.skip_after short.space_after up
 
 -- ---- the way to a line

@@ -5,6 +5,7 @@ use Rattle.rpg_effect.specs.Forms.{form_at}
 use Rattle.rpg_effect.specs.Instructions.{instruction_effect}
 use Rattle.rpg_effect.specs.Lines.{Line, movements_watched, settled}
 use Rattle.rpg_effect.specs.Weights.{instruction_weight, is_at_detail, is_at_total, is_exception, is_in_cycle, line_weight, lines_weight}
+use Rattle.rpg_effect.specs.Operate.{operate}
 use Rattle.rpg_effect.specs.World.{World}
 use Rattle.rpg_effect.specs.declared.line.Pass.{Pass}
 use Rattle.rpg_effect.specs.declared.line.Pass.TheVariants as passes
@@ -13,8 +14,7 @@ use Rattle.rpg_effect.specs.declared.line.Time.TheVariants as spoken
 use Rattle.rpg_effect.specs.declared.operation.Instruction.{Instruction}
 use Rattle.rpg_effect.specs.declared.operation.Instruction.TheVariants.{Act, Except, Branch, Call, Return}
 use Rattle.rpg_cycle_safety.proofs.Instructing.{passage_keeps}
-use Rattle.rpg_cycle_safety.proofs.Quieting.{operate_quiet, quiet_few}
-use Rattle.rpg_cycle_safety.proofs.Sizing.{PutsFew, few_more, leaves_few, lines_few, then_few}
+use Rattle.rpg_cycle_safety.proofs.Sizing.{PutsFew, data_few, few_more, leaves_few, lines_few, then_few}
 use Rattle.rpg_cycle_safety.specs.Holding.{Holds}
 use Rattle.rpg_cycle_safety.specs.Measuring.{StandsNear}
 use Rattle.rpg_machine_lines.specs.Outputs.{detail_effect, overflow_detail_effect, overflow_effect, passage_effect}
@@ -74,17 +74,17 @@ page_weight (l ∷ ls) = page_by l.time (line_weight l) (lines_weight is_at_deta
 
 module _ (p : Object) (kept : IsProgram p) (sound : IsSound p) where
   passage_few : (pass : Pass) (is_meant : Time → Bool) → ((time : Time) → is_meant time ≡ false → may_count time pass ≡ false) →
-      (previous : Option Position) (w : World nat_cmp) → Holds p w → StandsNear previous w.here → PutsFew previous (lines_weight is_meant (lines_of p)) (passage_effect p pass w)
+      (previous : Option Position) (w : World nat_cmp) → Holds p w.data → StandsNear previous w.paper.here → PutsFew previous (lines_weight is_meant (lines_of p)) (passage_effect p pass w)
   passage_few pass is_meant others previous w h near = lines_few p kept p.overflow pass is_meant others p.lines previous w sound.lines h near
 
-  detail_few : (previous : Option Position) (w : World nat_cmp) → Holds p w → StandsNear previous w.here → PutsFew previous (lines_weight is_at_detail (lines_of p) + 0) (detail_effect p w)
+  detail_few : (previous : Option Position) (w : World nat_cmp) → Holds p w.data → StandsNear previous w.paper.here → PutsFew previous (lines_weight is_at_detail (lines_of p) + 0) (detail_effect p w)
   detail_few previous w h near =
       let lines = passage_effect p passes.Detail w in
       let one = passage_few passes.Detail is_at_detail at_detail previous w h near in
       then_few previous (lines_weight is_at_detail (lines_of p)) 0 lines (λ v. Leaves (settled p.overflow v)) one
       (leaves_few (last_position_from previous lines.lines) (settled p.overflow lines.world) one.near)
 
-  overflow_details_few : (previous : Option Position) (w : World nat_cmp) → Holds p w → StandsNear previous w.here →
+  overflow_details_few : (previous : Option Position) (w : World nat_cmp) → Holds p w.data → StandsNear previous w.paper.here →
       PutsFew previous (lines_weight is_at_detail (lines_of p) + 0) (overflow_detail_effect p w)
   overflow_details_few previous w h near =
       let lines = passage_effect p passes.OverflowDetail w in
@@ -92,7 +92,7 @@ module _ (p : Object) (kept : IsProgram p) (sound : IsSound p) where
       then_few previous (lines_weight is_at_detail (lines_of p)) 0 lines (λ v. Leaves (movements_watched v)) one
       (leaves_few (last_position_from previous lines.lines) (movements_watched lines.world) one.near)
 
-  overflow_few : (previous : Option Position) (w : World nat_cmp) → Holds p w → StandsNear previous w.here →
+  overflow_few : (previous : Option Position) (w : World nat_cmp) → Holds p w.data → StandsNear previous w.paper.here →
       PutsFew previous (lines_weight is_at_total (lines_of p) + (lines_weight is_at_detail (lines_of p) + 0)) (overflow_effect p w)
   overflow_few previous w h near =
       let totals = passage_effect p passes.OverflowTotal w in
@@ -101,7 +101,7 @@ module _ (p : Object) (kept : IsProgram p) (sound : IsSound p) where
       (overflow_details_few (last_position_from previous totals.lines) totals.world (passage_keeps p kept sound passes.OverflowTotal w h).holds one.near)
 
   -- the output of a time
-  pub output_few : (time : OutputTime) (previous : Option Position) (w : World nat_cmp) → Holds p w → StandsNear previous w.here →
+  pub output_few : (time : OutputTime) (previous : Option Position) (w : World nat_cmp) → Holds p w.data → StandsNear previous w.paper.here →
       PutsFew previous (output_weight p time) (output_effect p time w)
   output_few times.Detail previous w h near =
       few_more previous (lines_weight is_at_detail (lines_of p) + 0) (lines_weight is_at_detail (lines_of p)) (detail_effect p w) (omega arith) (detail_few previous w h near)
@@ -112,11 +112,11 @@ module _ (p : Object) (kept : IsProgram p) (sound : IsSound p) where
       (omega (arith, page)) (overflow_few previous w h near)
 
   -- an instruction of the program
-  pub instruction_few : (i : Instruction ℕ) (previous : Option Position) (w : World nat_cmp) → Holds p w → StandsNear previous w.here →
+  pub instruction_few : (i : Instruction ℕ) (previous : Option Position) (w : World nat_cmp) → Holds p w.data → StandsNear previous w.paper.here →
       PutsFew previous (weight p i) (effect p i w)
   unfolding instruction_effect instruction_weight
   instruction_few (Act a) previous w h near =
-      few_more previous 0 (weight p (Act a)) (effect p (Act a) w) (omega arith) (quiet_few previous w (effect p (Act a) w) (operate_quiet (form_at p.fields) a w) near)
+      few_more previous 0 (weight p (Act a)) (effect p (Act a) w) (omega arith) (data_few previous (operate (form_at p.fields) a) w near)
   instruction_few Except previous w h near =
       few_more previous (lines_weight is_exception (lines_of p)) (weight p Except) (effect p Except w) (omega arith) (passage_few passes.Exception is_exception at_exception previous w h near)
   instruction_few (Branch is_taken_where cs target) previous w h near =

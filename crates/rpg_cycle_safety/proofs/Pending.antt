@@ -24,11 +24,11 @@ feed_short Failed last = omega arith
 
 -- a job from which all was taken before
 pub job_in_output : (old new : AtWork) (earlier : List Selected) (previous : Option Position) (primary secondary : Option (List ℕ)) (e : PhaseEnd) → IsOrderly old.program →
-    Holds old.program old.config.world → old.config.cells ≡ map.empty → AreWaiting old.program old.inputs → StandsNear previous (config_on previous old.config).world.here → old.output ≡ no_bytes →
+    Holds old.program old.config.world.data → old.config.cells ≡ map.empty → AreWaiting old.program old.inputs → StandsNear previous (config_on previous old.config).world.paper.here → old.output ≡ no_bytes →
     DoesCycle old earlier previous primary secondary e new → pending new ≤ bound old.program * bytes_of_step + 1
 job_in_output old new earlier previous primary secondary e orderly h none waiting near empty does =
     let c = config_on previous old.config in
-    let values = same_fields old.program old.config.world c.world h refl in
+    let values = same_fields old.program old.config.world.data c.world.data h refl in
     let few = (cycle_in_output old.program orderly earlier primary secondary previous c old.inputs e does.there does.out values none waiting near does.cycle).few in
     let feed = feed_at (stage_at e) new.last in
     let short = feed_short (stage_at e) new.last in

@@ -10,10 +10,10 @@ use Rattle.rpg_effect.specs.Ends.{End, Fault, GoesOn, Halt, Wrong}
 use Rattle.rpg_effect.specs.Entries.{position_of}
 use Rattle.rpg_effect.specs.Forms.{form_at, is_index_form, kind_of, length_of, may_write}
 use Rattle.rpg_effect.specs.LineFaults.{AreRight, field_fault, fits_source, has_room, has_storage, has_word, is_page, may_change}
-use Rattle.rpg_effect.specs.Lines.{Draft, Drafted, Line, after_movement, after_skip, assembled, blank_line, blanked, blanked_all, counted, drafted, go_on_with, is_asked, laid, line_out, lines_out, next_page, one_out, printed_line, put_on, put_out, remembered, spaced_after, spaced_before, unless_faulty, where_asked, with_field}
+use Rattle.rpg_effect.specs.Lines.{Draft, Drafted, Line, after_movement, after_skip, assembled, blank_line, blanked, blanked_all, counted, drafted, go_on_with, is_asked, laid, line_out, lines_out, next_page, one_out, printed_line, put_on, put_out, remembered, spaced_after, spaced_before, unless_faulty, where_asked, with_field, with_fields}
 use Rattle.rpg_effect.specs.Rows.{has_entry}
 use Rattle.rpg_effect.specs.Values.{Value, Number, Text, number_of}
-use Rattle.rpg_effect.specs.World.{Fields, World, set_value, three_hold, value_in}
+use Rattle.rpg_effect.specs.World.{Data, Fields, World, set_value, three_hold, value_in}
 use Rattle.rpg_effect.specs.declared.form.FieldForm.{FieldForm}
 use Rattle.rpg_effect.specs.declared.form.Kind.{Kind}
 use Rattle.rpg_effect.specs.declared.form.Kind.TheVariants as kinds
@@ -67,22 +67,22 @@ number_here kinds.Text len o is h = cc
 -- ---- what a movement leaves
 
 module _ (overflow : Option ℕ) where
-  either : (b : Bool) (f : Fields nat_cmp) (u v : World nat_cmp) → u.fields ≡ f → v.fields ≡ f → (cond b u v).fields ≡ f
+  either : (b : Bool) (f : Fields nat_cmp) (u v : World nat_cmp) → u.data.fields ≡ f → v.data.fields ≡ f → (cond b u v).data.fields ≡ f
   either true f u v h k = h
   either false f u v h k = k
 
-  moved : (to : Position) (w : World nat_cmp) → (after_movement overflow to w).fields ≡ w.fields
+  moved : (to : Position) (w : World nat_cmp) → (after_movement overflow to w).data.fields ≡ w.data.fields
   unfolding after_movement
-  moved to w = either (turns_overflow_on w.here to) w.fields _ _ refl refl
+  moved to w = either (turns_overflow_on w.paper.here to) w.data.fields _ _ refl refl
 
-  skipped_to : (line : ℕ) (w : World nat_cmp) → (after_skip overflow line w).fields ≡ w.fields
-  skipped_to line w = either _ w.fields w _ refl (moved (skipped line w.here) w)
+  skipped_to : (line : ℕ) (w : World nat_cmp) → (after_skip overflow line w).data.fields ≡ w.data.fields
+  skipped_to line w = either _ w.data.fields w _ refl (moved (skipped line w.paper.here) w)
 
-  before : (s : Spacing) (w : World nat_cmp) → (spaced_before overflow s w).fields ≡ w.fields
-  before s w = moved (spaced s.space_before (after_skip overflow s.skip_before w).here) (after_skip overflow s.skip_before w) ∙ skipped_to s.skip_before w
+  before : (s : Spacing) (w : World nat_cmp) → (spaced_before overflow s w).data.fields ≡ w.data.fields
+  before s w = moved (spaced s.space_before (after_skip overflow s.skip_before w).paper.here) (after_skip overflow s.skip_before w) ∙ skipped_to s.skip_before w
 
-  after : (s : Spacing) (w : World nat_cmp) → (spaced_after overflow s w).fields ≡ w.fields
-  after s w = moved (spaced s.space_after (after_skip overflow s.skip_after w).here) (after_skip overflow s.skip_after w) ∙ skipped_to s.skip_after w
+  after : (s : Spacing) (w : World nat_cmp) → (spaced_after overflow s w).data.fields ≡ w.data.fields
+  after s w = moved (spaced s.space_after (after_skip overflow s.skip_after w).paper.here) (after_skip overflow s.skip_after w) ∙ skipped_to s.skip_after w
 
 -- ---- entries that are written
 
@@ -95,7 +95,7 @@ module _ (p : Object) where
   value_of : (k : Kind) (f n : ℕ) → (i : IsFieldEntry p.fields f n) → i.form.kind ≡ k → IsValue p.fields k f n
   value_of k f n i kind = record { form = i.form; there = i.there; kind = kind; low = i.low; high = i.high }
 
-  blank_by : (k : Kind) (v : Option Value) (w : World nat_cmp) (f n : ℕ) → Holds p w → (i : IsFieldEntry p.fields f n) → i.form.kind ≡ k →
+  blank_by : (k : Kind) (v : Option Value) (w : Data nat_cmp) (f n : ℕ) → Holds p w → (i : IsFieldEntry p.fields f n) → i.form.kind ≡ k →
       may_write (form_at p.fields f) ≡ true → HasForm k i.form.length v →
       Holds p (set_value w f n (blanked v))
   blank_by kinds.Number (Some (Number m)) w f n h i kind may has = number_written p w f n (pos 0) h (value_of kinds.Number f n i kind) may (ten_pos (length_of (form_at p.fields f)))
@@ -107,16 +107,16 @@ module _ (p : Object) where
   blank_by kinds.Text None w f n h i kind may has = absurd has
 
   -- an entry is blanked
-  one_blanked : (w : World nat_cmp) (e : ℕ × ℕ) → Holds p w → MayWrite p e → Holds p (set_value w e.0 e.1 (blanked (value_in w.fields e)))
+  one_blanked : (w : Data nat_cmp) (e : ℕ × ℕ) → Holds p w → MayWrite p e → Holds p (set_value w e.0 e.1 (blanked (value_in w.fields e)))
   one_blanked w e h m = blank_by m.entry.form.kind (value_in w.fields e) w e.0 e.1 h m.entry refl m.may (value_there p.fields w.fields h.fits e.0 e.1 m.entry)
 
-  all_blanked : (es : List (ℕ × ℕ)) (w : World nat_cmp) → Holds p w → All (MayWrite p) es → Holds p (record w { fields = blanked_all es w.fields })
+  all_blanked : (es : List (ℕ × ℕ)) (w : Data nat_cmp) → Holds p w → All (MayWrite p) es → Holds p (record w { fields = blanked_all es w.fields })
   all_blanked [] w h may = h
   all_blanked (e ∷ es) w h may =
       all_blanked es (set_value w e.0 e.1 (blanked (value_in w.fields e))) (one_blanked w e h (All-head (MayWrite p) e es may)) (All-tail (MayWrite p) e es may)
 
   -- PAGE is made one more
-  page_written : (w : World nat_cmp) (f n : ℕ) → Holds p w → IsFieldEntry p.fields f n → fits_source sources.Page (form_at p.fields f) ≡ true →
+  page_written : (w : Data nat_cmp) (f n : ℕ) → Holds p w → IsFieldEntry p.fields f n → fits_source sources.Page (form_at p.fields f) ≡ true →
       Holds p (set_value w f n (Number (next_page (number_of (value_in w.fields (f, n))))))
   page_written w f n h i source =
       let before = number_of (value_in w.fields (f, n)) in
@@ -126,7 +126,7 @@ module _ (p : Object) where
       let index = (and_true (is_index_form (form_at p.fields f)) _ source).0 in
       number_written p w f n (next_page before) h (value_of kinds.Number f n i kind) (index_may (form_at p.fields f) index) room
 
-  counts : (source : Source) (w : World nat_cmp) (f n : ℕ) → Holds p w → IsFieldEntry p.fields f n → fits_source source (form_at p.fields f) ≡ true →
+  counts : (source : Source) (w : Data nat_cmp) (f n : ℕ) → Holds p w → IsFieldEntry p.fields f n → fits_source source (form_at p.fields f) ≡ true →
       Holds p (record w { fields = counted source (f, n) w.fields })
   counts sources.Value w f n h i source = h
   counts sources.Page w f n h i source = page_written w f n h i source
@@ -134,7 +134,7 @@ module _ (p : Object) where
   -- ---- a line that is being assembled
 
   -- how assembling ended, and what holds of the draft, whatever else there is
-  pub record Draws (w : World nat_cmp) (d : Drafted nat_cmp) : Type 0 where
+  pub record Draws (w : Data nat_cmp) (d : Drafted nat_cmp) : Type 0 where
     pub ending : IsEffectEnd d.ending
     pub fields : Holds p (record w { fields = d.draft.fields })
     pub blanks : All (MayWrite p) d.draft.to_blank
@@ -144,7 +144,7 @@ module _ (p : Object) where
   remembers true e es h i may = All-push (MayWrite p) es e h (record { entry = i; may = may refl })
   remembers false e es h i may = h
 
-  module _ (kept : IsProgram p) (len : ℕ) (w : World nat_cmp) where
+  module _ (kept : IsProgram p) (len : ℕ) (w : Data nat_cmp) where
     abbrev forms : ℕ → Option FieldForm
     forms field = form_at p.fields field
 
@@ -188,44 +188,44 @@ module _ (p : Object) where
 
   -- ---- a line that is put out
 
-  put_keeps : (overflow : Option ℕ) (file : File) (s : Spacing) (text : List ℕ) (w : World nat_cmp) → Holds p w → Keeps p (put_on overflow file s text w)
+  put_keeps : (overflow : Option ℕ) (file : File) (s : Spacing) (text : List ℕ) (w : World nat_cmp) → Holds p w.data → Keeps p (put_on overflow file s text w)
   unfolding put_on
   put_keeps overflow Disk s text w h = record { ending = tt; holds = h }
   put_keeps overflow Printer s text w h =
-      then_keeps p (printed_line (spaced_before overflow s w) text) (λ v. Leaves (spaced_after overflow s v)) (record { ending = tt; holds = same_fields p w (spaced_before overflow s w) h (before overflow s w) })
-      (λ v k. leaves p _ (same_fields p v (spaced_after overflow s v) k (after overflow s v)))
+      then_keeps p (printed_line (spaced_before overflow s w) text) (λ v. Leaves (spaced_after overflow s v)) (record { ending = tt; holds = same_fields p w.data (spaced_before overflow s w).data h (before overflow s w) })
+      (λ v k. leaves p _ (same_fields p v.data (spaced_after overflow s v).data k (after overflow s v)))
 
   out_keeps : (overflow : Option ℕ) (l : Line ℕ) (w : World nat_cmp) (ending : End) (d : Draft nat_cmp) → IsEffectEnd ending →
-      Draws w (drafted GoesOn d) → Keeps p (put_out (form_at p.fields) (word_at p) overflow l w ending d)
+      Draws w.data (drafted GoesOn d) → Keeps p (put_out (form_at p.fields) (word_at p) overflow l w ending d)
   out_keeps overflow l w GoesOn d right h =
-      then_keeps p (put_on overflow l.file l.spacing d.text (record w { fields = d.fields })) (λ v. Leaves (record v { fields = blanked_all d.to_blank v.fields }))
-      (put_keeps overflow l.file l.spacing d.text (record w { fields = d.fields }) h.fields) (λ v k. leaves p _ (all_blanked d.to_blank v k h.blanks))
+      then_keeps p (put_on overflow l.file l.spacing d.text (with_fields d.fields w)) (λ v. Leaves (with_fields (blanked_all d.to_blank v.data.fields) v))
+      (put_keeps overflow l.file l.spacing d.text (with_fields d.fields w) h.fields) (λ v k. leaves p _ (all_blanked d.to_blank v.data k h.blanks))
   out_keeps overflow l w (Halt k) d right h = record { ending = right; holds = h.fields }
   out_keeps overflow l w (Wrong f) d right h = absurd right
 
   module _ (kept : IsProgram p) (overflow : Option ℕ) where
-    line_keeps : (l : LineRow) (w : World nat_cmp) → IsSoundLine p l → Holds p w → Keeps p (line_out (form_at p.fields) (word_at p) overflow (program_line p l) w)
+    line_keeps : (l : LineRow) (w : World nat_cmp) → IsSoundLine p l → Holds p w.data → Keeps p (line_out (form_at p.fields) (word_at p) overflow (program_line p l) w)
     unfolding line_out
     line_keeps l w sound h =
         let len = file_length p l.file in
         let start = blank_line len w in
-        let done = assembled (form_at p.fields) (word_at p) w.on len l.fields start in
-        let draws = assembled_keeps kept len w l.fields start sound.fields (record { ending = tt; fields = h; blanks = All-nil (MayWrite p) }) in
+        let done = assembled (form_at p.fields) (word_at p) w.data.on len l.fields start in
+        let draws = assembled_keeps kept len w.data l.fields start sound.fields (record { ending = tt; fields = h; blanks = All-nil (MayWrite p) }) in
         let out = out_keeps overflow (program_line p l) w done.ending done.draft draws.ending (record { ending = tt; fields = draws.fields; blanks = draws.blanks }) in
         subst (λ (o : Option Fault). Keeps p (unless_wrong o w (put_out (form_at p.fields) (word_at p) overflow (program_line p l) w done.ending done.draft))) (sym sound.line) out
 
-    asked_keeps : (b : Bool) (e : Effect nat_cmp) (w : World nat_cmp) → Keeps p e → Holds p w → Keeps p (where_asked (form_at p.fields) (word_at p) b e w)
+    asked_keeps : (b : Bool) (e : Effect nat_cmp) (w : World nat_cmp) → Keeps p e → Holds p w.data → Keeps p (where_asked (form_at p.fields) (word_at p) b e w)
     asked_keeps true e w k h = k
     asked_keeps false e w k h = leaves p w h
 
-    pub one_keeps : (pass : Pass) (l : LineRow) (w : World nat_cmp) → IsSoundLine p l → Holds p w →
+    pub one_keeps : (pass : Pass) (l : LineRow) (w : World nat_cmp) → IsSoundLine p l → Holds p w.data →
         Keeps p (one_out (form_at p.fields) (word_at p) overflow pass (program_line p l) w)
     unfolding one_out
     one_keeps pass l w sound h =
-        asked_keeps (is_asked overflow pass w.on l.time l.alternatives) (line_out (form_at p.fields) (word_at p) overflow (program_line p l) w) w (line_keeps l w sound h) h
+        asked_keeps (is_asked overflow pass w.data.on l.time l.alternatives) (line_out (form_at p.fields) (word_at p) overflow (program_line p l) w) w (line_keeps l w sound h) h
 
     -- the lines of a passage
-    pub lines_keep : (pass : Pass) (ls : List LineRow) (w : World nat_cmp) → All (IsSoundLine p) ls → Holds p w →
+    pub lines_keep : (pass : Pass) (ls : List LineRow) (w : World nat_cmp) → All (IsSoundLine p) ls → Holds p w.data →
         Keeps p (lines_out (form_at p.fields) (word_at p) overflow pass (map (program_line p) ls) w)
     unfolding lines_out
     lines_keep pass [] w sound h = leaves p w h

@@ -33,7 +33,7 @@ record Stops (p : Object) (c : Config) (safe : IsSafe p c) (enough : ℕ) : Type
   pub output : Output
   pub runs : run p enough c ≡ Stop ending last output
   pub named : IsNamedEnd ending
-  pub values : Holds p last.world
+  pub values : Holds p last.world.data
   pub no_cell : ending ≡ GoesOn → last.cells ≡ map.empty
   pub spent : last.allowance ≤ c.allowance
   pub bound : last.steps + last.allowance * most p ≤ potential (cost p) (most p) c safe.cells
@@ -42,7 +42,7 @@ module _ (p : Object) (orderly : IsOrderly p) where
   run_once : (n : ℕ) (c : Config) (b : Bool) (x : Outcome) → is_end p c ≡ b → step p c ≡ x → run p (suc n) c ≡ cond b (Stop GoesOn c no_output) (onward x (run p n))
   run_once n c b x e s = rw (e, s) refl
 
-  at_end : (n : ℕ) (c : Config) (safe : IsSafe p c) → Holds p c.world → is_end p c ≡ true → Stops p c safe (suc n)
+  at_end : (n : ℕ) (c : Config) (safe : IsSafe p c) → Holds p c.world.data → is_end p c ≡ true → Stops p c safe (suc n)
   at_end n c safe h e = record {
     ending = GoesOn;
     last = c;
@@ -69,7 +69,7 @@ module _ (p : Object) (orderly : IsOrderly p) where
 
   -- each steady configuration from which there is less work has such a run
   abbrev RunsFrom : ℕ → Type 0
-  RunsFrom n = (c : Config) (safe : IsSafe p c) → Holds p c.world → work_left p c < n → Stops p c safe n
+  RunsFrom n = (c : Config) (safe : IsSafe p c) → Holds p c.world.data → work_left p c < n → Stops p c safe n
 
   by_step : (n : ℕ) → RunsFrom n → (c : Config) (safe : IsSafe p c) → work_left p c < suc n → is_end p c ≡ false → (x : Outcome) → step p c ≡ x →
       StepsWell p x → Stops p c safe (suc n)
@@ -104,7 +104,7 @@ module _ (p : Object) (orderly : IsOrderly p) where
     bound = halts_low p c d k o safe s (cost p) (most p) orderly.costs;
   }
 
-  by_test : (n : ℕ) → RunsFrom n → (c : Config) (safe : IsSafe p c) → Holds p c.world → work_left p c < suc n → (b : Bool) → is_end p c ≡ b → Stops p c safe (suc n)
+  by_test : (n : ℕ) → RunsFrom n → (c : Config) (safe : IsSafe p c) → Holds p c.world.data → work_left p c < suc n → (b : Bool) → is_end p c ≡ b → Stops p c safe (suc n)
   by_test n next c safe h l true e = at_end n c safe h e
   by_test n next c safe h l false e = by_step n next c safe l e (step p c) refl (leads_well p orderly c (record { values = h; control = safe }) e)
 
@@ -115,7 +115,7 @@ module _ (p : Object) (orderly : IsOrderly p) where
   -- ---- from a section's first place
 
   -- a section has a run, from any configuration whose values are what they are to be and in which no subroutine runs
-  pub has_run : (section : Section) (c : Config) → has_end section ≡ true → c.cells ≡ map.empty → Holds p c.world → HasSectionRun p section c
+  pub has_run : (section : Section) (c : Config) → has_end section ≡ true → c.cells ≡ map.empty → Holds p c.world.data → HasSectionRun p section c
   has_run section c ended none h =
       let first = at_first p section c in
       let safe : IsSafe p first = record { place = first_is_place p section ended; cells = []; chain = (ended, none) } in
@@ -132,7 +132,7 @@ module _ (p : Object) (orderly : IsOrderly p) where
 
   -- and so ends each of its runs
   pub ends_well : (section : Section) (c : Config) (e : End) (d : Config) (o : Output) → has_end section ≡ true → c.cells ≡ map.empty →
-      Holds p c.world → RunsTo p section c e d o → EndsWell p section c e d
+      Holds p c.world.data → RunsTo p section c e d o → EndsWell p section c e d
   ends_well section c e d o ended none h run =
       let one = has_run section c ended none h in
       let same = runs_are_one p section c one.ending e one.last d one.output o one.runs run in
@@ -162,6 +162,6 @@ module _ (p : Object) (orderly : IsOrderly p) where
   all_the_way (suc n) c h = one_more n c (is_end p c) (all_the_way n) refl h
 
   -- after any number of steps
-  pub stands_well : (section : Section) (n : ℕ) (c : Config) → has_end section ≡ true → c.cells ≡ map.empty → Holds p c.world → StandsWell p (run p n (at_first p section c))
+  pub stands_well : (section : Section) (n : ℕ) (c : Config) → has_end section ≡ true → c.cells ≡ map.empty → Holds p c.world.data → StandsWell p (run p n (at_first p section c))
   stands_well section n c ended none h =
       all_the_way n (at_first p section c) (record { values = h; control = record { place = first_is_place p section ended; cells = []; chain = (ended, none) } })

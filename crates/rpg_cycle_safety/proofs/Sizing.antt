@@ -6,12 +6,13 @@ use Rattle.std.specs.List.{suffix_len}
 use Rattle.std.specs.Prelude.{All}
 use Rattle.rpg_effect.proofs.Putting.{disk-append, end_from-lines}
 use Rattle.rpg_effect.specs.Effect.{Effect, Leaves, go_on, then_go, unless_wrong}
+use Rattle.rpg_effect.specs.Ended.{Ended, on_data}
 use Rattle.rpg_effect.specs.Ends.{End, Fault, GoesOn, Halt, Wrong}
 use Rattle.rpg_effect.specs.Forms.{form_at}
-use Rattle.rpg_effect.specs.Lines.{Draft, Line, assembled, blank_line, blanked_all, is_asked, line_out, lines_out, one_out, put_on, put_out, spaced_before, where_asked}
+use Rattle.rpg_effect.specs.Lines.{Draft, Line, assembled, blank_line, blanked_all, is_asked, line_out, lines_out, one_out, put_on, put_out, spaced_before, where_asked, with_fields}
 use Rattle.rpg_effect.specs.Put.{disk_bytes}
 use Rattle.rpg_effect.specs.Weights.{line_weight, lines_weight}
-use Rattle.rpg_effect.specs.World.{World}
+use Rattle.rpg_effect.specs.World.{Data, World}
 use Rattle.rpg_effect.specs.declared.line.File.{File}
 use Rattle.rpg_effect.specs.declared.line.File.TheVariants.{Printer, Disk}
 use Rattle.rpg_effect.specs.declared.line.Pass.{Pass}
@@ -57,14 +58,18 @@ near_both previous xs ys here near = subst (λ (o : Option Position). StandsNear
 -- no more is put out than so many steps may put out, and the form stands near the line placed last
 pub record PutsFew (previous : Option Position) (n : ℕ) (e : Effect nat_cmp) : Type 0 where
   pub few : bytes_in previous e.lines e.records ≤ n * bytes_of_step
-  pub near : StandsNear (last_position_from previous e.lines) e.world.here
+  pub near : StandsNear (last_position_from previous e.lines) e.world.paper.here
 
 pub few_more : (previous : Option Position) (n m : ℕ) (e : Effect nat_cmp) → n ≤ m → PutsFew previous n e → PutsFew previous m e
 few_more previous n m e l h = let few = h.few in record { few = omega (arith, few, l); near = h.near }
 
 -- nothing is put out
-pub leaves_few : (previous : Option Position) (w : World nat_cmp) → StandsNear previous w.here → PutsFew previous 0 (Leaves w)
+pub leaves_few : (previous : Option Position) (w : World nat_cmp) → StandsNear previous w.paper.here → PutsFew previous 0 (Leaves w)
 leaves_few previous w near = record { few = omega arith; near = near }
+
+-- what is done to the data puts nothing out, and the form stays where it stands
+pub data_few : (previous : Option Position) (f : Data nat_cmp → Ended nat_cmp) (w : World nat_cmp) → StandsNear previous w.paper.here → PutsFew previous 0 (on_data f w)
+data_few previous f w near = record { few = omega arith; near = near }
 
 both_few : (previous : Option Position) (n m : ℕ) (ending : End) (e : Effect nat_cmp) (go : World nat_cmp → Effect nat_cmp) → PutsFew previous n e →
     PutsFew (last_position_from previous e.lines) m (go e.world) → PutsFew previous (n + m) (go_on ending e go)
@@ -72,7 +77,7 @@ both_few previous n m GoesOn e go h k =
     let both = bytes_both previous e.lines (go e.world).lines e.records (go e.world).records in
     let one = h.few in
     let two = k.few in
-    record { few = omega (arith, both, one, two); near = near_both previous e.lines (go e.world).lines (go e.world).world.here k.near }
+    record { few = omega (arith, both, one, two); near = near_both previous e.lines (go e.world).lines (go e.world).world.paper.here k.near }
 both_few previous n m (Halt j) e go h k = few_more previous n (n + m) e (omega arith) h
 both_few previous n m (Wrong f) e go h k = few_more previous n (n + m) e (omega arith) h
 
@@ -103,13 +108,13 @@ limit_of Printer = 132
 limit_of Disk = 9999
 
 put_few : (overflow : Option ℕ) (file : File) (s : Spacing) (text : List ℕ) (previous : Option Position) (w : World nat_cmp) → IsShort s →
-    length text ≤ limit_of file → StandsNear previous w.here → PutsFew previous 1 (put_on overflow file s text w)
+    length text ≤ limit_of file → StandsNear previous w.paper.here → PutsFew previous 1 (put_on overflow file s text w)
 unfolding put_on
 put_few overflow Printer s text previous w short few near =
     let v = spaced_before overflow s w in
     let up = before_up overflow s (page_or_1 previous + 2) w short (record { line = near.line; page = near.page }) in
     let pages = up.page in
-    let at = v.here in
+    let at = v.paper.here in
     let far = way_short previous at (record { line = up.line; page = omega (arith, pages) }) in
     let bytes = placed_few previous at text far few in
     let behind = after_up overflow s at.page v short (record { line = up.line; page = omega arith }) in
@@ -118,12 +123,12 @@ put_few overflow Disk s text previous w short few near = let bytes = record_few 
 
 module _ (p : Object) where
   out_few : (overflow : Option ℕ) (l : Line ℕ) (previous : Option Position) (w : World nat_cmp) (ending : End) (d : Draft nat_cmp) → IsShort l.spacing →
-      length d.text ≤ limit_of l.file → StandsNear previous w.here → PutsFew previous 1 (put_out (form_at p.fields) (word_at p) overflow l w ending d)
+      length d.text ≤ limit_of l.file → StandsNear previous w.paper.here → PutsFew previous 1 (put_out (form_at p.fields) (word_at p) overflow l w ending d)
   out_few overflow l previous w GoesOn d short few near =
-      let put = put_on overflow l.file l.spacing d.text (record w { fields = d.fields }) in
-      let one = put_few overflow l.file l.spacing d.text previous (record w { fields = d.fields }) short few near in
-      let v : World nat_cmp = record put.world { fields = blanked_all d.to_blank put.world.fields } in
-      then_few previous 1 0 put (λ v. Leaves (record v { fields = blanked_all d.to_blank v.fields })) one (leaves_few (last_position_from previous put.lines) v one.near)
+      let put = put_on overflow l.file l.spacing d.text (with_fields d.fields w) in
+      let one = put_few overflow l.file l.spacing d.text previous (with_fields d.fields w) short few near in
+      let v : World nat_cmp = with_fields (blanked_all d.to_blank put.world.data.fields) put.world in
+      then_few previous 1 0 put (λ v. Leaves (with_fields (blanked_all d.to_blank v.data.fields) v)) one (leaves_few (last_position_from previous put.lines) v one.near)
   out_few overflow l previous w (Halt k) d short few near = record { few = omega arith; near = near }
   out_few overflow l previous w (Wrong f) d short few near = record { few = omega arith; near = near }
 
@@ -132,42 +137,42 @@ module _ (p : Object) where
   within_limit kept Disk = kept.longest_disk_record
 
   module _ (kept : IsProgram p) (overflow : Option ℕ) where
-    line_few : (l : LineRow) (previous : Option Position) (w : World nat_cmp) → IsSoundLine p l → Holds p w → StandsNear previous w.here →
+    line_few : (l : LineRow) (previous : Option Position) (w : World nat_cmp) → IsSoundLine p l → Holds p w.data → StandsNear previous w.paper.here →
         PutsFew previous 1 (line_out (form_at p.fields) (word_at p) overflow (program_line p l) w)
     unfolding line_out
     line_few l previous w sound h near =
         let len = file_length p l.file in
         let start = blank_line len w in
-        let done = assembled (form_at p.fields) (word_at p) w.on len l.fields start in
-        let draws : Draws p w (record { ending = GoesOn; draft = start }) = record { ending = tt; fields = h; blanks = λ k e low. absurd (omega (arith, low)) } in
+        let done = assembled (form_at p.fields) (word_at p) w.data.on len l.fields start in
+        let draws : Draws p w.data (record { ending = GoesOn; draft = start }) = record { ending = tt; fields = h; blanks = λ k e low. absurd (omega (arith, low)) } in
         let blanks : length start.text ≡ len = length-replicate len 32 in
-        let long = assembled_long p kept len w l.fields start sound.fields draws blanks in
+        let long = assembled_long p kept len w.data l.fields start sound.fields draws blanks in
         let limit = within_limit kept l.file in
         let short = short_spacing len l.spacing sound.line in
         let out = out_few overflow (program_line p l) previous w done.ending done.draft short (omega (arith, long, limit)) near in
         subst (λ (o : Option Fault). PutsFew previous 1 (unless_wrong o w (put_out (form_at p.fields) (word_at p) overflow (program_line p l) w done.ending done.draft))) (sym sound.line) out
 
-    asked_few : (b : Bool) (n : ℕ) (e : Effect nat_cmp) (previous : Option Position) (w : World nat_cmp) → PutsFew previous n e → StandsNear previous w.here →
+    asked_few : (b : Bool) (n : ℕ) (e : Effect nat_cmp) (previous : Option Position) (w : World nat_cmp) → PutsFew previous n e → StandsNear previous w.paper.here →
         PutsFew previous n (where_asked (form_at p.fields) (word_at p) b e w)
     asked_few true n e previous w h near = h
     asked_few false n e previous w h near = few_more previous 0 n (Leaves w) (omega arith) (leaves_few previous w near)
 
     -- at this passage no lines are put out but those that are meant
     module _ (pass : Pass) (is_meant : Time → Bool) (others : (time : Time) → is_meant time ≡ false → may_count time pass ≡ false) where
-      one_by : (b : Bool) (l : LineRow) (previous : Option Position) (w : World nat_cmp) → is_meant l.time ≡ b → IsSoundLine p l → Holds p w → StandsNear previous w.here →
+      one_by : (b : Bool) (l : LineRow) (previous : Option Position) (w : World nat_cmp) → is_meant l.time ≡ b → IsSoundLine p l → Holds p w.data → StandsNear previous w.paper.here →
           PutsFew previous (cond b (line_weight (program_line p l)) 0) (one_out (form_at p.fields) (word_at p) overflow pass (program_line p l) w)
       unfolding one_out
       one_by true l previous w meant sound h near =
           let line = line_out (form_at p.fields) (word_at p) overflow (program_line p l) w in
-          asked_few (is_asked overflow pass w.on l.time l.alternatives) (line_weight (program_line p l)) line previous w
+          asked_few (is_asked overflow pass w.data.on l.time l.alternatives) (line_weight (program_line p l)) line previous w
           (few_more previous 1 (line_weight (program_line p l)) line (omega arith) (line_few l previous w sound h near)) near
       one_by false l previous w meant sound h near =
           let line = line_out (form_at p.fields) (word_at p) overflow (program_line p l) w in
-          subst (λ (b : Bool). PutsFew previous 0 (where_asked (form_at p.fields) (word_at p) b line w)) (sym (none_asked overflow pass w.on l.time l.alternatives (others l.time meant)))
+          subst (λ (b : Bool). PutsFew previous 0 (where_asked (form_at p.fields) (word_at p) b line w)) (sym (none_asked overflow pass w.data.on l.time l.alternatives (others l.time meant)))
           (leaves_few previous w near)
 
       -- the lines of a passage
-      pub lines_few : (ls : List LineRow) (previous : Option Position) (w : World nat_cmp) → All (IsSoundLine p) ls → Holds p w → StandsNear previous w.here →
+      pub lines_few : (ls : List LineRow) (previous : Option Position) (w : World nat_cmp) → All (IsSoundLine p) ls → Holds p w.data → StandsNear previous w.paper.here →
           PutsFew previous (lines_weight is_meant (map (program_line p) ls)) (lines_out (form_at p.fields) (word_at p) overflow pass (map (program_line p) ls) w)
       unfolding lines_out
       lines_few [] previous w sound h near = leaves_few previous w near

@@ -24,7 +24,7 @@ use Rattle.rpg_verify.specs.Bound.{cost, most}
 
 module _ (p : Object) (orderly : IsOrderly p) (c : Config) (steady : IsSteady p c) where
   -- as an effect ends
-  as_ended : (ending : End) (m a : Config) (e : Effect nat_cmp) → IsSafe p m → IsEffectEnd ending → Holds p e.world →
+  as_ended : (ending : End) (m a : Config) (e : Effect nat_cmp) → IsSafe p m → IsEffectEnd ending → Holds p e.world.data →
       step p c ≡ outcome_of ending m a e.world (output_of e) → StepsWell p (outcome_of ending m a e.world (output_of e))
   as_ended GoesOn m a e safe right h is = record { values = h; control = safe_after p c (record a { world = e.world }) (output_of e) orderly steady.control is }
   as_ended (Halt k) m a e safe right h is = ((right.0, le_trans right.1 (omega arith), right.2), record { values = h; control = record { place = safe.place; cells = safe.cells; chain = safe.chain } })
@@ -32,7 +32,7 @@ module _ (p : Object) (orderly : IsOrderly p) (c : Config) (steady : IsSteady p 
 
   as_spent : (b : Bool) (m a : Config) (e : Effect nat_cmp) → IsSafe p m → m.world ≡ c.world → Keeps p e →
       step p c ≡ cond b (Stop (Halt 5) m no_output) (went m a e) → StepsWell p (cond b (Stop (Halt 5) m no_output) (went m a e))
-  as_spent true m a e safe same k is = ((omega arith, omega arith, λ is. omega (arith, is)), record { values = subst (λ w. Holds p w) (sym same) steady.values; control = safe })
+  as_spent true m a e safe same k is = ((omega arith, omega arith, λ is. omega (arith, is)), record { values = subst (λ w. Holds p w.data) (sym same) steady.values; control = safe })
   as_spent false m a e safe same k is = as_ended e.ending m a e safe k.ending k.holds is
 
   by_instruction : (o : Option (Instruction ℕ)) → instruction_at p (here c) ≡ o → is_end p c ≡ false → StepsWell p (step p c)

@@ -56,8 +56,8 @@ module _ (p : Object) (orderly : IsOrderly p) where
   ended_few (Halt k) previous d out Rest course stays next is = last_few previous (Halt k) d out course stays is
   ended_few (Wrong f) previous d out Rest course stays next is = last_few previous (Wrong f) d out course stays is
 
-  runs_few : (n : ℕ) (earlier : List Selected) (rs : Records) (previous : Option Position) (c : Config) (i : Inputs) (course : Course) → Holds p c.world → c.cells ≡ map.empty →
-      AreWaiting p i → StandsNear previous c.world.here → RunsIn n p earlier rs c i course → IsFew previous course
+  runs_few : (n : ℕ) (earlier : List Selected) (rs : Records) (previous : Option Position) (c : Config) (i : Inputs) (course : Course) → Holds p c.world.data → c.cells ≡ map.empty →
+      AreWaiting p i → StandsNear previous c.world.paper.here → RunsIn n p earlier rs c i course → IsFew previous course
   runs_few zero earlier rs previous c i course h none waiting near runs = absurd runs
   runs_few (suc n) earlier rs previous c i course h none waiting near (e, d, out, cycle, ends) =
       let primary = next_of (needs_record p c i Primary) rs.primary in
@@ -68,8 +68,8 @@ module _ (p : Object) (orderly : IsOrderly p) where
       (cycle_in_output p orderly earlier primary secondary previous c i e d out h none waiting near cycle)
       (λ goes rest runs. runs_few n (with_record d.selected earlier) (left_behind p c i rs) (last_position_from previous out.lines) d.config d.inputs rest well.values (well.no_cell goes) well.waiting pays.near runs) ends
 
-  -- a whole run, with the line feed after its last line
-  pub whole_few : (date : ℤ) (fields : Fields nat_cmp) (records : Records) (course : Course) (bytes : Bytes) → unsigned_abs date < 10 ^ 6 → Holds p (job_first_world fields) →
+  -- a whole run, with the line feed behind its last line
+  pub whole_few : (date : ℤ) (fields : Fields nat_cmp) (records : Records) (course : Course) (bytes : Bytes) → unsigned_abs date < 10 ^ 6 → Holds p (job_first_world fields).data →
       IsRun p date fields records course bytes → length bytes.print + length bytes.disk ≤ course.cycles * (bound p * bytes_of_step) + 1
   whole_few date fields records course bytes small h run =
       let few : size None course.output ≤ course.cycles * (bound p * bytes_of_step) =

@@ -12,8 +12,8 @@ use Rattle.rpg_verify.specs.Bound.{most}
 
 -- the same but for indicators and so many steps more
 pub record Still (n : ℕ) (c d : Config) : Type 0 where
-  pub fields : d.world.fields ≡ c.world.fields
-  pub form : d.world.here ≡ c.world.here
+  pub fields : d.world.data.fields ≡ c.world.data.fields
+  pub form : d.world.paper.here ≡ c.world.paper.here
   pub place : here d ≡ here c
   pub cells : d.cells ≡ c.cells
   pub steps : d.steps ≡ c.steps + n
@@ -62,8 +62,8 @@ last_still_on c = still_then 0 0 c (with_one last_record true c) _ (one_still la
 
 -- ---- what stays
 
-pub still_holds : (p : Object) (n : ℕ) (c d : Config) → Still n c d → Holds p c.world → Holds p d.world
-still_holds p n c d s h = same_fields p c.world d.world h s.fields
+pub still_holds : (p : Object) (n : ℕ) (c d : Config) → Still n c d → Holds p c.world.data → Holds p d.world.data
+still_holds p n c d s h = same_fields p c.world.data d.world.data h s.fields
 
 pub still_reach : (p : Object) (n : ℕ) (c d : Config) → Still n c d → reach p d ≡ reach p c + n
 still_reach p n c d s = let steps = s.steps in let same : d.allowance * most p ≡ c.allowance * most p = ap (λ a. a * most p) s.allowance in omega (arith, steps, same)

@@ -12,6 +12,7 @@ use Rattle.rpg_cycle.specs.Starting.{job_first_world, job_start}
 use Rattle.rpg_effect.specs.Effect.{Effect}
 use Rattle.rpg_effect.specs.Ends as effects
 use Rattle.rpg_effect.specs.Forms.{form_at}
+use Rattle.rpg_effect.specs.Ended.{on_data}
 use Rattle.rpg_effect.specs.Input.{input_fault, record_in}
 use Rattle.rpg_effect.specs.World.{Fields, World}
 use Rattle.rpg_effect.specs.declared.input.InputFile.{InputFile}
@@ -24,6 +25,7 @@ use Rattle.rpg_cycle_safety.proofs.Running.{stands_well}
 use Rattle.rpg_cycle_safety.proofs.Selecting.{Picks, levels_alone, selects, takes, unread_waits}
 use Rattle.rpg_cycle_safety.proofs.Turning.{Still, off_still, one_still, still_holds}
 use Rattle.rpg_cycle_safety.proofs.Weighing.{moving_weight, taking_weight}
+use Rattle.rpg_cycle_safety.proofs.Writing.{on_data_keeps}
 use Rattle.rpg_cycle_safety.proofs.Working.{IsTaken}
 use Rattle.rpg_cycle_safety.specs.Holding.{Holds, Keeps}
 use Rattle.rpg_cycle_safety.specs.Coming.{next_cycle}
@@ -50,7 +52,7 @@ module _ (p : Object) (orderly : IsOrderly p) where
 
   -- the place is one of detail or total calculations, no subroutine runs, and a record that was selected is good
   record Rests (c : UnderWay) : Type 0 where
-    pub values : Holds p c.config.world
+    pub values : Holds p c.config.world.data
     pub ended : has_end c.config.section ≡ true
     pub place : is_place p (here c.config) ≡ true
     pub no_cell : c.config.cells ≡ map.empty
@@ -200,8 +202,8 @@ module _ (p : Object) (orderly : IsOrderly p) where
   filled_safely config i (Some s) e d out r h =
       let inputs = inputs_at p s.type in
       let right = subst (λ (len : ℕ). All (λ f. input_fault (form_at p.fields) len f ≡ None) inputs) (sym r.taken.long) (inputs_right p s.type orderly.sound) in
-      effect_safely (length inputs) (record_in (form_at p.fields) s.text inputs) (record { config = config; inputs = i; selected = Some s }) e d out r
-      (record_keeps p orderly.forms s.text inputs config.world right r.taken.characters r.values) h
+      effect_safely (length inputs) (on_data (record_in (form_at p.fields) s.text inputs)) (record { config = config; inputs = i; selected = Some s }) e d out r
+      (on_data_keeps p (record_in (form_at p.fields) s.text inputs) config.world (record_keeps p orderly.forms s.text inputs config.world.data right r.taken.characters r.values)) h
 
   filling_safe : IsSafePhase (fill_fields p)
   filling_safe c e d out r h = filled_safely c.config c.inputs c.selected e d out r h
@@ -314,7 +316,7 @@ module _ (p : Object) (orderly : IsOrderly p) where
   behind_detail = at_end (length p.detail) (0 + length p.detail) (omega arith) _ refl
 
   -- every configuration of a run
-  pub visited_steady : (date : ℤ) (fields : Fields nat_cmp) (records : Records) (x : Config) → unsigned_abs date < 10 ^ 6 → Holds p (job_first_world fields) →
+  pub visited_steady : (date : ℤ) (fields : Fields nat_cmp) (records : Records) (x : Config) → unsigned_abs date < 10 ^ 6 → Holds p (job_first_world fields).data →
       IsOfRun p date fields records x → IsSteady p x
   visited_steady date fields records x small h (n, visits) =
       visits_safe n [] records (job_start p date fields) unread x

@@ -46,7 +46,7 @@ module _ (p : Object) where
 
   -- a cycle under way that has taken so many steps at most
   pub record Ready (owed : Owed) (n : ℕ) (c : UnderWay) : Type 0 where
-    pub values : Holds p c.config.world
+    pub values : Holds p c.config.world.data
     pub no_cell : c.config.cells ≡ map.empty
     pub waiting : AreWaiting p c.inputs
     pub taken : IsTaken c.selected
@@ -55,7 +55,7 @@ module _ (p : Object) where
   -- what a phase comes to
   pub record Comes (owed : Owed) (n : ℕ) (e : PhaseEnd) (d : UnderWay) : Type 0 where
     pub named : IsCycleEnd e
-    pub values : Holds p d.config.world
+    pub values : Holds p d.config.world.data
     pub waiting : AreWaiting p d.inputs
     pub few : reach p d.config ≤ n
     pub ready : e ≡ GoesOn → Ready owed n d
@@ -82,7 +82,7 @@ module _ (p : Object) where
   goes owed n d r = let few = r.few in record { named = tt; values = r.values; waiting = r.waiting; few = omega (arith, few); ready = λ is. r }
 
   -- ends there
-  pub ends : (owed : Owed) (n : ℕ) (e : PhaseEnd) (d : UnderWay) → IsCycleEnd e → (e ≡ GoesOn → ⊥) → Holds p d.config.world → AreWaiting p d.inputs → reach p d.config ≤ n →
+  pub ends : (owed : Owed) (n : ℕ) (e : PhaseEnd) (d : UnderWay) → IsCycleEnd e → (e ≡ GoesOn → ⊥) → Holds p d.config.world.data → AreWaiting p d.inputs → reach p d.config ≤ n →
       Comes owed n e d
   ends owed n e d named stops values waiting few = record { named = named; values = values; waiting = waiting; few = few; ready = λ is. absurd (stops is) }
 
@@ -148,7 +148,7 @@ module _ (p : Object) where
     pub output : Output
     pub act : P c last leads output
     pub named : IsCycleEnd (phase_end last)
-    pub values : Holds p leads.world
+    pub values : Holds p leads.world.data
     pub no_cell : last ≡ effects.GoesOn → leads.cells ≡ map.empty
     pub few : reach p leads ≤ reach p c + a
 
@@ -157,7 +157,7 @@ module _ (p : Object) where
   going (effects.Halt k) h = cc
   going (effects.Wrong f) h = cc
 
-  pub machine_works : (P : Behaviour) (x : Owed) (a : ℕ) → ((c : Config) → Holds p c.world → c.cells ≡ map.empty → Acted P a c) → Works (by_machine P) x x a
+  pub machine_works : (P : Behaviour) (x : Owed) (a : ℕ) → ((c : Config) → Holds p c.world.data → c.cells ≡ map.empty → Acted P a c) → Works (by_machine P) x x a
   machine_works P x a h n c r =
       let o = h c.config r.values r.no_cell in
       let grown = o.few in

@@ -35,7 +35,7 @@ IsJobEnd (Wrong f) = ⊥
 -- goes on no subroutine runs
 pub record CyclesWell (p : Object) (e : PhaseEnd) (d : UnderWay) : Type 0 where
   pub ending : IsCycleEnd e
-  pub values : Holds p d.config.world
+  pub values : Holds p d.config.world.data
   pub no_cell : e ≡ GoesOn → d.config.cells ≡ map.empty
   pub waiting : AreWaiting p d.inputs
   pub few : d.config.steps ≤ bound p

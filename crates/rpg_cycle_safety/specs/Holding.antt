@@ -1,16 +1,17 @@
--- What holds of a world all along a run of an accepted program, and what keeps it.
+-- What holds of the data all along a run of an accepted program, and what keeps it.
 use Rattle.std.specs.Prelude.{◌≡◌, ◌≤◌}
 use Rattle.std.specs.Ordering.{nat_cmp}
 use Rattle.rpg_effect.specs.Effect.{Effect}
+use Rattle.rpg_effect.specs.Ended.{Ended}
 use Rattle.rpg_effect.specs.Ends.{End, GoesOn, Halt, Wrong}
-use Rattle.rpg_effect.specs.World.{World}
+use Rattle.rpg_effect.specs.World.{Data}
 use Rattle.rpg_object_program.specs.Object.{Object}
 use Rattle.rpg_memory.specs.Fits.{Fits, KeepsConstants}
 
 -- each entry has a value of its field's form, the current entry of a table is one of its entries, and constants have their first values
-pub record Holds (p : Object) (w : World nat_cmp) : Type 0 where
-  pub fits : Fits p.fields w.fields.values w.fields.current
-  pub constants : KeepsConstants p w.fields.values
+pub record Holds (p : Object) (d : Data nat_cmp) : Type 0 where
+  pub fits : Fits p.fields d.fields.values d.fields.current
+  pub constants : KeepsConstants p d.fields.values
 
 -- nothing is wrong: it goes on, or halts at a zero divisor (1), a bad index (2) or a bad digit (4)
 abbrev pub IsEffectEnd : End → Type 0
@@ -18,7 +19,12 @@ IsEffectEnd GoesOn = Unit {0}
 IsEffectEnd (Halt k) = (1 ≤ k) × (k ≤ 4) × (k ≡ 3 → ⊥)
 IsEffectEnd (Wrong f) = ⊥
 
--- nothing is wrong, and what is to hold of its world holds
+-- nothing is wrong with what is done to data, and what is to hold of them holds
+pub record KeepsData (p : Object) (e : Ended nat_cmp) : Type 0 where
+  pub ending : IsEffectEnd e.ending
+  pub holds : Holds p e.data
+
+-- the same of an effect
 pub record Keeps (p : Object) (e : Effect nat_cmp) : Type 0 where
   pub ending : IsEffectEnd e.ending
-  pub holds : Holds p e.world
+  pub holds : Holds p e.world.data

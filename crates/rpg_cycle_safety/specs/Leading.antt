@@ -15,7 +15,7 @@ use Rattle.rpg_verify.specs.Bound.{cost, most}
 
 -- the values are what they are to be, the place is one of the running section, and the return cells are one chain
 pub record IsSteady (p : Object) (c : Config) : Type 0 where
-  pub values : Holds p c.world
+  pub values : Holds p c.world.data
   pub control : IsSafe p c
 
 -- nothing is wrong: it goes on, or halts as an effect does, or at a spent allowance (5)
@@ -43,7 +43,7 @@ StandsWell p (Stop (Wrong f) d o) = ⊥
 -- the allowance could buy before.
 pub record EndsWell (p : Object) (section : Section) (c : Config) (e : End) (d : Config) : Type 0 where
   pub ending : IsNamedEnd e
-  pub values : Holds p d.world
+  pub values : Holds p d.world.data
   pub no_cell : e ≡ GoesOn → d.cells ≡ map.empty
   pub spent : d.allowance ≤ c.allowance
   pub bound : d.steps + d.allowance * most p ≤ c.steps + cost p (record { section = section; number = first_place p section }) + c.allowance * most p

@@ -34,7 +34,7 @@ pub record StandsNear (previous : Option Position) (here : Position) : Type 0 wh
 -- line that was placed last
 pub record PaysForOutput (previous : Option Position) (c d : Config) (out : Output) : Type 0 where
   pub few : size previous out + c.steps * bytes_of_step ≤ d.steps * bytes_of_step
-  pub near : StandsNear (last_position_from previous out.lines) d.world.here
+  pub near : StandsNear (last_position_from previous out.lines) d.world.paper.here
 
 -- no more was put out than the steps of the bound may put out
 pub record StaysInOutput (p : Object) (previous : Option Position) (out : Output) : Type 0 where

@@ -37,13 +37,13 @@ use Rattle.rpg_verify.specs.Bound.{bound}
 abbrev pub CyclesAreThere : Type 0
 CyclesAreThere =
     (p : Object) (earlier : List Selected) (primary secondary : Option (List ℕ)) (c : Config) (i : Inputs)
-    → IsProgram p → IsAccepted p → Holds p c.world → c.cells ≡ map.empty → AreWaiting p i → HasCycle p earlier primary secondary c i
+    → IsProgram p → IsAccepted p → Holds p c.world.data → c.cells ≡ map.empty → AreWaiting p i → HasCycle p earlier primary secondary c i
 
 -- each cycle from there ends well: never wrong, with values that hold, within the bound
 abbrev pub CyclesEndWell : Type 0
 CyclesEndWell =
     (p : Object) (earlier : List Selected) (primary secondary : Option (List ℕ)) (c : Config) (i : Inputs) (e : PhaseEnd) (d : UnderWay) (out : Output)
-    → IsProgram p → IsAccepted p → Holds p c.world → c.cells ≡ map.empty → AreWaiting p i
+    → IsProgram p → IsAccepted p → Holds p c.world.data → c.cells ≡ map.empty → AreWaiting p i
     → Cycle p earlier primary secondary (begun p c i) e d out → CyclesWell p e d
 
 -- two cycles from one configuration and its files, after the same records and with the same ones next, are one
@@ -58,20 +58,20 @@ CyclesAreOne =
 abbrev pub RunsAreThere : Type 0
 RunsAreThere =
     (p : Object) (text : List ℕ) (date : ℤ) (fields : Fields nat_cmp) (records : Records)
-    → IsProgram p → IsAccepted p → date_in text ≡ Some date → Holds p (job_first_world fields) → HasRun p date fields records
+    → IsProgram p → IsAccepted p → date_in text ≡ Some date → Holds p (job_first_world fields).data → HasRun p date fields records
 
 -- each run from there ends at the end of the job or at a halt, within one cycle more than there are records and within the bound
 abbrev pub RunsEndWell : Type 0
 RunsEndWell =
     (p : Object) (text : List ℕ) (date : ℤ) (fields : Fields nat_cmp) (records : Records) (course : Course) (bytes : Bytes)
-    → IsProgram p → IsAccepted p → date_in text ≡ Some date → Holds p (job_first_world fields)
+    → IsProgram p → IsAccepted p → date_in text ≡ Some date → Holds p (job_first_world fields).data
     → IsRun p date fields records course bytes → RunsWell p (records_count records) course
 
 -- and each configuration that it comes by is steady
 abbrev pub RunsAreSteady : Type 0
 RunsAreSteady =
     (p : Object) (text : List ℕ) (date : ℤ) (fields : Fields nat_cmp) (records : Records) (c : Config)
-    → IsProgram p → IsAccepted p → date_in text ≡ Some date → Holds p (job_first_world fields)
+    → IsProgram p → IsAccepted p → date_in text ≡ Some date → Holds p (job_first_world fields).data
     → IsOfRun p date fields records c → IsSteady p c
 
 -- ---- output
@@ -80,14 +80,14 @@ RunsAreSteady =
 abbrev pub SectionsPayForOutput : Type 0
 SectionsPayForOutput =
     (p : Object) (section : Section) (previous : Option Position) (c : Config) (e : End) (d : Config) (out : Output)
-    → IsProgram p → IsAccepted p → has_end section ≡ true → c.cells ≡ map.empty → Holds p c.world → StandsNear previous c.world.here
+    → IsProgram p → IsAccepted p → has_end section ≡ true → c.cells ≡ map.empty → Holds p c.world.data → StandsNear previous c.world.paper.here
     → RunsTo p section c e d out → PaysForOutput previous c d out
 
 -- so does what a cycle puts out, which is no more than the steps of the bound may put out
 abbrev pub CyclesPayForOutput : Type 0
 CyclesPayForOutput =
     (p : Object) (earlier : List Selected) (primary secondary : Option (List ℕ)) (previous : Option Position) (c : Config) (i : Inputs) (e : PhaseEnd) (d : UnderWay) (out : Output)
-    → IsProgram p → IsAccepted p → Holds p c.world → c.cells ≡ map.empty → AreWaiting p i → StandsNear previous c.world.here
+    → IsProgram p → IsAccepted p → Holds p c.world.data → c.cells ≡ map.empty → AreWaiting p i → StandsNear previous c.world.paper.here
     → Cycle p earlier primary secondary (begun p c i) e d out
     → PaysForOutput previous (begun p c i).config d.config out × StaysInOutput p previous out
 
@@ -95,20 +95,20 @@ CyclesPayForOutput =
 abbrev pub RunsStayInOutput : Type 0
 RunsStayInOutput =
     (p : Object) (text : List ℕ) (date : ℤ) (fields : Fields nat_cmp) (records : Records) (last : Option Position) (out : Output)
-    → IsProgram p → IsAccepted p → date_in text ≡ Some date → Holds p (job_first_world fields)
+    → IsProgram p → IsAccepted p → date_in text ≡ Some date → Holds p (job_first_world fields).data
     → IsPutInRun p date fields records last out → StaysInOutput p last out
 
 -- a job from which all was taken before a cycle holds no more after it, but for the line feed that ends the job's last line
 abbrev pub JobsStayInOutput : Type 0
 JobsStayInOutput =
     (old new : AtWork) (earlier : List Selected) (previous : Option Position) (primary secondary : Option (List ℕ)) (e : PhaseEnd)
-    → IsProgram old.program → IsAccepted old.program → Holds old.program old.config.world → old.config.cells ≡ map.empty
-    → AreWaiting old.program old.inputs → StandsNear previous (config_on previous old.config).world.here → old.output ≡ no_bytes
+    → IsProgram old.program → IsAccepted old.program → Holds old.program old.config.world.data → old.config.cells ≡ map.empty
+    → AreWaiting old.program old.inputs → StandsNear previous (config_on previous old.config).world.paper.here → old.output ≡ no_bytes
     → DoesCycle old earlier previous primary secondary e new → pending new ≤ bound old.program * bytes_of_step + 1
 
 -- all that a run puts out is at most so much for each of its cycles, with that line feed
 abbrev pub RunsPutOutFew : Type 0
 RunsPutOutFew =
     (p : Object) (text : List ℕ) (date : ℤ) (fields : Fields nat_cmp) (records : Records) (course : Course) (bytes : Bytes)
-    → IsProgram p → IsAccepted p → date_in text ≡ Some date → Holds p (job_first_world fields)
+    → IsProgram p → IsAccepted p → date_in text ≡ Some date → Holds p (job_first_world fields).data
     → IsRun p date fields records course bytes → length bytes.print + length bytes.disk ≤ course.cycles * (bound p * bytes_of_step) + 1

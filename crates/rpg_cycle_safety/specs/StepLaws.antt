@@ -8,10 +8,10 @@ use Rattle.rpg_effect.specs.Input.{record_in}
 use Rattle.rpg_effect.specs.Operate.{operate}
 use Rattle.rpg_effect.specs.Right.{IsRightRow}
 use Rattle.rpg_effect.specs.Rows.{form_of, row_of}
-use Rattle.rpg_effect.specs.World.{World}
+use Rattle.rpg_effect.specs.World.{Data}
 use Rattle.rpg_effect.specs.declared.operation.Action.{Action}
 use Rattle.rpg_effect.specs.declared.operation.Operand.{Operand}
-use Rattle.rpg_cycle_safety.specs.Holding.{Holds, Keeps}
+use Rattle.rpg_cycle_safety.specs.Holding.{Holds, KeepsData}
 use Rattle.rpg_cycle_safety.specs.Leading.{EndsWell, HasSectionRun, StandsWell, StaysInBound}
 use Rattle.rpg_machine.specs.Chain.{IsSafe}
 use Rattle.rpg_machine.specs.Config.{Config, Output}
@@ -27,15 +27,15 @@ use Rattle.rpg_verify_rules.specs.Accepted.{IsAccepted}
 -- an operation with nothing wrong in its row keeps what holds of the values
 abbrev pub OperationsKeep : Type 0
 OperationsKeep =
-    (p : Object) (a : Action (Operand ℕ)) (w : World nat_cmp)
-    → IsProgram p → IsRightRow (form_at p.fields) (row_of (form_of (form_at p.fields)) a) → Holds p w → Keeps p (operate (form_at p.fields) a w)
+    (p : Object) (a : Action (Operand ℕ)) (d : Data nat_cmp)
+    → IsProgram p → IsRightRow (form_at p.fields) (row_of (form_of (form_at p.fields)) a) → Holds p d → KeepsData p (operate (form_at p.fields) a d)
 
 -- so do the input fields of a record type, over a record as long as those of its file
 abbrev pub InputFieldsKeep : Type 0
 InputFieldsKeep =
-    (p : Object) (row : ℕ) (text : List ℕ) (w : World nat_cmp)
-    → IsProgram p → IsAccepted p → length text ≡ length_at p row → All IsCharacter text → Holds p w
-    → Keeps p (record_in (form_at p.fields) text (inputs_at p row) w)
+    (p : Object) (row : ℕ) (text : List ℕ) (d : Data nat_cmp)
+    → IsProgram p → IsAccepted p → length text ≡ length_at p row → All IsCharacter text → Holds p d
+    → KeepsData p (record_in (form_at p.fields) text (inputs_at p row) d)
 
 -- a step from where control is safe keeps it so, and the sum of the steps and of all that may still come doesn't grow
 abbrev pub StepsStayInBound : Type 0
@@ -46,17 +46,17 @@ StepsStayInBound =
 abbrev pub SectionsHaveRuns : Type 0
 SectionsHaveRuns =
     (p : Object) (section : Section) (c : Config)
-    → IsProgram p → IsAccepted p → has_end section ≡ true → c.cells ≡ map.empty → Holds p c.world → HasSectionRun p section c
+    → IsProgram p → IsAccepted p → has_end section ≡ true → c.cells ≡ map.empty → Holds p c.world.data → HasSectionRun p section c
 
 -- each run of theirs ends well
 abbrev pub SectionsEndWell : Type 0
 SectionsEndWell =
     (p : Object) (section : Section) (c : Config) (e : End) (d : Config) (o : Output)
-    → IsProgram p → IsAccepted p → has_end section ≡ true → c.cells ≡ map.empty → Holds p c.world
+    → IsProgram p → IsAccepted p → has_end section ≡ true → c.cells ≡ map.empty → Holds p c.world.data
     → RunsTo p section c e d o → EndsWell p section c e d
 
 -- and after any number of steps it is at a good place
 abbrev pub SectionsStandWell : Type 0
 SectionsStandWell =
     (p : Object) (section : Section) (n : ℕ) (c : Config)
-    → IsProgram p → IsAccepted p → has_end section ≡ true → c.cells ≡ map.empty → Holds p c.world → StandsWell p (run p n (at_first p section c))
+    → IsProgram p → IsAccepted p → has_end section ≡ true → c.cells ≡ map.empty → Holds p c.world.data → StandsWell p (run p n (at_first p section c))

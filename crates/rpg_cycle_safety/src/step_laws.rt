@@ -1,7 +1,7 @@
 //! Laws of the definitions: what every run of an accepted program keeps. The functions do nothing: they are called only for their contracts.
 ghost use Rattle.std.specs.Prelude.{◌≡◌, ℕ, false};
 ghost use Rattle.std.specs.Ordering.{nat_cmp};
-ghost use Rattle.rpg_effect.specs.World.{World};
+ghost use Rattle.rpg_effect.specs.World.{Data, World};
 ghost use Rattle.rpg_effect.specs.declared.line.Pass.{Pass};
 ghost use Rattle.rpg_effect.specs.declared.operation.Instruction.{Instruction};
 ghost use Rattle.rpg_cycle_safety.specs.Buying.{IsGreatestSpend};
@@ -24,8 +24,8 @@ ghost use Rattle.rpg_store.specs.First.{first_contents, first_currents};
 
 /// What a program starts with is what its values are to be.
 pub fn first_values_hold()
-    ensures { (p : Object) (w : World nat_cmp) → IsProgram p → w.fields ≡ record { values = first_contents p; current = first_currents p } →
-        Holds p w }
+    ensures { (p : Object) (d : Data nat_cmp) → IsProgram p → d.fields ≡ record { values = first_contents p; current = first_currents p } →
+        Holds p d }
 {}
 
 /// An operation with nothing wrong in its row goes on or halts, and keeps what holds of the values.
@@ -40,14 +40,14 @@ pub fn input_fields_keep()
 
 /// So do the lines of each passage, and the outputs of a cycle.
 pub fn outputs_keep()
-    ensures passage { (p : Object) (pass : Pass) (w : World nat_cmp) → IsProgram p → IsAccepted p → Holds p w → Keeps p (passage_effect p pass w) }
-    ensures output { (p : Object) (time : OutputTime) (w : World nat_cmp) → IsProgram p → IsAccepted p → Holds p w →
+    ensures passage { (p : Object) (pass : Pass) (w : World nat_cmp) → IsProgram p → IsAccepted p → Holds p w.data → Keeps p (passage_effect p pass w) }
+    ensures output { (p : Object) (time : OutputTime) (w : World nat_cmp) → IsProgram p → IsAccepted p → Holds p w.data →
         Keeps p (output_effect p time w) }
 {}
 
 /// So does each instruction, EXCPT among them.
 pub fn instructions_keep()
-    ensures { (p : Object) (x : Place) (i : Instruction ℕ) (w : World nat_cmp) → IsProgram p → IsAccepted p → IsAt p x i → Holds p w →
+    ensures { (p : Object) (x : Place) (i : Instruction ℕ) (w : World nat_cmp) → IsProgram p → IsAccepted p → IsAt p x i → Holds p w.data →
         Keeps p (effect p i w) }
 {}
 

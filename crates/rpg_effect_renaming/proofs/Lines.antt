@@ -12,11 +12,12 @@ use Rattle.rpg_effect.specs.Ends.{End, Fault, GoesOn, Halt, Kind, Storage, Wrong
 use Rattle.rpg_effect.specs.Entries.{position_of}
 use Rattle.rpg_effect.specs.Forms.{has_field, is_array, is_index_form, is_text_constant, kind_of, length_of, may_write, same_kind}
 use Rattle.rpg_effect.specs.LineFaults.{KeepsFieldRules, field_fault, fits_editing, fits_source, fits_word, has_kinds, has_storage, has_word, is_blank_fill, is_page, line_fault}
-use Rattle.rpg_effect.specs.Lines.{Draft, Drafted, Line, after_movement, after_skip, after_space, assembled, blank_line, blanked, blanked_all, counted, drafted, exception_output, go_on_with, is_asked, laid, laid_over, line_out, lines_out, next_page, one_out, printed_line, put_on, put_out, remembered, spaced_before, unless_faulty, where_asked, with_field}
+use Rattle.rpg_effect.specs.Lines.{Draft, Drafted, Line, after_movement, after_skip, after_space, assembled, blank_line, blanked, blanked_all, counted, drafted, exception_output, go_on_with, is_asked, laid, laid_over, line_out, lines_out, next_page, one_out, printed_line, put_on, put_out, remembered, spaced_before, unless_faulty, where_asked, with_field, with_fields}
 use Rattle.rpg_effect.specs.Rows.{has_entry, has_index, has_operand, is_one, is_one_entry, is_shaped}
 use Rattle.rpg_effect.specs.Showing.{turned_on}
 use Rattle.rpg_effect.specs.Values.{Number, number_of}
-use Rattle.rpg_effect.specs.World.{Fields, World, three_hold}
+use Rattle.rpg_effect.specs.Ended.{Ended, on_data}
+use Rattle.rpg_effect.specs.World.{Data, Fields, World, three_hold}
 use Rattle.rpg_effect.specs.declared.form.FieldForm.{FieldForm}
 use Rattle.rpg_effect.specs.declared.form.Kind.TheVariants as kinds
 use Rattle.rpg_effect.specs.declared.line.Editing.{Editing}
@@ -34,7 +35,7 @@ use Rattle.rpg_effect.specs.declared.operation.Index.TheVariants.{Blank, Literal
 use Rattle.rpg_effect.specs.declared.operation.Operand.{Operand}
 use Rattle.rpg_effect.specs.declared.row.Shape.TheVariants as shapes
 use Rattle.rpg_effect_renaming.proofs.Operations.{position_same, written}
-use Rattle.rpg_effect_renaming.specs.Naming.{Agree, AgreeFields, AreNamed, IsNamed, IsRenaming, SameEffect, renamed_editing, renamed_field, renamed_index, renamed_line, renamed_operand}
+use Rattle.rpg_effect_renaming.specs.Naming.{Agree, AgreeFields, AreNamed, IsNamed, IsRenaming, SameEffect, SameEnd, renamed_editing, renamed_field, renamed_index, renamed_line, renamed_operand}
 
 module _ {K L : Type 0} {R : K → K → Ordering} {S : L → L → Ordering} {old : K → Option FieldForm} {at : K → L} where
   pub leaves_same : (v : World R) (w : World S) → Agree old at v w → SameEffect old at (Leaves v) (Leaves w)
@@ -42,6 +43,10 @@ module _ {K L : Type 0} {R : K → K → Ordering} {S : L → L → Ordering} {o
 
   pub quiet_same : (e : End) (v : World R) (w : World S) → Agree old at v w → SameEffect old at (quiet e v) (quiet e w)
   quiet_same e v w a = record { ending = refl; world = a; lines = refl; records = refl }
+
+  -- what is done to the data, as effects of worlds
+  pub data_same : (f : Data R → Ended R) (g : Data S → Ended S) (v : World R) (w : World S) → Agree old at v w → SameEnd old at (f v.data) (g w.data) → SameEffect old at (on_data f v) (on_data g w)
+  data_same f g v w a o = record { ending = o.ending; world = record { «data» = o.data; paper = a.paper }; lines = refl; records = refl }
 
   -- one effect and then another
   pub then_same : (d : Effect R) (e : Effect S) (go : World R → Effect R) (went : World S → Effect S) → SameEffect old at d e → ((v : World R) (w : World S) → Agree old at v w → SameEffect old at (go v) (went w)) → SameEffect old at (then_go d go) (then_go e went)
@@ -59,25 +64,28 @@ module _ {K L : Type 0} {R : K → K → Ordering} {S : L → L → Ordering} {o
   movement_agrees : (overflow : Option ℕ) (v : World R) (w : World S) → Agree old at v w → (to too : Position) → too ≡ to → Agree old at (after_movement overflow to v) (after_movement overflow too w)
   unfolding after_movement
   movement_agrees overflow v w a to too e =
-      subst (λ b. Agree old at (after_movement overflow to v) (cond b (record w { here = too; on = turned_on overflow w.on; has_turned_on = true }) (record w { here = too }))) (λ i. turns_overflow_on (sym a.here i) (sym e i))
-      (by_turn (turns_overflow_on v.here to))
+      subst (λ b. Agree old at (after_movement overflow to v) (cond b (record { «data» = record w.data { on = turned_on overflow w.data.on }; paper = record w.paper { here = too; has_turned_on = true } }) (record w { paper = record w.paper { here = too } }))) (λ i. turns_overflow_on (sym a.paper i).here (sym e i))
+      (by_turn (turns_overflow_on v.paper.here to))
     where
-      by_turn : (b : Bool) → Agree old at (cond b (record v { here = to; on = turned_on overflow v.on; has_turned_on = true }) (record v { here = to })) (cond b (record w { here = too; on = turned_on overflow w.on; has_turned_on = true }) (record w { here = too }))
-      by_turn true = record { fields = a.fields; on = ap (turned_on overflow) a.on; remainder = a.remainder; here = e; was_overflow = a.was_overflow; has_turned_on = refl }
-      by_turn false = record { fields = a.fields; on = a.on; remainder = a.remainder; here = e; was_overflow = a.was_overflow; has_turned_on = a.has_turned_on }
+      by_turn : (b : Bool) → Agree old at (cond b (record { «data» = record v.data { on = turned_on overflow v.data.on }; paper = record v.paper { here = to; has_turned_on = true } }) (record v { paper = record v.paper { here = to } })) (cond b (record { «data» = record w.data { on = turned_on overflow w.data.on }; paper = record w.paper { here = too; has_turned_on = true } }) (record w { paper = record w.paper { here = too } }))
+      by_turn true = record {
+        «data» = record { fields = a.data.fields; on = ap (turned_on overflow) a.data.on; remainder = a.data.remainder };
+        paper = λ i. record (a.paper i) { here = e i; has_turned_on = true };
+      }
+      by_turn false = record { «data» = a.data; paper = λ i. record (a.paper i) { here = e i } }
 
   space_agrees : (overflow : Option ℕ) (n : ℕ) (v : World R) (w : World S) → Agree old at v w → Agree old at (after_space overflow n v) (after_space overflow n w)
-  space_agrees overflow n v w a = movement_agrees overflow v w a _ _ (ap (spaced n) a.here)
+  space_agrees overflow n v w a = movement_agrees overflow v w a _ _ (λ i. spaced n (a.paper i).here)
 
   skip_agrees : (overflow : Option ℕ) (n : ℕ) (v : World R) (w : World S) → Agree old at v w → Agree old at (after_skip overflow n v) (after_skip overflow n w)
   skip_agrees overflow n v w a = by_none (n == 0)
     where
-      by_none : (b : Bool) → Agree old at (cond b v (after_movement overflow (skipped n v.here) v)) (cond b w (after_movement overflow (skipped n w.here) w))
+      by_none : (b : Bool) → Agree old at (cond b v (after_movement overflow (skipped n v.paper.here) v)) (cond b w (after_movement overflow (skipped n w.paper.here) w))
       by_none true = a
-      by_none false = movement_agrees overflow v w a _ _ (ap (skipped n) a.here)
+      by_none false = movement_agrees overflow v w a _ _ (λ i. skipped n (a.paper i).here)
 
   printed_same : (text written : List ℕ) → written ≡ text → (v : World R) (w : World S) → Agree old at v w → SameEffect old at (printed_line v text) (printed_line w written)
-  printed_same text written e v w a = record { ending = refl; world = a; lines = λ i. record { at = a.here i; text = e i } ∷ []; records = refl }
+  printed_same text written e v w a = record { ending = refl; world = a; lines = λ i. record { at = (a.paper i).here; text = e i } ∷ []; records = refl }
 
   put_same : (overflow : Option ℕ) (file : File) (s : Spacing) (text written : List ℕ) → written ≡ text → (v : World R) (w : World S) → Agree old at v w → SameEffect old at (put_on overflow file s text v) (put_on overflow file s written w)
   unfolding put_on
@@ -246,14 +254,14 @@ module _ {K L : Type 0} {R : K → K → Ordering} {S : L → L → Ordering} {o
   blanked_agrees [] there v w a = a
   blanked_agrees (x ∷ xs) there v w a = blanked_agrees xs (All-tail IsEntry x xs there) _ _ (written r v w a x.0 (All-head IsEntry x xs there) x.1 _ _ (ap blanked (a.values x.0 (All-head IsEntry x xs there) x.1)))
 
-  fields_agree : (v : World R) (w : World S) → Agree old at v w → (x : Fields R) (y : Fields S) → AgreeFields old at x y → Agree old at (record v { fields = x }) (record w { fields = y })
-  fields_agree v w a x y b = record { fields = b; on = a.on; remainder = a.remainder; here = a.here; was_overflow = a.was_overflow; has_turned_on = a.has_turned_on }
+  fields_agree : (v : World R) (w : World S) → Agree old at v w → (x : Fields R) (y : Fields S) → AgreeFields old at x y → Agree old at (with_fields x v) (with_fields y w)
+  fields_agree v w a x y b = record { «data» = record { fields = b; on = a.data.on; remainder = a.data.remainder }; paper = a.paper }
 
   put_out_same : (overflow : Option ℕ) (l : Line K) (v : World R) (w : World S) → Agree old at v w → (x : End) (d : Draft R) (e : Draft S) → SameDraft d e → SameEffect old at (put_out old words overflow l v x d) (put_out new new_words overflow (renamed_line at l) w x e)
   put_out_same overflow l v w a GoesOn d e b =
       then_same _ _ _ _ (put_same overflow l.file l.spacing d.text e.text b.text _ _ (fields_agree v w a d.fields e.fields b.fields))
       (λ x y c. leaves_same _ _ (fields_agree x y c _ _
-      (subst (λ z. AgreeFields old at (blanked_all d.to_blank x.fields) (blanked_all z y.fields)) (sym b.to_blank) (blanked_agrees d.to_blank b.there x.fields y.fields c.fields))))
+      (subst (λ z. AgreeFields old at (blanked_all d.to_blank x.data.fields) (blanked_all z y.data.fields)) (sym b.to_blank) (blanked_agrees d.to_blank b.there x.data.fields y.data.fields c.data.fields))))
   put_out_same overflow l v w a (Halt k) d e b = quiet_same _ _ _ (fields_agree v w a d.fields e.fields b.fields)
   put_out_same overflow l v w a (Wrong f) d e b = quiet_same _ _ _ (fields_agree v w a d.fields e.fields b.fields)
 
@@ -261,25 +269,25 @@ module _ {K L : Type 0} {R : K → K → Ordering} {S : L → L → Ordering} {o
   unfolding line_out
   line_same overflow l there v w a = by_fault (line_fault l.len l.spacing)
     where
-      done : SameDrafted (assembled old words v.on l.len l.fields (blank_line l.len v)) (assembled new new_words w.on l.len (map (renamed_field at) l.fields) (blank_line l.len w))
-      done = subst (λ on. SameDrafted (assembled old words v.on l.len l.fields (blank_line l.len v)) (assembled new new_words on l.len (map (renamed_field at) l.fields) (blank_line l.len w))) (sym a.on)
-          (assembled_same v.on l.len l.fields there _ _ (record { fields = a.fields; text = refl; to_blank = refl; there = All-nil IsEntry }))
+      done : SameDrafted (assembled old words v.data.on l.len l.fields (blank_line l.len v)) (assembled new new_words w.data.on l.len (map (renamed_field at) l.fields) (blank_line l.len w))
+      done = subst (λ on. SameDrafted (assembled old words v.data.on l.len l.fields (blank_line l.len v)) (assembled new new_words on l.len (map (renamed_field at) l.fields) (blank_line l.len w))) (sym a.data.on)
+          (assembled_same v.data.on l.len l.fields there _ _ (record { fields = a.data.fields; text = refl; to_blank = refl; there = All-nil IsEntry }))
 
-      put : SameEffect old at (let one = assembled old words v.on l.len l.fields (blank_line l.len v) in put_out old words overflow l v one.ending one.draft)
-          (let one = assembled new new_words w.on l.len (map (renamed_field at) l.fields) (blank_line l.len w) in put_out new new_words overflow (renamed_line at l) w one.ending one.draft)
-      put = subst (λ x. SameEffect old at (put_out old words overflow l v (assembled old words v.on l.len l.fields (blank_line l.len v)).ending (assembled old words v.on l.len l.fields (blank_line l.len v)).draft) (put_out new new_words overflow (renamed_line at l) w x (assembled new new_words w.on l.len (map (renamed_field at) l.fields) (blank_line l.len w)).draft)) (sym done.ending)
+      put : SameEffect old at (let one = assembled old words v.data.on l.len l.fields (blank_line l.len v) in put_out old words overflow l v one.ending one.draft)
+          (let one = assembled new new_words w.data.on l.len (map (renamed_field at) l.fields) (blank_line l.len w) in put_out new new_words overflow (renamed_line at l) w one.ending one.draft)
+      put = subst (λ x. SameEffect old at (put_out old words overflow l v (assembled old words v.data.on l.len l.fields (blank_line l.len v)).ending (assembled old words v.data.on l.len l.fields (blank_line l.len v)).draft) (put_out new new_words overflow (renamed_line at l) w x (assembled new new_words w.data.on l.len (map (renamed_field at) l.fields) (blank_line l.len w)).draft)) (sym done.ending)
           (put_out_same overflow l v w a _ _ _ done.draft)
 
-      by_fault : (x : Option Fault) → SameEffect old at (unless_wrong x v (let one = assembled old words v.on l.len l.fields (blank_line l.len v) in put_out old words overflow l v one.ending one.draft))
-          (unless_wrong x w (let one = assembled new new_words w.on l.len (map (renamed_field at) l.fields) (blank_line l.len w) in put_out new new_words overflow (renamed_line at l) w one.ending one.draft))
+      by_fault : (x : Option Fault) → SameEffect old at (unless_wrong x v (let one = assembled old words v.data.on l.len l.fields (blank_line l.len v) in put_out old words overflow l v one.ending one.draft))
+          (unless_wrong x w (let one = assembled new new_words w.data.on l.len (map (renamed_field at) l.fields) (blank_line l.len w) in put_out new new_words overflow (renamed_line at l) w one.ending one.draft))
       by_fault None = put
       by_fault (Some f) = quiet_same _ v w a
 
   one_out_same : (overflow : Option ℕ) (pass : Pass) (l : Line K) → All IsThere l.fields → (v : World R) (w : World S) → Agree old at v w → SameEffect old at (one_out old words overflow pass l v) (one_out new new_words overflow pass (renamed_line at l) w)
   unfolding one_out
   one_out_same overflow pass l there v w a =
-      subst (λ on. SameEffect old at (one_out old words overflow pass l v) (where_asked new new_words (is_asked overflow pass on l.time l.alternatives) (line_out new new_words overflow (renamed_line at l) w) w)) (sym a.on)
-      (by_asked (is_asked overflow pass v.on l.time l.alternatives))
+      subst (λ on. SameEffect old at (one_out old words overflow pass l v) (where_asked new new_words (is_asked overflow pass on l.time l.alternatives) (line_out new new_words overflow (renamed_line at l) w) w)) (sym a.data.on)
+      (by_asked (is_asked overflow pass v.data.on l.time l.alternatives))
     where
       by_asked : (b : Bool) → SameEffect old at (where_asked old words b (line_out old words overflow l v) v) (where_asked new new_words b (line_out new new_words overflow (renamed_line at l) w) w)
       by_asked true = line_same overflow l there v w a

@@ -1,5 +1,5 @@
 -- Renaming keys commutes with the outputs of a cycle.
-use Rattle.std.proofs.Common.{◌≡◌, ℕ, not, ◌&&◌, cond, List, map, Option, refl, Ordering}
+use Rattle.std.proofs.Common.{◌≡◌, ℕ, true, false, not, ◌&&◌, cond, List, map, Option, refl, Ordering}
 use Rattle.rpg_effect.specs.Lines.{Line, detail_output, movements_watched, overflow_details, overflow_output, settled, total_output}
 use Rattle.rpg_effect.specs.Showing.{turned_off}
 use Rattle.rpg_effect.specs.World.{World}
@@ -12,16 +12,16 @@ module _ {K L : Type 0} {R : K → K → Ordering} {S : L → L → Ordering} {o
     (words : K → List ℕ) (new_words : L → List ℕ) (same_words : (k : K) → new_words (at k) ≡ words k) (overflow : Option ℕ) (ls : List (Line K)) (named : AreNamed old ls) where
   settled_agrees : (v : World R) (w : World S) → Agree old at v w → Agree old at (settled overflow v) (settled overflow w)
   settled_agrees v w a = record {
-    fields = a.fields;
-    on = λ i. cond (a.was_overflow i && not (a.has_turned_on i)) (turned_off overflow (a.on i)) (a.on i);
-    remainder = a.remainder;
-    here = a.here;
-    was_overflow = refl;
-    has_turned_on = a.has_turned_on;
+    «data» = record {
+      fields = a.data.fields;
+      on = λ i. cond ((a.paper i).was_overflow && not (a.paper i).has_turned_on) (turned_off overflow (a.data.on i)) (a.data.on i);
+      remainder = a.data.remainder;
+    };
+    paper = λ i. record (a.paper i) { was_overflow = false };
   }
 
   marked_agrees : (v : World R) (w : World S) → Agree old at v w → Agree old at (movements_watched v) (movements_watched w)
-  marked_agrees v w a = record { fields = a.fields; on = a.on; remainder = a.remainder; here = a.here; was_overflow = refl; has_turned_on = refl }
+  marked_agrees v w a = record { «data» = a.data; paper = λ i. record (a.paper i) { was_overflow = true; has_turned_on = false } }
 
   pub detail_same : (v : World R) (w : World S) → Agree old at v w → SameEffect old at (detail_output old words overflow ls v) (detail_output new new_words overflow (map (renamed_line at) ls) w)
   detail_same v w a =

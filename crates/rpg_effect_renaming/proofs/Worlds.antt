@@ -62,24 +62,24 @@ module _ {K : Type 0} {R : K → K → Ordering} {old : K → Option FieldForm} 
   -- the world by names
   pub by_names : World nat_cmp → World R
   by_names w = record {
-    fields = record { values = maps.from_entries (pulled_values (maps.entries w.fields.values)); current = maps.from_entries (pulled (maps.entries w.fields.current)) };
-    on = w.on;
-    remainder = w.remainder;
-    here = w.here;
-    was_overflow = w.was_overflow;
-    has_turned_on = w.has_turned_on;
+    «data» = record {
+      fields = record { values = maps.from_entries (pulled_values (maps.entries w.data.fields.values)); current = maps.from_entries (pulled (maps.entries w.data.fields.current)) };
+      on = w.data.on;
+      remainder = w.data.remainder;
+    };
+    paper = w.paper;
   }
 
   pub names_agree : (w : World nat_cmp) → Agree old at (by_names w) w
   unfolding by_names
   names_agree w = record {
-    fields = record {
-      values = λ k there n. maps.get-entries w.fields.values (at k, n) ∙ sym (finds_value (maps.entries w.fields.values) k there n) ∙ sym (maps.get-from_entries (entries_total r.old_total) _ (k, n));
-      current = λ k there. maps.get-entries w.fields.current (at k) ∙ sym (finds (maps.entries w.fields.current) k there) ∙ sym (maps.get-from_entries r.old_total _ k);
+    «data» = record {
+      fields = record {
+        values = λ k there n. maps.get-entries w.data.fields.values (at k, n) ∙ sym (finds_value (maps.entries w.data.fields.values) k there n) ∙ sym (maps.get-from_entries (entries_total r.old_total) _ (k, n));
+        current = λ k there. maps.get-entries w.data.fields.current (at k) ∙ sym (finds (maps.entries w.data.fields.current) k there) ∙ sym (maps.get-from_entries r.old_total _ k);
+      };
+      on = refl;
+      remainder = refl;
     };
-    on = refl;
-    remainder = refl;
-    here = refl;
-    was_overflow = refl;
-    has_turned_on = refl;
+    paper = refl;
   }

@@ -8,20 +8,20 @@ use Rattle.rpg_effect.specs.Lines.{Line, lines_out}
 use Rattle.rpg_effect.specs.Operate.{operate}
 use Rattle.rpg_effect.specs.Right.{IsRightRow}
 use Rattle.rpg_effect.specs.Rows.{form_of, row_of}
-use Rattle.rpg_effect.specs.World.{World}
+use Rattle.rpg_effect.specs.World.{Data, World}
 use Rattle.rpg_effect.specs.declared.form.FieldForm.{FieldForm}
 use Rattle.rpg_effect.specs.declared.input.InputField.{InputField}
 use Rattle.rpg_effect.specs.declared.line.Pass.{Pass}
 use Rattle.rpg_effect.specs.declared.operation.Action.{Action}
 use Rattle.rpg_effect.specs.declared.operation.Operand.{Operand}
-use Rattle.rpg_effect_renaming.specs.Naming.{Agree, AreNamed, IsRenaming, SameEffect, Uses, renamed_action, renamed_input, renamed_line}
+use Rattle.rpg_effect_renaming.specs.Naming.{Agree, AgreeData, AreNamed, IsRenaming, SameEffect, SameEnd, Uses, renamed_action, renamed_input, renamed_line}
 
 -- an operation whose operands have forms does the same by both names
 abbrev pub OperationsAgree : {K L : Type 0} → (K → K → Ordering) → (L → L → Ordering) → Type 0
 OperationsAgree {K} {L} R S =
     (old : K → Option FieldForm) (new : L → Option FieldForm) (at : K → L) → IsRenaming R S old new at
-    → (x : Action (Operand K)) (v : World R) (w : World S) → Agree old at v w → Uses old x
-    → SameEffect old at (operate old x v) (operate new (renamed_action at x) w)
+    → (x : Action (Operand K)) (v : Data R) (w : Data S) → AgreeData old at v w → Uses old x
+    → SameEnd old at (operate old x v) (operate new (renamed_action at x) w)
 
 -- so do lines, of exceptions and of each other time, where their edit words are the same
 abbrev pub LinesAgree : {K L : Type 0} → (K → K → Ordering) → (L → L → Ordering) → Type 0
@@ -35,8 +35,8 @@ LinesAgree {K} {L} R S =
 abbrev pub InputsAgree : {K L : Type 0} → (K → K → Ordering) → (L → L → Ordering) → Type 0
 InputsAgree {K} {L} R S =
     (old : K → Option FieldForm) (new : L → Option FieldForm) (at : K → L) → IsRenaming R S old new at
-    → (text : List ℕ) (fs : List (InputField K)) (v : World R) (w : World S) → Agree old at v w
-    → SameEffect old at (record_in old text fs v) (record_in new text (map (renamed_input at) fs) w)
+    → (text : List ℕ) (fs : List (InputField K)) (v : Data R) (w : Data S) → AgreeData old at v w
+    → SameEnd old at (record_in old text fs v) (record_in new text (map (renamed_input at) fs) w)
 
 -- the rules on an operation's operands refuse it by both names or by none
 abbrev pub RowsAgree : {K L : Type 0} → (K → K → Ordering) → (L → L → Ordering) → Type 0

@@ -10,7 +10,8 @@ use Rattle.rpg_effect.specs.Forms.{has_field}
 use Rattle.rpg_effect.specs.Input.{TypeRow}
 use Rattle.rpg_effect.specs.Lines.{Line}
 use Rattle.rpg_effect.specs.Operate.{with_operands}
-use Rattle.rpg_effect.specs.World.{Fields, World, value_in}
+use Rattle.rpg_effect.specs.Ended.{Ended}
+use Rattle.rpg_effect.specs.World.{Data, Fields, World, value_in}
 use Rattle.rpg_effect.specs.declared.form.FieldForm.{FieldForm}
 use Rattle.rpg_effect.specs.declared.input.InputField.{InputField}
 use Rattle.rpg_effect.specs.declared.line.Editing.{Editing}
@@ -130,14 +131,21 @@ module _ {K L : Type 0} {R : K → K → Ordering} {S : L → L → Ordering} (o
     pub values : (k : K) → has_field (old k) ≡ true → (n : ℕ) → value_in w (at k, n) ≡ value_in v (k, n)
     pub current : (k : K) → has_field (old k) ≡ true → maps.get w.current (at k) ≡ maps.get v.current k
 
-  -- and all else is the same
-  pub record Agree (v : World R) (w : World S) : Type 0 where
+  -- and all else of the data is the same
+  pub record AgreeData (v : Data R) (w : Data S) : Type 0 where
     pub fields : AgreeFields v.fields w.fields
     pub on : w.on ≡ v.on
     pub remainder : w.remainder ≡ v.remainder
-    pub here : w.here ≡ v.here
-    pub was_overflow : w.was_overflow ≡ v.was_overflow
-    pub has_turned_on : w.has_turned_on ≡ v.has_turned_on
+
+  -- data that agree, and one paper
+  pub record Agree (v : World R) (w : World S) : Type 0 where
+    pub «data» : AgreeData v.data w.data
+    pub paper : w.paper ≡ v.paper
+
+  -- two operations or input fields end alike, and leave data that agree
+  pub record SameEnd (d : Ended R) (e : Ended S) : Type 0 where
+    pub ending : e.ending ≡ d.ending
+    pub «data» : AgreeData d.data e.data
 
   -- two effects end alike, leave worlds that agree, and put out the same
   pub record SameEffect (d : Effect R) (e : Effect S) : Type 0 where

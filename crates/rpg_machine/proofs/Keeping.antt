@@ -13,13 +13,13 @@ use Rattle.rpg_decimal_words.specs.Fraction.{Fraction, aligned_number}
 use Rattle.rpg_decimal_words.specs.Place.{place_value}
 use Rattle.rpg_decimal_words.specs.Zoned.{digit_of, is_minus, last_of, number_in, zoned_text}
 use Rattle.rpg_effect.specs.Act.{act, divided, exact, field_of_entry, found_in, found_shown, index_set, looked_up, made_current, made_current_if_any, moved, number_over, source_text, store, stored_value, text_over, with_found}
-use Rattle.rpg_effect.specs.Effect.{Effect, Leaves, or_halt, unless_wrong}
+use Rattle.rpg_effect.specs.Ended.{Ended, Gives, if_right, or_halt}
 use Rattle.rpg_effect.specs.Ends.{Fault}
 use Rattle.rpg_effect.specs.Forms.{decimals_of, entries_of, form_at, is_table_form, kind_of, length_of}
 use Rattle.rpg_effect.specs.Operate.{operate, resolved}
 use Rattle.rpg_effect.specs.Rows.{can_hold, holds_position}
 use Rattle.rpg_effect.specs.Values.{Number, Text}
-use Rattle.rpg_effect.specs.World.{World, characters_at, number_at, set_current, set_value}
+use Rattle.rpg_effect.specs.World.{Data, characters_at, number_at, set_current, set_value}
 use Rattle.rpg_effect.specs.declared.form.FieldForm.{FieldForm}
 use Rattle.rpg_effect.specs.declared.form.Kind.{Kind}
 use Rattle.rpg_effect.specs.declared.form.Kind.TheVariants as kinds
@@ -33,7 +33,7 @@ use Rattle.rpg_effect.specs.declared.operation.Operand.{Operand}
 use Rattle.rpg_effect.specs.declared.operation.Shows.{Shows}
 use Rattle.rpg_effect.specs.declared.operation.Side.{Side}
 use Rattle.rpg_effect.specs.declared.operation.Side.TheVariants.{Right, Left}
-use Rattle.rpg_machine.specs.Laws.{FitsIn, GoesRight}
+use Rattle.rpg_machine.specs.Laws.{EndsRight, FitsIn}
 use Rattle.rpg_machine_operations.proofs.Characters.{over_characters, zoned_characters}
 use Rattle.rpg_machine_operations.proofs.Doing.{assign_entries, compute_entries, cross_entries, divide_entries, look_entries, look_positions, look_reads, move_entries, remainder_entries}
 use Rattle.rpg_memory.proofs.Entries.{index_value, text_in_form}
@@ -65,14 +65,14 @@ characters-below text i =
 -- ---- what operations do
 
 module _ (forms : List FieldForm) (good : AreForms forms) where
-  store_right : (w : World nat_cmp) (r : Entry ℕ) (s : Shows) (n : ℤ) → FitsIn forms w → IsValue forms kinds.Number r.field r.position → unsigned_abs n < 10 ^ length_of (form_at forms r.field) →
-      GoesRight forms (Leaves (store w r s n))
+  store_right : (w : Data nat_cmp) (r : Entry ℕ) (s : Shows) (n : ℤ) → FitsIn forms w → IsValue forms kinds.Number r.field r.position → unsigned_abs n < 10 ^ length_of (form_at forms r.field) →
+      EndsRight forms (Gives (store w r s n))
   store_right w r s n fits v low = record { ends = tt; fits = fits_number forms w.fields.values w.fields.current r.field r.position n fits v low }
 
   kept_low : (half : Bool) (o : Option FieldForm) (x : Fraction) → unsigned_abs (stored_value half o x) < 10 ^ length_of o
   kept_low half o x = fit-below (aligned_number half (decimals_of o) x) (length_of o)
 
-  or_halt_right : {A : Type 0} (o : Option A) (k : ℕ) (w : World nat_cmp) (go : A → Effect nat_cmp) → FitsIn forms w → ((x : A) → o ≡ Some x → GoesRight forms (go x)) → GoesRight forms (or_halt o k w go)
+  or_halt_right : {A : Type 0} (o : Option A) (k : ℕ) (w : Data nat_cmp) (go : A → Ended nat_cmp) → FitsIn forms w → ((x : A) → o ≡ Some x → EndsRight forms (go x)) → EndsRight forms (or_halt o k w go)
   or_halt_right None k w go fits h = record { ends = tt; fits = fits }
   or_halt_right (Some x) k w go fits h = h x refl
 
@@ -90,26 +90,26 @@ module _ (forms : List FieldForm) (good : AreForms forms) where
       let few : unsigned_abs n < 10 ^ length ds = omega (arith, size, low) in
       subst (λ m. unsigned_abs n < 10 ^ m) (length-map text digit_of ∙ long) few
 
-  text_right : (w : World nat_cmp) (r : Entry ℕ) (text : List ℕ) → FitsIn forms w → IsValue forms kinds.Text r.field r.position → length text ≡ length_of (form_at forms r.field) → All IsCharacter text →
-      GoesRight forms (Leaves (set_value w r.field r.position (Text text)))
+  text_right : (w : Data nat_cmp) (r : Entry ℕ) (text : List ℕ) → FitsIn forms w → IsValue forms kinds.Text r.field r.position → length text ≡ length_of (form_at forms r.field) → All IsCharacter text →
+      EndsRight forms (Gives (set_value w r.field r.position (Text text)))
   text_right w r text fits v long spelled = record { ends = tt; fits = fits_text forms w.fields.values w.fields.current r.field r.position text fits v long spelled }
 
   -- the text of an entry
-  text_at : (w : World nat_cmp) (e : Entry ℕ) → FitsIn forms w → IsValue forms kinds.Text e.field e.position → (length (characters_at w e.field e.position) ≡ length_of (form_at forms e.field)) × All IsCharacter (characters_at w e.field e.position)
+  text_at : (w : Data nat_cmp) (e : Entry ℕ) → FitsIn forms w → IsValue forms kinds.Text e.field e.position → (length (characters_at w e.field e.position) ≡ length_of (form_at forms e.field)) × All IsCharacter (characters_at w e.field e.position)
   text_at w e fits v =
       let m = text_in_form v.form.length _ (form_there forms w.fields.values w.fields.current kinds.Text e.field e.position fits v) in
       let is = text_is _ m.0 m.1 in
       (ap length is ∙ text_fits forms w.fields.values w.fields.current e.field e.position m.0 fits v m.1, subst (λ (t : List ℕ). All IsCharacter t) (sym is) (fits.characters e.field e.position m.0 m.1))
 
-  source_spelled : (k : Kind) (w : World nat_cmp) (b : Entry ℕ) → FitsIn forms w → IsValue forms k b.field b.position → All IsCharacter (source_text (form_at forms) k w b)
+  source_spelled : (k : Kind) (w : Data nat_cmp) (b : Entry ℕ) → FitsIn forms w → IsValue forms k b.field b.position → All IsCharacter (source_text (form_at forms) k w b)
   source_spelled kinds.Number w b fits v = zoned_characters (length_of (form_at forms b.field)) (number_at w b.field b.position)
   source_spelled kinds.Text w b fits v = (text_at w b fits v).1
 
-  number_moved : (w : World nat_cmp) (r : Entry ℕ) (n : ℤ) → FitsIn forms w → IsValue forms kinds.Number r.field r.position → unsigned_abs n < 10 ^ length_of (form_at forms r.field) →
-      GoesRight forms (Leaves (set_value w r.field r.position (Number n)))
+  number_moved : (w : Data nat_cmp) (r : Entry ℕ) (n : ℤ) → FitsIn forms w → IsValue forms kinds.Number r.field r.position → unsigned_abs n < 10 ^ length_of (form_at forms r.field) →
+      EndsRight forms (Gives (set_value w r.field r.position (Number n)))
   number_moved w r n fits v low = record { ends = tt; fits = fits_number forms w.fields.values w.fields.current r.field r.position n fits v low }
 
-  moved_right : (from to : Kind) (side : Side) (w : World nat_cmp) (b r : Entry ℕ) → FitsIn forms w → IsValue forms from b.field b.position → IsValue forms to r.field r.position → GoesRight forms (moved (form_at forms) from to side w b r)
+  moved_right : (from to : Kind) (side : Side) (w : Data nat_cmp) (b r : Entry ℕ) → FitsIn forms w → IsValue forms from b.field b.position → IsValue forms to r.field r.position → EndsRight forms (moved (form_at forms) from to side w b r)
   unfolding moved
   moved_right kinds.Number kinds.Number side w b r fits vb vr =
       number_moved w r _ fits vr (digits_low side (length_of (form_at forms b.field)) (number_at w b.field b.position) (length_of (form_at forms r.field)) (number_at w r.field r.position))
@@ -128,20 +128,20 @@ module _ (forms : List FieldForm) (good : AreForms forms) where
 
   -- ---- LOKUP
 
-  index_fits : (i : Index ℕ) (n : ℕ) (w : World nat_cmp) → reads_index forms i ≡ true → can_hold (form_at forms) i n ≡ true → FitsIn forms w → FitsIn forms (index_set i n w)
+  index_fits : (i : Index ℕ) (n : ℕ) (w : Data nat_cmp) → reads_index forms i ≡ true → can_hold (form_at forms) i n ≡ true → FitsIn forms w → FitsIn forms (index_set i n w)
   index_fits Blank n w reads holds fits = fits
   index_fits (Literal m) n w reads holds fits = fits
   index_fits (Field k) n w reads holds fits = fits_number forms w.fields.values w.fields.current k 1 (pos n) fits (index_value forms k good reads) (held forms k n holds)
 
-  current_by : (b : Bool) (k n : ℕ) (w : World nat_cmp) → 1 ≤ n → n ≤ entries_of (form_at forms k) → FitsIn forms w → FitsIn forms (cond {A = World nat_cmp} b (set_current w k n) w)
+  current_by : (b : Bool) (k n : ℕ) (w : Data nat_cmp) → 1 ≤ n → n ≤ entries_of (form_at forms k) → FitsIn forms w → FitsIn forms (cond {A = Data nat_cmp} b (set_current w k n) w)
   current_by true k n w low high fits = fits-current forms w.fields.values w.fields.current k n fits low high
   current_by false k n w low high fits = fits
 
-  current_if_any : (o : Option ℕ) (n : ℕ) (w : World nat_cmp) → 1 ≤ n → HasPosition forms o n → FitsIn forms w → FitsIn forms (made_current_if_any (form_at forms) o n w)
+  current_if_any : (o : Option ℕ) (n : ℕ) (w : Data nat_cmp) → 1 ≤ n → HasPosition forms o n → FitsIn forms w → FitsIn forms (made_current_if_any (form_at forms) o n w)
   current_if_any None n w low high fits = fits
   current_if_any (Some k) n w low high fits = current_by (is_table_form (form_at forms k)) k n w low high fits
 
-  placed_fits : (b : Entry ℕ) (table : Option ℕ) (o : Option Found) (w : World nat_cmp) → reads_index forms b.index ≡ true → IfSome o (λ f. FitsPosition forms b table f.position) → FitsIn forms w → FitsIn forms (with_found (form_at forms) b table o w)
+  placed_fits : (b : Entry ℕ) (table : Option ℕ) (o : Option Found) (w : Data nat_cmp) → reads_index forms b.index ≡ true → IfSome o (λ f. FitsPosition forms b table f.position) → FitsIn forms w → FitsIn forms (with_found (form_at forms) b table o w)
   unfolding with_found
   placed_fits b table None w reads h fits = index_fits b.index 1 w reads (first_fits forms b.index good reads) fits
   placed_fits b table (Some f) w reads h fits =
@@ -150,18 +150,18 @@ module _ (forms : List FieldForm) (good : AreForms forms) where
       let two = current_by (is_table_form (form_at forms b.field)) b.field n (index_set b.index n w) h.low h.high one in
       current_if_any table n (made_current (form_at forms) b.field n (index_set b.index n w)) h.low (has_position forms b table n h) two
 
-  looked_right : (k : Kind) (w : World nat_cmp) (a b : Entry ℕ) (table : Option ℕ) (s : Shows) → IsValue forms k b.field b.position → reads_index forms b.index ≡ true →
-      holds_position (form_at forms) b.index table (entries_of (form_at forms b.field)) ≡ true → FitsIn forms w → GoesRight forms (looked_up (form_at forms) w b table s (found_in (form_at forms) w a b s))
+  looked_right : (k : Kind) (w : Data nat_cmp) (a b : Entry ℕ) (table : Option ℕ) (s : Shows) → IsValue forms k b.field b.position → reads_index forms b.index ≡ true →
+      holds_position (form_at forms) b.index table (entries_of (form_at forms b.field)) ≡ true → FitsIn forms w → EndsRight forms (looked_up (form_at forms) w b table s (found_in (form_at forms) w a b s))
   unfolding looked_up
   looked_right k w a b table s v reads holds fits =
       let o = found_in (form_at forms) w a b s in
       let there = found_fits forms k w a b table s o v holds refl in
-      let right : GoesRight forms (Leaves (found_shown (form_at forms) s o (with_found (form_at forms) b table o w))) = record { ends = tt; fits = placed_fits b table o w reads there fits } in
-      subst (λ (f : Option Fault). GoesRight forms (unless_wrong f w (Leaves (found_shown (form_at forms) s o (with_found (form_at forms) b table o w))))) (sym (no_position_fault forms b table o there)) right
+      let right : EndsRight forms (Gives (found_shown (form_at forms) s o (with_found (form_at forms) b table o w))) = record { ends = tt; fits = placed_fits b table o w reads there fits } in
+      subst (λ (f : Option Fault). EndsRight forms (if_right f w (Gives (found_shown (form_at forms) s o (with_found (form_at forms) b table o w))))) (sym (no_position_fault forms b table o there)) right
 
   -- ---- all
 
-  act_right : (a : Action (Entry ℕ)) (w : World nat_cmp) → AreOperandEntries forms a → FitsIn forms w → GoesRight forms (act (form_at forms) a w)
+  act_right : (a : Action (Entry ℕ)) (w : Data nat_cmp) → AreOperandEntries forms a → FitsIn forms w → EndsRight forms (act (form_at forms) a w)
   unfolding act
   act_right (Compute f half a b r s) w h fits = store_right w r s _ fits (compute_entries forms f half a b r s h).1.1 (kept_low half (form_at forms r.field) _)
   act_right (Divide half a b r s) w h fits =
@@ -178,10 +178,10 @@ module _ (forms : List FieldForm) (good : AreForms forms) where
       moved_right (kind_of (form_at forms b.field)) (kind_of (form_at forms r.field)) side w b r fits both.0 both.1
   act_right (SetIndicators is_on s) w h fits = record { ends = tt; fits = fits }
 
-  entries_then : (w : World nat_cmp) (a : Action (Operand ℕ)) (e : Action (Entry ℕ)) → IsRightAction forms a → FitsIn forms w → resolved (form_at forms) w.fields a ≡ Some e → AreOperandEntries forms e
+  entries_then : (w : Data nat_cmp) (a : Action (Operand ℕ)) (e : Action (Entry ℕ)) → IsRightAction forms a → FitsIn forms w → resolved (form_at forms) w.fields a ≡ Some e → AreOperandEntries forms e
   entries_then w a e right fits is =
       subst (λ (x : Option (Action (Entry ℕ))). IfSome x (λ i. AreOperandEntries forms i)) is (entries_if forms w.fields a (resolved (form_at forms) w.fields a) refl good fits right)
 
-  pub operate_right : (a : Action (Operand ℕ)) (w : World nat_cmp) → IsRightAction forms a → FitsIn forms w → GoesRight forms (operate (form_at forms) a w)
+  pub operate_right : (a : Action (Operand ℕ)) (w : Data nat_cmp) → IsRightAction forms a → FitsIn forms w → EndsRight forms (operate (form_at forms) a w)
   unfolding operate
   operate_right a w right fits = or_halt_right (resolved (form_at forms) w.fields a) 2 w _ fits (λ e is. act_right e w (entries_then w a e right fits is) fits)

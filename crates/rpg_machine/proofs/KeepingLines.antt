@@ -9,7 +9,7 @@ use Rattle.rpg_effect.specs.Ends.{End, Fault, GoesOn, Halt, Wrong}
 use Rattle.rpg_effect.specs.Entries.{position_of}
 use Rattle.rpg_effect.specs.Forms.{form_at, kind_of}
 use Rattle.rpg_effect.specs.LineFaults.{AreRight, field_fault, fits_source}
-use Rattle.rpg_effect.specs.Lines.{Draft, Drafted, after_movement, after_skip, after_space, assembled, blank_line, blanked_all, blanked_at, counted, drafted, exception_output, go_on_with, is_asked, laid, line_out, lines_out, one_out, put_on, put_out, remembered, spaced_before, unless_faulty, where_asked, with_field}
+use Rattle.rpg_effect.specs.Lines.{Draft, Drafted, after_movement, after_skip, after_space, assembled, blank_line, blanked_all, blanked_at, counted, drafted, exception_output, go_on_with, is_asked, laid, line_out, lines_out, one_out, put_on, put_out, remembered, spaced_before, unless_faulty, where_asked, with_field, with_fields}
 use Rattle.rpg_effect.specs.Showing.{turned_on}
 use Rattle.rpg_effect.specs.Values.{Number, Text, Value, number_of}
 use Rattle.rpg_effect.specs.World.{Fields, World, three_hold, value_in}
@@ -42,25 +42,25 @@ AreFit forms fields = Fits forms fields.values fields.current
 
 -- ---- movements leave the fields as they are
 
-moved_by : (overflow : Option ℕ) (to : Position) (w : World nat_cmp) (b : Bool) → (cond {A = World nat_cmp} b (record w { here = to; on = turned_on overflow w.on; has_turned_on = true }) (record w { here = to })).fields ≡ w.fields
+moved_by : (overflow : Option ℕ) (to : Position) (w : World nat_cmp) (b : Bool) → (cond {A = World nat_cmp} b (record { «data» = record w.data { on = turned_on overflow w.data.on }; paper = record w.paper { here = to; has_turned_on = true } }) (record w { paper = record w.paper { here = to } })).data.fields ≡ w.data.fields
 moved_by overflow to w true = refl
 moved_by overflow to w false = refl
 
-movement_fields : (overflow : Option ℕ) (to : Position) (w : World nat_cmp) → (after_movement overflow to w).fields ≡ w.fields
+movement_fields : (overflow : Option ℕ) (to : Position) (w : World nat_cmp) → (after_movement overflow to w).data.fields ≡ w.data.fields
 unfolding after_movement
-movement_fields overflow to w = moved_by overflow to w (turns_overflow_on w.here to)
+movement_fields overflow to w = moved_by overflow to w (turns_overflow_on w.paper.here to)
 
-skip_by : (overflow : Option ℕ) (line : ℕ) (w : World nat_cmp) (b : Bool) → (cond {A = World nat_cmp} b w (after_movement overflow (skipped line w.here) w)).fields ≡ w.fields
+skip_by : (overflow : Option ℕ) (line : ℕ) (w : World nat_cmp) (b : Bool) → (cond {A = World nat_cmp} b w (after_movement overflow (skipped line w.paper.here) w)).data.fields ≡ w.data.fields
 skip_by overflow line w true = refl
-skip_by overflow line w false = movement_fields overflow (skipped line w.here) w
+skip_by overflow line w false = movement_fields overflow (skipped line w.paper.here) w
 
-spaced_fields : (overflow : Option ℕ) (skip space : ℕ) (w : World nat_cmp) → (after_space overflow space (after_skip overflow skip w)).fields ≡ w.fields
-spaced_fields overflow skip space w = movement_fields overflow (spaced space (after_skip overflow skip w).here) (after_skip overflow skip w) ∙ skip_by overflow skip w (eqb skip 0)
+spaced_fields : (overflow : Option ℕ) (skip space : ℕ) (w : World nat_cmp) → (after_space overflow space (after_skip overflow skip w)).data.fields ≡ w.data.fields
+spaced_fields overflow skip space w = movement_fields overflow (spaced space (after_skip overflow skip w).paper.here) (after_skip overflow skip w) ∙ skip_by overflow skip w (eqb skip 0)
 
 -- a line is put out, or a record written
 pub record PutsRight (w : World nat_cmp) (e : Effect nat_cmp) : Type 0 where
   pub goes : e.ending ≡ GoesOn
-  pub fields : e.world.fields ≡ w.fields
+  pub fields : e.world.data.fields ≡ w.data.fields
 
 put_right : (overflow : Option ℕ) (file : File) (s : Spacing) (text : List ℕ) (w : World nat_cmp) → PutsRight w (put_on overflow file s text w)
 unfolding put_on
@@ -150,43 +150,43 @@ module _ (p : Object) (rows : All IsFieldRow p.fields) where
 
   -- ---- lines
 
-  then_right : (x : End) (e : Effect nat_cmp) (go : World nat_cmp → Effect nat_cmp) → IsNoFault x → GoesRight p.fields e → ((w : World nat_cmp) → FitsIn p.fields w → GoesRight p.fields (go w)) → GoesRight p.fields (go_on x e go)
+  then_right : (x : End) (e : Effect nat_cmp) (go : World nat_cmp → Effect nat_cmp) → IsNoFault x → GoesRight p.fields e → ((w : World nat_cmp) → FitsIn p.fields w.data → GoesRight p.fields (go w)) → GoesRight p.fields (go_on x e go)
   then_right GoesOn e go ends h next = let n = next e.world h.fits in record { ends = n.ends; fits = n.fits }
   then_right (Halt k) e go ends h next = h
   then_right (Wrong f) e go ends h next = absurd ends
 
-  placed_by : (es : List (ℕ × ℕ)) (fields : Fields nat_cmp) (x : End) (e : Effect nat_cmp) → x ≡ GoesOn → e.world.fields ≡ fields → AreFit p.fields (blanked_all es fields) →
-      GoesRight p.fields (go_on x e (λ v. Leaves (record v { fields = blanked_all es v.fields })))
+  placed_by : (es : List (ℕ × ℕ)) (fields : Fields nat_cmp) (x : End) (e : Effect nat_cmp) → x ≡ GoesOn → e.world.data.fields ≡ fields → AreFit p.fields (blanked_all es fields) →
+      GoesRight p.fields (go_on x e (λ v. Leaves (with_fields (blanked_all es v.data.fields) v)))
   placed_by es fields GoesOn e goes same fits = record { ends = tt; fits = subst (λ (g : Fields nat_cmp). AreFit p.fields (blanked_all es g)) (sym same) fits }
   placed_by es fields (Halt k) e goes same fits = cc
   placed_by es fields (Wrong f) e goes same fits = cc
 
   put_line : (l : LineRow) (w : World nat_cmp) (x : End) (d : Draft nat_cmp) → IsNoFault x → DraftsRight d → GoesRight p.fields (put_out (form_at p.fields) (word_at p) p.overflow (program_line p l) w x d)
   put_line l w GoesOn d ends h =
-      let put = put_right p.overflow l.file l.spacing d.text (record w { fields = d.fields }) in
-      placed_by d.to_blank d.fields _ (put_on p.overflow l.file l.spacing d.text (record w { fields = d.fields })) put.goes put.fields (blanked_right d.to_blank d.fields h.blank h.fits)
+      let put = put_right p.overflow l.file l.spacing d.text (with_fields d.fields w) in
+      placed_by d.to_blank d.fields _ (put_on p.overflow l.file l.spacing d.text (with_fields d.fields w)) put.goes put.fields (blanked_right d.to_blank d.fields h.blank h.fits)
   put_line l w (Halt k) d ends h = record { ends = tt; fits = h.fits }
   put_line l w (Wrong f) d ends h = absurd ends
 
-  line_right : (l : LineRow) (w : World nat_cmp) → IsRightLine p l → FitsIn p.fields w → GoesRight p.fields (line_out (form_at p.fields) (word_at p) p.overflow (program_line p l) w)
+  line_right : (l : LineRow) (w : World nat_cmp) → IsRightLine p l → FitsIn p.fields w.data → GoesRight p.fields (line_out (form_at p.fields) (word_at p) p.overflow (program_line p l) w)
   unfolding line_out
   line_right l w r fits =
       let len = file_length p l.file in
-      let done = assembled (form_at p.fields) (word_at p) w.on len l.fields (blank_line len w) in
-      let drafted = assembled_right w.on len l.fields (blank_line len w) r.fields (record { fits = fits; blank = λ k x h. absurd (omega arith) }) in
+      let done = assembled (form_at p.fields) (word_at p) w.data.on len l.fields (blank_line len w) in
+      let drafted = assembled_right w.data.on len l.fields (blank_line len w) r.fields (record { fits = fits; blank = λ k x h. absurd (omega arith) }) in
       subst (λ (o : Option Fault). GoesRight p.fields (unless_wrong o w (put_out (form_at p.fields) (word_at p) p.overflow (program_line p l) w done.ending done.draft))) (sym r.fault)
       (put_line l w done.ending done.draft drafted.ends drafted.draft)
 
-  asked_right : (b : Bool) (e : Effect nat_cmp) (w : World nat_cmp) → FitsIn p.fields w → GoesRight p.fields e → GoesRight p.fields (where_asked (form_at p.fields) (word_at p) b e w)
+  asked_right : (b : Bool) (e : Effect nat_cmp) (w : World nat_cmp) → FitsIn p.fields w.data → GoesRight p.fields e → GoesRight p.fields (where_asked (form_at p.fields) (word_at p) b e w)
   asked_right true e w fits h = h
   asked_right false e w fits h = record { ends = tt; fits = fits }
 
-  one_right : (pass : Pass) (l : LineRow) (w : World nat_cmp) → IsRightLine p l → FitsIn p.fields w → GoesRight p.fields (one_out (form_at p.fields) (word_at p) p.overflow pass (program_line p l) w)
+  one_right : (pass : Pass) (l : LineRow) (w : World nat_cmp) → IsRightLine p l → FitsIn p.fields w.data → GoesRight p.fields (one_out (form_at p.fields) (word_at p) p.overflow pass (program_line p l) w)
   unfolding one_out
   one_right pass l w r fits =
-      asked_right (is_asked p.overflow pass w.on l.time l.alternatives) (line_out (form_at p.fields) (word_at p) p.overflow (program_line p l) w) w fits (line_right l w r fits)
+      asked_right (is_asked p.overflow pass w.data.on l.time l.alternatives) (line_out (form_at p.fields) (word_at p) p.overflow (program_line p l) w) w fits (line_right l w r fits)
 
-  lines_right : (pass : Pass) (ls : List LineRow) (w : World nat_cmp) → All (IsRightLine p) ls → FitsIn p.fields w → GoesRight p.fields (lines_out (form_at p.fields) (word_at p) p.overflow pass (map (program_line p) ls) w)
+  lines_right : (pass : Pass) (ls : List LineRow) (w : World nat_cmp) → All (IsRightLine p) ls → FitsIn p.fields w.data → GoesRight p.fields (lines_out (form_at p.fields) (word_at p) p.overflow pass (map (program_line p) ls) w)
   unfolding lines_out
   lines_right pass [] w h fits = record { ends = tt; fits = fits }
   lines_right pass (l ∷ ls) w h fits =
@@ -195,5 +195,5 @@ module _ (p : Object) (rows : All IsFieldRow p.fields) where
       (lines_out (form_at p.fields) (word_at p) p.overflow pass (map (program_line p) ls)) one.ends one
       (λ v g. lines_right pass ls v (λ k x low. h (suc k) x (omega (arith, low))) g)
 
-  pub exceptions_right : (w : World nat_cmp) → AreRightLines p → FitsIn p.fields w → GoesRight p.fields (exception_output (form_at p.fields) (word_at p) p.overflow (lines_of p) w)
+  pub exceptions_right : (w : World nat_cmp) → AreRightLines p → FitsIn p.fields w.data → GoesRight p.fields (exception_output (form_at p.fields) (word_at p) p.overflow (lines_of p) w)
   exceptions_right w h fits = lines_right passes.Exception p.lines w h fits

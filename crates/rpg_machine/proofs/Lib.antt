@@ -3,7 +3,6 @@ pub mod Branching
 pub mod ByNumber
 pub mod Doing
 pub mod Effects
-pub mod Filling
 pub mod FindingSteps
 pub mod FirstEntries
 pub mod Firsts
@@ -16,7 +15,6 @@ pub mod KeepingLines
 pub mod Leading
 pub mod Making
 pub mod NeverWrong
-pub mod OnPaper
 pub mod OneRun
 pub mod Orderly
 pub mod Paying
@@ -28,6 +26,5 @@ pub mod Runs
 pub mod Safe
 pub mod Standing
 pub mod Starting
-pub mod Staying
 pub mod Steps
 pub mod Work

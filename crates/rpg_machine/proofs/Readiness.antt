@@ -9,7 +9,7 @@ use Rattle.rpg_object_program.specs.Object.{Object}
 
 module _ {S : Type 0} where
   pub able_of : (p : Object) (s : State S) (r : Running) → running_of p s ≡ r → IsReady r → s.memory.program ≡ p → IsAble p s.memory
-  able_of p s r is ready own = record { own = own; near = subst (λ (x : Running). x.config.world.here.page ≤ 2) (sym is) ready.few_pages }
+  able_of p s r is ready own = record { own = own; near = subst (λ (x : Running). x.config.world.paper.here.page ≤ 2) (sym is) ready.few_pages }
 
   pub ready_of : (p : Object) (s : State S) → IsAble p s.memory →
       s.cells ≡ map.empty → s.allowance < 2 ^ 16 → IsReady (running_of p s)

@@ -6,8 +6,6 @@ pub mod Codes
 pub mod Config
 pub mod Control
 pub mod Finding
-pub mod FixedInputs
-pub mod Inputs
 pub mod Laws
 pub mod Outputs
 pub mod Potential

@@ -3,6 +3,7 @@ use Rattle.std.specs.Prelude.{◌≡◌, ℕ, List, [], length, slice_get, Optio
 use Rattle.std.specs.Option.{option_map_or}
 use Rattle.std.specs.Ordering.{nat_cmp}
 use Rattle.rpg_effect.specs.Effect.{Effect}
+use Rattle.rpg_effect.specs.Ended.{on_data}
 use Rattle.rpg_effect.specs.Ends.{End}
 use Rattle.rpg_effect.specs.Forms.{form_at}
 use Rattle.rpg_effect.specs.Input.{TypeRow, record_in}
@@ -54,4 +55,4 @@ length_at p row = input_length p (option_map_or (λ t. t.file) (slice_get p.type
 
 -- the fields of a record of a type get their values, and all of them are charged
 abbrev pub FillsFields : Object → ℕ → List ℕ → Config → End → Config → Output → Type 0
-FillsFields p row text = ByEffect (length (inputs_at p row)) (record_in (form_at p.fields) text (inputs_at p row))
+FillsFields p row text = ByEffect (length (inputs_at p row)) (on_data (record_in (form_at p.fields) text (inputs_at p row)))

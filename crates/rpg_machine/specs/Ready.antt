@@ -7,4 +7,4 @@ use Rattle.rpg_machine.specs.Running.{Running}
 pub record IsReady (r : Running) : Type 0 where
   pub no_cell : r.config.cells ≡ map.empty
   pub few_spends : r.config.allowance < 2 ^ 16
-  pub few_pages : r.config.world.here.page ≤ 2
+  pub few_pages : r.config.world.paper.here.page ≤ 2

@@ -4,10 +4,8 @@
 mod accepted;
 mod cells;
 pub mod control;
-mod fixed_inputs;
 mod found_run;
 mod found_steps;
-mod inputs;
 pub mod laws;
 mod machine;
 mod output;

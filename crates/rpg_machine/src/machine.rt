@@ -7,12 +7,12 @@ ghost use Rattle.rpg_object_program.specs.Object.{seen};
 
 use crate::accepted::Accepted;
 use crate::cells::Cells;
-use crate::inputs::fill_all;
 use crate::output::put_out;
 use crate::section::run_section;
 use crate::state::{State, Writer};
 use crate::time::OutputTime;
 use rpg_effect::outcome::End;
+use rpg_machine_inputs::inputs::fill_all;
 use rpg_machine_lines::{Entries, Output};
 use rpg_memory::memory::Memory;
 use rpg_object_program::row::Rows;
@@ -108,8 +108,8 @@ impl<'a, S: Store + Drop> Machine<'a, S> {
         program: &'a Verified,
         memory: Memory<'a, S>,
     ) -> Result<Machine<'a, S>, AllocError>
-        requires first { memory ≡ first_working program.now memory.world.fields }
-        ensures start { IfOk result (λ m. m ≡ of.started program.now memory.entry.world.fields) }
+        requires first { memory ≡ first_working program.now memory.world.data.fields }
+        ensures start { IfOk result (λ m. m ≡ of.started program.now memory.entry.world.data.fields) }
         ensures ready { IfOk result (λ m. IsReady m) }
     {
         let accepted = Accepted::new(alloc, program)?;
@@ -227,7 +227,7 @@ impl<'a, S: Store + Drop> Machine<'a, S> {
     pub fn indicator(&self, n: u8) -> bool
         requires low { 1 ≤ n }
         requires high { n ≤ 129 }
-        ensures { result ≡ set.contains self.now.config.world.on n }
+        ensures { result ≡ set.contains self.now.config.world.data.on n }
     {
         self.state.memory.on().is_on(n)
     }

@@ -27,12 +27,12 @@ pub(crate) fn put_out<S: Store + Drop>(
     plan: &Plan,
 ) -> Result<End, AllocError>
     requires lines { AreRightLines memory.old.program }
-    requires near { IsNear memory.old.world.here }
+    requires near { IsNear memory.old.world.paper.here }
     requires room { HasLineRoom memory.old.program writer.old.text.items }
     requires plan { IsPlanOf memory.old.program plan.now }
     requires weighed { weight ≡ output_weight memory.old.program time }
     ensures done { IfOk result (λ e. PutsOwn (λ p. spec.output_effect p time) memory.old writer.old.output (end_of e) memory.new writer.new.output) }
-    ensures near { OnOk result (IsNear memory.new.world.here) }
+    ensures near { OnOk result (IsNear memory.new.world.paper.here) }
     ensures own { memory.new.program ≡ memory.old.program }
     ensures room { length writer.new.text.items ≡ length writer.old.text.items }
     ensures grows { OnlyGrows (output_of writer.old.output) (output_of writer.new.output) }

@@ -6,7 +6,7 @@ use Rattle.rpg_effect.proofs.Putting.{quiet_done, then_done}
 use Rattle.rpg_effect.specs.Effect.{Effect, Leaves, unless_wrong}
 use Rattle.rpg_effect.specs.Ends.{End, Fault, GoesOn, Halt, Storage, end_of}
 use Rattle.rpg_effect.specs.LineFaults.{is_spacing, line_fault}
-use Rattle.rpg_effect.specs.Lines.{Draft, Drafted, Line, assembled, blank_line, blanked_all, drafted, is_asked, line_out, one_out, put_on, put_out, where_asked}
+use Rattle.rpg_effect.specs.Lines.{Draft, Drafted, Line, assembled, blank_line, blanked_all, drafted, is_asked, line_out, one_out, put_on, put_out, where_asked, with_fields}
 use Rattle.rpg_effect.specs.Put.{Bytes, Held, IsDone, IsLeft, on_paper}
 use Rattle.rpg_effect.specs.World.{Fields, World}
 use Rattle.rpg_effect.specs.declared.form.FieldForm.{FieldForm}
@@ -19,12 +19,12 @@ use Rattle.rpg_machine_lines.specs.Drafts.{draft_of}
 
 -- the same with other fields
 abbrev pub fields_replaced : Fields nat_cmp → Held → Held
-fields_replaced fields w = record { last = w.last; world = record w.world { fields = fields } }
+fields_replaced fields w = record { last = w.last; world = with_fields fields w.world }
 
 module _ (forms : ℕ → Option FieldForm) (words : ℕ → List ℕ) (overflow : Option ℕ) (l : Line ℕ) (w : Held) (q : Bytes) where
   -- the line's fields were assembled to this draft
   abbrev pub IsDrafted : End → Draft nat_cmp → Type 0
-  IsDrafted e d = drafted e d ≡ assembled forms words w.world.on l.len l.fields (blank_line l.len w.world)
+  IsDrafted e d = drafted e d ≡ assembled forms words w.world.data.on l.len l.fields (blank_line l.len w.world)
 
   -- the line, wherever it is placed
   abbrev out_at : Option Position → Effect nat_cmp
@@ -35,7 +35,7 @@ module _ (forms : ℕ → Option FieldForm) (words : ℕ → List ℕ) (overflow
   unfolding line_out
   line_is previous e d h a =
       let x = on_paper previous w.world in
-      let done = assembled forms words w.world.on l.len l.fields (blank_line l.len w.world) in
+      let done = assembled forms words w.world.data.on l.len l.fields (blank_line l.len w.world) in
       ap (λ o. unless_wrong o x (put_out forms words overflow l x done.ending done.draft)) h
       ∙ ap (λ (y : Drafted nat_cmp). put_out forms words overflow l x y.ending y.draft) (sym a)
 
@@ -44,7 +44,7 @@ module _ (forms : ℕ → Option FieldForm) (words : ℕ → List ℕ) (overflow
       IsDone (line_out forms words overflow l) w q (Halt k) v q
   line_halted k d v h a is =
       let last = ap (λ (x : Held). x.last) is in
-      let left = quiet_done (λ x. record x { fields = d.fields }) (Halt k) w v q last (λ p. ap (λ (x : Held). on_paper p x.world) is) in
+      let left = quiet_done (with_fields d.fields) (Halt k) w v q last (λ p. ap (λ (x : Held). on_paper p x.world) is) in
       record {
         behind = λ previous e. subst (λ (x : Effect nat_cmp). IsLeft previous x q (Halt k) v q) (sym (line_is previous (Halt k) d h a)) (left.behind previous e);
       }
@@ -52,10 +52,10 @@ module _ (forms : ℕ → Option FieldForm) (words : ℕ → List ℕ) (overflow
   -- the line was put on its file, and its entries were blanked
   pub line_placed : (d : Draft nat_cmp) (v u : Held) (o : Bytes) → line_fault l.len l.spacing ≡ None → IsDrafted GoesOn d →
       IsDone (put_on overflow l.file l.spacing d.text) (fields_replaced d.fields w) q GoesOn v o →
-      u.last ≡ v.last → u.world ≡ record v.world { fields = blanked_all d.to_blank v.world.fields } →
+      u.last ≡ v.last → u.world ≡ with_fields (blanked_all d.to_blank v.world.data.fields) v.world →
       IsDone (line_out forms words overflow l) w q GoesOn u o
   line_placed d v u o h a put last world =
-      let blank : World nat_cmp → World nat_cmp = λ x. record x { fields = blanked_all d.to_blank x.fields } in
+      let blank : World nat_cmp → World nat_cmp = λ x. with_fields (blanked_all d.to_blank x.data.fields) x in
       let cleared : IsDone (λ x. Leaves (blank x)) v o GoesOn u o = quiet_done blank GoesOn v u o last (λ p. ap (on_paper p) world) in
       let both = then_done (put_on overflow l.file l.spacing d.text) (λ x. Leaves (blank x)) (fields_replaced d.fields w) v u q o o GoesOn put cleared in
       record {
@@ -67,14 +67,14 @@ module _ (forms : ℕ → Option FieldForm) (words : ℕ → List ℕ) (overflow
   asked_at b previous = where_asked forms words b (out_at previous) (on_paper previous w.world)
 
   -- it isn't asked for
-  pub not_asked : (pass : Pass) → is_asked overflow pass w.world.on l.time l.alternatives ≡ false → IsDone (one_out forms words overflow pass l) w q GoesOn w q
+  pub not_asked : (pass : Pass) → is_asked overflow pass w.world.data.on l.time l.alternatives ≡ false → IsDone (one_out forms words overflow pass l) w q GoesOn w q
   unfolding one_out
   not_asked pass h =
       let none = quiet_done (λ x. x) GoesOn w w q refl (λ p. refl) in
       record { behind = λ previous e. subst (λ b. IsLeft previous (asked_at b previous) q GoesOn w q) (sym h) (none.behind previous e) }
 
   -- it is asked for
-  pub line_asked : (pass : Pass) (e : End) (v : Held) (o : Bytes) → is_asked overflow pass w.world.on l.time l.alternatives ≡ true →
+  pub line_asked : (pass : Pass) (e : End) (v : Held) (o : Bytes) → is_asked overflow pass w.world.data.on l.time l.alternatives ≡ true →
       IsDone (line_out forms words overflow l) w q e v o → IsDone (one_out forms words overflow pass l) w q e v o
   unfolding one_out
   line_asked pass e v o h d =

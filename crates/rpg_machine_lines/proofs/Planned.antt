@@ -62,15 +62,15 @@ module _ (forms : List FieldForm) (f : LineField ℕ) (e : FixedEntry) (i : IsFi
 
 -- the field is laid over the line by the value of that entry
 fixed_drafted : (w : Working) (text : List ℕ) (es : List (ℕ × ℕ)) (f : LineField ℕ) (e : FixedEntry) → IsFixedField w.program.fields f e →
-    three_hold w.world.on f.conditions ≡ true → field_fault (forms_in w) (word_at w.program) (length text) f ≡ None →
+    three_hold w.world.data.on f.conditions ≡ true → field_fault (forms_in w) (word_at w.program) (length text) f ≡ None →
     with_field_in w text es f
     ≡ drafted_in GoesOn w (laid_over text f.end (field_text_in w f e.resolved.entry.position)) (remembered f.is_blanked (f.operand.field, e.resolved.entry.position) es)
 unfolding with_field
-fixed_drafted w text es f e i holds right = rw (holds, right, i.entry.position w.world.fields, i.source) refl
+fixed_drafted w text es f e i holds right = rw (holds, right, i.entry.position w.world.data.fields, i.source) refl
 
 -- the same of what the code laid and remembered
 pub fixed_laid : (w : Working) (text out : List ℕ) (es more : List (ℕ × ℕ)) (f : LineField ℕ) (e : FixedEntry) → IsFixedField w.program.fields f e →
-    three_hold w.world.on f.conditions ≡ true → field_fault (forms_in w) (word_at w.program) (length text) f ≡ None → out ≡ laid_over text f.end (field_text_in w f e.resolved.entry.position) →
+    three_hold w.world.data.on f.conditions ≡ true → field_fault (forms_in w) (word_at w.program) (length text) f ≡ None → out ≡ laid_over text f.end (field_text_in w f e.resolved.entry.position) →
     more ≡ remembered f.is_blanked (f.operand.field, e.resolved.entry.position) es → drafted_in GoesOn w out more ≡ with_field_in w text es f
 fixed_laid w text out es more f e i holds right laid kept =
     ap (λ (xs : List (ℕ × ℕ)). drafted_in GoesOn w out xs) kept

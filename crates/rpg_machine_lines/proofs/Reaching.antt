@@ -101,7 +101,7 @@ first_behind forms words len n all fs f w v text out es more r is ok ends long s
     let within : LineField ℕ → Type 0 = λ x. x.end ≤ n in
     let low = (right forms words len f (All-head whole f fs (subst (All whole) is ok))).end in
     let high = All-head within f fs (subst (All within) is ends) in
-    field_behind (forms_in w) (word_at w.program) (draft_in w text es) (draft_in v out more) r f n same (omega (arith, low, long)) high w.world.on (length text) h
+    field_behind (forms_in w) (word_at w.program) (draft_in w text es) (draft_in v out more) r f n same (omega (arith, low, long)) high w.world.data.on (length text) h
 
 -- a line that was blank is still blank after its fields
 pub blank_behind : (fs gs : List (LineField ℕ)) (reach len : ℕ) (text out : List ℕ) → reach ≡ reach_of fs → gs ≡ fs → reach_of fs ≤ len → text ≡ replicate len 32 →

@@ -63,7 +63,7 @@ fn with_field<S: Store + Drop>(
     requires room { array_vec_len to_blank.old < 200 }
     requires entries { AreFieldEntries memory.old.program.fields to_blank.old.items }
     ensures drafted { drafted_in (end_of result) memory.new text.new to_blank.new.items ≡ with_field_in memory.old text.old to_blank.old.items field.now }
-    ensures rest { memory.new ≡ fields_replaced memory.new.world.fields memory.old }
+    ensures rest { memory.new ≡ fields_replaced memory.new.world.data.fields memory.old }
     ensures entries { AreFieldEntries memory.old.program.fields to_blank.new.items }
     ensures few { array_vec_len to_blank.new ≤ array_vec_len to_blank.old + 1 }
 {
@@ -98,7 +98,7 @@ fn with_fixed_field<S: Store + Drop>(
     fixed: &FixedEntry,
 )
     requires right { faults.field_fault (forms_in memory.now) (word_at memory.now.program) (length text.old) field.now ≡ None }
-    requires holds { three_hold memory.now.world.on field.now.conditions ≡ true }
+    requires holds { three_hold memory.now.world.data.on field.now.conditions ≡ true }
     requires fixed { IsFixedField memory.now.program.fields field.now fixed.now }
     requires room { array_vec_len to_blank.old < 200 }
     requires entries { AreFieldEntries memory.now.program.fields to_blank.old.items }
@@ -130,7 +130,7 @@ fn with_planned_field<S: Store + Drop>(
     requires room { array_vec_len to_blank.old < 200 }
     requires entries { AreFieldEntries memory.old.program.fields to_blank.old.items }
     ensures drafted { drafted_in (end_of result) memory.new text.new to_blank.new.items ≡ with_field_in memory.old text.old to_blank.old.items field.now }
-    ensures rest { memory.new ≡ fields_replaced memory.new.world.fields memory.old }
+    ensures rest { memory.new ≡ fields_replaced memory.new.world.data.fields memory.old }
     ensures entries { AreFieldEntries memory.old.program.fields to_blank.new.items }
     ensures few { array_vec_len to_blank.new ≤ array_vec_len to_blank.old + 1 }
 {
@@ -161,7 +161,7 @@ pub fn assemble<S: Store + Drop>(
     requires entries { AreFieldEntries memory.old.program.fields to_blank.old.items }
     requires planned { AreFieldPlans memory.old.program.fields fields.now plan.now }
     ensures drafted { drafted_in (end_of result) memory.new text.new to_blank.new.items ≡ assembled_in memory.old text.old to_blank.old.items fields.now }
-    ensures rest { memory.new ≡ fields_replaced memory.new.world.fields memory.old }
+    ensures rest { memory.new ≡ fields_replaced memory.new.world.data.fields memory.old }
     ensures entries { AreFieldEntries memory.old.program.fields to_blank.new.items }
     ensures behind { drop (reach_of fields.now) text.new ≡ drop (reach_of fields.now) text.old }
 {

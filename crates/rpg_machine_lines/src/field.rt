@@ -160,7 +160,7 @@ pub fn fill_blanks(text: &mut [u8])
 fn blank_text<S: Store + Drop>(memory: &mut Memory<'_, S>, entry: (u16, u16))
     requires entry { IsFieldEntry memory.old.program.fields entry.0 entry.1 }
     requires text { forms.kind_of (forms_in memory.old entry.0) ≡ Kind.Text }
-    ensures { memory.new ≡ fields_replaced (lines.blanked_at (entry.0, entry.1) memory.old.world.fields) memory.old }
+    ensures { memory.new ≡ fields_replaced (lines.blanked_at (entry.0, entry.1) memory.old.world.data.fields) memory.old }
 {
     memory.is_kept();
     let mut places = [0; 256];
@@ -173,7 +173,7 @@ fn blank_text<S: Store + Drop>(memory: &mut Memory<'_, S>, entry: (u16, u16))
 #[tactic(auto, using(crate::proofs::Keeping::blanking))]
 fn blank<S: Store + Drop>(memory: &mut Memory<'_, S>, entry: (u16, u16))
     requires { IsFieldEntry memory.old.program.fields entry.0 entry.1 }
-    ensures { memory.new ≡ fields_replaced (lines.blanked_at (entry.0, entry.1) memory.old.world.fields) memory.old }
+    ensures { memory.new ≡ fields_replaced (lines.blanked_at (entry.0, entry.1) memory.old.world.data.fields) memory.old }
 {
     memory.is_kept();
     match kind_of(form_at(memory.rows(), entry.0)) {
@@ -185,7 +185,7 @@ fn blank<S: Store + Drop>(memory: &mut Memory<'_, S>, entry: (u16, u16))
 /// The entries become zero or blank, in order.
 pub fn blank_all<S: Store + Drop>(memory: &mut Memory<'_, S>, entries: &[(u16, u16)])
     requires { AreFieldEntries memory.old.program.fields entries.now }
-    ensures { memory.new ≡ fields_replaced (lines.blanked_all entries.now memory.old.world.fields) memory.old }
+    ensures { memory.new ≡ fields_replaced (lines.blanked_all entries.now memory.old.world.data.fields) memory.old }
 {
     'entries: for entry in entries {
         blank(memory, *entry);

@@ -28,12 +28,12 @@ pub fn put_line<S: Store + Drop>(
     line: &Line,
     plan: &LinePlan,
 ) -> Result<End, AllocError>
-    requires near { IsNear memory.old.world.here }
+    requires near { IsNear memory.old.world.paper.here }
     requires right { IsRightLine memory.old.program (line_row line.now) }
     requires planned { IsLinePlan memory.old.program.fields line.now.fields.items plan.now }
     requires len { length text.old ≡ file_length memory.old.program line.now.file }
     ensures done { IfOk result (λ e. PutsOwn (λ p. line_effect p (line_row line.now)) memory.old output.old (end_of e) memory.new output.new) }
-    ensures near { OnOk result (IsNear memory.new.world.here) }
+    ensures near { OnOk result (IsNear memory.new.world.paper.here) }
     ensures program { memory.new.program ≡ memory.old.program }
     ensures grows { OnlyGrows (output_of output.old) (output_of output.new) }
 {

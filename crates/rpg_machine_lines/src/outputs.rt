@@ -25,12 +25,12 @@ pub fn put_details<S: Store + Drop>(
     to_blank: &mut Entries,
     plan: &Plan,
 ) -> Result<End, AllocError>
-    requires near { IsNear memory.old.world.here }
+    requires near { IsNear memory.old.world.paper.here }
     requires right { AreRightLines memory.old.program }
     requires room { HasLineRoom memory.old.program text.old }
     requires plan { IsPlanOf memory.old.program plan.now }
     ensures done { IfOk result (λ e. PutsOwn detail_effect memory.old output.old (end_of e) memory.new output.new) }
-    ensures near { OnOk result (IsNear memory.new.world.here) }
+    ensures near { OnOk result (IsNear memory.new.world.paper.here) }
     ensures program { memory.new.program ≡ memory.old.program }
     ensures grows { OnlyGrows (output_of output.old) (output_of output.new) }
 {
@@ -50,12 +50,12 @@ pub fn put_totals<S: Store + Drop>(
     to_blank: &mut Entries,
     plan: &Plan,
 ) -> Result<End, AllocError>
-    requires near { IsNear memory.old.world.here }
+    requires near { IsNear memory.old.world.paper.here }
     requires right { AreRightLines memory.old.program }
     requires room { HasLineRoom memory.old.program text.old }
     requires plan { IsPlanOf memory.old.program plan.now }
     ensures done { IfOk result (λ e. PutsOwn total_effect memory.old output.old (end_of e) memory.new output.new) }
-    ensures near { OnOk result (IsNear memory.new.world.here) }
+    ensures near { OnOk result (IsNear memory.new.world.paper.here) }
     ensures program { memory.new.program ≡ memory.old.program }
     ensures grows { OnlyGrows (output_of output.old) (output_of output.new) }
 {
@@ -73,12 +73,12 @@ fn put_overflow_details<S: Store + Drop>(
     to_blank: &mut Entries,
     plan: &Plan,
 ) -> Result<End, AllocError>
-    requires near { IsNear memory.old.world.here }
+    requires near { IsNear memory.old.world.paper.here }
     requires right { AreRightLines memory.old.program }
     requires room { HasLineRoom memory.old.program text.old }
     requires plan { IsPlanOf memory.old.program plan.now }
     ensures done { IfOk result (λ e. PutsOwn overflow_detail_effect memory.old output.old (end_of e) memory.new output.new) }
-    ensures near { OnOk result (IsNear memory.new.world.here) }
+    ensures near { OnOk result (IsNear memory.new.world.paper.here) }
     ensures program { memory.new.program ≡ memory.old.program }
     ensures grows { OnlyGrows (output_of output.old) (output_of output.new) }
 {
@@ -98,12 +98,12 @@ pub fn put_overflow<S: Store + Drop>(
     to_blank: &mut Entries,
     plan: &Plan,
 ) -> Result<End, AllocError>
-    requires near { IsNear memory.old.world.here }
+    requires near { IsNear memory.old.world.paper.here }
     requires right { AreRightLines memory.old.program }
     requires room { HasLineRoom memory.old.program text.old }
     requires plan { IsPlanOf memory.old.program plan.now }
     ensures done { IfOk result (λ e. PutsOwn overflow_effect memory.old output.old (end_of e) memory.new output.new) }
-    ensures near { OnOk result (IsNear memory.new.world.here) }
+    ensures near { OnOk result (IsNear memory.new.world.paper.here) }
     ensures program { memory.new.program ≡ memory.old.program }
     ensures grows { OnlyGrows (output_of output.old) (output_of output.new) }
 {
@@ -122,12 +122,12 @@ pub fn put_exceptions<S: Store + Drop>(
     to_blank: &mut Entries,
     plan: &Plan,
 ) -> Result<End, AllocError>
-    requires near { IsNear memory.old.world.here }
+    requires near { IsNear memory.old.world.paper.here }
     requires right { AreRightLines memory.old.program }
     requires room { HasLineRoom memory.old.program text.old }
     requires plan { IsPlanOf memory.old.program plan.now }
     ensures done { IfOk result (λ e. PutsOwn exception_effect memory.old output.old (end_of e) memory.new output.new) }
-    ensures near { OnOk result (IsNear memory.new.world.here) }
+    ensures near { OnOk result (IsNear memory.new.world.paper.here) }
     ensures program { memory.new.program ≡ memory.old.program }
     ensures grows { OnlyGrows (output_of output.old) (output_of output.new) }
 {

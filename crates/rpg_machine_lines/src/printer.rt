@@ -18,9 +18,9 @@ use std::alloc::AllocError;
 fn move_form<S: Store + Drop>(memory: &mut Memory<'_, S>, line: u8, spaces: u8)
     requires line { line ≤ 66 }
     requires spaces { spaces ≤ 3 }
-    requires near { IsNear memory.old.world.here }
+    requires near { IsNear memory.old.world.paper.here }
     ensures moved { memory.new ≡ form_moved line spaces memory.old }
-    ensures few { memory.new.world.here.page ≤ memory.old.world.here.page + 2 }
+    ensures few { memory.new.world.paper.here.page ≤ memory.old.world.paper.here.page + 2 }
 {
     memory.skip(line);
     memory.space(spaces);
@@ -36,10 +36,10 @@ fn print_line<S: Store + Drop>(
     reach: u16,
 ) -> Result<(), AllocError>
     requires spacing { is_spacing spacing ≡ true }
-    requires near { IsNear memory.old.world.here }
+    requires near { IsNear memory.old.world.paper.here }
     requires blank { IsBlankBehind reach text.now }
     ensures done { OnOk result (Puts (lines.put_on memory.old.program.overflow File.Printer spacing text.now) memory.old output.old GoesOn memory.new output.new) }
-    ensures near { OnOk result (IsNear memory.new.world.here) }
+    ensures near { OnOk result (IsNear memory.new.world.paper.here) }
     ensures program { memory.new.program ≡ memory.old.program }
     ensures grows { OnlyGrows (output_of output.old) (output_of output.new) }
 {
@@ -83,10 +83,10 @@ pub fn put_on<S: Store + Drop>(
     reach: u16,
 ) -> Result<(), AllocError>
     requires spacing { is_spacing spacing ≡ true }
-    requires near { IsNear memory.old.world.here }
+    requires near { IsNear memory.old.world.paper.here }
     requires blank { IsBlankBehind reach text.now }
     ensures done { OnOk result (Puts (lines.put_on memory.old.program.overflow file spacing text.now) memory.old output.old GoesOn memory.new output.new) }
-    ensures near { OnOk result (IsNear memory.new.world.here) }
+    ensures near { OnOk result (IsNear memory.new.world.paper.here) }
     ensures program { memory.new.program ≡ memory.old.program }
     ensures grows { OnlyGrows (output_of output.old) (output_of output.new) }
 {

@@ -4,11 +4,11 @@ use Rattle.std.proofs.Math.Nat.{pow-le-pow_right}
 use Rattle.std.proofs.lemmas.Option.{same_Some}
 use Rattle.std.specs.List.{find, range_with_len}
 use Rattle.rpg_effect.specs.Act.{found_in, found_shown, looked_up, with_found, position_fault, order_at, search_start}
-use Rattle.rpg_effect.specs.Effect.{quiet}
 use Rattle.rpg_effect.specs.Forms.{entries_of, length_of}
+use Rattle.rpg_effect.specs.Ended.{ends_with}
 use Rattle.rpg_effect.specs.Rows.{can_hold, holds_position}
 use Rattle.rpg_effect.specs.Search.{first_one, found_as, if_asked, last_one, nearest, or_else, positions, search_of, stands}
-use Rattle.rpg_effect.specs.World.{World}
+use Rattle.rpg_effect.specs.World.{Data}
 use Rattle.rpg_effect.specs.declared.form.FieldForm.{FieldForm}
 use Rattle.rpg_effect.specs.declared.form.Kind.{Kind}
 use Rattle.rpg_effect.specs.declared.operation.Entry.{Entry}
@@ -125,7 +125,7 @@ fits_if forms k b table (Some f) v holds h =
     record { low = omega (arith, s.0, h.low); high = h.high; holds = holds_less (form_at forms) b.index table f.position _ h.high holds }
 
 -- a position that a search finds fits where it goes
-pub found_fits : (forms : List FieldForm) (k : Kind) (w : World nat_cmp) (a b : Entry ℕ) (table : Option ℕ) (s : Shows) (o : Option Found) → IsValue forms k b.field b.position →
+pub found_fits : (forms : List FieldForm) (k : Kind) (w : Data nat_cmp) (a b : Entry ℕ) (table : Option ℕ) (s : Shows) (o : Option Found) → IsValue forms k b.field b.position →
     holds_position (form_at forms) b.index table (entries_of (form_at forms b.field)) ≡ true → o ≡ found_in (form_at forms) w a b s → IfSome o (λ f. FitsPosition forms b table f.position)
 unfolding found_in
 found_fits forms k w a b table s o v holds is =
@@ -166,8 +166,8 @@ pub holds_index : (forms : List FieldForm) (b : Entry ℕ) (table : Option ℕ) 
 holds_index forms b None n h = h.holds
 holds_index forms b (Some t) n h = (and_true _ _ h.holds).0
 
--- where nothing is wrong with the position, LOKUP leaves the world with what was found
-pub looked : (forms : List FieldForm) (w v : World nat_cmp) (b : Entry ℕ) (table : Option ℕ) (s : Shows) (o : Option Found) → IfSome o (λ f. FitsPosition forms b table f.position) → v ≡ found_shown (form_at forms) s o (with_found (form_at forms) b table o w) →
-    quiet GoesOn v ≡ looked_up (form_at forms) w b table s o
+-- where nothing is wrong with the position, LOKUP leaves the data with what was found
+pub looked : (forms : List FieldForm) (w v : Data nat_cmp) (b : Entry ℕ) (table : Option ℕ) (s : Shows) (o : Option Found) → IfSome o (λ f. FitsPosition forms b table f.position) → v ≡ found_shown (form_at forms) s o (with_found (form_at forms) b table o w) →
+    ends_with GoesOn v ≡ looked_up (form_at forms) w b table s o
 unfolding looked_up
-looked forms w v b table s o fits is = rw (no_position_fault forms b table o fits) (ap (λ (x : World nat_cmp). quiet GoesOn x) is)
+looked forms w v b table s o fits is = rw (no_position_fault forms b table o fits) (ap (λ (x : Data nat_cmp). ends_with GoesOn x) is)

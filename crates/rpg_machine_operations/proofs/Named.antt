@@ -2,28 +2,28 @@
 use Rattle.std.proofs.Common.{◌≡◌, ℕ, ℤ, Bool, true, false, Some, is_some, refl, sym}
 use Rattle.std.proofs.lemmas.Option.{cond_some}
 use Rattle.rpg_effect.specs.Act.{act, store}
-use Rattle.rpg_effect.specs.Effect.{Leaves}
 use Rattle.rpg_effect.specs.Ends.{GoesOn}
 use Rattle.rpg_effect.specs.Entries.{entry_of}
 use Rattle.rpg_effect.specs.Operate.{has_entries, operate, resolved}
+use Rattle.rpg_effect.specs.Ended.{Gives}
 use Rattle.rpg_effect.specs.Rows.{row_of}
 use Rattle.rpg_effect.specs.declared.operation.Action.TheVariants.{Assign, Compare, Compute, CrossFoot, Divide, Move, TakeRemainder}
 use Rattle.rpg_effect.specs.declared.operation.Operand.{Operand}
 use Rattle.rpg_effect.specs.declared.operation.Operator.{Operator}
 use Rattle.rpg_effect.specs.declared.operation.Shows.{Shows}
 use Rattle.rpg_effect.specs.declared.operation.Side.{Side}
-use Rattle.rpg_memory.specs.Memory.{Working, entry_if_in_range, forms_in, position_in}
+use Rattle.rpg_memory.specs.Memory.{Working, data_put, entry_if_in_range, forms_in, position_in}
 use Rattle.rpg_memory.specs.declared.resolved.Resolved.{Resolved}
-use Rattle.rpg_machine_operations.specs.Words.{DidEffect, act_in, assigned_in, computed_in, kind_in, moved_in, operate_in, stored_value_in, summed_in}
+use Rattle.rpg_machine_operations.specs.Words.{DidData, act_in, assigned_in, computed_in, kind_in, moved_in, operate_in, stored_value_in, summed_in}
 
 -- an operand whose entry was found names that entry
 record Names (w : Working) (o : Operand ℕ) (r : Resolved) : Type 0 where
   some : is_some (position_in w o) ≡ true
-  entry : entry_of (forms_in w) w.world.fields o ≡ r.entry
+  entry : entry_of (forms_in w) w.world.data.fields o ≡ r.entry
 
 entry_named : (w : Working) (o : Operand ℕ) (r : Resolved) → Some r.entry ≡ entry_if_in_range w o → Names w o r
 entry_named w o r is =
-    let both = cond_some (is_some (position_in w o)) (entry_of (forms_in w) w.world.fields o) r.entry (sym is) in
+    let both = cond_some (is_some (position_in w o)) (entry_of (forms_in w) w.world.data.fields o) r.entry (sym is) in
     record { some = both.0; entry = both.1 }
 
 pub compute_named : (w : Working) (f : Operator) (half : Bool) (a b to : Operand ℕ) (s : Shows) (d e r : Resolved) → Some d.entry ≡ entry_if_in_range w a →
@@ -78,27 +78,27 @@ move_named w side b to e r second third =
 
 -- a number was stored, and shown
 abbrev pub HasStored : Working → Resolved → Shows → ℤ → Working → Type 0
-HasStored w r s n new = new ≡ record w { world = store w.world r.entry s n }
+HasStored w r s n new = new ≡ data_put (store w.world.data r.entry s n) w
 
-stored : (w new : Working) (r : Resolved) (s : Shows) (m n : ℤ) → n ≡ m → HasStored w r s n new → DidEffect (Leaves (store w.world r.entry s m)) w GoesOn new
+stored : (w new : Working) (r : Resolved) (s : Shows) (m n : ℤ) → n ≡ m → HasStored w r s n new → DidData (Gives (store w.world.data r.entry s m)) w GoesOn new
 stored w new r s m n is done = rw (done, is) (record { leaves = refl; right = tt; rest = refl })
 
 pub compute_stored : (w new : Working) (f : Operator) (half : Bool) (s : Shows) (d e r : Resolved) (n : ℤ) → n ≡ computed_in w f half d e r → HasStored w r s n new →
-    DidEffect (act_in w (Compute f half d e r s)) w GoesOn new
+    DidData (act_in w (Compute f half d e r s)) w GoesOn new
 unfolding act
 compute_stored w new f half s d e r n is done = stored w new r s (computed_in w f half d e r) n is done
 
 pub assign_stored : (w new : Working) (negated half : Bool) (s : Shows) (e r : Resolved) (n : ℤ) → n ≡ stored_value_in w half r (assigned_in w negated e) → HasStored w r s n new →
-    DidEffect (act_in w (Assign negated half e r s)) w GoesOn new
+    DidData (act_in w (Assign negated half e r s)) w GoesOn new
 unfolding act
 assign_stored w new negated half s e r n is done = stored w new r s (stored_value_in w half r (assigned_in w negated e)) n is done
 
-pub remainder_stored : (w new : Working) (s : Shows) (r : Resolved) (n : ℤ) → n ≡ stored_value_in w false r w.world.remainder → HasStored w r s n new →
-    DidEffect (act_in w (TakeRemainder r s)) w GoesOn new
+pub remainder_stored : (w new : Working) (s : Shows) (r : Resolved) (n : ℤ) → n ≡ stored_value_in w false r w.world.data.remainder → HasStored w r s n new →
+    DidData (act_in w (TakeRemainder r s)) w GoesOn new
 unfolding act
-remainder_stored w new s r n is done = stored w new r s (stored_value_in w false r w.world.remainder) n is done
+remainder_stored w new s r n is done = stored w new r s (stored_value_in w false r w.world.data.remainder) n is done
 
 pub cross_stored : (w new : Working) (half : Bool) (s : Shows) (e r : Resolved) (n : ℤ) → n ≡ summed_in w half e r → HasStored w r s n new →
-    DidEffect (act_in w (CrossFoot half e r s)) w GoesOn new
+    DidData (act_in w (CrossFoot half e r s)) w GoesOn new
 unfolding act
 cross_stored w new half s e r n is done = stored w new r s (summed_in w half e r) n is done

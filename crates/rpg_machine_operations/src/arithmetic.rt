@@ -9,9 +9,9 @@ ghost use Rattle.rpg_effect.specs.World.{number_at};
 ghost use Rattle.rpg_effect.specs.declared.form.Kind.TheVariants as kinds;
 ghost use Rattle.rpg_effect.specs.declared.operation.Action.TheVariants as actions;
 ghost use Rattle.rpg_memory.specs.Fields.{IsValue};
-ghost use Rattle.rpg_memory.specs.Memory.{NamesNumber, forms_in, rest_value};
+ghost use Rattle.rpg_memory.specs.Memory.{NamesNumber, data_put, forms_in, rest_value};
 ghost use Rattle.rpg_machine_operations.specs.Fixed.{are_aligned};
-ghost use Rattle.rpg_machine_operations.specs.Words.{DidEffect, DidOperate, FitsResult, IsNumberOperand, act_in, assigned_in, computed_in, quotient_in, stored_value_in, with_remainder_of};
+ghost use Rattle.rpg_machine_operations.specs.Words.{DidData, DidOperate, FitsResult, IsNumberOperand, act_in, assigned_in, computed_in, quotient_in, stored_value_in, with_remainder_of};
 
 use crate::resolving::number_named;
 use rpg_decimal::{Num, Rest, Scale, Target, add, div, fit, keep, mult, remainder, sub};
@@ -32,7 +32,7 @@ pub(crate) fn store<S: Store + Drop>(
 )
     requires to { IsValue memory.old.program.fields kinds.Number to.field to.position }
     requires length { unsigned_abs n < 10 ^ length_of (forms_in memory.old to.field) }
-    ensures { memory.new ≡ record memory.old { world = acts.store memory.old.world to shows n } }
+    ensures { memory.new ≡ data_put (acts.store memory.old.world.data to shows n) memory.old }
 {
     memory.set_number(to.field, to.position, n);
     memory.show(shows, n.cmp(&0));
@@ -188,7 +188,7 @@ fn divided<S: Store + Drop>(
     requires to { NamesNumber memory.old to }
     ensures quotient { result ≡ quotient_in memory.old half factor1 factor2 to }
     ensures length { IfSome result (λ n. FitsResult memory.old to n) }
-    ensures left { IfSome result (λ n. memory.new ≡ record memory.old { world = with_remainder_of memory.old half factor1 factor2 to }) }
+    ensures left { IfSome result (λ n. memory.new ≡ data_put (with_remainder_of memory.old half factor1 factor2 to) memory.old) }
     ensures none { result ≡ None → memory.new ≡ memory.old }
 {
     let a = number_at(memory, factor1);
@@ -207,7 +207,7 @@ fn divided<S: Store + Drop>(
 /// The result of MVR: what the last division left.
 fn kept_remainder<S: Store + Drop>(memory: &Memory<'_, S>, to: Resolved) -> i64
     requires { NamesNumber memory.now to }
-    ensures value { result ≡ stored_value_in memory.now false to memory.now.world.remainder }
+    ensures value { result ≡ stored_value_in memory.now false to memory.now.world.data.remainder }
     ensures length { FitsResult memory.now to result }
 {
     let rest = memory.remainder();
@@ -251,7 +251,7 @@ fn divide_numbers<S: Store + Drop>(
     requires factor1 { NamesNumber memory.old factor1 }
     requires factor2 { NamesNumber memory.old factor2 }
     requires to { NamesNumber memory.old to }
-    ensures { DidEffect (act_in memory.old (actions.Divide half factor1 factor2 to shows)) memory.old (end_of result) memory.new }
+    ensures { DidData (act_in memory.old (actions.Divide half factor1 factor2 to shows)) memory.old (end_of result) memory.new }
 {
     match divided(memory, half, factor1, factor2, to) {
         None => End::Halt(Halt::ZeroDivisor),

@@ -2,7 +2,7 @@
 ghost use Rattle.std.specs.Prelude.{◌≡◌};
 ghost use Rattle.rpg_effect.specs.declared.operation.Action.TheVariants as actions;
 ghost use Rattle.rpg_memory.specs.Fields.{IsResolved};
-ghost use Rattle.rpg_memory.specs.Memory.{NamesLike};
+ghost use Rattle.rpg_memory.specs.Memory.{NamesLike, data_put};
 ghost use Rattle.rpg_machine_operations.specs.Words.{DidOperate, IsLikeOperand, compared_in, order_in};
 
 use crate::resolving::entry_named;
@@ -45,7 +45,7 @@ fn show_order<S: Store + Drop>(
 )
     requires factor1 { NamesLike memory.old factor1 factor1 }
     requires factor2 { NamesLike memory.old factor1 factor2 }
-    ensures { memory.new ≡ record memory.old { world = compared_in memory.old factor1 factor2 shows } }
+    ensures { memory.new ≡ data_put (compared_in memory.old factor1 factor2 shows) memory.old }
 {
     let order = compared(memory, factor1.form.kind, factor1, factor2);
     memory.show(shows, order);

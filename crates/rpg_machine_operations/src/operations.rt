@@ -6,7 +6,7 @@ ghost use Rattle.rpg_effect.specs.Rows as rows_of;
 ghost use Rattle.rpg_effect.specs.Weights as weights;
 ghost use Rattle.rpg_effect.specs.declared.operation.Action.TheVariants as actions;
 ghost use Rattle.rpg_machine_operations.specs.Good.{IsRightAction};
-ghost use Rattle.rpg_machine_operations.specs.Words.{DidEffect, DidOperate, operate_in};
+ghost use Rattle.rpg_machine_operations.specs.Words.{DidData, DidOperate, operate_in};
 
 use crate::arithmetic::{assign, compute, divide, take_remainder};
 use crate::comparing::compare_entries;
@@ -114,7 +114,7 @@ fn operate_in_range<S: Store + Drop>(
 /// Does an operation of a right program: halt 2 where an index is out of range.
 pub fn operate<S: Store + Drop>(memory: &mut Memory<'_, S>, action: &Action<Operand<u16>>) -> End
     requires right { IsRightAction memory.old.program.fields action.now }
-    ensures { DidEffect (operate_in memory.old action.now) memory.old (end_of result) memory.new }
+    ensures { DidData (operate_in memory.old action.now) memory.old (end_of result) memory.new }
 {
     match operate_in_range(memory, action) {
         None => End::Halt(Halt::BadIndex),

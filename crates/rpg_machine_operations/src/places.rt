@@ -9,7 +9,7 @@ ghost use Rattle.rpg_effect.specs.declared.form.Kind.TheVariants as kinds;
 ghost use Rattle.rpg_effect.specs.declared.operation.Action.TheVariants as actions;
 ghost use Rattle.rpg_effect.specs.declared.operation.Side.TheVariants as sides;
 ghost use Rattle.rpg_memory.specs.Memory.{NamesLike, NamesNumber, NamesText, forms_in};
-ghost use Rattle.rpg_machine_operations.specs.Words.{DidEffect, DidOperate, FitsResult, IsLikeOperand, kind_in, moved_in, number_moved, number_after_in, source_in};
+ghost use Rattle.rpg_machine_operations.specs.Words.{DidData, DidOperate, FitsResult, IsLikeOperand, kind_in, moved_in, number_moved, number_after_in, source_in};
 ghost use Rattle.rpg_object_program.specs.Kept.{IsCharacter};
 
 use crate::resolving::entry_named;
@@ -26,7 +26,7 @@ use rpg_store::store::Store;
 #[tactic(auto, using(rpg_memory::proofs::Values::numbers))]
 fn figure_at<S: Store + Drop>(memory: &Memory<'_, S>, operand: Resolved) -> Figure
     requires { NamesNumber memory.now operand }
-    ensures value { result.value ≡ number_at memory.now.world operand.entry.field operand.entry.position }
+    ensures value { result.value ≡ number_at memory.now.world.data operand.entry.field operand.entry.position }
     ensures length { result.len ≡ length_of (forms_in memory.now operand.entry.field) }
 {
     memory.is_kept();
@@ -80,7 +80,7 @@ fn move_to_number<S: Store + Drop>(
 ) -> End
     requires factor2 { NamesLike memory.old factor2 factor2 }
     requires to { NamesNumber memory.old to }
-    ensures { DidEffect (moved_in memory.old kinds.Number side factor2 to) memory.old (end_of result) memory.new }
+    ensures { DidData (moved_in memory.old kinds.Number side factor2 to) memory.old (end_of result) memory.new }
 {
     match number_after(memory, side, factor2, to) {
         None => End::Halt(Halt::BadDigit),
@@ -110,7 +110,7 @@ fn move_to_text<S: Store + Drop>(
 )
     requires factor2 { NamesLike memory.old factor2 factor2 }
     requires to { NamesText memory.old to }
-    ensures { DidEffect (moved_in memory.old kinds.Text side factor2 to) memory.old GoesOn memory.new }
+    ensures { DidData (moved_in memory.old kinds.Text side factor2 to) memory.old GoesOn memory.new }
 {
     memory.is_kept();
     let mut places = [0; 256];
@@ -130,7 +130,7 @@ fn move_to_entry<S: Store + Drop>(
 ) -> End
     requires factor2 { NamesLike memory.old factor2 factor2 }
     requires to { NamesLike memory.old to to }
-    ensures { DidEffect (moved_in memory.old (kind_in memory.old to) side factor2 to) memory.old (end_of result) memory.new }
+    ensures { DidData (moved_in memory.old (kind_in memory.old to) side factor2 to) memory.old (end_of result) memory.new }
 {
     match to.form.kind {
         Kind::Number => move_to_number(memory, side, factor2, to),

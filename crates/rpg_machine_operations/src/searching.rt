@@ -9,9 +9,9 @@ ghost use Rattle.rpg_effect.specs.Search as of;
 ghost use Rattle.rpg_effect.specs.declared.operation.Action.TheVariants as actions;
 ghost use Rattle.rpg_effect.specs.declared.operation.Found.{Found};
 ghost use Rattle.rpg_memory.specs.Fields.{CanBeResolved, reads_index};
-ghost use Rattle.rpg_memory.specs.Memory.{NamesLike, forms_in};
+ghost use Rattle.rpg_memory.specs.Memory.{NamesLike, data_put, forms_in};
 ghost use Rattle.rpg_machine_operations.specs.Good.{FitsPosition, HasPosition, written_operand};
-ghost use Rattle.rpg_machine_operations.specs.Words.{DidEffect, DidOperate, HoldsPositions, IsLikeOperand, current_made, current_made_if_any, field_in, found_by, found_put, looked_up_in, nearest_by, operand_field, orders_in};
+ghost use Rattle.rpg_machine_operations.specs.Words.{DidData, DidOperate, HoldsPositions, IsLikeOperand, current_made, current_made_if_any, field_in, found_by, found_put, looked_up_in, nearest_by, operand_field, orders_in};
 
 use crate::comparing::compared;
 use crate::resolving::{entry_named, table_named};
@@ -203,7 +203,7 @@ fn search<S: Store + Drop>(
 fn set_index<S: Store + Drop>(memory: &mut Memory<'_, S>, index: Index<u16>, position: u16)
     requires reads { reads_index memory.old.program.fields index ≡ true }
     requires holds { rows_of.can_hold (forms_in memory.old) index position ≡ true }
-    ensures { memory.new ≡ record memory.old { world = acts.index_set index position memory.old.world } }
+    ensures { memory.new ≡ data_put (acts.index_set index position memory.old.world.data) memory.old }
 {
     memory.is_kept();
     match index {
@@ -217,7 +217,7 @@ fn set_index<S: Store + Drop>(memory: &mut Memory<'_, S>, index: Index<u16>, pos
 fn make_current<S: Store + Drop>(memory: &mut Memory<'_, S>, field: u16, position: u16)
     requires low { 1 ≤ position }
     requires high { position ≤ forms_of.entries_of (forms_in memory.old field) }
-    ensures { memory.new ≡ record memory.old { world = current_made memory.old field position } }
+    ensures { memory.new ≡ data_put (current_made memory.old field position) memory.old }
 {
     if is_table_form(form_at(memory.rows(), field)) {
         memory.set_current(field, position);
@@ -232,7 +232,7 @@ fn make_current_if_any<S: Store + Drop>(
 )
     requires low { 1 ≤ position }
     requires high { HasPosition memory.old.program.fields table position }
-    ensures { memory.new ≡ record memory.old { world = current_made_if_any memory.old table position } }
+    ensures { memory.new ≡ data_put (current_made_if_any memory.old table position) memory.old }
 {
     match table {
         None => {}
@@ -250,7 +250,7 @@ fn place<S: Store + Drop>(
 )
     requires reads { reads_index memory.old.program.fields factor2.index ≡ true }
     requires fits { IfSome found (λ f. FitsPosition memory.old.program.fields factor2 table f.position) }
-    ensures { memory.new ≡ record memory.old { world = found_put memory.old factor2 table found } }
+    ensures { memory.new ≡ data_put (found_put memory.old factor2 table found) memory.old }
 {
     memory.is_kept();
     match found {
@@ -294,7 +294,7 @@ fn search_and_place<S: Store + Drop>(
     requires factor2 { NamesLike memory.old factor1 factor2 }
     requires reads { reads_index memory.old.program.fields factor2.entry.index ≡ true }
     requires positions { HoldsPositions memory.old (written_operand factor2.entry) (field_in to) }
-    ensures { DidEffect (looked_up_in memory.old factor1 factor2 to shows) memory.old (end_of result) memory.new }
+    ensures { DidData (looked_up_in memory.old factor1 factor2 to shows) memory.old (end_of result) memory.new }
 {
     let found = search(memory, factor1, factor2, shows);
     place(memory, factor2.entry, field_of(to), found);

@@ -8,7 +8,7 @@ use Rattle.std.specs.Ordering.{nat_cmp}
 use Rattle.rpg_decimal_words.specs.Fraction.{Fraction}
 use Rattle.rpg_paper.specs.Paper.{Position}
 use Rattle.rpg_effect.specs.Values.{Value, Number, Text}
-use Rattle.rpg_effect.specs.World.{Fields, World}
+use Rattle.rpg_effect.specs.World.{Data, Fields, Paper, World}
 use Rattle.rpg_store.specs.Store.{Currents, Values}
 
 -- ---- worlds
@@ -79,22 +79,46 @@ fraction_code = code_by (ℤ × ℕ) (coded× coded_ℤ coded_ℕ) fraction_to f
 abbrev pub marks_code : Coded (Bool × Bool)
 marks_code = coded× coded_bool coded_bool
 
--- where the form is, and the two overflow marks
-abbrev Paper : Type 0
-Paper = Position × (Bool × Bool)
+-- the parts of data
+abbrev DataParts : Type 0
+DataParts = Fields nat_cmp × (set.FinSet nat_cmp × Fraction)
 
--- the parts of a world
-abbrev Parts : Type 0
-Parts = Fields nat_cmp × (set.FinSet nat_cmp × (Fraction × Paper))
+-- data as their parts
+abbrev data_to : Data nat_cmp → DataParts
+data_to d = (d.fields, (d.on, d.remainder))
 
--- a world as its parts
-abbrev world_to : World nat_cmp → Parts
-world_to w = (w.fields, (w.on, (w.remainder, (w.here, (w.was_overflow, w.has_turned_on)))))
+-- data again
+abbrev data_from : DataParts → Data nat_cmp
+data_from p = record { fields = p.0; on = p.1.0; remainder = p.1.1 }
+
+-- the code of data
+abbrev pub data_code : Coded (Data nat_cmp)
+data_code = code_by DataParts (coded× fields_code (coded× (set.code coded_ℕ) fraction_code)) data_to data_from (λ _. refl)
+
+-- the parts of a paper: where the form is, and the two overflow marks
+abbrev PaperParts : Type 0
+PaperParts = Position × (Bool × Bool)
+
+-- a paper as its parts
+abbrev paper_to : Paper → PaperParts
+paper_to p = (p.here, (p.was_overflow, p.has_turned_on))
+
+-- a paper again
+abbrev paper_from : PaperParts → Paper
+paper_from p = record { here = p.0; was_overflow = p.1.0; has_turned_on = p.1.1 }
+
+-- the code of a paper
+abbrev pub paper_code : Coded Paper
+paper_code = code_by PaperParts (coded× position_code marks_code) paper_to paper_from (λ _. refl)
+
+-- a world as a pair
+abbrev world_to : World nat_cmp → Data nat_cmp × Paper
+world_to w = (w.data, w.paper)
 
 -- a world again
-abbrev world_from : Parts → World nat_cmp
-world_from p = record { fields = p.0; on = p.1.0; remainder = p.1.1.0; here = p.1.1.1.0; was_overflow = p.1.1.1.1.0; has_turned_on = p.1.1.1.1.1 }
+abbrev world_from : Data nat_cmp × Paper → World nat_cmp
+world_from p = record { «data» = p.0; paper = p.1 }
 
 -- the code of a world
 abbrev pub world_code : Coded (World nat_cmp)
-world_code = code_by Parts (coded× fields_code (coded× (set.code coded_ℕ) (coded× fraction_code (coded× position_code marks_code)))) world_to world_from (λ _. refl)
+world_code = code_by (Data nat_cmp × Paper) (coded× data_code paper_code) world_to world_from (λ _. refl)

@@ -8,7 +8,7 @@ use Rattle.rpg_paper.specs.Form.{Standing}
 use Rattle.rpg_effect.specs.Entries.{entry_of, position_of}
 use Rattle.rpg_effect.specs.Forms.{form_at, kind_of}
 use Rattle.rpg_effect.specs.Put.{Held}
-use Rattle.rpg_effect.specs.World.{Fields, World}
+use Rattle.rpg_effect.specs.World.{Data, Fields, World, with_data}
 use Rattle.rpg_effect.specs.declared.form.FieldForm.{FieldForm}
 use Rattle.rpg_effect.specs.declared.form.Kind.TheVariants as kinds
 use Rattle.rpg_effect.specs.declared.operation.Entry.{Entry}
@@ -33,12 +33,8 @@ rest_value r = with_decimals r.value r.dec.value
 -- are counted from the line placed last
 abbrev pub first_world : Fields nat_cmp → World nat_cmp
 first_world fields = record {
-  fields = fields;
-  on = set.from_list (100 ∷ 111 ∷ []);
-  remainder = with_decimals (pos 0) 0;
-  here = record { page = 0; line = 1 };
-  was_overflow = false;
-  has_turned_on = false;
+  «data» = record { fields = fields; on = set.from_list (100 ∷ 111 ∷ []); remainder = with_decimals (pos 0) 0 };
+  paper = record { here = record { page = 0; line = 1 }; was_overflow = false; has_turned_on = false };
 }
 
 -- a memory at the beginning of a job
@@ -57,31 +53,39 @@ forms_in w field = form_at w.program.fields field
 
 -- where the form is
 abbrev pub standing_of : Working → Standing
-standing_of w = record { last = w.last; begun = w.world.here.page; line = w.world.here.line }
+standing_of w = record { last = w.last; begun = w.world.paper.here.page; line = w.world.paper.here.line }
+
+-- the world whose form is on that line of the page from which pages are counted
+abbrev pub on_line : ℕ → World nat_cmp → World nat_cmp
+on_line line w = record w { paper = record w.paper { here = record { page = 0; line = line } } }
 
 -- a line was placed there: pages are counted from it
 abbrev pub behind_line : Working → Working
-behind_line w = record w { last = Some w.world.here.line; world = record w.world { here = record { page = 0; line = w.world.here.line } } }
+behind_line w = record w { last = Some w.world.paper.here.line; world = on_line w.world.paper.here.line w.world }
 
--- the world with these indicators on
-abbrev pub with_on : set.FinSet nat_cmp → World nat_cmp → World nat_cmp
-with_on on w = record w { on = on }
+-- the data became those: program and paper are as they were
+abbrev pub data_put : Data nat_cmp → Working → Working
+data_put d w = record w { world = with_data d w.world }
+
+-- the data with these indicators on
+abbrev pub with_on : set.FinSet nat_cmp → Data nat_cmp → Data nat_cmp
+with_on on d = record d { on = on }
 
 -- one indicator on or off
-abbrev pub indicator_turned : ℕ → Bool → World nat_cmp → World nat_cmp
-indicator_turned n is_on w = with_on (if is_on then set.insert w.on n else set.remove w.on n) w
+abbrev pub indicator_turned : ℕ → Bool → Data nat_cmp → Data nat_cmp
+indicator_turned n is_on d = with_on (if is_on then set.insert d.on n else set.remove d.on n) d
 
--- the world with this remainder
-abbrev pub with_remainder : Fraction → World nat_cmp → World nat_cmp
-with_remainder p w = record w { remainder = p }
+-- the data with this remainder
+abbrev pub with_remainder : Fraction → Data nat_cmp → Data nat_cmp
+with_remainder p d = record d { remainder = p }
 
 -- the position that an operand names now, and the entry, where it names one
 abbrev pub position_in : Working → Operand ℕ → Option ℕ
-position_in w o = position_of (forms_in w) w.world.fields o
+position_in w o = position_of (forms_in w) w.world.data.fields o
 
 -- the entry of an operand, if its index is in range
 abbrev pub entry_if_in_range : Working → Operand ℕ → Option (Entry ℕ)
-entry_if_in_range w o = if is_some (position_in w o) then Some (entry_of (forms_in w) w.world.fields o) else None
+entry_if_in_range w o = if is_some (position_in w o) then Some (entry_of (forms_in w) w.world.data.fields o) else None
 
 -- an operand was resolved to an entry of a number field, of a text field, or of a field of the kind of another operand's
 abbrev pub NamesNumber : Working → Resolved → Type 0

@@ -22,7 +22,7 @@ impl<'a, S: Store + Drop> Memory<'a, S> {
     #[tactic(auto, unfolding(rpg_effect::specs::Lines::after_movement))]
     pub fn space(&mut self, spaces: u8)
         requires spaces { spaces ≤ 3 }
-        requires few { self.old.world.here.page < 1000 }
+        requires few { self.old.world.paper.here.page < 1000 }
         ensures { self.new ≡ record self.old { world = lines.after_space self.old.program.overflow spaces self.old.world } }
     {
         let overflow = self.overflow();
@@ -36,7 +36,7 @@ impl<'a, S: Store + Drop> Memory<'a, S> {
     #[tactic(auto, unfolding(rpg_effect::specs::Lines::after_movement))]
     pub fn skip(&mut self, line: u8)
         requires line { line ≤ 66 }
-        requires few { self.old.world.here.page < 1000 }
+        requires few { self.old.world.paper.here.page < 1000 }
         ensures { self.new ≡ record self.old { world = lines.after_skip self.old.program.overflow line self.old.world } }
     {
         let overflow = self.overflow();

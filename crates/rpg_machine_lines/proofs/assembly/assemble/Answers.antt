@@ -37,7 +37,7 @@ fields-preserved g c =
     let len = length c.args.text.now in
     let reach = reach_of c.args.fields.now in
     record {
-      rest = c.with_planned_field.ensures.rest ∙ ap (λ (x : Working). fields_replaced new.world.fields x) same;
+      rest = c.with_planned_field.ensures.rest ∙ ap (λ (x : Working). fields_replaced new.world.data.fields x) same;
       len = c.with_planned_field.auto.text ∙ c.fields.invariant.len;
       entries = subst (λ (p : Object). AreFieldEntries p.fields c.with_planned_field.new.to_blank.items) (ap (λ (x : Working). x.program) same)
           c.with_planned_field.ensures.entries;

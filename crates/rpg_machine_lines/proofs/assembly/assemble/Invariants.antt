@@ -10,7 +10,7 @@ use Rattle.rpg_machine_lines.proofs.assembly.assemble.Given as goal
 
 abbrev pub invariant-fields : goal.invariant-fields
 invariant-fields g l = record {
-  rest : l.memory ≡ fields_replaced l.memory.world.fields l.fn.memory;
+  rest : l.memory ≡ fields_replaced l.memory.world.data.fields l.fn.memory;
   len : length l.text ≡ length l.fn.text;
   entries : AreFieldEntries l.fn.memory.program.fields l.to_blank.items;
   right : AreRight (forms_in l.fn.memory) (word_at l.fn.memory.program) (length l.fn.text) l.left;

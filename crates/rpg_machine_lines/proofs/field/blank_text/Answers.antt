@@ -17,4 +17,4 @@ returns g c =
     let blank = c.fill_blanks.ensures ∙ ap (λ (n : ℕ). replicate n 32) (sym c.fill_blanks.auto.text ∙ long) in
     c.set_text.ensures
     ∙ ap (λ (fields : Fields nat_cmp). fields_replaced fields m)
-    (ap (λ (t : List ℕ). with_value (f, e) (Text t) m.world.fields) blank ∙ blanked_text m.program.fields m.world.fields f e c.is_kept.ensures.fits c.requires.entry c.requires.text)
+    (ap (λ (t : List ℕ). with_value (f, e) (Text t) m.world.data.fields) blank ∙ blanked_text m.program.fields m.world.data.fields f e c.is_kept.ensures.fits c.requires.entry c.requires.text)

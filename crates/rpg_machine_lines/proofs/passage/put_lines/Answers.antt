@@ -46,8 +46,8 @@ lines-preserved-then-not-may_be_asked g c =
     let low : i < length (pass_lines p pass) = omega (arith, c.lines-test.true, listed_many p pass found has listed told) in
     let w = held_of c.lines.memory in
     let q = output_of c.lines.output in
-    let fails : holds_if_any w.world.on (needed_at p.overflow l.time l.alternatives pass) ≡ false =
-    ap (holds_if_any w.world.on) (sym here.needed) ∙ ap (λ s. holds_if_any s (get_or listed i none).needed) (sym c.on-on.ensures)
+    let fails : holds_if_any w.world.data.on (needed_at p.overflow l.time l.alternatives pass) ≡ false =
+    ap (holds_if_any w.world.data.on) (sym here.needed) ∙ ap (λ s. holds_if_any s (get_or listed i none).needed) (sym c.on-on.ensures)
     ∙ sym c.may_be_asked.ensures ∙ c.if-not-may_be_asked.true in
     record {
       near = c.lines.invariant.near;
@@ -82,7 +82,7 @@ lines-preserved-then-not-is_asked_then g c =
     let q = output_of c.lines.output in
     let same = ap (λ (x : Object). x.overflow) c.rows-rows.ensures.same in
     let asks = answered p pass (get_or listed i none) (line_row l) (listed_of p pass c.args.plan.now.passages has listed told i none c.lines-test.true (line_row l) is)
-    c.on-on.result.now w.world.on c.rows-rows.result.now.overflow c.may_be_asked.result c.is_asked_then.result
+    c.on-on.result.now w.world.data.on c.rows-rows.result.now.overflow c.may_be_asked.result c.is_asked_then.result
     c.on-on.ensures same c.may_be_asked.ensures c.if-not-may_be_asked.false c.is_asked_then.ensures in
     record {
       near = c.lines.invariant.near;
@@ -150,7 +150,7 @@ lines-preserved g c =
     let o = output_of c.put_asked.new.output in
     let same = ap (λ (x : Object). x.overflow) c.rows-rows.ensures.same in
     let asks = answered p pass (get_or listed i none) (line_row l) (listed_of p pass c.args.plan.now.passages has listed told i none c.lines-test.true (line_row l) is)
-    c.on-on.result.now w.world.on c.rows-rows.result.now.overflow c.may_be_asked.result c.is_asked_then.result
+    c.on-on.result.now w.world.data.on c.rows-rows.result.now.overflow c.may_be_asked.result c.is_asked_then.result
     c.on-on.ensures same c.may_be_asked.ensures c.if-not-may_be_asked.false c.is_asked_then.ensures in
     let put = subst (λ (x : Object). IsDone (line_effect x (line_row l)) w q (end_of c.in_ok-put_asked.field-0) v o) c.lines.invariant.program c.in_ok-put_asked.ensures.done in
     let done : IsDone (one p pass (line_row l)) w q (end_of c.in_ok-put_asked.field-0) v o =
@@ -182,7 +182,7 @@ returns-in-Halt-clause-done g c =
     let k = c.in-Halt.halt in
     let same = ap (λ (x : Object). x.overflow) c.rows-rows.ensures.same in
     let asks = answered p pass (get_or listed i none) (line_row l) (listed_of p pass c.args.plan.now.passages has listed told i none c.lines-test.true (line_row l) is)
-    c.on-on.result.now w.world.on c.rows-rows.result.now.overflow c.may_be_asked.result c.is_asked_then.result
+    c.on-on.result.now w.world.data.on c.rows-rows.result.now.overflow c.may_be_asked.result c.is_asked_then.result
     c.on-on.ensures same c.may_be_asked.ensures c.if-not-may_be_asked.false c.is_asked_then.ensures in
     let put = subst (λ (x : Object). IsDone (line_effect x (line_row l)) w q (end_of c.in_ok-put_asked.field-0) v o) c.lines.invariant.program c.in_ok-put_asked.ensures.done in
     let done : IsDone (one p pass (line_row l)) w q (end_of c.in_ok-put_asked.field-0) v o =

@@ -11,7 +11,7 @@ use Rattle.rpg_machine_lines.proofs.passage.put_lines.Given as goal
 
 abbrev pub invariant-lines : goal.invariant-lines
 invariant-lines g l = record {
-  near : IsNear l.memory.world.here;
+  near : IsNear l.memory.world.paper.here;
   program : l.memory.program ≡ l.fn.memory.program;
   grows : OnlyGrows (output_of l.fn.output) (output_of l.output);
   onward : (e : End) (v : Held) (o : Bytes) →

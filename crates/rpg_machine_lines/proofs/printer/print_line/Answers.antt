@@ -17,12 +17,12 @@ returns g c =
     let placed = c.in_ok-place.ensures.placed in
     let after = c.move_form-2.ensures.moved in
     let own = ap (λ (m : Working). m.program) placed ∙ ap (λ (m : Working). m.program) before in
-    let first : c.place.new.self.world.here.page ≡ 0 = ap (λ (m : Working). m.world.here.page) placed in
+    let first : c.place.new.self.world.paper.here.page ≡ 0 = ap (λ (m : Working). m.world.paper.here.page) placed in
     record {
       done = print_done c.args.memory.now.program.overflow c.args.spacing c.args.text.now (held_of c.args.memory.now) (held_of c.place.new.self) (held_of c.move_form-2.new.memory)
           (output_of c.args.output.now) (record { print = c.place.new.print.items; disk = c.args.output.now.disk.items })
           (ap (λ (m : Working). m.world) placed ∙ ap (λ (m : Working). from_line m.world) before)
-          (ap (λ (m : Working). m.last) placed ∙ ap (λ (m : Working). Some m.world.here.line) before)
+          (ap (λ (m : Working). m.last) placed ∙ ap (λ (m : Working). Some m.world.paper.here.line) before)
           (ap (λ (m : Working). m.world) after
           ∙ ap (λ (p : Object). after_space p.overflow c.args.spacing.space_after (after_skip p.overflow c.args.spacing.skip_after c.place.new.self.world)) own)
           (ap (λ (m : Working). m.last) after)

@@ -1,7 +1,7 @@
 use Rattle.std.proofs.Common.{sym, subst, nat_cmp}
-use Rattle.rpg_effect.specs.Effect.{Effect}
+use Rattle.rpg_effect.specs.Ended.{Ended}
 use Rattle.rpg_effect.specs.Ends.{end_of}
-use Rattle.rpg_machine_operations.specs.Words.{DidEffect}
+use Rattle.rpg_machine_operations.specs.Words.{DidData}
 use Rattle.rpg_machine_operations.proofs.Named.{move_named}
 use Rattle.rpg_machine_operations.proofs.Rights.{names_like}
 use Rattle.rpg_machine_operations.proofs.places.move_places.Goals as goal
@@ -15,4 +15,4 @@ move_to_entry-requires-clause-to g c = names_like c.args.memory.now.program.fiel
 pub returns : goal.returns
 returns g c =
     let is = move_named c.args.memory.now c.args.side c.args.factor2.now c.args.to.now c.in_ok-factor2.factor2 c.in_ok-to.to c.in_ok-factor2.ensures.entry c.in_ok-to.ensures.entry in
-    subst (λ (e : Effect nat_cmp). DidEffect e c.args.memory.now (end_of c.move_to_entry.result) c.move_to_entry.new.memory) (sym is) c.move_to_entry.ensures
+    subst (λ (e : Ended nat_cmp). DidData e c.args.memory.now (end_of c.move_to_entry.result) c.move_to_entry.new.memory) (sym is) c.move_to_entry.ensures

@@ -6,5 +6,5 @@ use Rattle.rpg_effect.specs.Forms.{form_at}
 
 abbrev pub invariant-positions : goal.invariant-positions
 invariant-positions g l =
-    let s = order_at (form_at l.memory.program.fields) l.memory.world l.factor1.entry l.factor2.entry in
+    let s = order_at (form_at l.memory.program.fields) l.memory.world.data l.factor1.entry l.factor2.entry in
     last_one s l.order (positions l.from (l.last - l.back)) ≡ last_one s l.order (positions l.from l.last)

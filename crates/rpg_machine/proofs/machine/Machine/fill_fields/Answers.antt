@@ -8,14 +8,13 @@ use Rattle.rpg_effect.specs.Input.{TypeRow, input_fault, record_in}
 use Rattle.rpg_effect.specs.declared.input.InputField.{InputField}
 use Rattle.rpg_effect.specs.declared.input.InputFile.TheVariants.{Primary}
 use Rattle.rpg_machine.proofs.Records.{record_filled}
-use Rattle.rpg_machine.proofs.Staying.{record_stays, same_place}
 use Rattle.rpg_machine.specs.Ready.{IsReady}
 use Rattle.rpg_machine_lines.specs.Ready.{IsNear}
 use Rattle.rpg_paper.specs.Paper.{Position}
 use Rattle.rpg_machine.specs.Outputs.{FillsFields, length_at}
 use Rattle.rpg_machine.specs.Running.{Did, Running}
 use Rattle.rpg_machine.specs.State.{running_of}
-use Rattle.rpg_memory.specs.Memory.{Working, forms_in, held_of}
+use Rattle.rpg_memory.specs.Memory.{Working, held_of}
 use Rattle.rpg_object_program.specs.Object.{Object, input_length, seen, type_row}
 use Rattle.rpg_verify_rules.proofs.Values.{one_of_all}
 use Rattle.rpg_verify_rules.specs.Sound.{IsSound, IsSoundType}
@@ -58,15 +57,15 @@ returns-clause-done g c =
     let counted : steps ≡ c.self.inside.state.steps + length t.inputs.items = omega (arith, c.len.ensures) in
     let mine = same ∙ sym c.self.invariant.own in
     let last = ap (λ (m : Working). m.last) c.fill_all-end.ensures.rest in
-    let done = c.fill_all-end.ensures.leaves ∙ ap (λ (p : Object). record_in (form_at p.fields) text c.deref.result.now old.config.world) (sym mine) ∙ ap (λ (fs : List (InputField ℕ)). record_in (form_at rows.fields.items) text fs old.config.world) c.deref.ensures.value in
-    let filled = record_filled (seen rows) c.args.row text (type_row t) steps e old held there counted last done in
+    let paper = ap (λ (m : Working). m.world.paper) c.fill_all-end.ensures.rest in
+    let done = c.fill_all-end.ensures.leaves ∙ ap (λ (p : Object). record_in (form_at p.fields) text c.deref.result.now old.config.world.data) (sym mine) ∙ ap (λ (fs : List (InputField ℕ)). record_in (form_at rows.fields.items) text fs old.config.world.data) c.deref.ensures.value in
+    let filled = record_filled (seen rows) c.args.row text (type_row t) steps e old held there counted last paper done in
     subst (λ (r : Running). Did (FillsFields r.program c.args.row text) r e new) c.self.view_is
     (subst (λ (p : Object). Did (FillsFields p c.args.row text) old e new) same filled)
 
 pub returns-clause-ready : goal.returns-clause-ready
 returns-clause-ready g c =
-    let m = c.self.inside.state.memory in
-    let same = same_place (end_of c.fill_all-end.result) m.world c.fill_all-end.new.memory.world _ c.fill_all-end.ensures.leaves (record_stays (forms_in m) c.args.text.now c.deref.result.now m.world) in
+    let same = ap (λ (m : Working). m.world.paper.here) c.fill_all-end.ensures.rest in
     let ready = subst (λ (r : Running). IsReady r) (sym c.self.view_is) c.requires.ready in
     λ is. record {
       no_cell = ready.no_cell;

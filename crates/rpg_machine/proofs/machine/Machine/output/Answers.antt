@@ -10,7 +10,7 @@ pub put_out-requires-clause-lines : goal.put_out-requires-clause-lines
 put_out-requires-clause-lines g c = subst (λ (o : Object). AreRightLines o) (sym c.self.invariant.own) c.is_orderly.ensures.lines
 
 pub put_out-requires-clause-near : goal.put_out-requires-clause-near
-put_out-requires-clause-near g c = subst (λ (r : Running). IsNear r.config.world.here) (sym c.self.view_is) c.requires.ready.few_pages
+put_out-requires-clause-near g c = subst (λ (r : Running). IsNear r.config.world.paper.here) (sym c.self.view_is) c.requires.ready.few_pages
 
 pub put_out-requires-clause-room : goal.put_out-requires-clause-room
 put_out-requires-clause-room g c = subst (λ (o : Object). HasLineRoom o c.self.inside.state.writer.text.items) (sym c.self.invariant.own) c.self.invariant.room

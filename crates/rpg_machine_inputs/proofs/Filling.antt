@@ -1,25 +1,22 @@
 -- Input fields with which nothing is wrong.
 use Rattle.std.proofs.Common.{◌≡◌, ℕ, ◌+◌, ◌-◌, ◌≤◌, Bool, true, false, not, ◌&&◌, cond, eqb-true, nat_le, leb-true, List, [], ◌∷◌, length, Option, None, Some, refl, sym, ap, ◌∙◌, arith}
 use Rattle.std.specs.Ordering.{nat_cmp}
-use Rattle.rpg_paper.specs.Paper.{Position}
-use Rattle.rpg_effect.specs.Effect.{Effect, after_output, go_on, quiet, then_go, unless_wrong}
-use Rattle.rpg_effect.specs.Ends.{End, Fault, GoesOn, Halt, Wrong, end_of}
+use Rattle.rpg_effect.specs.Ended.{Ended, ends_with, followed_by, if_right}
+use Rattle.rpg_effect.specs.Ends.{Fault, GoesOn, end_of}
 use Rattle.rpg_effect.specs.Forms.{form_at, is_plain, kind_of, length_of}
 use Rattle.rpg_effect.specs.Input.{field_in, fits_columns, fits_shows, input_fault, record_in, record_part, value_read}
-use Rattle.rpg_effect.specs.Put.{on_paper}
-use Rattle.rpg_effect.specs.World.{World}
+use Rattle.rpg_effect.specs.World.{Data}
 use Rattle.rpg_effect.specs.declared.form.FieldForm.{FieldForm}
 use Rattle.rpg_effect.specs.declared.form.Kind.{Kind}
 use Rattle.rpg_effect.specs.declared.input.InputField.{InputField}
 use Rattle.rpg_effect.specs.declared.outcome.End as rust
 use Rattle.rpg_effect.specs.declared.outcome.End.TheVariants as answers
-use Rattle.rpg_machine.proofs.OnPaper.{effect_on, or_halt_on, unless_on}
-use Rattle.rpg_machine.proofs.Ranges.{and_true}
-use Rattle.rpg_machine.specs.Inputs.{filled_field}
+use Rattle.rpg_memory.proofs.Entries.{and_true}
+use Rattle.rpg_machine_inputs.specs.Inputs.{filled_field}
 use Rattle.rpg_memory.proofs.Silent.{nothing_shown, nothing_shown_if_any}
 use Rattle.rpg_memory.proofs.Values.{length_high, length_low}
 use Rattle.rpg_memory.specs.Fields.{AreForms, IsValue}
-use Rattle.rpg_memory.specs.Memory.{Working, forms_in}
+use Rattle.rpg_memory.specs.Memory.{Working, data_put, forms_in}
 
 pub ruleset numbers = (length_low, length_high)
 
@@ -76,40 +73,22 @@ long_there forms len n f fits is = is ∙ fits.long ∙ ap length_of (sym fits.t
 -- ---- what is done
 
 -- one field with which nothing is wrong
-pub field_filled : (forms : List FieldForm) (text part : List ℕ) (f : InputField ℕ) (k : Kind) (w : World nat_cmp) → input_fault (form_at forms) (length text) f ≡ None → k ≡ kind_of (form_at forms f.field) → part ≡ record_part f text →
-    filled_field k f part w ≡ field_in (form_at forms) text f w
+pub field_filled : (forms : List FieldForm) (text part : List ℕ) (f : InputField ℕ) (k : Kind) (d : Data nat_cmp) → input_fault (form_at forms) (length text) f ≡ None → k ≡ kind_of (form_at forms f.field) → part ≡ record_part f text →
+    filled_field k f part d ≡ field_in (form_at forms) text f d
 unfolding field_in
-field_filled forms text part f k w right kind is =
-    ap (λ x. filled_field k f x w) is
-    ∙ ap (λ l. filled_field l f (record_part f text) w) kind
-    ∙ sym (ap (λ o. unless_wrong o w (filled_field (kind_of (form_at forms f.field)) f (record_part f text) w)) right)
+field_filled forms text part f k d right kind is =
+    ap (λ x. filled_field k f x d) is
+    ∙ ap (λ l. filled_field l f (record_part f text) d) kind
+    ∙ sym (ap (λ o. if_right o d (filled_field (kind_of (form_at forms f.field)) f (record_part f text) d)) right)
 
--- one field went on, over a memory that differs in its world alone: what is left of a record is done after it
-pub field_next : (m w : Working) (text : List ℕ) (all fs : List (InputField ℕ)) (f : InputField ℕ) (r : rust.End) (v : World nat_cmp) →
-    w ≡ record m { world = w.world } → all ≡ f ∷ fs → r ≡ answers.GoesOn → quiet (end_of r) v ≡ field_in (forms_in w) text f w.world →
-    record_in (forms_in m) text fs v ≡ record_in (forms_in m) text all w.world
+-- one field went on, over a memory that differs in its data alone: what is left of a record is done behind it
+pub field_next : (m w : Working) (text : List ℕ) (all fs : List (InputField ℕ)) (f : InputField ℕ) (r : rust.End) (v : Data nat_cmp) →
+    w ≡ data_put w.world.data m → all ≡ f ∷ fs → r ≡ answers.GoesOn → ends_with (end_of r) v ≡ field_in (forms_in w) text f w.world.data →
+    record_in (forms_in m) text fs v ≡ record_in (forms_in m) text all w.world.data
 unfolding record_in
 field_next m w text all fs f r v same is goes h =
-    let rest : World nat_cmp → Effect nat_cmp = record_in (forms_in m) text fs in
-    let one : quiet GoesOn v ≡ field_in (forms_in m) text f w.world =
-    ap (λ x. quiet (end_of x) v) (sym goes) ∙ h ∙ ap (λ (x : Working). field_in (forms_in x) text f w.world) same in
-    let step : rest v ≡ record_in (forms_in m) text (f ∷ fs) w.world = ap (λ (x : Effect nat_cmp). then_go x rest) one in
-    step ∙ ap (λ (xs : List (InputField ℕ)). record_in (forms_in m) text xs w.world) (sym is)
-
--- the same on every page
-module _ (forms : ℕ → Option FieldForm) (previous : Option Position) where
-  field_on : (text : List ℕ) (f : InputField ℕ) (w : World nat_cmp) → field_in forms text f (on_paper previous w) ≡ effect_on previous (field_in forms text f w)
-  unfolding field_in
-  field_on text f w = unless_on previous (input_fault forms (length text) f) w _ _ (or_halt_on previous (value_read (kind_of (forms f.field)) (record_part f text)) 4 w _ _ (λ v. refl))
-
-  go_by : (x : End) (e : Effect nat_cmp) (go : World nat_cmp → Effect nat_cmp) → ((w : World nat_cmp) → go (on_paper previous w) ≡ effect_on previous (go w)) → go_on x (effect_on previous e) go ≡ effect_on previous (go_on x e go)
-  go_by GoesOn e go h = ap (after_output (effect_on previous e)) (h e.world)
-  go_by (Halt k) e go h = refl
-  go_by (Wrong f) e go h = refl
-
-  pub record_on : (text : List ℕ) (fs : List (InputField ℕ)) (w : World nat_cmp) → record_in forms text fs (on_paper previous w) ≡ effect_on previous (record_in forms text fs w)
-  unfolding record_in
-  record_on text [] w = refl
-  record_on text (f ∷ fs) w =
-      ap (λ (e : Effect nat_cmp). then_go e (record_in forms text fs)) (field_on text f w)
-      ∙ go_by (field_in forms text f w).ending (field_in forms text f w) (record_in forms text fs) (record_on text fs)
+    let rest : Data nat_cmp → Ended nat_cmp = record_in (forms_in m) text fs in
+    let one : ends_with GoesOn v ≡ field_in (forms_in m) text f w.world.data =
+    ap (λ x. ends_with (end_of x) v) (sym goes) ∙ h ∙ ap (λ (x : Working). field_in (forms_in x) text f w.world.data) same in
+    let step : rest v ≡ record_in (forms_in m) text (f ∷ fs) w.world.data = ap (λ (x : Ended nat_cmp). followed_by x rest) one in
+    step ∙ ap (λ (xs : List (InputField ℕ)). record_in (forms_in m) text xs w.world.data) (sym is)

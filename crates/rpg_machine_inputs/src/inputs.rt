@@ -5,12 +5,12 @@ ghost use Rattle.rpg_effect.specs.Forms.{length_of};
 ghost use Rattle.rpg_effect.specs.Input as of;
 ghost use Rattle.rpg_effect.specs.Showing.{shown_if_any};
 ghost use Rattle.rpg_effect.specs.declared.form.Kind.TheVariants as kinds;
-ghost use Rattle.rpg_machine.specs.FixedInputs.{AreFixedInputs, IsFixedInput};
-ghost use Rattle.rpg_machine.specs.Inputs.{filled_field, order_of_text};
-ghost use Rattle.rpg_machine_operations.specs.Words.{DidEffect};
+ghost use Rattle.rpg_machine_inputs.specs.FixedInputs.{AreFixedInputs, IsFixedInput};
+ghost use Rattle.rpg_machine_inputs.specs.Inputs.{filled_field, order_of_text};
+ghost use Rattle.rpg_machine_operations.specs.Words.{DidData};
 ghost use Rattle.rpg_object_program.specs.Kept.{IsCharacter};
 ghost use Rattle.rpg_memory.specs.Fields.{IsValue};
-ghost use Rattle.rpg_memory.specs.Memory.{forms_in, with_on};
+ghost use Rattle.rpg_memory.specs.Memory.{data_put, forms_in, with_on};
 ghost use Rattle.rpg_memory.specs.Silent.{names_none};
 
 use crate::fixed_inputs::FixedInput;
@@ -58,7 +58,7 @@ fn fill_number<S: Store + Drop>(
     requires field { IsValue memory.old.program.fields kinds.Number input.now.field 1 }
     requires fixed { IsFixedInput memory.old.program.fields input.now fixed }
     requires long { length digits.now ≡ length_of (forms_in memory.old input.now.field) }
-    ensures { DidEffect (filled_field kinds.Number input.now digits.now memory.old.world) memory.old (end_of result) memory.new }
+    ensures { DidData (filled_field kinds.Number input.now digits.now memory.old.world.data) memory.old (end_of result) memory.new }
 {
     memory.is_kept();
     match read_zoned(digits) {
@@ -84,7 +84,7 @@ fn show_text<S: Store + Drop>(
     text: &[u8],
 )
     requires { is_silent ≡ names_none shows }
-    ensures { memory.new ≡ record memory.old { world = with_on (shown_if_any shows (order_of_text text.now) memory.old.world.on) memory.old.world } }
+    ensures { memory.new ≡ data_put (with_on (shown_if_any shows (order_of_text text.now) memory.old.world.data.on) memory.old.world.data) memory.old }
 {
     if is_silent {
         return;
@@ -103,7 +103,7 @@ fn fill_text<S: Store + Drop>(
     requires fixed { IsFixedInput memory.old.program.fields input.now fixed }
     requires long { length text.now ≡ length_of (forms_in memory.old input.now.field) }
     requires characters { All IsCharacter text.now }
-    ensures { DidEffect (filled_field kinds.Text input.now text.now memory.old.world) memory.old (end_of result) memory.new }
+    ensures { DidData (filled_field kinds.Text input.now text.now memory.old.world.data) memory.old (end_of result) memory.new }
 {
     show_text(memory, input.shows, fixed.is_silent, text);
     memory.set_text_in(fixed.place, input.field, 1, text);
@@ -120,7 +120,7 @@ fn fill_one<S: Store + Drop>(
     requires right { of.input_fault (forms_in memory.old) (length text.now) input.now ≡ None }
     requires characters { All IsCharacter text.now }
     requires fixed { IsFixedInput memory.old.program.fields input.now fixed }
-    ensures { DidEffect (of.field_in (forms_in memory.old) text.now input.now memory.old.world) memory.old (end_of result) memory.new }
+    ensures { DidData (of.field_in (forms_in memory.old) text.now input.now memory.old.world.data) memory.old (end_of result) memory.new }
 {
     memory.is_kept();
     let part = columns_of(text, *input);
@@ -133,7 +133,7 @@ fn fill_one<S: Store + Drop>(
 /// Fills the fields of a record, in order, until one halts.
 #[inline(always)]
 #[tactic(auto, unfolding(rpg_effect::specs::Input::record_in))]
-pub(crate) fn fill_all<S: Store + Drop>(
+pub fn fill_all<S: Store + Drop>(
     memory: &mut Memory<'_, S>,
     text: &[u8],
     inputs: &[InputField<u16>],
@@ -142,7 +142,7 @@ pub(crate) fn fill_all<S: Store + Drop>(
     requires right { All (λ f. of.input_fault (forms_in memory.old) (length text.now) f ≡ None) inputs.now }
     requires characters { All IsCharacter text.now }
     requires fixed { AreFixedInputs memory.old.program.fields inputs.now fixed.now }
-    ensures { DidEffect (of.record_in (forms_in memory.old) text.now inputs.now memory.old.world) memory.old (end_of result) memory.new }
+    ensures { DidData (of.record_in (forms_in memory.old) text.now inputs.now memory.old.world.data) memory.old (end_of result) memory.new }
 {
     let (mut left, mut found) = (inputs, fixed);
     'fields: while let Some((input, behind)) = left.split_first() {

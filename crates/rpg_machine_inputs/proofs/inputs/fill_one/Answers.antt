@@ -1,7 +1,7 @@
 use Rattle.std.proofs.Common.{◌∙◌, sym, length}
 use Rattle.rpg_effect.specs.declared.form.Kind.TheVariants as kinds
-use Rattle.rpg_machine.proofs.Filling.{field_filled, fits_field, long_there, value_there}
-use Rattle.rpg_machine.proofs.inputs.fill_one.Goals as goal
+use Rattle.rpg_machine_inputs.proofs.Filling.{field_filled, fits_field, long_there, value_there}
+use Rattle.rpg_machine_inputs.proofs.inputs.fill_one.Goals as goal
 
 pub columns_of-part-requires-clause-low : goal.columns_of-part-requires-clause-low
 columns_of-part-requires-clause-low g c = (fits_field c.args.memory.now.program.fields (length c.args.text.now) c.args.input.now c.requires.right).low
@@ -37,7 +37,7 @@ fill_text-requires-clause-long g c =
 pub returns-in-Number : goal.returns-in-Number
 returns-in-Number g c = record {
   leaves = c.fill_number.ensures.leaves
-      ∙ field_filled c.args.memory.now.program.fields c.args.text.now c.columns_of-part.result.now c.args.input.now kinds.Number c.args.memory.now.world c.requires.right
+      ∙ field_filled c.args.memory.now.program.fields c.args.text.now c.columns_of-part.result.now c.args.input.now kinds.Number c.args.memory.now.world.data c.requires.right
       (sym c.in-Number.is ∙ c.requires.fixed.kind) c.columns_of-part.ensures.value;
   right = c.fill_number.ensures.right;
   rest = c.fill_number.ensures.rest;
@@ -46,7 +46,7 @@ returns-in-Number g c = record {
 pub returns-in-Text : goal.returns-in-Text
 returns-in-Text g c = record {
   leaves = c.fill_text.ensures.leaves
-      ∙ field_filled c.args.memory.now.program.fields c.args.text.now c.columns_of-part.result.now c.args.input.now kinds.Text c.args.memory.now.world c.requires.right
+      ∙ field_filled c.args.memory.now.program.fields c.args.text.now c.columns_of-part.result.now c.args.input.now kinds.Text c.args.memory.now.world.data c.requires.right
       (sym c.in-Text.is ∙ c.requires.fixed.kind) c.columns_of-part.ensures.value;
   right = c.fill_text.ensures.right;
   rest = c.fill_text.ensures.rest;

@@ -1,10 +1,10 @@
 use Rattle.std.proofs.Common.{◌≡◌, None, ◌∙◌, ap, length, refl}
 use Rattle.std.proofs.lemmas.List.Elements.{All-rest}
 use Rattle.rpg_effect.specs.Input.{input_fault}
-use Rattle.rpg_machine.proofs.Filling.{field_next}
-use Rattle.rpg_machine.proofs.FirstEntries.{inputs_behind}
-use Rattle.rpg_memory.specs.Memory.{Working, forms_in}
-use Rattle.rpg_machine.proofs.inputs.fill_all.Goals as goal
+use Rattle.rpg_machine_inputs.proofs.Filling.{field_next}
+use Rattle.rpg_machine_inputs.proofs.InputEntries.{inputs_behind}
+use Rattle.rpg_memory.specs.Memory.{data_put, forms_in}
+use Rattle.rpg_machine_inputs.proofs.inputs.fill_all.Goals as goal
 
 pub fields-init : goal.fields-init
 fields-init g c = record {
@@ -24,9 +24,9 @@ fields-preserved g c =
     let is = c.in-Some.ensures.cases.0 in
     let same = c.fields.invariant.rest in
     record {
-      rest = c.fill_one.ensures.rest ∙ ap (λ (x : Working). record x { world = new.world }) same;
+      rest = c.fill_one.ensures.rest ∙ ap (data_put new.world.data) same;
       right = All-rest (λ x. input_fault (forms_in m) (length c.args.text.now) x ≡ None) f behind left is c.fields.invariant.right;
       found = inputs_behind m.program.fields left behind f c.fields.found.now is c.fields.invariant.found;
-      onward = field_next m c.fields.memory c.args.text.now left behind f c.fill_one.result new.world same is c.in-GoesOn.is c.fill_one.ensures.leaves
+      onward = field_next m c.fields.memory c.args.text.now left behind f c.fill_one.result new.world.data same is c.in-GoesOn.is c.fill_one.ensures.leaves
           ∙ c.fields.invariant.onward;
     }
