@@ -3,10 +3,10 @@ use Rattle.std.specs.Prelude.{Bool, List, [], ◌∷◌, ◌++◌, fold, if◌th
 use Rattle.std.specs.List.{list_any}
 
 module _ {X : Type 0} (eq : X → X → Bool) where
-  -- the items with one more behind them, unless it is among them
+  -- the items with one more after them, unless it is among them
   abbrev pub insert_key : List X → X → List X
   insert_key known x = if list_any (eq x) known then known else known ++ x ∷ []
 
-  -- the items with others behind them, each in turn
+  -- the items with others after them, each in turn
   abbrev pub insert_all : List X → List X → List X
   insert_all known items = fold insert_key known items

@@ -8,12 +8,12 @@ module _ {X : Type 0} where
   same_front all xs us ys vs cut other same =
       sym (take-append_seam xs us) ∙ ap (λ l. take (length xs) l) (sym cut ∙ other) ∙ ap (λ n. take n (ys ++ vs)) same ∙ take-append_seam ys vs
 
-  -- and so are what is behind them
+  -- and so are what is after them
   pub same_back : (all xs us ys vs : List X) → all ≡ xs ++ us → all ≡ ys ++ vs → length xs ≡ length ys → us ≡ vs
   same_back all xs us ys vs cut other same =
       sym (drop-append_seam xs us) ∙ ap (λ l. drop (length xs) l) (sym cut ∙ other) ∙ ap (λ n. drop n (ys ++ vs)) same ∙ drop-append_seam ys vs
 
-  -- a front that is no longer isn't all, where one more is behind the other
+  -- a front that is no longer isn't all, where one more is after the other
   pub not_all : (all xs ys : List X) (v : X) (vs : List X) → all ≡ xs ++ [] → all ≡ ys ++ v ∷ vs → length xs ≤ length ys → ⊥
   not_all all xs ys v vs cut other few =
       let e : length xs + length {A = X} [] ≡ length ys + length (v ∷ vs) = sym (length-append xs []) ∙ ap (λ l. length l) (sym cut ∙ other) ∙ length-append ys (v ∷ vs) in

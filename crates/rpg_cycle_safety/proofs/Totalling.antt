@@ -68,7 +68,7 @@ module _ (p : Object) (orderly : IsOrderly p) where
       (cycle_in_output p orderly earlier primary secondary previous c i e d out h none waiting near cycle)
       (λ goes rest runs. runs_few n (with_record d.selected earlier) (left_behind p c i rs) (last_position_from previous out.lines) d.config d.inputs rest well.values (well.no_cell goes) well.waiting pays.near runs) ends
 
-  -- a whole run, with the line feed behind its last line
+  -- a whole run, with the line feed after its last line
   pub whole_few : (date : ℤ) (fields : Fields nat_cmp) (records : Records) (course : Course) (bytes : Bytes) → unsigned_abs date < 10 ^ 6 → Holds p (job_first_world fields).data →
       IsRun p date fields records course bytes → length bytes.print + length bytes.disk ≤ course.cycles * (bound p * bytes_of_step) + 1
   whole_few date fields records course bytes small h run =

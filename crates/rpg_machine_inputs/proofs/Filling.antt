@@ -81,7 +81,7 @@ field_filled forms text part f k d right kind is =
     ∙ ap (λ l. filled_field l f (record_part f text) d) kind
     ∙ sym (ap (λ o. if_right o d (filled_field (kind_of (form_at forms f.field)) f (record_part f text) d)) right)
 
--- one field went on, over a memory that differs in its data alone: what is left of a record is done behind it
+-- one field went on, over a memory that differs in its data alone: what is left of a record is done after it
 pub field_next : (m w : Working) (text : List ℕ) (all fs : List (InputField ℕ)) (f : InputField ℕ) (r : rust.End) (v : Data nat_cmp) →
     w ≡ data_put w.world.data m → all ≡ f ∷ fs → r ≡ answers.GoesOn → ends_with (end_of r) v ≡ field_in (forms_in w) text f w.world.data →
     record_in (forms_in m) text fs v ≡ record_in (forms_in m) text all w.world.data

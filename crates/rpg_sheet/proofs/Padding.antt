@@ -1,4 +1,4 @@
--- A line with blanks behind its end.
+-- A line with blanks after its end.
 use Rattle.std.proofs.Common.{◌≡◌, ℕ, zero, suc, ◌-◌, ◌≤◌, ◌++◌, Bool, true, false, List, length, take, drop, refl, ap, sym, ◌∙◌, ◌<◌, arith, inl, inr, length-append}
 use Rattle.std.specs.Prelude.{◌⊎◌, ◌&&◌, min, replicate}
 use Rattle.std.specs.List.{list_all}
@@ -26,7 +26,7 @@ blank_characters : (n : ℕ) → list_all is_character (replicate n 32) ≡ true
 blank_characters zero = refl
 blank_characters (suc n) = blank_characters n
 
--- a line that isn't longer than a card has the same characters with the blanks behind it
+-- a line that isn't longer than a card has the same characters with the blanks after it
 pub card_characters : (line : List ℕ) → length line ≤ 80 → list_all is_character (card_of line) ≡ list_all is_character line
 card_characters line short = rw (take_all 80 line short, list_all-append is_character line (replicate (80 - length line) 32), blank_characters (80 - length line)) (and_true (list_all is_character line))
   where
