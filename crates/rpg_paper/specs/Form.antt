@@ -1,6 +1,6 @@
 -- The position of a form. A form counts pages from the page of the line placed last, so no page number grows without bound.
 use Rattle.std.specs.Prelude.{◌≡◌, ℕ, ◌+◌, ◌-◌, ◌≤◌, List, [], ◌∷◌, ◌++◌, replicate, Option, Some, None, option_map, unwrap_or, if◌then◌else◌, ◌==◌}
-use Rattle.rpg_text.specs.Texts.{trimmed}
+pub use Rattle.rpg_text.specs.Texts.{trimmed}
 use Rattle.rpg_paper.specs.Paper.{Position, Placed, spaced, skipped, paper, last_position}
 
 -- the line placed last on its page, the pages begun since, and the present line
