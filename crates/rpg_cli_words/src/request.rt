@@ -386,13 +386,19 @@ pub struct Refusal {
     error: Error,
 }
 
+impl From<AllocError> for Refusal {
+    fn from(error: AllocError) -> Refusal {
+        Refusal {
+            error: Error::from(error),
+        }
+    }
+}
+
 impl Refusal {
     fn of(told: Result<Error, AllocError>) -> Refusal {
         match told {
             Ok(error) => Refusal { error },
-            Err(error) => Refusal {
-                error: Error::from(error),
-            },
+            Err(error) => Refusal::from(error),
         }
     }
 
@@ -583,6 +589,10 @@ fn bad_value(matches: &ArgMatches) -> Option<&'static str> {
     }
 }
 
+fn run_request<'a>(given: &ArgMatches<'a>) -> Option<Request<'a>> {
+    Some(Request::Run(run_words(given, FileWord::Object)?))
+}
+
 /// The request of a command whose words need no memory.
 fn plain_request<'a>(name: &str, given: &ArgMatches<'a>) -> Option<Request<'a>> {
     match name {
@@ -592,7 +602,7 @@ fn plain_request<'a>(name: &str, given: &ArgMatches<'a>) -> Option<Request<'a>> 
         "records" => records_words(given),
         "verify" => verify_words(given),
         "show" => show_words(given),
-        "run" => Some(Request::Run(run_words(given, FileWord::Object)?)),
+        "run" => run_request(given),
         "go" => go_words(given),
         _ => None,
     }
@@ -648,26 +658,21 @@ fn unread(alloc: Global, words: &[String], matches: &ArgMatches<'_>) -> Result<E
 }
 
 /// The request of words that clap takes.
-fn read_matches<'a>(
+fn read<'a>(
     alloc: Global,
     words: &[String],
     matches: &ArgMatches<'a>,
-) -> Result<Request<'a>, Error> {
+) -> Result<Request<'a>, Refusal> {
     match request_in(alloc, matches)? {
         Some(request) => Ok(request),
-        None => Err(unread(alloc, words, matches)?),
+        None => Err(Refusal::of(unread(alloc, words, matches))),
     }
-}
-
-fn read<'a>(alloc: Global, words: &'a [String]) -> Result<Request<'a>, Error> {
-    let matches = matches_of(alloc, words)?;
-    read_matches(alloc, words, &matches)
 }
 
 /// The request that the words ask for. The first word is the program's name.
 pub fn request_of<'a>(alloc: Global, words: &'a [String]) -> Result<Request<'a>, Refusal> {
-    match read(alloc, words) {
-        Ok(request) => Ok(request),
+    match matches_of(alloc, words) {
+        Ok(matches) => read(alloc, words, &matches),
         Err(error) => Err(Refusal { error }),
     }
 }
