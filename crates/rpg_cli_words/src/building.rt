@@ -61,20 +61,11 @@ fn command_of<'a>(alloc: Global, row: CommandRow) -> Result<Command<'a>, AllocEr
     Command::new(alloc, row.name).about(row.about).args(args)
 }
 
-/// Adds the command of a line.
-fn add_command<'a>(
-    alloc: Global,
-    commands: &mut Vec<Command<'a>>,
-    line: &'static str,
-) -> Result<(), AllocError> {
-    Ok(commands.push(command_of(alloc, CommandRow::of(line))?)?)
-}
-
 /// The commands of these lines.
 fn commands<'a>(alloc: Global, lines: &'static str) -> Result<Vec<Command<'a>>, AllocError> {
     let mut commands = Vec::new(alloc);
     for line in lines.lines() {
-        add_command(alloc, &mut commands, line)?;
+        commands.push(command_of(alloc, CommandRow::of(line))?)?;
     }
     Ok(commands)
 }

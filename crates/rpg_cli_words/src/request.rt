@@ -3,6 +3,7 @@
 ghost use Rattle.std.specs.Prelude.{◌<◌, ◌≤◌, IfSome};
 
 use crate::building::{fault, matches_of};
+use crate::commands::cut;
 use crate::dates::DateWord;
 use crate::fitting::{self, FitWords, fit_words};
 use crate::format::{Format, format_of};
@@ -361,10 +362,7 @@ impl<'a> RunWords<'a> {
 
     /// Two words that name standard input, or standard output: what one of them reads or writes would be mixed with the other's.
     pub fn shared_stream(&self) -> Option<SameFile> {
-        match self.shared_input() {
-            Some(same) => Some(same),
-            None => self.shared_output(),
-        }
+        self.shared_input().or(self.shared_output())
     }
 
     fn path(&self, word: FileWord) -> Option<&'a str> {
@@ -550,28 +548,16 @@ fn explain_words<'a>(
 }
 
 /// The words for sources and object programs that no standard stream stands for, and what is said where one does.
-const PROGRAM_FILES: [(&str, &str); 4] = [
-    (
-        "OBJ",
-        "'<OBJ>' can't be '-', a standard stream; a file of that name is './-'",
-    ),
-    (
-        "source",
-        "'--source <SRC>' can't be '-', a standard stream; a file of that name is './-'",
-    ),
-    (
-        "by",
-        "'--by <SRC>' can't be '-', a standard stream; a file of that name is './-'",
-    ),
-    (
-        "to",
-        "'--to <SRC>' can't be '-', a standard stream; a file of that name is './-'",
-    ),
-];
+const PROGRAM_FILES: &str =
+    "OBJ '<OBJ>' can't be '-', a standard stream; a file of that name is './-'
+source '--source <SRC>' can't be '-', a standard stream; a file of that name is './-'
+by '--by <SRC>' can't be '-', a standard stream; a file of that name is './-'
+to '--to <SRC>' can't be '-', a standard stream; a file of that name is './-'";
 
 /// What is wrong with the words for a source and an object program, if one is a standard stream.
 fn fault_of_program(given: &ArgMatches) -> Option<&'static str> {
-    for (name, fault) in &PROGRAM_FILES {
+    for line in PROGRAM_FILES.lines() {
+        let (name, fault) = cut(line, " ");
         if may_be_standard(given.get_str(name)) {
             return Some(fault);
         }
@@ -645,16 +631,11 @@ fn program_name(words: &[String]) -> &str {
 
 /// The fault of words that clap takes and that aren't any request.
 fn unread(alloc: Global, words: &[String], matches: &ArgMatches<'_>) -> Result<Error, AllocError> {
-    let program = program_name(words);
-    match bad_value(matches) {
-        Some(message) => fault(alloc, program, ErrorKind::InvalidValue, message),
-        None => fault(
-            alloc,
-            program,
-            ErrorKind::MissingSubcommand,
-            "a command is wanted",
-        ),
-    }
+    let (kind, message) = match bad_value(matches) {
+        Some(message) => (ErrorKind::InvalidValue, message),
+        None => (ErrorKind::MissingSubcommand, "a command is wanted"),
+    };
+    fault(alloc, program_name(words), kind, message)
 }
 
 /// The request of words that clap takes.
