@@ -1,6 +1,6 @@
 //! The commands of `rpg2`, as clap knows them.
 //!
-//! Each step of clap's builder is in a function of its own: the proof of a chain of them grows with its length.
+//! A word is made in a few functions, each of which goes on where the last one ends: the proof of a chain of calls grows with its length.
 
 use crate::commands::{COMMANDS, CommandRow, Word};
 use clap::error::ErrorKind;
@@ -26,29 +26,25 @@ fn named<'a>(alloc: Global, word: Word) -> Arg<'a> {
 }
 
 /// With what each use does, and what a value has to be.
-fn with_parser<'a>(arg: Arg<'a>, word: Word) -> Arg<'a> {
-    arg.action(word.action()).value_parser(word.value_parser())
+fn parsed<'a>(alloc: Global, word: Word) -> Arg<'a> {
+    named(alloc, word)
+        .action(word.action())
+        .value_parser(word.value_parser())
 }
 
 /// With how many values a use takes, what help calls them, and those that stand where none is given.
-fn with_values<'a>(arg: Arg<'a>, word: Word) -> Arg<'a> {
-    arg.num_args(word.values())
+fn valued<'a>(alloc: Global, word: Word) -> Arg<'a> {
+    parsed(alloc, word)
+        .num_args(word.values())
         .value_name(word.value)
         .default_values(word.defaults())
 }
 
-/// With the word that doesn't go with it, and the one in whose place it has to be there.
-fn with_other<'a>(arg: Arg<'a>, word: Word) -> Result<Arg<'a>, AllocError> {
-    arg.conflicts_with_all(word.other.as_slice())?
-        .required_unless_present_any(word.unless().as_slice())
-}
-
-/// A word as clap knows it.
+/// A word as clap knows it: with the word that doesn't go with it, and the one in whose place it has to be there.
 fn arg<'a>(alloc: Global, word: Word) -> Result<Arg<'a>, AllocError> {
-    with_other(
-        with_values(with_parser(named(alloc, word), word), word),
-        word,
-    )
+    valued(alloc, word)
+        .conflicts_with_all(word.other.as_slice())?
+        .required_unless_present_any(word.unless().as_slice())
 }
 
 fn args_of<'a>(alloc: Global, keys: &'static str) -> Result<Vec<Arg<'a>>, AllocError> {
@@ -65,20 +61,11 @@ fn command_of<'a>(alloc: Global, row: CommandRow) -> Result<Command<'a>, AllocEr
     Command::new(alloc, row.name).about(row.about).args(args)
 }
 
-/// Adds the command of a line.
-fn add_command<'a>(
-    alloc: Global,
-    commands: &mut Vec<Command<'a>>,
-    line: &'static str,
-) -> Result<(), AllocError> {
-    Ok(commands.push(command_of(alloc, CommandRow::of(line))?)?)
-}
-
 /// The commands of these lines.
 fn commands<'a>(alloc: Global, lines: &'static str) -> Result<Vec<Command<'a>>, AllocError> {
     let mut commands = Vec::new(alloc);
     for line in lines.lines() {
-        add_command(alloc, &mut commands, line)?;
+        commands.push(command_of(alloc, CommandRow::of(line))?)?;
     }
     Ok(commands)
 }
@@ -105,18 +92,12 @@ const STATUSES: &str =
 const VERSION: &str =
     "1.0.0 (unreleased), object programs of versions 1 and 2, proved in Rattle's logic dac8208d650f15bf";
 
-fn with_texts<'a>(command: Command<'a>) -> Command<'a> {
-    command
+/// The program's command, without its commands.
+fn root<'a>(alloc: Global) -> Command<'a> {
+    Command::new(alloc, "rpg2")
         .about("Compiles, checks and runs RPG II reports")
         .version(VERSION)
-}
-
-fn with_statuses<'a>(command: Command<'a>) -> Command<'a> {
-    command.after_help(STATUSES)
-}
-
-fn with_rules<'a>(command: Command<'a>) -> Command<'a> {
-    command
+        .after_help(STATUSES)
         .subcommand_required(true)
         .arg_required_else_help(true)
 }
@@ -124,7 +105,7 @@ fn with_rules<'a>(command: Command<'a>) -> Command<'a> {
 /// The program's command, with the commands of these lines.
 fn command<'a>(alloc: Global, lines: &'static str) -> Result<Command<'a>, AllocError> {
     let commands = commands(alloc, lines)?;
-    with_rules(with_statuses(with_texts(Command::new(alloc, "rpg2")))).subcommands(commands)
+    root(alloc).subcommands(commands)
 }
 
 /// What the words say, or what clap says in place of that. The first word is the program's name.

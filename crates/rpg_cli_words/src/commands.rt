@@ -92,7 +92,7 @@ const FORMATS: &[&str] = &["text", "json"];
 const WARNING_CODES: &[&str] = &["W1", "W2", "W3", "W4", "W5", "W6", "W7"];
 
 /// Cuts a text at a mark. Without the mark nothing comes after it.
-fn cut(text: &'static str, mark: &str) -> (&'static str, &'static str) {
+pub(crate) fn cut(text: &'static str, mark: &str) -> (&'static str, &'static str) {
     text.split_once(mark).unwrap_or((text, ""))
 }
 

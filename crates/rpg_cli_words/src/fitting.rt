@@ -1,7 +1,7 @@
 //! The words of the command that rewrites an old deck.
 
 use crate::format::{Format, format_of};
-use crate::request::{FileWord, Request, is_standard};
+use crate::request::{FileWord, Request, may_be_standard};
 use clap::ArgMatches;
 use std::alloc::{AllocError, Global};
 
@@ -34,10 +34,7 @@ impl<'a> FitWords<'a> {
 
     /// Whether the new deck goes to standard output.
     pub fn writes_standard_output(&self) -> bool {
-        match self.new_deck {
-            Some(path) => is_standard(path),
-            None => false,
-        }
+        may_be_standard(self.new_deck)
     }
 
     pub(crate) fn path(&self, word: FileWord) -> Option<&'a str> {

@@ -3,6 +3,7 @@
 ghost use Rattle.std.specs.Prelude.{◌<◌, ◌≤◌, IfSome};
 
 use crate::building::{fault, matches_of};
+use crate::commands::cut;
 use crate::dates::DateWord;
 use crate::fitting::{self, FitWords, fit_words};
 use crate::format::{Format, format_of};
@@ -361,10 +362,7 @@ impl<'a> RunWords<'a> {
 
     /// Two words that name standard input, or standard output: what one of them reads or writes would be mixed with the other's.
     pub fn shared_stream(&self) -> Option<SameFile> {
-        match self.shared_input() {
-            Some(same) => Some(same),
-            None => self.shared_output(),
-        }
+        self.shared_input().or(self.shared_output())
     }
 
     fn path(&self, word: FileWord) -> Option<&'a str> {
@@ -386,13 +384,19 @@ pub struct Refusal {
     error: Error,
 }
 
+impl From<AllocError> for Refusal {
+    fn from(error: AllocError) -> Refusal {
+        Refusal {
+            error: Error::from(error),
+        }
+    }
+}
+
 impl Refusal {
     fn of(told: Result<Error, AllocError>) -> Refusal {
         match told {
             Ok(error) => Refusal { error },
-            Err(error) => Refusal {
-                error: Error::from(error),
-            },
+            Err(error) => Refusal::from(error),
         }
     }
 
@@ -543,29 +547,17 @@ fn explain_words<'a>(
     })))
 }
 
-/// The words for sources and object programs that no standard stream stands for, and the fault if one does.
-const PROGRAM_FILES: [(&str, &str); 4] = [
-    (
-        "OBJ",
-        "'<OBJ>' can't be '-', a standard stream; a file of that name is './-'",
-    ),
-    (
-        "source",
-        "'--source <SRC>' can't be '-', a standard stream; a file of that name is './-'",
-    ),
-    (
-        "by",
-        "'--by <SRC>' can't be '-', a standard stream; a file of that name is './-'",
-    ),
-    (
-        "to",
-        "'--to <SRC>' can't be '-', a standard stream; a file of that name is './-'",
-    ),
-];
+/// The words for sources and object programs that no standard stream stands for, and what is said where one does.
+const PROGRAM_FILES: &str =
+    "OBJ '<OBJ>' can't be '-', a standard stream; a file of that name is './-'
+source '--source <SRC>' can't be '-', a standard stream; a file of that name is './-'
+by '--by <SRC>' can't be '-', a standard stream; a file of that name is './-'
+to '--to <SRC>' can't be '-', a standard stream; a file of that name is './-'";
 
 /// What is wrong with the words for a source and an object program, if one is a standard stream.
 fn fault_of_program(given: &ArgMatches) -> Option<&'static str> {
-    for (name, fault) in &PROGRAM_FILES {
+    for line in PROGRAM_FILES.lines() {
+        let (name, fault) = cut(line, " ");
         if may_be_standard(given.get_str(name)) {
             return Some(fault);
         }
@@ -583,6 +575,10 @@ fn bad_value(matches: &ArgMatches) -> Option<&'static str> {
     }
 }
 
+fn run_request<'a>(given: &ArgMatches<'a>) -> Option<Request<'a>> {
+    Some(Request::Run(run_words(given, FileWord::Object)?))
+}
+
 /// The request of a command whose words need no memory.
 fn plain_request<'a>(name: &str, given: &ArgMatches<'a>) -> Option<Request<'a>> {
     match name {
@@ -592,7 +588,7 @@ fn plain_request<'a>(name: &str, given: &ArgMatches<'a>) -> Option<Request<'a>> 
         "records" => records_words(given),
         "verify" => verify_words(given),
         "show" => show_words(given),
-        "run" => Some(Request::Run(run_words(given, FileWord::Object)?)),
+        "run" => run_request(given),
         "go" => go_words(given),
         _ => None,
     }
@@ -635,39 +631,29 @@ fn program_name(words: &[String]) -> &str {
 
 /// The fault of words that clap takes and that aren't any request.
 fn unread(alloc: Global, words: &[String], matches: &ArgMatches<'_>) -> Result<Error, AllocError> {
-    let program = program_name(words);
-    match bad_value(matches) {
-        Some(message) => fault(alloc, program, ErrorKind::InvalidValue, message),
-        None => fault(
-            alloc,
-            program,
-            ErrorKind::MissingSubcommand,
-            "a command is wanted",
-        ),
-    }
+    let (kind, message) = match bad_value(matches) {
+        Some(message) => (ErrorKind::InvalidValue, message),
+        None => (ErrorKind::MissingSubcommand, "a command is wanted"),
+    };
+    fault(alloc, program_name(words), kind, message)
 }
 
 /// The request of words that clap takes.
-fn read_matches<'a>(
+fn read<'a>(
     alloc: Global,
     words: &[String],
     matches: &ArgMatches<'a>,
-) -> Result<Request<'a>, Error> {
+) -> Result<Request<'a>, Refusal> {
     match request_in(alloc, matches)? {
         Some(request) => Ok(request),
-        None => Err(unread(alloc, words, matches)?),
+        None => Err(Refusal::of(unread(alloc, words, matches))),
     }
-}
-
-fn read<'a>(alloc: Global, words: &'a [String]) -> Result<Request<'a>, Error> {
-    let matches = matches_of(alloc, words)?;
-    read_matches(alloc, words, &matches)
 }
 
 /// The request that the words ask for. The first word is the program's name.
 pub fn request_of<'a>(alloc: Global, words: &'a [String]) -> Result<Request<'a>, Refusal> {
-    match read(alloc, words) {
-        Ok(request) => Ok(request),
+    match matches_of(alloc, words) {
+        Ok(matches) => read(alloc, words, &matches),
         Err(error) => Err(Refusal { error }),
     }
 }
