@@ -1,6 +1,7 @@
 //! The forms of names: lengths and decimals.
 
 use crate::cards::is_card;
+use crate::name::is_date_part;
 use crate::stop::Stop;
 use rpg_fit_deck::{Card, View, Word};
 use std::alloc::Global;
@@ -67,7 +68,7 @@ fn first_table(card: &Card) -> Option<Array> {
 
 fn push_array(found: &mut Vec<Array>, array: Option<Array>) -> Result<(), Stop> {
     if let Some(array) = array {
-        if !array.name.text().starts_with(b"TAB") {
+        if !matches!(array.name.text(), [b'T', b'A', b'B', ..]) {
             found.push(array)?;
         }
     }
@@ -187,12 +188,9 @@ fn form_of_date_or_page(name: &[u8]) -> Option<Form> {
     None
 }
 
-/// The parts of the date.
-const DATE_PARTS: [&str; 3] = ["UDAY", "UMONTH", "UYEAR"];
-
 /// The form of the parts of the date where no card defines them.
 fn form_of_date_part(name: &[u8]) -> Option<Form> {
-    if DATE_PARTS.iter().any(|part| part.as_bytes() == name) {
+    if is_date_part(name) {
         return Some(Form {
             length: 2,
             decimals: b'0',
