@@ -165,17 +165,32 @@ impl Condition {
 
     /// Whether it has a term.
     pub fn has(&self, term: Term) -> bool {
-        self.terms().iter().any(|one| *one == term)
+        for one in self.terms() {
+            if *one == term {
+                return true;
+            }
+        }
+        false
     }
 
     /// Whether it asks for an indicator, on or off.
     pub fn asks(&self, indicator: Indicator) -> bool {
-        self.terms().iter().any(|one| one.indicator == indicator)
+        for one in self.terms() {
+            if one.indicator == indicator {
+                return true;
+            }
+        }
+        false
     }
 
     /// Whether it has a term of another condition the other way.
     fn is_against(&self, other: &Condition) -> bool {
-        self.terms().iter().any(|one| other.has(one.opposite()))
+        for one in self.terms() {
+            if other.has(one.opposite()) {
+                return true;
+            }
+        }
+        false
     }
 
     /// Whether it never holds together with another one: some indicator has to be on and off.
@@ -190,7 +205,12 @@ impl Condition {
 
     /// Whether it holds at the first output, when L0 and 1P alone are on.
     pub fn holds_first(&self) -> bool {
-        self.terms().iter().all(|one| one.holds_first())
+        for one in self.terms() {
+            if !one.holds_first() {
+                return false;
+            }
+        }
+        true
     }
 
     /// How many cards its terms need: one at least.

@@ -63,7 +63,7 @@ fn tables_of(card: &Card) -> [Option<Array>; 2] {
 
 fn push_array(found: &mut Vec<Array>, array: Option<Array>) -> Result<(), Stop> {
     if let Some(array) = array {
-        if !array.name.text().starts_with(b"TAB") {
+        if !matches!(array.name.text(), [b'T', b'A', b'B', ..]) {
             found.push(array)?;
         }
     }

@@ -12,12 +12,17 @@ use std::alloc::Global;
 const RESULT: usize = 6;
 
 /// Operations that name labels or subroutines, which are no fields.
-const LABELLED: [&str; 5] = ["GOTO", "EXSR", "TAG", "BEGSR", "ENDSR"];
+const LABELLED: [&[u8]; 5] = [b"GOTO", b"EXSR", b"TAG", b"BEGSR", b"ENDSR"];
 
 /// Whether a calculation names labels or subroutines, which are no fields.
 fn names_labels(card: &Card) -> bool {
     let operation = card.value(28, 32);
-    LABELLED.iter().any(|word| word.as_bytes() == operation)
+    for word in &LABELLED {
+        if *word == operation {
+            return true;
+        }
+    }
+    false
 }
 
 /// A card with another name in columns that have the old one; none if they have another one.
