@@ -57,46 +57,55 @@ fn looks_like_ebcdic(line: &[u8]) -> bool {
     count > begin.len() / 2
 }
 
+/// The digits of a byte.
+const HEX: &[u8; 16] = b"0123456789abcdef";
+
+const BAD_EBCDIC: &str = "byte {} isn't a character; {}";
+
+const BAD_LETTER: &str =
+    "byte {} begins a letter of UTF-8 that isn't ASCII: write one from blank to ~";
+
+const BAD_BYTE: &str = "byte {} isn't a character: characters run from blank to ~";
+
 /// Writes what a byte of a line, which is no character, comes of and how it is mended. Its place is counted from 0.
 pub fn write_byte_cause(out: &mut TextWriter, line: &[u8], place: usize) {
     let rest = line.get(place..).unwrap_or(&[]);
     let byte = rest.first().copied().unwrap_or(0);
-    if looks_like_ebcdic(line) {
-        write!(out, "byte {byte:02x} isn't a character; {EBCDIC}");
-        return;
-    }
-    match cause_of(rest) {
-        Some(cause) => out.write_str(cause),
-        None if begins_letter(rest) => write!(
-            out,
-            "byte {byte:02x} begins a letter of UTF-8 that isn't ASCII: write one from blank to ~"
-        ),
-        None => write!(
-            out,
-            "byte {byte:02x} isn't a character: characters run from blank to ~"
-        ),
-    }
+    let sentence = if looks_like_ebcdic(line) {
+        BAD_EBCDIC
+    } else if let Some(cause) = cause_of(rest) {
+        cause
+    } else if begins_letter(rest) {
+        BAD_LETTER
+    } else {
+        BAD_BYTE
+    };
+    let digits = [HEX[usize::from(byte / 16)], HEX[usize::from(byte % 16)]];
+    out.fill(sentence, &[digits.as_slice().into(), EBCDIC.into()]);
 }
+
+const TOO_LONG: &str = "the line has {} characters, and a card has 80";
+
+const RETURNS: &str =
+    "; it has carriage returns: if they end its lines, `tr '\\r' '\\n'` makes them line feeds";
+
+const BLANK: &str = "; columns 81-{} are blank: `cut -c1-80` cuts them off";
+
+const NUMBERED: &str =
+    "; of a deck of 96 columns `cut -c1-80` keeps the cards (docs/OLD_PROGRAMS.md)";
 
 /// Writes why a line of a source may have more than 80 characters.
 pub(crate) fn write_long_line(out: &mut TextWriter, line: &[u8]) {
     let count = line.len();
     let rest = line.get(LOOKED_AT..).unwrap_or(&[]);
-    write!(out, "the line has {count} characters, and a card has 80");
+    out.fill(TOO_LONG, &[count.into()]);
     if looks_like_ebcdic(line) {
-        write!(out, "; {EBCDIC}");
+        out.fill("; {}", &[EBCDIC.into()]);
     } else if line.contains(&b'\r') {
-        out.write_str(
-            "; it has carriage returns: if they end its lines, `tr '\\r' '\\n'` makes them line feeds",
-        );
+        out.write_str(RETURNS);
     } else if is_blank(rest) {
-        write!(
-            out,
-            "; columns 81-{count} are blank: `cut -c1-80` cuts them off"
-        );
+        out.fill(BLANK, &[count.into()]);
     } else if count == 96 {
-        out.write_str(
-            "; of a deck of 96 columns `cut -c1-80` keeps the cards (docs/OLD_PROGRAMS.md)",
-        );
+        out.write_str(NUMBERED);
     }
 }

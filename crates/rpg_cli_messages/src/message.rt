@@ -104,6 +104,12 @@ fn slip_of(source: SourceCards<'_>, line: &[u8], fault: CardFault) -> Option<Sli
     }
 }
 
+const LATER_SHEET: &str = "also follows from card {}, which is of a later sheet\n";
+
+const TEXT: &str = "also follows from card {}, whose field is a text\n";
+
+const LATER_TIME: &str = "also follows from card {}, which is of a later time\n";
+
 /// A fault that comes from a slip that is reported already.
 fn write_follower(out: &mut TextWriter, path: &str, line: &[u8], fault: CardFault, slip: Slip) {
     let code = fault.code.text();
@@ -114,31 +120,16 @@ fn write_follower(out: &mut TextWriter, path: &str, line: &[u8], fault: CardFaul
         columns_of(line, fault),
         code.as_str(),
     );
-    match slip {
-        Slip::Later(later) => {
-            write!(
-                out,
-                "also follows from card {}, which is of a later sheet\n",
-                later.card
-            );
-        }
-        Slip::Root(Root::Text(card)) => {
-            write!(
-                out,
-                "also follows from card {card}, whose field is a text\n"
-            );
-        }
-        Slip::Root(Root::Later(card)) => {
-            write!(
-                out,
-                "also follows from card {card}, which is of a later time\n"
-            );
-        }
+    let (sentence, card) = match slip {
+        Slip::Later(later) => (LATER_SHEET, later.card),
+        Slip::Root(Root::Text(card)) => (TEXT, card),
+        Slip::Root(Root::Later(card)) => (LATER_TIME, card),
         Slip::Root(Root::Unknown(name)) => {
             out.write_shown(trimmed(&name));
-            out.write_str(" again\n");
+            (" again\n", 0)
         }
-    }
+    };
+    out.fill(sentence, &[card.into()]);
 }
 
 /// The columns of an input field's decimals.
@@ -220,11 +211,13 @@ pub fn write_place(
 ) {
     out.write_shown(path.as_bytes());
     let line = card.max(1);
-    write!(out, ":{line}");
-    if let Some(ColumnFault { column, .. }) = columns {
-        write!(out, ":{column}");
+    match columns {
+        Some(at) => out.fill(
+            ":{}:{}: {}: ",
+            &[line.into(), at.column.into(), code.into()],
+        ),
+        None => out.fill(":{}: {}: ", &[line.into(), code.into()]),
     }
-    write!(out, ": {code}: ");
 }
 
 /// What is wrong: the rule that is broken, and by which numbers of the cards.
@@ -281,12 +274,13 @@ fn write_count(out: &mut TextWriter, path: &str, faults: &[CardFault], most: u16
     let count = faults.len();
     let are_unread = are_unread(faults);
     out.write_shown(path.as_bytes());
-    match (are_unread, count) {
-        (true, 1) => out.write_str(": this card can't be read"),
-        (true, _) => write!(out, ": {count} cards can't be read"),
-        (false, 1) => out.write_str(": 1 fault"),
-        (false, _) => write!(out, ": {count} faults"),
-    }
+    let sentence = match (are_unread, count) {
+        (true, 1) => ": this card can't be read",
+        (true, _) => ": {} cards can't be read",
+        (false, 1) => ": 1 fault",
+        (false, _) => ": {} faults",
+    };
+    out.fill(sentence, &[count.into()]);
     if count > usize::from(most) {
         write_told(out, most);
     }
@@ -296,11 +290,11 @@ fn write_count(out: &mut TextWriter, path: &str, faults: &[CardFault], most: u16
 
 /// How many of those that were counted are listed.
 pub fn write_told(out: &mut TextWriter, most: u16) {
-    match most {
-        0 => out.write_str(", none of them shown"),
-        1 => out.write_str(", 1 of them shown"),
-        _ => write!(out, ", {most} of them shown"),
-    }
+    let sentence = match most {
+        0 => ", none of them shown",
+        _ => ", {} of them shown",
+    };
+    out.fill(sentence, &[most.into()]);
 }
 
 /// Other faults hang on what the cards mean.

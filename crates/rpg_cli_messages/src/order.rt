@@ -46,10 +46,10 @@ pub(crate) fn later_card(text: &[u8], number: u16, line: &[u8]) -> Option<LaterC
 /// Writes that a card stands after one of a later sheet.
 pub(crate) fn write_order(out: &mut TextWriter, later: Option<LaterCard>) {
     match later {
-        Some(LaterCard { card, form }) => {
-            write!(out, "card {card} is of a later sheet, ");
-            out.write_shown(&[form]);
-        }
+        Some(LaterCard { card, form }) => out.fill(
+            "card {} is of a later sheet, {}",
+            &[card.into(), [form].as_slice().into()],
+        ),
         None => out.write_str("a card of a later sheet stands before this one"),
     }
     out.write_str(": the sheets come in the order H, F, E, I, C, O");
