@@ -2,7 +2,7 @@
 
 use rpg_fit_deck::{Card, Editor, Seen, View, Word};
 use rpg_fit_terms::{Form, FreeIndicators, FreshNames, Indicator, NewCard, Stop};
-use rpg_fit_words::Calculation;
+use rpg_fit_words::{Calculation, List};
 use std::alloc::Global;
 
 /// An entry of an array: the array's name, and what stands after the comma.
@@ -27,7 +27,7 @@ pub(crate) struct Filling {
     names: FreshNames,
     shadows: Vec<Shadow>,
     /// The calculations that fill the entries, of all types.
-    pub moves: Vec<NewCard>,
+    pub moves: List<NewCard>,
 }
 
 /// An array or an entry on a card: the card, its type's indicator, and the form of an entry.
@@ -52,7 +52,7 @@ impl Filling {
             free: FreeIndicators::new(),
             names: FreshNames::of(b"I#", 6),
             shadows: Vec::new(alloc),
-            moves: Vec::new(alloc),
+            moves: List::new(alloc),
         }
     }
 
@@ -77,7 +77,7 @@ impl Filling {
             entry: *entry,
             field,
         })?;
-        self.moves.push(move_to(reading, entry, &field))?;
+        self.moves.push(move_to(reading, entry, &field));
         Ok(field)
     }
 

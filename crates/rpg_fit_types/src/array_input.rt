@@ -3,7 +3,7 @@
 use crate::array_entry::{Entry, Filling, Reading, Span};
 use rpg_fit_deck::{Card, Editor, Seen, Sentence, View, Word};
 use rpg_fit_terms::{Array, Indicator, Operand, Stop, array_of, arrays, settle, with_room};
-use rpg_fit_words::{Place, RecordType, check_only_type, groups, insert_at, record_types};
+use rpg_fit_words::{List, Place, RecordType, check_only_type, groups, insert_at, record_types};
 use std::alloc::Global;
 
 /// A field for each entry of an array that is read, and calculations that fill the entries at the front of detail.
@@ -32,14 +32,9 @@ fn fill_all(alloc: Global, editor: &mut Editor) -> Result<(), Stop> {
 
 /// Puts the calculations of all types at the front of detail.
 fn insert_moves(alloc: Global, editor: &mut Editor, filling: &Filling) -> Result<(), Stop> {
-    match filling.moves.first() {
-        Some(first) => insert_at(
-            alloc,
-            editor,
-            Place::DetailFront,
-            filling.moves.as_slice(),
-            first.number,
-        ),
+    let moves = filling.moves.checked()?;
+    match moves.first() {
+        Some(first) => insert_at(alloc, editor, Place::DetailFront, moves, first.number),
         None => Ok(()),
     }
 }
@@ -56,13 +51,13 @@ fn is_array(seen: &Seen, arrays: &[Array]) -> bool {
 
 /// The fields of a type that are arrays or entries.
 fn array_fields(alloc: Global, kind: &RecordType, arrays: &[Array]) -> Result<Vec<Seen>, Stop> {
-    let mut found = Vec::new(alloc);
+    let mut found = List::new(alloc);
     for field in kind.fields.iter() {
         if is_array(field, arrays) {
-            found.push(*field)?;
+            found.push(*field);
         }
     }
-    Ok(found)
+    found.finish()
 }
 
 /// Reads the arrays of a type.
@@ -162,13 +157,19 @@ fn fill_same(
 ) -> Result<bool, Stop> {
     let first = array_fields(alloc, one, arrays)?;
     let second = array_fields(alloc, other, arrays)?;
-    Ok(
-        first.len() == second.len()
-            && first
-                .iter()
-                .zip(second.iter())
-                .all(|(field, other)| fills_same(&field.card, &other.card)),
-    )
+    Ok(first.len() == second.len() && all_fill_same(first.as_slice(), second.as_slice()))
+}
+
+/// Whether as many fields of two types as both have fill the same entries, in the same order.
+fn all_fill_same(first: &[Seen], second: &[Seen]) -> bool {
+    for (place, field) in first.iter().enumerate() {
+        if let Some(other) = second.get(place) {
+            if !fills_same(&field.card, &other.card) {
+                return false;
+            }
+        }
+    }
+    true
 }
 
 /// Whether two fields fill the same entries.

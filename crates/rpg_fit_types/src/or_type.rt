@@ -2,7 +2,7 @@
 
 use rpg_fit_deck::{Address, Card, Editor, Seen, Sentence, Word};
 use rpg_fit_terms::{Indicator, NewCard, Stop, address_after, put_cards, settle};
-use rpg_fit_words::{RecordType, record_types};
+use rpg_fit_words::{List, RecordType, record_types};
 use std::alloc::Global;
 
 /// A type of its own for each OR card, with the fields that belong to it. A field record relation that names the type's own indicator
@@ -34,11 +34,13 @@ fn is_or(seen: &Seen) -> bool {
 
 /// How many alternatives a type has.
 fn alternatives(kind: &RecordType) -> usize {
-    kind.more
-        .iter()
-        .filter(|seen| is_or(seen))
-        .count()
-        .saturating_add(1)
+    let mut count: usize = 1;
+    for seen in kind.more.iter() {
+        if is_or(seen) {
+            count = count.saturating_add(1);
+        }
+    }
+    count
 }
 
 /// The last card of a type.
@@ -56,15 +58,23 @@ fn relation(field: &Seen) -> Indicator {
 
 /// Whether one of a type's alternatives has an indicator.
 fn has_indicator(kind: &RecordType, indicator: Indicator) -> bool {
+    for seen in kind.more.iter() {
+        if is_or(seen) && Indicator::at(&seen.card, 19) == indicator {
+            return true;
+        }
+    }
     Indicator::at(&kind.head.card, 19) == indicator
-        || kind.more.iter().any(|seen| is_or(seen) && Indicator::at(&seen.card, 19) == indicator)
 }
 
 /// Whether a field without a relation has a level in two columns.
 fn is_level_unrelated(kind: &RecordType, column: usize, level: &[u8]) -> bool {
     let last = column.saturating_add(1);
-    kind.fields.iter().any(|field| relation(field).is_blank()
-        && field.card.value(column, last) == level)
+    for field in kind.fields.iter() {
+        if relation(field).is_blank() && field.card.value(column, last) == level {
+            return true;
+        }
+    }
+    false
 }
 
 /// Refuses a field whose level in two columns stands on a field without a relation too.
@@ -135,10 +145,11 @@ fn separate(
             Word::of_number(alternatives(kind)),
         ),
     );
-    let others = other_types(alloc, kind)?;
+    let others = other_types(alloc, kind);
+    let cards = others.checked()?;
     remove_others(editor, kind);
     keep_own_fields(editor, kind);
-    put_cards(editor, behind, others.as_slice(), kind.head.number);
+    put_cards(editor, behind, cards, kind.head.number);
     Ok(())
 }
 
@@ -178,14 +189,13 @@ fn head_of(kind: &RecordType, or: &Seen, indicator: Indicator) -> NewCard {
 }
 
 /// Appends the fields that belong to an alternative.
-fn push_fields(cards: &mut Vec<NewCard>, kind: &RecordType, own: Indicator) -> Result<(), Stop> {
+fn push_fields(cards: &mut List<NewCard>, kind: &RecordType, own: Indicator) {
     for field in kind.fields.iter() {
         let relation = relation(field);
         if relation.is_blank() || relation == own {
-            cards.push(NewCard::copy(field).with(63, 64, &[]))?;
+            cards.push(NewCard::copy(field).with(63, 64, &[]));
         }
     }
-    Ok(())
 }
 
 /// The indicator of an alternative: its own, or that of the one above.
@@ -195,23 +205,23 @@ fn indicator_of(or: &Seen, above: Indicator) -> Indicator {
 }
 
 /// The types in place of the OR cards of a type.
-fn other_types(alloc: Global, kind: &RecordType) -> Result<Vec<NewCard>, Stop> {
-    let mut cards: Vec<NewCard> = Vec::new(alloc);
+fn other_types(alloc: Global, kind: &RecordType) -> List<NewCard> {
+    let mut cards = List::new(alloc);
     let mut own = Indicator::at(&kind.head.card, 19);
     for seen in kind.more.iter() {
         if is_or(seen) {
             if !cards.is_empty() {
-                push_fields(&mut cards, kind, own)?;
+                push_fields(&mut cards, kind, own);
             }
             own = indicator_of(seen, own);
-            cards.push(head_of(kind, seen, own))?;
+            cards.push(head_of(kind, seen, own));
         } else if !cards.is_empty() {
             cards.push(NewCard {
                 card: seen.card,
                 number: seen.number,
-            })?;
+            });
         }
     }
-    push_fields(&mut cards, kind, own)?;
-    Ok(cards)
+    push_fields(&mut cards, kind, own);
+    cards
 }

@@ -2,6 +2,7 @@
 
 use rpg_fit_deck::{Seen, Word};
 use rpg_fit_terms::{Indicator, Stop};
+use rpg_fit_words::List;
 use std::alloc::Global;
 
 /// A record type with a number.
@@ -27,27 +28,37 @@ const BEHIND_ALL: usize = 100;
 
 /// The steps of numbered types, in the order of their first cards.
 pub(crate) fn steps_of(alloc: Global, numbered: &[Numbered]) -> Result<Vec<Step>, Stop> {
-    let mut steps: Vec<Step> = Vec::new(alloc);
+    let mut steps = List::new(alloc);
     for one in numbered {
         if !is_step(steps.as_slice(), one.number) {
             steps.push(Step {
                 number: one.number,
                 is_many: one.head.card.column(17) == b'N',
                 is_optional: one.head.card.column(18) == b'O',
-            })?;
+            });
         }
     }
-    Ok(steps)
+    steps.finish()
 }
 
 /// Whether a number is one of the steps.
 fn is_step(steps: &[Step], number: usize) -> bool {
-    steps.iter().any(|step| step.number == number)
+    for step in steps {
+        if step.number == number {
+            return true;
+        }
+    }
+    false
 }
 
 /// Whether all steps between two numbers may be left out.
 fn are_optional(steps: &[Step], low: usize, high: usize) -> bool {
-    steps.iter().all(|step| step.number <= low || step.number >= high || step.is_optional)
+    for step in steps {
+        if step.number > low && step.number < high && !step.is_optional {
+            return false;
+        }
+    }
+    true
 }
 
 /// Whether a record of a step may come after the last one of a number, 0 if there was none: within a group, or as the first of the
@@ -64,16 +75,16 @@ pub(crate) fn numbers_before(
     steps: &[Step],
     step: &Step,
 ) -> Result<Vec<usize>, Stop> {
-    let mut numbers = Vec::new(alloc);
+    let mut numbers = List::new(alloc);
     if may_follow(steps, 0, step) {
-        numbers.push(0)?;
+        numbers.push(0);
     }
     for number in 0..BEHIND_ALL {
         if is_step(steps, number) && may_follow(steps, number, step) {
-            numbers.push(number)?;
+            numbers.push(number);
         }
     }
-    Ok(numbers)
+    numbers.finish()
 }
 
 /// Letters for columns 15 to 16 in place of a number, by their place: NA to NZ, then XA and so on; none after ZZ.

@@ -3,7 +3,7 @@
 use crate::order::{Numbered, Step, numbers_before, steps_of};
 use rpg_fit_deck::Word;
 use rpg_fit_terms::{Condition, Indicator, NewCard, Stop, Term};
-use rpg_fit_words::Calculation;
+use rpg_fit_words::{Calculation, List};
 use std::alloc::Global;
 
 /// What the calculations of a file's order use.
@@ -19,28 +19,33 @@ pub(crate) struct Marks {
     pub card: usize,
 }
 
+/// Whether an indicator is one of some.
+fn is_among(indicators: &[Indicator], indicator: Indicator) -> bool {
+    for other in indicators {
+        if *other == indicator {
+            return true;
+        }
+    }
+    false
+}
+
 /// The indicators of a step's types, each once.
 fn indicators_of(
     alloc: Global,
     numbered: &[Numbered],
     number: usize,
 ) -> Result<Vec<Indicator>, Stop> {
-    let mut found: Vec<Indicator> = Vec::new(alloc);
+    let mut found = List::new(alloc);
     for one in numbered {
-        if one.number == number && !found.iter().any(|other| *other == one.indicator) {
-            found.push(one.indicator)?;
+        if one.number == number && !is_among(found.as_slice(), one.indicator) {
+            found.push(one.indicator);
         }
     }
-    Ok(found)
+    found.finish()
 }
 
 /// Appends the comparison with a number after which the record may come.
-fn push_comparison(
-    cards: &mut Vec<NewCard>,
-    marks: &Marks,
-    indicator: Indicator,
-    number: usize,
-) -> Result<(), Stop> {
+fn push_comparison(cards: &mut List<NewCard>, marks: &Marks, indicator: Indicator, number: usize) {
     cards.push(
         Calculation::of(b"COMP")
             .when(indicator)
@@ -48,40 +53,33 @@ fn push_comparison(
             .factor2(Word::of_number(number).text())
             .equal(marks.equal)
             .made_of(marks.card),
-    )?;
+    );
     let equal = Condition::on(indicator).and(Term::on(marks.equal));
     cards.push(
         Calculation::of(b"SETOF")
             .under(&equal)
             .high(marks.halt)
             .made_of(marks.card),
-    )?;
-    Ok(())
+    );
 }
 
 /// Appends the test of the records of an indicator.
-fn push_test(
-    cards: &mut Vec<NewCard>,
-    marks: &Marks,
-    indicator: Indicator,
-    before: &[usize],
-) -> Result<(), Stop> {
+fn push_test(cards: &mut List<NewCard>, marks: &Marks, indicator: Indicator, before: &[usize]) {
     cards.push(
         Calculation::of(b"SETON")
             .when(indicator)
             .high(marks.halt)
             .made_of(marks.card),
-    )?;
+    );
     for number in before {
-        push_comparison(cards, marks, indicator, *number)?;
+        push_comparison(cards, marks, indicator, *number);
     }
-    Ok(())
 }
 
 /// Appends the tests of a step, unless its records may come after every number.
 fn push_step(
     alloc: Global,
-    cards: &mut Vec<NewCard>,
+    cards: &mut List<NewCard>,
     marks: &Marks,
     numbered: &[Numbered],
     steps: &[Step],
@@ -93,7 +91,7 @@ fn push_step(
     }
     let indicators = indicators_of(alloc, numbered, step.number)?;
     for indicator in indicators.iter() {
-        push_test(cards, marks, *indicator, before.as_slice())?;
+        push_test(cards, marks, *indicator, before.as_slice());
     }
     Ok(())
 }
@@ -101,7 +99,7 @@ fn push_step(
 /// Appends that a step's records are the last ones.
 fn push_last(
     alloc: Global,
-    cards: &mut Vec<NewCard>,
+    cards: &mut List<NewCard>,
     marks: &Marks,
     numbered: &[Numbered],
     step: &Step,
@@ -115,14 +113,14 @@ fn push_last(
                 .result(marks.last.text())
                 .of_length(2, b'0')
                 .made_of(marks.card),
-        )?;
+        );
     }
     Ok(())
 }
 
 fn push_all_last(
     alloc: Global,
-    cards: &mut Vec<NewCard>,
+    cards: &mut List<NewCard>,
     marks: &Marks,
     numbered: &[Numbered],
     steps: &[Step],
@@ -140,10 +138,10 @@ pub(crate) fn order_cards(
     numbered: &[Numbered],
 ) -> Result<Vec<NewCard>, Stop> {
     let steps = steps_of(alloc, numbered)?;
-    let mut cards = Vec::new(alloc);
+    let mut cards = List::new(alloc);
     for step in steps.iter() {
         push_step(alloc, &mut cards, marks, numbered, steps.as_slice(), step)?;
     }
     push_all_last(alloc, &mut cards, marks, numbered, steps.as_slice())?;
-    Ok(cards)
+    cards.finish()
 }

@@ -4,7 +4,7 @@ use crate::order::{Numbered, letters};
 use crate::order_test::{Marks, order_cards};
 use rpg_fit_deck::{Card, Editor, Sentence, View, Word};
 use rpg_fit_terms::{FreeIndicators, Indicator, Stop, free_halt, fresh_name, settle};
-use rpg_fit_words::{Place, RecordType, check_only_type, groups, insert_at, record_types};
+use rpg_fit_words::{List, Place, RecordType, check_only_type, groups, insert_at, record_types};
 use std::alloc::Global;
 
 /// Letters in place of numbers in 15 to 16, and calculations that test the order of the records.
@@ -38,10 +38,12 @@ fn order_all(alloc: Global, editor: &mut Editor) -> Result<(), Stop> {
 
 /// Whether no type before a place is of the same file.
 fn is_first_of_file(types: &[RecordType], place: usize, kind: &RecordType) -> bool {
-    !types
-        .iter()
-        .take(place)
-        .any(|other| other.file.text() == kind.file.text())
+    for other in types.get(..place).unwrap_or(&[]) {
+        if other.file.text() == kind.file.text() {
+            return false;
+        }
+    }
+    true
 }
 
 /// Whether a card has a number in 15 to 16.
@@ -141,7 +143,7 @@ fn numbered_types(
     file: &Word,
 ) -> Result<Vec<Numbered>, Stop> {
     check_all_columns(types, file)?;
-    let mut numbered = Vec::new(alloc);
+    let mut numbered = List::new(alloc);
     for kind in types {
         if is_of(kind, file) {
             let indicator = indicator_of(alloc, given, view, types, kind)?;
@@ -149,19 +151,23 @@ fn numbered_types(
                 head: kind.head,
                 number: kind.head.card.number(15, 16).unwrap_or(0),
                 indicator,
-            })?;
+            });
         }
     }
-    Ok(numbered)
+    numbered.finish()
 }
 
 /// Whether another type has an indicator, and another number or none, or another file.
 fn is_of_another(types: &[RecordType], kind: &RecordType, indicator: Indicator) -> bool {
-    types.iter().any(|other| {
-        Indicator::at(&other.head.card, 19) == indicator
+    for other in types {
+        if Indicator::at(&other.head.card, 19) == indicator
             && (other.head.card.columns(15, 16) != kind.head.card.columns(15, 16)
                 || other.file.text() != kind.file.text())
-    })
+        {
+            return true;
+        }
+    }
+    false
 }
 
 /// The indicator of a numbered type: its own, or a free one.

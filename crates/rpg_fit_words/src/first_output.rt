@@ -19,11 +19,15 @@ fn is_overflow(printer: Option<Printer>, line: &Line, condition: &Condition) -> 
 
 /// Whether a line is put out at the first output.
 pub fn is_put_first(printer: Option<Printer>, line: &Line) -> bool {
-    line.time.is_detail()
-        && line.alternatives.iter().any(|alternative| {
-            alternative.condition.holds_first()
-                && !is_overflow(printer, line, &alternative.condition)
-        })
+    if line.time.is_detail() {
+        for alternative in line.alternatives.iter() {
+            let condition = &alternative.condition;
+            if condition.holds_first() && !is_overflow(printer, line, condition) {
+                return true;
+            }
+        }
+    }
+    false
 }
 
 /// Whether a field is put out at the first output.
@@ -64,7 +68,26 @@ pub fn reaches_overflow(printer: Option<Printer>, lines: &[Line]) -> bool {
 
 /// Whether a type has control fields.
 fn has_levels(kind: &RecordType) -> bool {
-    kind.fields.iter().any(|field| !field.card.is_blank(59, 60))
+    for field in kind.fields.iter() {
+        if !field.card.is_blank(59, 60) {
+            return true;
+        }
+    }
+    false
+}
+
+/// Whether some types have control fields and others don't.
+fn have_levels_or_not(types: &[RecordType]) -> bool {
+    let mut some = false;
+    let mut others = false;
+    for kind in types {
+        if has_levels(kind) {
+            some = true;
+        } else {
+            others = true;
+        }
+    }
+    some && others
 }
 
 /// Whether an overflow output may come before any total calculation: the first output reaches the overflow line, or only some types have
@@ -74,6 +97,5 @@ pub fn is_total_skipped_late(
     lines: &[Line],
     types: &[RecordType],
 ) -> bool {
-    types.iter().any(|kind| has_levels(kind)) && !types.iter().all(|kind| has_levels(kind))
-        || reaches_overflow(printer, lines)
+    have_levels_or_not(types) || reaches_overflow(printer, lines)
 }

@@ -1,6 +1,6 @@
 //! Calculations with their AN and OR cards.
 
-use rpg_fit_deck::{Card, Seen, View};
+use rpg_fit_deck::{Address, Card, Seen, View};
 use rpg_fit_terms::{Indicator, Stop, is_card};
 use std::alloc::Global;
 
@@ -54,6 +54,16 @@ impl Group {
     /// Its operation, without blanks.
     pub fn operation(&self) -> &[u8] {
         self.last.card.value(28, 32)
+    }
+
+    /// Whether one of its cards is at an address.
+    pub(crate) fn has(&self, at: Address) -> bool {
+        for seen in self.leading.iter() {
+            if seen.at == at {
+                return true;
+            }
+        }
+        self.last.at == at
     }
 
     /// One more card, which is its last one now.

@@ -1,6 +1,7 @@
 //! Where a deck has indicators.
 
 use crate::group::{Group, Section};
+use crate::list::List;
 use rpg_fit_deck::{Address, Seen, Sentence, View, Word};
 use rpg_fit_terms::{Condition, Indicator, Stop, is_card};
 use std::alloc::Global;
@@ -28,13 +29,8 @@ pub struct IndicatorUse {
     pub indicator: Indicator,
 }
 
-/// Appends the indicator in a column and the next one, if there is one.
-fn push_use(
-    found: &mut Vec<IndicatorUse>,
-    seen: &Seen,
-    kind: UseKind,
-    indicator: Indicator,
-) -> Result<(), Stop> {
+/// Appends an indicator, if there is one.
+fn push_use(found: &mut List<IndicatorUse>, seen: &Seen, kind: UseKind, indicator: Indicator) {
     if !indicator.is_blank() {
         found.push(IndicatorUse {
             at: seen.at,
@@ -42,53 +38,46 @@ fn push_use(
             form: seen.card.form(),
             kind,
             indicator,
-        })?;
+        });
     }
-    Ok(())
 }
 
 /// Appends the indicators in three pairs of columns, from a column on.
-fn push_three(
-    found: &mut Vec<IndicatorUse>,
-    seen: &Seen,
-    kind: UseKind,
-    column: usize,
-) -> Result<(), Stop> {
+fn push_three(found: &mut List<IndicatorUse>, seen: &Seen, kind: UseKind, column: usize) {
     for place in 0..3 {
         let at = column.saturating_add(place * 2);
-        push_use(found, seen, kind, Indicator::at(&seen.card, at))?;
+        push_use(found, seen, kind, Indicator::at(&seen.card, at));
     }
-    Ok(())
 }
 
 /// Appends the indicators that are asked in nine columns, from a column on.
-fn push_asked(found: &mut Vec<IndicatorUse>, seen: &Seen, column: usize) -> Result<(), Stop> {
+fn push_asked(found: &mut List<IndicatorUse>, seen: &Seen, column: usize) {
     for term in Condition::at(&seen.card, column).terms() {
-        push_use(found, seen, UseKind::Asked, term.indicator)?;
+        push_use(found, seen, UseKind::Asked, term.indicator);
     }
-    Ok(())
 }
 
 /// Appends the indicators of an I card.
-fn push_input(found: &mut Vec<IndicatorUse>, seen: &Seen) -> Result<(), Stop> {
-    if !seen.card.is_blank(7, 20) {
-        return push_use(found, seen, UseKind::Type, Indicator::at(&seen.card, 19));
+fn push_input(found: &mut List<IndicatorUse>, seen: &Seen) {
+    if seen.card.is_blank(7, 20) {
+        push_three(found, seen, UseKind::Field, 65);
+        push_use(found, seen, UseKind::Asked, Indicator::at(&seen.card, 63));
+    } else {
+        push_use(found, seen, UseKind::Type, Indicator::at(&seen.card, 19));
     }
-    push_three(found, seen, UseKind::Field, 65)?;
-    push_use(found, seen, UseKind::Asked, Indicator::at(&seen.card, 63))
 }
 
 /// Appends the indicators of a card.
-fn push_card(found: &mut Vec<IndicatorUse>, seen: &Seen) -> Result<(), Stop> {
+fn push_card(found: &mut List<IndicatorUse>, seen: &Seen) {
     match seen.card.form() {
         b'I' => push_input(found, seen),
         b'C' => {
-            push_asked(found, seen, 9)?;
-            push_three(found, seen, UseKind::Result, 54)
+            push_asked(found, seen, 9);
+            push_three(found, seen, UseKind::Result, 54);
         }
         b'O' => push_asked(found, seen, 23),
         b'F' => push_use(found, seen, UseKind::Type, Indicator::at(&seen.card, 33)),
-        _ => Ok(()),
+        _ => {}
     }
 }
 
@@ -98,21 +87,23 @@ fn push_card(found: &mut Vec<IndicatorUse>, seen: &Seen) -> Result<(), Stop> {
 ///
 /// Memory is refused.
 pub fn indicator_uses(alloc: Global, view: &View) -> Result<Vec<IndicatorUse>, Stop> {
-    let mut found = Vec::new(alloc);
+    let mut found = List::new(alloc);
     for seen in view.cards.iter() {
         if !seen.card.is_comment() {
-            push_card(&mut found, seen)?;
+            push_card(&mut found, seen);
         }
     }
-    Ok(found)
+    found.finish()
 }
 
 /// Whether a card belongs to a detail calculation.
 fn is_in_detail(groups: &[Group], at: Address) -> bool {
-    groups.iter().any(|group| {
-        group.section() == Section::Detail
-            && (group.last.at == at || group.leading.iter().any(|seen| seen.at == at))
-    })
+    for group in groups {
+        if group.section() == Section::Detail && group.has(at) {
+            return true;
+        }
+    }
+    false
 }
 
 /// Refuses, for a card, where an indicator that a rule asks at the front of detail may have been turned on or off since by anything but
