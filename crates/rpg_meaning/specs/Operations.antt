@@ -16,7 +16,7 @@ use Rattle.rpg_effect.specs.Lines.{exception_output}
 use Rattle.rpg_effect.specs.Rows.{holds_position}
 use Rattle.rpg_effect.specs.Showing.{all_on, named_off, shown}
 use Rattle.rpg_effect.specs.Values.{Number, Text, Value}
-use Rattle.rpg_effect.specs.World.{World, characters_at, number_at, set_value}
+use Rattle.rpg_effect.specs.World.{Data, characters_at, number_at, set_value, with_data}
 use Rattle.rpg_effect.specs.declared.form.FieldForm.{FieldForm}
 use Rattle.rpg_effect.specs.declared.form.Kind.{Kind}
 use Rattle.rpg_effect.specs.declared.form.Kind.TheVariants as kinds
@@ -76,7 +76,7 @@ module _ (source : Source) (s : State) (k : CalculationSpec) where
 
   -- the entry that an operand names
   abbrev pub entry : Operand Key → Entry Key
-  entry o = entry_of source.forms s.world.fields o
+  entry o = entry_of source.forms s.world.data.fields o
 
   -- the form of an operand
   abbrev pub form : Operand Key → Option FieldForm
@@ -92,7 +92,7 @@ module _ (source : Source) (s : State) (k : CalculationSpec) where
 
   -- its number, with the decimal point
   abbrev pub number : Operand Key → Fraction
-  number o = exact source.forms s.world (entry o)
+  number o = exact source.forms s.world.data (entry o)
 
   -- the numbers of the factors
   abbrev pub first : Fraction
@@ -104,19 +104,19 @@ module _ (source : Source) (s : State) (k : CalculationSpec) where
 
   -- its number, without the decimal point
   abbrev pub digits : Operand Key → ℤ
-  digits o = number_at s.world o.field (entry o).position
+  digits o = number_at s.world.data o.field (entry o).position
 
   -- the characters of an operand
   abbrev pub characters : Operand Key → List ℕ
-  characters o = characters_at s.world o.field (entry o).position
+  characters o = characters_at s.world.data o.field (entry o).position
 
   -- the sum of the array in factor 2
   abbrev pub sum : Fraction
-  sum = summed source.forms s.world (entry factor_2)
+  sum = summed source.forms s.world.data (entry factor_2)
 
   -- what LOKUP finds: factor 1 among the entries of factor 2, from its index on
   abbrev pub found : Option Found
-  found = found_in source.forms s.world (entry factor_1) (entry factor_2) indicators
+  found = found_in source.forms s.world.data (entry factor_1) (entry factor_2) indicators
 
   -- what a division leaves: its quotient has the decimals of the result field
   abbrev pub left : Fraction
@@ -124,9 +124,9 @@ module _ (source : Source) (s : State) (k : CalculationSpec) where
 
   -- ---- what comes of it
 
-  -- the next calculation follows, in this world
-  abbrev pub goes_on : World key_cmp → MeantOutcome
-  goes_on w = On (record s { world = w; next = s.next + 1 }) no_output
+  -- the next calculation follows, with this data
+  abbrev pub goes_on : Data key_cmp → MeantOutcome
+  goes_on d = On (record s { world = with_data d s.world; next = s.next + 1 }) no_output
 
   -- the job halts by that number
   abbrev pub halts : ℕ → MeantOutcome
@@ -134,7 +134,7 @@ module _ (source : Source) (s : State) (k : CalculationSpec) where
 
   -- halt 2 if an index of these operands is out of range
   abbrev pub unless_out_of_range : List (Operand Key) → MeantOutcome → MeantOutcome
-  unless_out_of_range os outcome = if list_all (λ o. is_some (position_of source.forms s.world.fields o)) os then outcome else halts 2
+  unless_out_of_range os outcome = if list_all (λ o. is_some (position_of source.forms s.world.data.fields o)) os then outcome else halts 2
 
   -- the operands of ADD, SUB, MULT and DIV; of Z-ADD, Z-SUB, XFOOT and the moves; of MVR; of COMP; of LOKUP
   abbrev pub computing : MeantOutcome → MeantOutcome
@@ -158,29 +158,29 @@ module _ (source : Source) (s : State) (k : CalculationSpec) where
 
   -- The result field becomes this number: its decimals too many are cut off or half adjusted, and its digits too many on the left are lost. The
   -- indicators show its sign.
-  abbrev pub becomes_in : World key_cmp → Bool → Fraction → MeantOutcome
-  becomes_in w half n = goes_on (store w (entry result) indicators (stored_value half (form result) n))
+  abbrev pub becomes_in : Data key_cmp → Bool → Fraction → MeantOutcome
+  becomes_in d half n = goes_on (store d (entry result) indicators (stored_value half (form result) n))
 
   -- with an H in 53 half adjusted
   abbrev pub becomes : Fraction → MeantOutcome
-  becomes n = becomes_in s.world k.half_adjust n
+  becomes n = becomes_in s.world.data k.half_adjust n
 
   -- the result field takes a value
   abbrev pub takes : Value → MeantOutcome
-  takes v = goes_on (set_value s.world result.field (entry result).position v)
+  takes v = goes_on (set_value s.world.data result.field (entry result).position v)
 
   -- the result field takes the number that a text spells; halt 4 if it spells none
   abbrev pub takes_number : Option ℤ → MeantOutcome
   takes_number None = halts 4
   takes_number (Some n) = takes (Number n)
 
-  -- indicators turn on or off in a world
-  abbrev pub turned : (set.FinSet nat_cmp → set.FinSet nat_cmp) → World key_cmp → World key_cmp
-  turned f w = record w { on = f w.on }
+  -- indicators turn on or off
+  abbrev pub turned : (set.FinSet nat_cmp → set.FinSet nat_cmp) → Data key_cmp → Data key_cmp
+  turned f d = record d { on = f d.on }
 
   -- a position that LOKUP finds: it becomes the index of factor 2, and the current entry of a table in factor 2 and in the result field
-  abbrev pub pointing_at : ℕ → World key_cmp
-  pointing_at n = made_current_if_any source.forms table_field n (made_current source.forms factor_2.field n (index_set factor_2.index n s.world))
+  abbrev pub pointing_at : ℕ → Data key_cmp
+  pointing_at n = made_current_if_any source.forms table_field n (made_current source.forms factor_2.field n (index_set factor_2.index n s.world.data))
 
   -- one of the allowance is spent; halt 5 if none is left
   abbrev pub spends_one : State → MeantOutcome
@@ -204,7 +204,7 @@ module _ (source : Source) (s : State) (k : CalculationSpec) where
     -- it becomes the sum of the array in factor 2
     pub cross_foot : does op.CrossFoot ≡ assigning (becomes sum)
     -- it becomes what the last division has left, cut off
-    pub move_remainder : does op.MoveRemainder ≡ taking (becomes_in s.world false s.world.remainder)
+    pub move_remainder : does op.MoveRemainder ≡ taking (becomes_in s.world.data false s.world.data.remainder)
 
   -- DIV
   pub record Divides : Type 0 where
@@ -212,10 +212,10 @@ module _ (source : Source) (s : State) (k : CalculationSpec) where
     pub by_zero : is_zero second ≡ true → does op.Divide ≡ computing (halts 1)
     -- the result field becomes factor 1 divided by factor 2, and what is left is kept for MVR
     pub exactly : is_zero second ≡ false → k.half_adjust ≡ false → does op.Divide
-        ≡ computing (becomes_in (record s.world { remainder = left }) false (over first second))
+        ≡ computing (becomes_in (record s.world.data { remainder = left }) false (over first second))
     -- half adjusted it leaves nothing new
     pub half_adjusted : is_zero second ≡ false → k.half_adjust ≡ true → does op.Divide
-        ≡ computing (becomes_in s.world true (over first second))
+        ≡ computing (becomes_in s.world.data true (over first second))
 
   -- ---- MOVE and MOVEL
 
@@ -239,16 +239,16 @@ module _ (source : Source) (s : State) (k : CalculationSpec) where
   pub record Compares : Type 0 where
     -- numbers by their values
     pub numbers : kind factor_1 ≡ kinds.Number → does op.Compare
-        ≡ comparing (goes_on (turned (shown indicators (fraction_cmp (number factor_1) (number factor_2))) s.world))
+        ≡ comparing (goes_on (turned (shown indicators (fraction_cmp (number factor_1) (number factor_2))) s.world.data))
     -- texts by the order of characters
     pub texts : kind factor_1 ≡ kinds.Text → does op.Compare
-        ≡ comparing (goes_on (turned (shown indicators (text_cmp (characters factor_1) (characters factor_2))) s.world))
+        ≡ comparing (goes_on (turned (shown indicators (text_cmp (characters factor_1) (characters factor_2))) s.world.data))
 
   -- LOKUP
   pub record LooksUp : Type 0 where
     -- nothing is found: all named indicators turn off, and the index of factor 2 becomes 1
     pub nothing : found ≡ None → does op.LookUp
-        ≡ searching (goes_on (turned (named_off indicators) (index_set factor_2.index 1 s.world)))
+        ≡ searching (goes_on (turned (named_off indicators) (index_set factor_2.index 1 s.world.data)))
     -- something is found: its position goes where it belongs, and the indicator for high, low or equal turns on
     pub something : (f : Found) → found ≡ Some f → holds_position source.forms factor_2.index table_field f.position ≡ true
         → does op.LookUp ≡ searching (goes_on (turned (shown indicators f.order) (pointing_at f.position)))
@@ -258,8 +258,8 @@ module _ (source : Source) (s : State) (k : CalculationSpec) where
   -- SETON, SETOF and EXCPT
   pub record Sets : Type 0 where
     -- all named indicators turn on, or off
-    pub on : does op.SetOn ≡ goes_on (turned (all_on indicators) s.world)
-    pub off : does op.SetOff ≡ goes_on (turned (named_off indicators) s.world)
+    pub on : does op.SetOn ≡ goes_on (turned (all_on indicators) s.world.data)
+    pub off : does op.SetOff ≡ goes_on (turned (named_off indicators) s.world.data)
     -- the lines of time E are put out
     pub except : does op.Except ≡ affected s (exception_output source.forms source.words source.overflow source.lines s.world)
 
@@ -280,5 +280,5 @@ module _ (source : Source) (s : State) (k : CalculationSpec) where
     pub end_subroutine : (part : Part) (next : ℕ) (others : List (Part × ℕ)) → s.back ≡ (part, next) ∷ others → does op.EndSubroutine
         ≡ On (record s { part = part; next = next; back = others }) no_output
     -- these do nothing
-    pub label : does op.Label ≡ goes_on s.world
-    pub begin_subroutine : does op.BeginSubroutine ≡ goes_on s.world
+    pub label : does op.Label ≡ goes_on s.world.data
+    pub begin_subroutine : does op.BeginSubroutine ≡ goes_on s.world.data

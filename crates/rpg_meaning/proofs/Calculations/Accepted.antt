@@ -53,8 +53,8 @@ module _ (p : Object) (orderly : IsOrderly p) where
 
   pub calls_up : (c : Config) (n : ℕ) → IsRunnable p c → instruction_at p (here c) ≡ Some (Call n) → level_of p c.section < level_of p (sections.Subroutine n)
   unfolding control
-  calls_up c n fit at = (orderly.leads (here c) (Call n) (place_first p (here c) fit.0.place, at) c.world.on).1
+  calls_up c n fit at = (orderly.leads (here c) (Call n) (place_first p (here c) fit.0.place, at) c.world.data.on).1
 
   pub returns_own : (c : Config) (n : ℕ) → IsRunnable p c → instruction_at p (here c) ≡ Some (Return n) → c.section ≡ sections.Subroutine n
   unfolding control
-  returns_own c n fit at = (orderly.leads (here c) (Return n) (place_first p (here c) fit.0.place, at) c.world.on).1
+  returns_own c n fit at = (orderly.leads (here c) (Return n) (place_first p (here c) fit.0.place, at) c.world.data.on).1

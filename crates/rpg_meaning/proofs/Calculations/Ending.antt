@@ -96,7 +96,7 @@ module _ (source : Source) (most : ℕ) (long : (part : Part) → length (calcul
 
       by_group : (o : Option (Calculation Key)) → slice_get (calculations_in source.sections s.part) s.next ≡ o → Less s (calculation_done source s o)
       by_group None e = tt
-      by_group (Some g) e = by_done g e (is_done s.world.on g)
+      by_group (Some g) e = by_done g e (is_done s.world.data.on g)
 
   told_end : (o : Output) (x : MeantOutcome) → IsAtEnd source.sections x → IsAtEnd source.sections (told_before o x)
   told_end o (On t more) h = h

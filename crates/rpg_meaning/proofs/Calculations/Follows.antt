@@ -7,6 +7,7 @@ use Rattle.rpg_compile_program.proofs.Counts.{level_length, tests_length}
 use Rattle.rpg_compile_program.specs.Code.{group_code, jump, label_place, level_code, no_conditions, section_code, step_code, tests_code, waits}
 use Rattle.rpg_compile_program.specs.Whole.{called_number}
 use Rattle.rpg_effect.specs.Effect.{Effect}
+use Rattle.rpg_effect.specs.Ended.{on_data}
 use Rattle.rpg_effect.specs.Ends.{End, GoesOn, Halt, Wrong}
 use Rattle.rpg_effect.specs.Forms.{form_at}
 use Rattle.rpg_effect.specs.Instructions.{instruction_effect}
@@ -36,7 +37,7 @@ use Rattle.rpg_meaning.specs.Calculations.Translation.{IsFilled, IsTranslation}
 use Rattle.rpg_object_program.specs.Constants.{word_at}
 use Rattle.rpg_object_program.specs.Object.{Object}
 use Rattle.rpg_object_program.specs.Sections.{first_place, instruction_at, section_instructions}
-use Rattle.rpg_effect_renaming.proofs.Lines.{lines_same}
+use Rattle.rpg_effect_renaming.proofs.Lines.{data_same, lines_same}
 use Rattle.rpg_effect_renaming.proofs.Operations.{operate_same}
 use Rattle.rpg_effect_renaming.specs.Naming.{SameEffect, renamed_action, renamed_line}
 
@@ -93,7 +94,7 @@ module _ {p : Object} {source : Source} {number : Key → ℕ} (orderly : IsOrde
   -- control reaches the deed or what is behind the calculation, and the deed's instruction stands there
   pub record IsReached (s : State) (d : Config) (g : Calculation Key) : Type 0 where
     pub op : ℕ
-    pub reaches : Reaches p orderly d d.place (cond (is_done d.world.on g) op (op + 1))
+    pub reaches : Reaches p orderly d d.place (cond (is_done d.world.data.on g) op (op + 1))
     pub code : HasAt p orderly d op (step_code number (own_label s) callee_of (own s) g.deed)
     pub low : place_at (first s) (calculations s) s.next ≤ op
     pub next : op + 1 ≡ place_at (first s) (calculations s) (s.next + 1)
@@ -129,7 +130,7 @@ module _ {p : Object} {source : Source} {number : Key → ℕ} (orderly : IsOrde
 
   -- ---- a deed that changes the world and goes on behind itself
 
-  pub affects : (s : State) (d : Config) (op : ℕ) (i : Instruction ℕ) (e : Effect key_cmp) → AgreeAt p source number s d → Reaches p orderly d d.place op → stands p orderly d op i → control d.world.on op i ≡ Goes (op + 1)
+  pub affects : (s : State) (d : Config) (op : ℕ) (i : Instruction ℕ) (e : Effect key_cmp) → AgreeAt p source number s d → Reaches p orderly d d.place op → stands p orderly d op i → control d.world.data.on op i ≡ Goes (op + 1)
       → SameEffect source.forms number e (effect p i d.world) → op + 1 ≡ place_at (first s) (calculations s) (s.next + 1) → MachineFollows p source number d (affected s e)
   affects s d op i e a r there goes same next = by_end e.ending same.ending
     where
@@ -171,13 +172,16 @@ module _ {p : Object} {source : Source} {number : Key → ℕ} (orderly : IsOrde
 
   -- an operation on fields
   acts_follows : (s : State) (d : Config) (op : ℕ) (x : Action (Operand Key)) → AgreeAt p source number s d → Reaches p orderly d d.place op → stands p orderly d op (Act (renamed_action number x)) → place_at (first s) (calculations s) s.next ≤ op
-      → op + 1 ≡ place_at (first s) (calculations s) (s.next + 1) → MachineFollows p source number d (affected s (operate source.forms x s.world))
+      → op + 1 ≡ place_at (first s) (calculations s) (s.next + 1) → MachineFollows p source number d (affected s (on_data (operate source.forms x) s.world))
   unfolding control instruction_effect
   acts_follows s d op x a r there low next =
       let f = place_low (calculations s) (first s) s.next in
       let e = ap (first_place p) a.section in
       let uses = uses_at orderly is (record { section = d.section; number = op }) x (omega arith) there in
-      affects s d op (Act (renamed_action number x)) _ a r there refl (operate_same is.names x s.world d.world a.world uses) next
+      affects s d op (Act (renamed_action number x)) (on_data (operate source.forms x) s.world) a r there refl
+      (data_same (operate source.forms x) (operate (form_at p.fields) (renamed_action number x)) s.world d.world a.world
+      (operate_same is.names x s.world.data d.world.data a.world.data uses))
+      next
 
   -- EXCPT
   puts_follows : (s : State) (d : Config) (op : ℕ) → AgreeAt p source number s d → Reaches p orderly d d.place op → stands p orderly d op Except
@@ -262,8 +266,8 @@ module _ {p : Object} {source : Source} {number : Key → ℕ} (orderly : IsOrde
 
   -- ---- one calculation
 
-  done_same : (s : State) (d : Config) (g : Calculation Key) → AgreeAt p source number s d → is_done d.world.on g ≡ is_done s.world.on g
-  done_same s d g a = ap (λ on. is_done on g) a.world.on
+  done_same : (s : State) (d : Config) (g : Calculation Key) → AgreeAt p source number s d → is_done d.world.data.on g ≡ is_done s.world.data.on g
+  done_same s d g a = ap (λ on. is_done on g) a.world.data.on
 
   -- the deed, where control has reached it
   does : (s : State) (d : Config) (g : Calculation Key) → AgreeAt p source number s d → slice_get (calculations s) s.next ≡ Some g → (x : Deed Key) → g.deed ≡ x → has_instruction x ≡ true → stays_in_part x ≡ true
@@ -288,7 +292,7 @@ module _ {p : Object} {source : Source} {number : Key → ℕ} (orderly : IsOrde
   calculation_follows s d g e inside a =
       subst (λ x. MachineFollows p source number d (calculation_done source s x)) (sym e) (by_instruction (has_instruction g.deed) refl)
     where
-      by_done : IsReached s d g → has_instruction g.deed ≡ true → (b : Bool) → is_done s.world.on g ≡ b → MachineFollows p source number d (cond b (deed_done source s g.deed) (On (at_next s (s.next + 1)) no_output))
+      by_done : IsReached s d g → has_instruction g.deed ≡ true → (b : Bool) → is_done s.world.data.on g ≡ b → MachineFollows p source number d (cond b (deed_done source s g.deed) (On (at_next s (s.next + 1)) no_output))
       by_done x m true h = does s d g a e g.deed refl m inside x.op (subst (λ b. Reaches p orderly d d.place (cond b x.op (x.op + 1))) (done_same s d g a ∙ h) x.reaches) x.code x.low x.next
       by_done x m false h = passed s d (x.op + 1) a (subst (λ b. Reaches p orderly d d.place (cond b x.op (x.op + 1))) (done_same s d g a ∙ h) x.reaches) x.next
 
@@ -302,11 +306,11 @@ module _ {p : Object} {source : Source} {number : Key → ℕ} (orderly : IsOrde
       mark_passes (Executes n) m = absurd cc
       mark_passes (Ends l) m = absurd cc
 
-      by_instruction : (b : Bool) → has_instruction g.deed ≡ b → MachineFollows p source number d (cond (is_done s.world.on g) (deed_done source s g.deed) (On (at_next s (s.next + 1)) no_output))
+      by_instruction : (b : Bool) → has_instruction g.deed ≡ b → MachineFollows p source number d (cond (is_done s.world.data.on g) (deed_done source s g.deed) (On (at_next s (s.next + 1)) no_output))
       by_instruction false m =
           let z = size_none g m in
           let n = place_next (calculations s) (first s) s.next g e in
           let q = a.place in
           let same : d.place ≡ place_at (first s) (calculations s) (s.next + 1) = omega arith in
-          subst (MachineFollows p source number d) (sym (either_way (is_done s.world.on g) _ _ (mark_passes g.deed m))) (passed s d d.place a (here_is p orderly d d.place d.place refl) same)
-      by_instruction true m = by_done (reached s d g a e m) m (is_done s.world.on g) refl
+          subst (MachineFollows p source number d) (sym (either_way (is_done s.world.data.on g) _ _ (mark_passes g.deed m))) (passed s d d.place a (here_is p orderly d d.place d.place refl) same)
+      by_instruction true m = by_done (reached s d g a e m) m (is_done s.world.data.on g) refl

@@ -95,7 +95,7 @@ module _ (p : Object) (orderly : IsOrderly p) where
     HasAt x [] = Unit {0}
     HasAt x (i ∷ is) = stands x i × HasAt (x + 1) is
 
-    goes : (x y : ℕ) (b : Bool) (cs : Conditions) (t : ℕ) → stands x (Branch b cs t) → control d.world.on x (Branch b cs t) ≡ Goes y → Reaches x y
+    goes : (x y : ℕ) (b : Bool) (cs : Conditions) (t : ℕ) → stands x (Branch b cs t) → control d.world.data.on x (Branch b cs t) ≡ Goes y → Reaches x y
     unfolding instruction_effect
     goes x y b cs t at_x is = record {
       by = λ s ready.
@@ -115,21 +115,21 @@ module _ (p : Object) (orderly : IsOrderly p) where
     on_by : (x t : ℕ) (b : Bool) → b ≡ false → branch b x t ≡ Goes (x + 1)
     on_by x t b e = ap (λ z. branch z x t) e
 
-    pub skip_holds : (x t : ℕ) (cs : Conditions) → stands x (skip_code t cs) → three_hold d.world.on cs ≡ true → Reaches x (x + 1)
+    pub skip_holds : (x t : ℕ) (cs : Conditions) → stands x (skip_code t cs) → three_hold d.world.data.on cs ≡ true → Reaches x (x + 1)
     unfolding control
-    skip_holds x t cs h e = goes x (x + 1) false cs t h (on_by x t (not (three_hold d.world.on cs)) (ap not e))
+    skip_holds x t cs h e = goes x (x + 1) false cs t h (on_by x t (not (three_hold d.world.data.on cs)) (ap not e))
 
-    pub skip_fails : (x t : ℕ) (cs : Conditions) → stands x (skip_code t cs) → three_hold d.world.on cs ≡ false → x < t → Reaches x t
+    pub skip_fails : (x t : ℕ) (cs : Conditions) → stands x (skip_code t cs) → three_hold d.world.data.on cs ≡ false → x < t → Reaches x t
     unfolding control
-    skip_fails x t cs h e l = goes x t false cs t h (ahead x t (not (three_hold d.world.on cs)) (ap not e) l)
+    skip_fails x t cs h e l = goes x t false cs t h (ahead x t (not (three_hold d.world.data.on cs)) (ap not e) l)
 
-    pub jump_holds : (x t : ℕ) (cs : Conditions) → stands x (jump t cs) → three_hold d.world.on cs ≡ true → x < t → Reaches x t
+    pub jump_holds : (x t : ℕ) (cs : Conditions) → stands x (jump t cs) → three_hold d.world.data.on cs ≡ true → x < t → Reaches x t
     unfolding control
-    jump_holds x t cs h e l = goes x t true cs t h (ahead x t (three_hold d.world.on cs) e l)
+    jump_holds x t cs h e l = goes x t true cs t h (ahead x t (three_hold d.world.data.on cs) e l)
 
-    pub jump_fails : (x t : ℕ) (cs : Conditions) → stands x (jump t cs) → three_hold d.world.on cs ≡ false → Reaches x (x + 1)
+    pub jump_fails : (x t : ℕ) (cs : Conditions) → stands x (jump t cs) → three_hold d.world.data.on cs ≡ false → Reaches x (x + 1)
     unfolding control
-    jump_fails x t cs h e = goes x (x + 1) true cs t h (on_by x t (three_hold d.world.on cs) e)
+    jump_fails x t cs h e = goes x (x + 1) true cs t h (on_by x t (three_hold d.world.data.on cs) e)
 
     -- ---- code in parts
 
@@ -143,23 +143,23 @@ module _ (p : Object) (orderly : IsOrderly p) where
 
     -- ---- alternatives
 
-    last_leads : (a : List Conditions) (x op : ℕ) → x + length a ≡ op → HasAt x (map (skip_code (op + 1)) a) → Reaches x (cond (all_cards_hold d.world.on a) op (op + 1))
+    last_leads : (a : List Conditions) (x op : ℕ) → x + length a ≡ op → HasAt x (map (skip_code (op + 1)) a) → Reaches x (cond (all_cards_hold d.world.data.on a) op (op + 1))
     last_leads [] x op e h = here_is x op (omega arith)
-    last_leads (cs ∷ rest) x op e h = by_holds (three_hold d.world.on cs) refl (last_leads rest (x + 1) op (omega arith) h.1)
+    last_leads (cs ∷ rest) x op e h = by_holds (three_hold d.world.data.on cs) refl (last_leads rest (x + 1) op (omega arith) h.1)
       where
-        by_holds : (b : Bool) → three_hold d.world.on cs ≡ b → Reaches (x + 1) (cond (all_cards_hold d.world.on rest) op (op + 1)) → Reaches x (cond (b && all_cards_hold d.world.on rest) op (op + 1))
+        by_holds : (b : Bool) → three_hold d.world.data.on cs ≡ b → Reaches (x + 1) (cond (all_cards_hold d.world.data.on rest) op (op + 1)) → Reaches x (cond (b && all_cards_hold d.world.data.on rest) op (op + 1))
         by_holds true f g = then_reaches x (x + 1) _ (skip_holds x (op + 1) cs h.0 f) g
         by_holds false f g = skip_fails x (op + 1) cs h.0 f (omega arith)
 
-    earlier_leads : (cs : Conditions) (rest : List Conditions) (x op next : ℕ) → x + length (cs ∷ rest) ≡ next → next ≤ op → HasAt x (alternative_code next op (cs ∷ rest)) → Reaches x (cond (all_cards_hold d.world.on (cs ∷ rest)) op next)
-    earlier_leads cs [] x op next e l h = by_holds (three_hold d.world.on cs) refl
+    earlier_leads : (cs : Conditions) (rest : List Conditions) (x op next : ℕ) → x + length (cs ∷ rest) ≡ next → next ≤ op → HasAt x (alternative_code next op (cs ∷ rest)) → Reaches x (cond (all_cards_hold d.world.data.on (cs ∷ rest)) op next)
+    earlier_leads cs [] x op next e l h = by_holds (three_hold d.world.data.on cs) refl
       where
-        by_holds : (b : Bool) → three_hold d.world.on cs ≡ b → Reaches x (cond (b && true) op next)
+        by_holds : (b : Bool) → three_hold d.world.data.on cs ≡ b → Reaches x (cond (b && true) op next)
         by_holds true f = jump_holds x op cs h.0 f (omega arith)
         by_holds false f = lands x (x + 1) next (omega arith) (jump_fails x op cs h.0 f)
-    earlier_leads cs (more ∷ rest) x op next e l h = by_holds (three_hold d.world.on cs) refl (earlier_leads more rest (x + 1) op next (omega arith) l h.1)
+    earlier_leads cs (more ∷ rest) x op next e l h = by_holds (three_hold d.world.data.on cs) refl (earlier_leads more rest (x + 1) op next (omega arith) l h.1)
       where
-        by_holds : (b : Bool) → three_hold d.world.on cs ≡ b → Reaches (x + 1) (cond (all_cards_hold d.world.on (more ∷ rest)) op next) → Reaches x (cond (b && all_cards_hold d.world.on (more ∷ rest)) op next)
+        by_holds : (b : Bool) → three_hold d.world.data.on cs ≡ b → Reaches (x + 1) (cond (all_cards_hold d.world.data.on (more ∷ rest)) op next) → Reaches x (cond (b && all_cards_hold d.world.data.on (more ∷ rest)) op next)
         by_holds true f g = then_reaches x (x + 1) _ (skip_holds x next cs h.0 f) g
         by_holds false f g = skip_fails x next cs h.0 f (omega arith)
 
@@ -167,31 +167,31 @@ module _ (p : Object) (orderly : IsOrderly p) where
     or_false true = refl
     or_false false = refl
 
-    pub tests_lead : (alts : List (List Conditions)) → AreFilled alts → (x op : ℕ) → x + tests alts ≡ op → HasAt x (tests_code x op (op + 1) alts) → Reaches x (cond (list_any (all_cards_hold d.world.on) alts) op (op + 1))
+    pub tests_lead : (alts : List (List Conditions)) → AreFilled alts → (x op : ℕ) → x + tests alts ≡ op → HasAt x (tests_code x op (op + 1) alts) → Reaches x (cond (list_any (all_cards_hold d.world.data.on) alts) op (op + 1))
     tests_lead [] filled x op e h = absurd filled
-    tests_lead (a ∷ []) filled x op e h = subst (λ b. Reaches x (cond b op (op + 1))) (or_false (all_cards_hold d.world.on a)) (last_leads a x op (omega arith) h)
+    tests_lead (a ∷ []) filled x op e h = subst (λ b. Reaches x (cond b op (op + 1))) (or_false (all_cards_hold d.world.data.on a)) (last_leads a x op (omega arith) h)
     tests_lead ([] ∷ b ∷ rest) filled x op e h = let no = filled.0 in absurd (omega arith)
     tests_lead ((cs ∷ a) ∷ b ∷ rest) filled x op e h =
         let next = x + length (cs ∷ a) in
         let one = earlier_leads cs a x op next refl (omega arith) (has_front x (alternative_code next op (cs ∷ a)) _ h) in
         let len = ap (λ n. x + n) (alternative_length next op (cs ∷ a)) in
         let two = tests_lead (b ∷ rest) filled.1 next op (omega arith) (subst (λ n. HasAt n (tests_code next op (op + 1) (b ∷ rest))) len (has_back x (alternative_code next op (cs ∷ a)) _ h)) in
-        by_first (all_cards_hold d.world.on (cs ∷ a)) one two
+        by_first (all_cards_hold d.world.data.on (cs ∷ a)) one two
       where
-        by_first : (b1 : Bool) → Reaches x (cond b1 op (x + length (cs ∷ a))) → Reaches (x + length (cs ∷ a)) (cond (list_any (all_cards_hold d.world.on) (b ∷ rest)) op (op + 1))
-            → Reaches x (cond (b1 || list_any (all_cards_hold d.world.on) (b ∷ rest)) op (op + 1))
+        by_first : (b1 : Bool) → Reaches x (cond b1 op (x + length (cs ∷ a))) → Reaches (x + length (cs ∷ a)) (cond (list_any (all_cards_hold d.world.data.on) (b ∷ rest)) op (op + 1))
+            → Reaches x (cond (b1 || list_any (all_cards_hold d.world.data.on) (b ∷ rest)) op (op + 1))
         by_first true one two = one
         by_first false one two = then_reaches x _ _ one two
 
     -- the level that it waits for, and then these
     pub level_leads : (level : Option ℕ) (alts : List (List Conditions)) → AreFilled alts → (x op : ℕ) (rest : List (Instruction ℕ)) → x + waits level + tests alts ≡ op
         → HasAt x (level_code (op + 1) level ++ (tests_code (x + waits level) op (op + 1) alts ++ rest))
-        → Reaches x (cond (level_holds d.world.on level && list_any (all_cards_hold d.world.on) alts) op (op + 1))
+        → Reaches x (cond (level_holds d.world.data.on level && list_any (all_cards_hold d.world.data.on) alts) op (op + 1))
     level_leads None alts filled x op rest e h =
         let k : x + 0 ≡ x = omega arith in
         tests_lead alts filled x op (omega arith) (subst (λ n. HasAt x (tests_code n op (op + 1) alts)) k (has_front x _ rest h))
-    level_leads (Some level) alts filled x op rest e h = by_holds (set.contains d.world.on level) refl
+    level_leads (Some level) alts filled x op rest e h = by_holds (set.contains d.world.data.on level) refl
       where
-        by_holds : (b : Bool) → set.contains d.world.on level ≡ b → Reaches x (cond (b && list_any (all_cards_hold d.world.on) alts) op (op + 1))
+        by_holds : (b : Bool) → set.contains d.world.data.on level ≡ b → Reaches x (cond (b && list_any (all_cards_hold d.world.data.on) alts) op (op + 1))
         by_holds true f = then_reaches x (x + 1) _ (skip_holds x (op + 1) (on_level level) h.0 (ap (λ b. b && true) f)) (tests_lead alts filled (x + 1) op e (has_front (x + 1) _ rest h.1))
         by_holds false f = skip_fails x (op + 1) (on_level level) h.0 (ap (λ b. b && true) f) (omega arith)

@@ -33,7 +33,7 @@ same_end c InTotal h = refl
 same_end c (InSubroutine m) h = absurd (false≢true h)
 
 module _ {p : Object} {source : Source} {number : Key → ℕ} (orderly : IsOrderly p) (is : IsTranslation p source number) where
-  begins : (part : Part) → part_has_end part ≡ true → (v : World key_cmp) (c : Config) → Agree source.forms number v c.world → FitsIn p.fields c.world → c.cells ≡ map.empty
+  begins : (part : Part) → part_has_end part ≡ true → (v : World key_cmp) (c : Config) → Agree source.forms number v c.world → FitsIn p.fields c.world.data → c.cells ≡ map.empty
       → AgreeAt p source number (part_begun part v c.allowance) (at_first p (part_section source.sections part) c)
   begins part h v c a fits none = record {
     world = a;

@@ -219,18 +219,18 @@ module _ {p : Object} {source : Source} {number : Key → ℕ} (orderly : IsOrde
 
       inside : stays_in_part g.deed ≡ true → Did_so d (cards_step source s)
       inside h =
-          let kept : Stays s (cards_step source s) = subst (λ x. Stays s (calculation_done source s x)) (sym e) (either_stays s (is_done s.world.on g) _ (deed_stays s g.deed h)) in
+          let kept : Stays s (cards_step source s) = subst (λ x. Stays s (calculation_done source s x)) (sym e) (either_stays s (is_done s.world.data.on g) _ (deed_stays s g.deed h)) in
           combine s d _ opened kept (calculation_follows orderly is s d g e h a)
 
       leaves : has_instruction g.deed ≡ true → ((op : ℕ) → Reaches p orderly d d.place op → HasAt p orderly d op (step_code number (own_label orderly is s) (callee_of orderly is) (own orderly is s) g.deed)
           → op + 1 ≡ place_at (first_place p (part_section source.sections s.part)) (calculations_in source.sections s.part) (s.next + 1) → Did_so d (deed_done source s g.deed)) → Did_so d (cards_step source s)
       leaves m does =
           let x = reached orderly is s d g a e m in
-          subst (λ o. Did_so d (calculation_done source s o)) (sym e) (by_done x (is_done s.world.on g) refl)
+          subst (λ o. Did_so d (calculation_done source s o)) (sym e) (by_done x (is_done s.world.data.on g) refl)
         where
-          by_done : IsReached orderly is s d g → (b : Bool) → is_done s.world.on g ≡ b → Did_so d (cond b (deed_done source s g.deed) (On (at_next s (s.next + 1)) no_output))
-          by_done x true h = does x.op (subst (λ b. Reaches p orderly d d.place (cond b x.op (x.op + 1))) (ap (λ on. is_done on g) a.world.on ∙ h) x.reaches) x.code x.next
-          by_done x false h = passed_open s d (x.op + 1) a opened (subst (λ b. Reaches p orderly d d.place (cond b x.op (x.op + 1))) (ap (λ on. is_done on g) a.world.on ∙ h) x.reaches) x.next
+          by_done : IsReached orderly is s d g → (b : Bool) → is_done s.world.data.on g ≡ b → Did_so d (cond b (deed_done source s g.deed) (On (at_next s (s.next + 1)) no_output))
+          by_done x true h = does x.op (subst (λ b. Reaches p orderly d d.place (cond b x.op (x.op + 1))) (ap (λ on. is_done on g) a.world.data.on ∙ h) x.reaches) x.code x.next
+          by_done x false h = passed_open s d (x.op + 1) a opened (subst (λ b. Reaches p orderly d d.place (cond b x.op (x.op + 1))) (ap (λ on. is_done on g) a.world.data.on ∙ h) x.reaches) x.next
 
       by_deed : (x : Deed Key) → g.deed ≡ x → stays_in_part x ≡ false → Did_so d (cards_step source s)
       by_deed (Marks l) f h = absurd cc

@@ -45,18 +45,18 @@ constants_begin cards date w is c there =
 
 module _ (cards : List SpecCard) (allowance : ℕ) (program : IsProgram (program_of cards allowance)) where
   -- a constant's field has its first value at the start of a job, whatever the date
-  start_keeps : Holds (program_of cards allowance) (job_start (program_of cards allowance) (pos 0) (first_fields (program_of cards allowance))).world
+  start_keeps : Holds (program_of cards allowance) (job_start (program_of cards allowance) (pos 0) (first_fields (program_of cards allowance))).world.data
   start_keeps =
       let p = program_of cards allowance in
       let small : unsigned_abs (pos 0) < 10 ^ 6 = omega arith in
-      start_holds p program (pos 0) small (first_fields p) (first_holds p (job_first_world (first_fields p)) program refl)
+      start_holds p program (pos 0) small (first_fields p) (first_holds p (job_first_world (first_fields p)).data program refl)
 
   number_form : (c : Constant) → stands_on cards c ≡ true → form_at (let p = program_of cards allowance in p.fields) (key_numbers cards (Fixed c)) ≡ Some (form_of_constant c)
   unfolding program_of
   number_form c there = let names = numbers_rename (table_of cards) in names.forms (Fixed c) ∙ form_same cards (Fixed c) ∙ form_there cards c there
 
   -- where the constants of the program have their first values, those of the cards have what is written
-  pub constants_stay : (v : World key_cmp) (w : World nat_cmp) → Agree (meant_forms cards) (key_numbers cards) v w → KeepsConstants (program_of cards allowance) w.fields.values → ConstantsStand cards v
+  pub constants_stay : (v : World key_cmp) (w : World nat_cmp) → Agree (meant_forms cards) (key_numbers cards) v w → KeepsConstants (program_of cards allowance) w.data.fields.values → ConstantsStand cards v
   constants_stay v w agrees keeps c there =
       let p = program_of cards allowance in
       let q = key_numbers cards (Fixed c) in
@@ -64,8 +64,8 @@ module _ (cards : List SpecCard) (allowance : ℕ) (program : IsProgram (program
       let a = start_agrees cards allowance (pos 0) program.values s.0 s.1 in
       let has : has_field (meant_forms cards (Fixed c)) ≡ true = ap has_field (form_there cards c there) in
       let form = number_form c there in
-      sym (agrees.fields.values (Fixed c) has 1)
+      sym (agrees.data.fields.values (Fixed c) has 1)
       ∙ keeps q (form_of_constant c) form (constant_class c) 1
       ∙ sym (let h = start_keeps in h.constants q (form_of_constant c) form (constant_class c) 1)
-      ∙ a.fields.values (Fixed c) has 1
+      ∙ a.data.fields.values (Fixed c) has 1
       ∙ constants_begin cards (pos 0) s.0 s.1 c there

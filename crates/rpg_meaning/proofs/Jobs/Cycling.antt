@@ -43,7 +43,7 @@ module _ {p : Object} {job : Job} {number : Key → ℕ} (orderly : IsOrderly p)
   totals = calculated job.source InTotal andthen by_effect (total_output job.source.forms job.source.words job.source.overflow job.source.lines)
 
   bypass_same : (earlier : List Selected) (c : UnderWay) (s : JobState) → Same p job number s c → machine.is_bypassed p (left_by p earlier).any (left_by p earlier).control c.config ≡ cards.meant_is_bypassed job earlier s
-  bypass_same earlier c s same = λ i. not (set.contains (same.world.on i) last_record) && (not (is_any earlier) || (fields_same orderly is i && not (control_same orderly is earlier i)))
+  bypass_same earlier c s same = λ i. not (set.contains (same.world.data.on i) last_record) && (not (is_any earlier) || (fields_same orderly is i && not (control_same orderly is earlier i)))
 
   total_follows : (earlier : List Selected) → Follows p job number (IsTaken p) (machine.total_time p (left_by p earlier)) (cards.meant_total_time job earlier) (IsTaken p)
   unfolding totals
@@ -83,10 +83,10 @@ module _ {p : Object} {job : Job} {number : Key → ℕ} (orderly : IsOrderly p)
     begun_same = record { world = a; allowance = is.same_allowance; inputs = refl; selected = refl }
 
     needs_same : (f : InputFile) → machine.needs_record p c i f ≡ meant_needs job (meant_begun job v i) f
-    needs_same f = λ k. not (set.contains (a.on k) last_record || halts k) && takes_same orderly is i f k
+    needs_same f = λ k. not (set.contains (a.data.on k) last_record || halts k) && takes_same orderly is i f k
       where
         halts : indicators.any_on c halt_indicators ≡ any_on_in halt_indicators (meant_begun job v i)
-        halts = any_same halt_indicators c v.on a.on
+        halts = any_same halt_indicators c v.data.on a.data.on
 
     next_same : (f : InputFile) (rs : List (List ℕ)) → runs.next_of (machine.needs_record p c i f) rs ≡ meant_next job (meant_begun job v i) f rs
     next_same f rs = ap (λ b. runs.next_of b rs) (needs_same f)
@@ -94,7 +94,7 @@ module _ {p : Object} {job : Job} {number : Key → ℕ} (orderly : IsOrderly p)
     left_same : (rs : runs.Records) → runs.left_behind p c i rs ≡ meant_left job (meant_begun job v i) rs
     left_same rs = λ k. record { primary = runs.rest_where_needed (needs_same Primary k) rs.primary; secondary = runs.rest_where_needed (needs_same Secondary k) rs.secondary }
 
-    cycle_of : (earlier : List Selected) (rs : runs.Records) → Holds p c.world → c.cells ≡ map.empty → AreWaiting p i → (e : PhaseEnd) (d : UnderWay) (out : Output)
+    cycle_of : (earlier : List Selected) (rs : runs.Records) → Holds p c.world.data → c.cells ≡ map.empty → AreWaiting p i → (e : PhaseEnd) (d : UnderWay) (out : Output)
         → machine.Cycle p earlier (runs.next_of (machine.needs_record p c i Primary) rs.primary) (runs.next_of (machine.needs_record p c i Secondary) rs.secondary) (machine.begun p c i) e d out
         → Followed p job number (cards.MeantCycle job earlier (meant_next job (meant_begun job v i) Primary rs.primary) (meant_next job (meant_begun job v i) Secondary rs.secondary)) IsAny (meant_begun job v i) e d out
     cycle_of earlier rs holds none waiting e d out cycle =
@@ -105,7 +105,7 @@ module _ {p : Object} {job : Job} {number : Key → ℕ} (orderly : IsOrderly p)
   ended : (course : runs.Course) (e : PhaseEnd) (d : UnderWay) (out : Output) → course ≡ runs.last_cycle e d out → SameCourse (last_cycle e out) course
   ended course e d out is = record { ending = ap (λ (x : runs.Course). x.ending) is; cycles = ap (λ (x : runs.Course). x.cycles) is; output = ap (λ (x : runs.Course). x.output) is }
 
-  pub runs_follow : (n : ℕ) (rs : runs.Records) (earlier : List Selected) (v : World key_cmp) (c : Config) (i : Inputs) → Agree job.source.forms number v c.world → Holds p c.world → c.cells ≡ map.empty → AreWaiting p i
+  pub runs_follow : (n : ℕ) (rs : runs.Records) (earlier : List Selected) (v : World key_cmp) (c : Config) (i : Inputs) → Agree job.source.forms number v c.world → Holds p c.world.data → c.cells ≡ map.empty → AreWaiting p i
       → (course : runs.Course) → runs.RunsIn n p earlier rs c i course → HasCourse earlier rs v i course
   runs_follow zero rs earlier v c i a holds none waiting course h = absurd h
   runs_follow (suc n) rs earlier v c i a holds none waiting course (e, d, out, cycle, ends) =
@@ -113,7 +113,7 @@ module _ {p : Object} {job : Job} {number : Key → ℕ} (orderly : IsOrderly p)
     where
       by : (e : PhaseEnd) (d : UnderWay) (out : Output) → Followed p job number (cards.MeantCycle job earlier (meant_next job (meant_begun job v i) Primary rs.primary) (meant_next job (meant_begun job v i) Secondary rs.secondary)) IsAny (meant_begun job v i) e d out
           → runs.ends_or e d out (λ d rest. runs.RunsIn n p (with_record d.selected earlier) (runs.left_behind p c i rs) d.config d.inputs rest) course
-          → ((rs : runs.Records) (earlier : List Selected) (v : World key_cmp) (c : Config) (i : Inputs) → Agree job.source.forms number v c.world → Holds p c.world → c.cells ≡ map.empty → AreWaiting p i → (course : runs.Course)
+          → ((rs : runs.Records) (earlier : List Selected) (v : World key_cmp) (c : Config) (i : Inputs) → Agree job.source.forms number v c.world → Holds p c.world.data → c.cells ≡ map.empty → AreWaiting p i → (course : runs.Course)
           → runs.RunsIn n p earlier rs c i course → HasCourse earlier rs v i course)
           → HasCourse earlier rs v i course
       by GoesOn d out f (rest, ran, is) later =

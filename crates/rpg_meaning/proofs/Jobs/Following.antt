@@ -44,7 +44,7 @@ module _ (p : Object) (job : Job) (number : Key → ℕ) where
 
   -- between two phases
   pub record IsSettled (P : Selection) (c : UnderWay) : Type 0 where
-    pub values : Holds p c.config.world
+    pub values : Holds p c.config.world.data
     pub no_cell : c.config.cells ≡ map.empty
     pub waiting : AreWaiting p c.inputs
     pub selected : P c.selected
@@ -124,7 +124,7 @@ module _ (p : Object) (job : Job) (number : Key → ℕ) where
   -- ---- what the machine does
 
   pub follows_effect : (P : Selection) (weight : ℕ) (effect : World nat_cmp → Effect nat_cmp) (f : World key_cmp → Effect key_cmp)
-      → ((w : World nat_cmp) → Holds p w → Keeps p (effect w)) → ((v : World key_cmp) (w : World nat_cmp) → Agree job.source.forms number v w → SameEffect job.source.forms number (f v) (effect w))
+      → ((w : World nat_cmp) → Holds p w.data → Keeps p (effect w)) → ((v : World key_cmp) (w : World nat_cmp) → Agree job.source.forms number v w → SameEffect job.source.forms number (f v) (effect w))
       → Follows P (machine.by_machine (ByEffect weight effect)) (by_effect f) P
   follows_effect P weight effect f keeps equal c s settled same e d out (last, act, ends, files, kept) =
       let w = c.config.world in
@@ -142,7 +142,7 @@ module _ (p : Object) (job : Job) (number : Key → ℕ) where
         };
         fine = subst IsFine (sym ends) (right_fine last (subst IsEffectEnd (sym act.ends) k.ending));
         settled = λ on. record {
-          values = subst (Holds p) (sym world) k.holds;
+          values = subst (λ (x : World nat_cmp). Holds p x.data) (sym world) k.holds;
           no_cell = ap (λ (x : Config). x.cells) act.leads ∙ settled.no_cell;
           waiting = subst (AreWaiting p) (sym files) settled.waiting;
           selected = subst P (sym kept) settled.selected;

@@ -43,7 +43,7 @@ pub runs_are_meant : (cards : List SpecCard) (allowance : ℕ) (text : List ℕ)
 runs_are_meant cards allowance text date program accepted kept dated w start records course bytes run =
     let p = program_of cards allowance in
     let agree = start_agrees cards allowance date program.values w start in
-    let holds : Holds p (job_start p date (first_fields p)).world = start_holds p program date (date_small text date dated) (first_fields p) (first_holds p (job_first_world (first_fields p)) program refl) in
+    let holds : Holds p (job_start p date (first_fields p)).world.data = start_holds p program date (date_small text date dated) (first_fields p) (first_holds p (job_first_world (first_fields p)).data program refl) in
     let k = runs_follow (accepted_orderly p program accepted) (job_is cards allowance kept) course.cycles records [] w (job_start p date (first_fields p)) unread agree holds refl (unread_waits p) course run.runs in
     record {
       meant = k.meant;

@@ -45,26 +45,24 @@ starts_same cards = λ i k. form_same cards k i
 
 -- a start, over given forms and values
 record Begins (forms : Key → Option FieldForm) (first : Key → ℕ → Option Value) (w : World key_cmp) : Type 0 where
-  values : (k : Key) → has_field (forms k) ≡ true → (n : ℕ) → value_in w.fields (k, n) ≡ first k n
-  current : (k : Key) → has_field (forms k) ≡ true → maps.get w.fields.current k ≡ cond (is_table_form (forms k)) (Some 1) None
-  on : w.on ≡ set.from_list (level_zero ∷ first_page ∷ [])
-  remainder : w.remainder ≡ with_decimals (pos 0) 0
-  here : w.here ≡ record { page = 1; line = 1 }
-  was_overflow : w.was_overflow ≡ false
-  has_turned_on : w.has_turned_on ≡ false
+  values : (k : Key) → has_field (forms k) ≡ true → (n : ℕ) → value_in w.data.fields (k, n) ≡ first k n
+  current : (k : Key) → has_field (forms k) ≡ true → maps.get w.data.fields.current k ≡ cond (is_table_form (forms k)) (Some 1) None
+  on : w.data.on ≡ set.from_list (level_zero ∷ first_page ∷ [])
+  remainder : w.data.remainder ≡ with_decimals (pos 0) 0
+  paper : w.paper ≡ record { here = record { page = 1; line = 1 }; was_overflow = false; has_turned_on = false }
 
 begins_same : (cards : List SpecCard) (date : ℤ) (w : World key_cmp) → Begins (key_form (table_of cards)) (taken_value cards date) w ≡ Begins (meant_forms cards) (start_value cards date) w
 begins_same cards date w = λ i. Begins (λ k. form_same cards k i) (λ k n. begin_same cards date k n i) w
 
 is_taken : (cards : List SpecCard) (date : ℤ) (w : World key_cmp) → IsStart cards date w → IsTakenStart cards date w
 is_taken cards date w is =
-    let b = subst (λ (T : Type 0). T) (sym (begins_same cards date w)) (let c : Begins (meant_forms cards) (start_value cards date) w = record { values = is.values; current = is.current; on = is.on; remainder = is.remainder; here = is.here; was_overflow = is.was_overflow; has_turned_on = is.has_turned_on } in c) in
-    record { values = b.values; current = b.current; on = b.on; remainder = b.remainder; here = b.here; was_overflow = b.was_overflow; has_turned_on = b.has_turned_on }
+    let b = subst (λ (T : Type 0). T) (sym (begins_same cards date w)) (let c : Begins (meant_forms cards) (start_value cards date) w = record { values = is.values; current = is.current; on = is.on; remainder = is.remainder; paper = is.paper } in c) in
+    record { values = b.values; current = b.current; on = b.on; remainder = b.remainder; paper = b.paper }
 
 is_start : (cards : List SpecCard) (date : ℤ) (w : World key_cmp) → IsTakenStart cards date w → IsStart cards date w
 is_start cards date w is =
-    let b = subst (λ (T : Type 0). T) (begins_same cards date w) (let c : Begins (key_form (table_of cards)) (taken_value cards date) w = record { values = is.values; current = is.current; on = is.on; remainder = is.remainder; here = is.here; was_overflow = is.was_overflow; has_turned_on = is.has_turned_on } in c) in
-    record { values = b.values; current = b.current; on = b.on; remainder = b.remainder; here = b.here; was_overflow = b.was_overflow; has_turned_on = b.has_turned_on }
+    let b = subst (λ (T : Type 0). T) (begins_same cards date w) (let c : Begins (key_form (table_of cards)) (taken_value cards date) w = record { values = is.values; current = is.current; on = is.on; remainder = is.remainder; paper = is.paper } in c) in
+    record { values = b.values; current = b.current; on = b.on; remainder = b.remainder; paper = b.paper }
 
 module _ (cards : List SpecCard) (allowance : ℕ) (date : ℤ) (kept : AreValuesOf (program_of cards allowance).fields (program_of cards allowance).values) (w : World key_cmp) where
   pub start_agrees : IsStart cards date w → Agree (meant_forms cards) (key_numbers cards) w (job_start (program_of cards allowance) date (first_fields (program_of cards allowance))).world

@@ -6,6 +6,7 @@ use Rattle.rpg_cycle.specs.Indicators.{last_record, level_indicators}
 use Rattle.rpg_cycle.specs.Runs.{Records, printed, stored}
 use Rattle.rpg_effect.specs.Effect.{Effect}
 use Rattle.rpg_effect.specs.Lines.{detail_output, overflow_output, total_output}
+use Rattle.rpg_effect.specs.Ended.{on_data}
 use Rattle.rpg_effect.specs.Input.{record_in}
 use Rattle.rpg_effect.specs.Put.{Bytes}
 use Rattle.rpg_effect.specs.World.{World}
@@ -109,7 +110,7 @@ module _ (job : Job) where
     where
       by : (r : Option Selected) → cards.meant_fill_from job r s e t o → cards.meant_fill_from job r s f u q → (e ≡ f) × (t ≡ u) × (o ≡ q)
       by None h k = does_fixed (λ s. (GoesOn, s)) s e f t u o q h k
-      by (Some r) h k = effect_fixed (record_in job.source.forms r.text (cards.meant_inputs_at job r.type)) s e f t u o q h k
+      by (Some r) h k = effect_fixed (on_data (record_in job.source.forms r.text (cards.meant_inputs_at job r.type))) s e f t u o q h k
 
   select_fixed : (earlier : List Selected) (a b : Option (List ℕ)) → IsFixed (cards.meant_select_record job earlier a b)
   select_fixed earlier a b s e f t u o q h k =

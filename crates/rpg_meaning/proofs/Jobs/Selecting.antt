@@ -12,6 +12,7 @@ use Rattle.rpg_cycle.specs.Phases as machine
 use Rattle.rpg_cycle.specs.Phases.{Done, UnderWay, done, type_indicator, with_config, with_inputs, ◌before◌}
 use Rattle.rpg_effect.specs.Ends as effects
 use Rattle.rpg_effect.specs.Input.{TypeRow}
+use Rattle.rpg_effect.specs.World.{with_data}
 use Rattle.rpg_effect.specs.declared.input.InputFile.{InputFile}
 use Rattle.rpg_effect.specs.declared.input.InputFile.TheVariants.{Primary, Secondary}
 use Rattle.rpg_text.specs.Texts.{is_character}
@@ -237,7 +238,7 @@ module _ {p : Object} {job : Job} {number : Key → ℕ} (orderly : IsOrderly p)
 
   module _ (earlier : List Selected) (c : UnderWay) (s : JobState) (same : Same p job number s c) where
     -- only indicators were turned, and steps charged
-    turned_to : (ns : List ℕ) (d : Config) (g : Inputs → Inputs) (o : Option Selected) → d.world ≡ record c.config.world { on = turned_all ns true c.config.world.on } → d.allowance ≡ c.config.allowance
+    turned_to : (ns : List ℕ) (d : Config) (g : Inputs → Inputs) (o : Option Selected) → d.world ≡ with_data (record c.config.world.data { on = turned_all ns true c.config.world.data.on }) c.config.world → d.allowance ≡ c.config.allowance
         → Same p job number (record (with_turned ns true s) { inputs = g s.inputs; selected = o }) (record { config = d; inputs = g c.inputs; selected = o })
     turned_to ns d g o world allowance = record {
       world = subst (Agree job.source.forms number (with_turned ns true s).world) (sym world) (on_agrees job.source.forms number (turned_all ns true) s.world c.config.world same.world);
@@ -315,7 +316,7 @@ module _ {p : Object} {job : Job} {number : Key → ℕ} (orderly : IsOrderly p)
         same = subst (λ b. Same p job number (with_turned (matching_record ∷ []) b s) (with_config (with_one matching_record (machine.if_selected (has_match p earlier c.inputs) c.selected)) c)) (shown_same earlier c s same)
             (turned_one (machine.if_selected (has_match p earlier c.inputs) c.selected) c s same);
         fine = tt;
-        settled = λ on. record { values = same_fields p c.config.world (with_one matching_record (machine.if_selected (has_match p earlier c.inputs) c.selected) c.config).world settled.values refl; no_cell = settled.no_cell; waiting = settled.waiting; selected = settled.selected };
+        settled = λ on. record { values = same_fields p c.config.world.data (with_one matching_record (machine.if_selected (has_match p earlier c.inputs) c.selected) c.config).world.data settled.values refl; no_cell = settled.no_cell; waiting = settled.waiting; selected = settled.selected };
       })
     where
       turned_one : (b : Bool) (c : UnderWay) (s : JobState) → Same p job number s c → Same p job number (with_turned (matching_record ∷ []) b s) (with_config (with_one matching_record b) c)
@@ -334,7 +335,7 @@ module _ {p : Object} {job : Job} {number : Key → ℕ} (orderly : IsOrderly p)
     same = m.same;
     fine = named_fine d.end picks.named;
     settled = λ on. record {
-      values = same_fields p c.config.world d.leads.config.world settled.values picks.still.fields;
+      values = same_fields p c.config.world.data d.leads.config.world.data settled.values picks.still.fields;
       no_cell = picks.still.cells ∙ settled.no_cell;
       waiting = picks.waiting;
       selected = selected;
@@ -399,7 +400,7 @@ module _ {p : Object} {job : Job} {number : Key → ℕ} (orderly : IsOrderly p)
         state = one.state;
         meets = subst (λ x. meant_either x (meant_does (λ s. (GoesOn, with_turned level_indicators true s)))
             (cards.meant_take_in job earlier Primary a andthen cards.meant_take_in job earlier Secondary b andthen cards.meant_select_one job earlier) s e one.state out)
-            (ap (λ on. set.contains on last_record) same.world.on) one.meets;
+            (ap (λ on. set.contains on last_record) same.world.data.on) one.meets;
         same = one.same;
         fine = one.fine;
         settled = one.settled;

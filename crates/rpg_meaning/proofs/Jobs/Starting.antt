@@ -255,7 +255,7 @@ module _ (cards : List SpecCard) where
 
   module _ (allowance : ℕ) (date : ℤ) (kept : AreValuesOf (program_of cards allowance).fields (program_of cards allowance).values) where
     machine_value : (k : Key) → has_field (key_form (table_of cards) k) ≡ true → (n : ℕ)
-        → value_in (job_start (program_of cards allowance) date (first_fields (program_of cards allowance))).world.fields (key_numbers cards k, n) ≡ taken_value cards date k n
+        → value_in (job_start (program_of cards allowance) date (first_fields (program_of cards allowance))).world.data.fields (key_numbers cards k, n) ≡ taken_value cards date k n
     unfolding program_of
     machine_value k there n =
         let s = place_of k there in
@@ -267,7 +267,7 @@ module _ (cards : List SpecCard) where
         ∙ ap (λ o. cond (takes_date o && eqb n 1) (Some (Number date)) (first_value_at (first_values cards k) n)) (sym f.1)
 
     machine_current : (k : Key) → has_field (key_form (table_of cards) k) ≡ true
-        → maps.get (job_start (program_of cards allowance) date (first_fields (program_of cards allowance))).world.fields.current (key_numbers cards k) ≡ cond (is_table_form (key_form (table_of cards) k)) (Some 1) None
+        → maps.get (job_start (program_of cards allowance) date (first_fields (program_of cards allowance))).world.data.fields.current (key_numbers cards k) ≡ cond (is_table_form (key_form (table_of cards) k)) (Some 1) None
     unfolding program_of
     machine_current k there =
         let s = place_of k there in
@@ -279,25 +279,23 @@ module _ (cards : List SpecCard) where
     -- a start of the cards agrees with the program's
     pub taken_agrees : (w : World key_cmp) → IsTakenStart cards date w → Agree (key_form (table_of cards)) (key_numbers cards) w (job_start (program_of cards allowance) date (first_fields (program_of cards allowance))).world
     taken_agrees w is = record {
-      fields = record {
-        values = λ k there n. machine_value k there n ∙ sym (is.values k there n);
-        current = λ k there. machine_current k there ∙ sym (is.current k there);
+      «data» = record {
+        fields = record {
+          values = λ k there n. machine_value k there n ∙ sym (is.values k there n);
+          current = λ k there. machine_current k there ∙ sym (is.current k there);
+        };
+        on = sym is.on;
+        remainder = sym is.remainder;
       };
-      on = sym is.on;
-      remainder = sym is.remainder;
-      here = sym is.here;
-      was_overflow = sym is.was_overflow;
-      has_turned_on = sym is.has_turned_on;
+      paper = sym is.paper;
     }
 
     -- and what agrees with that is a start
     pub agrees_taken : (w : World key_cmp) → Agree (key_form (table_of cards)) (key_numbers cards) w (job_start (program_of cards allowance) date (first_fields (program_of cards allowance))).world → IsTakenStart cards date w
     agrees_taken w a = record {
-      values = λ k there n. sym (a.fields.values k there n) ∙ machine_value k there n;
-      current = λ k there. sym (a.fields.current k there) ∙ machine_current k there;
-      on = sym a.on;
-      remainder = sym a.remainder;
-      here = sym a.here;
-      was_overflow = sym a.was_overflow;
-      has_turned_on = sym a.has_turned_on;
+      values = λ k there n. sym (a.data.fields.values k there n) ∙ machine_value k there n;
+      current = λ k there. sym (a.data.fields.current k there) ∙ machine_current k there;
+      on = sym a.data.on;
+      remainder = sym a.data.remainder;
+      paper = sym a.paper;
     }

@@ -13,15 +13,16 @@ use Rattle.rpg_cycle.specs.Phases as machine
 use Rattle.rpg_cycle.specs.Phases.{UnderWay}
 use Rattle.rpg_effect.specs.Ends as effects
 use Rattle.rpg_effect.specs.Forms.{form_at}
+use Rattle.rpg_effect.specs.Ended.{Ended, on_data}
 use Rattle.rpg_effect.specs.Input.{TypeRow, input_fault, record_in}
 use Rattle.rpg_effect.specs.Lines.{Line, detail_output, overflow_output, total_output}
-use Rattle.rpg_effect.specs.World.{World}
+use Rattle.rpg_effect.specs.World.{Data, World, with_data}
 use Rattle.rpg_effect.specs.declared.form.FieldForm.{FieldForm}
 use Rattle.rpg_cycle_safety.proofs.Accepting.{inputs_right}
 use Rattle.rpg_cycle_safety.proofs.Filling.{record_keeps}
 use Rattle.rpg_cycle_safety.proofs.Instructing.{output_keeps}
 use Rattle.rpg_cycle_safety.proofs.Running.{ends_well}
-use Rattle.rpg_cycle_safety.proofs.Writing.{same_fields}
+use Rattle.rpg_cycle_safety.proofs.Writing.{on_data_keeps, same_fields}
 use Rattle.rpg_cycle_safety.specs.Leading as leading
 use Rattle.rpg_cycle_safety.specs.Waiting.{AreWaiting}
 use Rattle.rpg_meaning.proofs.Jobs.Following.{Followed, Follows, IsFine, IsSettled, Same, Selection, follows_does, follows_effect, follows_pass, follows_unless}
@@ -45,6 +46,7 @@ use Rattle.rpg_object_program.specs.Object.{Object, lines_of}
 use Rattle.rpg_object_program.specs.Sections as places
 use Rattle.rpg_cycle_records.specs.Earlier.{Selected}
 use Rattle.rpg_effect_renaming.proofs.Inputs.{record_same}
+use Rattle.rpg_effect_renaming.proofs.Lines.{data_same}
 use Rattle.rpg_effect_renaming.proofs.Outputs.{detail_same, overflow_same, total_same}
 use Rattle.rpg_effect_renaming.specs.Naming.{Agree, SameEffect, renamed_input, renamed_line, renamed_type}
 use Rattle.rpg_cycle_safety.proofs.Working.{IsTaken}
@@ -53,7 +55,7 @@ use Rattle.rpg_cycle_safety.proofs.Working.{IsTaken}
 
 -- only which are on changes
 abbrev pub with_on : (set.FinSet nat_cmp → set.FinSet nat_cmp) → Config → Config
-with_on f c = record c { world = record c.world { on = f c.world.on } }
+with_on f c = record c { world = with_data (record c.world.data { on = f c.world.data.on }) c.world }
 
 pub all_turned : (ns : List ℕ) (b : Bool) (c : Config) → with_all ns b c ≡ with_on (turned_all ns b) c
 all_turned [] b c = refl
@@ -63,7 +65,7 @@ turned_append : (ms ns : List ℕ) (b : Bool) (on : set.FinSet nat_cmp) → turn
 turned_append [] ns b on = refl
 turned_append (m ∷ ms) ns b on = turned_append ms ns b (indicators_turned m b on)
 
-pub any_same : (ns : List ℕ) (c : Config) (on : set.FinSet nat_cmp) → c.world.on ≡ on → indicators.any_on c ns ≡ list_any (λ n. set.contains on n) ns
+pub any_same : (ns : List ℕ) (c : Config) (on : set.FinSet nat_cmp) → c.world.data.on ≡ on → indicators.any_on c ns ≡ list_any (λ n. set.contains on n) ns
 any_same [] c on e = refl
 any_same (n ∷ ns) c on e = λ i. set.contains (e i) n || any_same ns c on e i
 
@@ -89,8 +91,8 @@ types_same : (number : Key → ℕ) (ts : List (TypeRow Key)) → filter_map (λ
 types_same number [] = refl
 types_same number (t ∷ ts) = ap (cons_option t.indicator) (types_same number ts)
 
-pub on_agrees : (forms : Key → Option FieldForm) (number : Key → ℕ) (f : set.FinSet nat_cmp → set.FinSet nat_cmp) (v : World key_cmp) (w : World nat_cmp) → Agree forms number v w → Agree forms number (record v { on = f v.on }) (record w { on = f w.on })
-on_agrees forms number f v w a = record { fields = a.fields; on = ap f a.on; remainder = a.remainder; here = a.here; was_overflow = a.was_overflow; has_turned_on = a.has_turned_on }
+pub on_agrees : (forms : Key → Option FieldForm) (number : Key → ℕ) (f : set.FinSet nat_cmp → set.FinSet nat_cmp) (v : World key_cmp) (w : World nat_cmp) → Agree forms number v w → Agree forms number (with_data (record v.data { on = f v.data.on }) v) (with_data (record w.data { on = f w.data.on }) w)
+on_agrees forms number f v w a = record { «data» = record { fields = a.data.fields; on = ap f a.data.on; remainder = a.data.remainder }; paper = a.paper }
 
 module _ {p : Object} {job : Job} {number : Key → ℕ} (orderly : IsOrderly p) (is : IsProgramOf p job number) where
   -- ---- output
@@ -123,9 +125,9 @@ module _ {p : Object} {job : Job} {number : Key → ℕ} (orderly : IsOrderly p)
       follows_unless p job number P (machine.has_no_overflow p.overflow) _ (machine.output p times.Overflow) (by_effect (overflow_output job.source.forms job.source.words job.source.overflow job.source.lines))
       (λ c s same. ap (λ o. machine.has_no_overflow o c.config) is.calculations.overflow ∙ by job.source.overflow c s same) (overflow_follows P)
     where
-      by : (o : Option ℕ) (c : UnderWay) (s : JobState) → Same p job number s c → machine.has_no_overflow o c.config ≡ not (option_map_or (λ n. set.contains s.world.on n) o false)
+      by : (o : Option ℕ) (c : UnderWay) (s : JobState) → Same p job number s c → machine.has_no_overflow o c.config ≡ not (option_map_or (λ n. set.contains s.world.data.on n) o false)
       by None c s same = refl
-      by (Some n) c s same = ap (λ on. not (set.contains on n)) same.world.on
+      by (Some n) c s same = ap (λ on. not (set.contains on n)) same.world.data.on
 
   -- ---- calculations
 
@@ -184,7 +186,7 @@ module _ {p : Object} {job : Job} {number : Key → ℕ} (orderly : IsOrderly p)
   pub halting_follows : (P : Selection) → Follows p job number P machine.halt_where_asked (cards.meant_halt_where_asked job) P
   halting_follows P =
       follows_does p job number P P _ (λ s. (cond (any_on_in halt_indicators s) (Halt 6) GoesOn, s))
-      (λ c s settled same. let asked = any_same halt_indicators c.config s.world.on same.world.on in
+      (λ c s settled same. let asked = any_same halt_indicators c.config s.world.data.on same.world.data.on in
       record {
         ends = ap (λ b. cond b (Halt 6) GoesOn) asked;
         same = same;
@@ -205,8 +207,8 @@ module _ {p : Object} {job : Job} {number : Key → ℕ} (orderly : IsOrderly p)
       let types = types_turned p.types c ∙ ap (λ ns. with_on (turned_all (filter (λ n. not (n == last_record)) ns) false) c) (ap (filter_map (λ (t : TypeRow ℕ). t.indicator)) is.same_types ∙ types_same number job.types) in
       ap (λ d. with_one first_page false (with_all level_indicators false d)) types
       ∙ ap (λ d. with_one first_page false d) (all_turned level_indicators false (with_on (turned_all (type_list job.types) false) c))
-      ∙ ap (λ (f : set.FinSet nat_cmp). record c { world = record c.world { on = f } })
-      (sym (turned_append level_indicators (first_page ∷ []) false (turned_all (type_list job.types) false c.world.on)) ∙ sym (turned_append (type_list job.types) (level_indicators ++ first_page ∷ []) false c.world.on))
+      ∙ ap (λ (f : set.FinSet nat_cmp). record c { world = with_data (record c.world.data { on = f }) c.world })
+      (sym (turned_append level_indicators (first_page ∷ []) false (turned_all (type_list job.types) false c.world.data.on)) ∙ sym (turned_append (type_list job.types) (level_indicators ++ first_page ∷ []) false c.world.data.on))
 
   -- only indicators were turned
   pub turned_same : (ns : List ℕ) (b : Bool) (c d : UnderWay) (s : JobState) → d.config ≡ with_on (turned_all ns b) c.config → d.inputs ≡ c.inputs → d.selected ≡ c.selected → Same p job number s c → Same p job number (with_turned ns b s) d
@@ -219,7 +221,7 @@ module _ {p : Object} {job : Job} {number : Key → ℕ} (orderly : IsOrderly p)
 
   turned_settled : (P : Selection) (ns : List ℕ) (b : Bool) (c d : UnderWay) → d.config ≡ with_on (turned_all ns b) c.config → d.inputs ≡ c.inputs → d.selected ≡ c.selected → IsSettled p job number P c → IsSettled p job number P d
   turned_settled P ns b c d config inputs selected settled = record {
-    values = same_fields p c.config.world d.config.world settled.values (ap (λ (x : Config). x.world.fields) config);
+    values = same_fields p c.config.world.data d.config.world.data settled.values (ap (λ (x : Config). x.world.data.fields) config);
     no_cell = ap (λ (x : Config). x.cells) config ∙ settled.no_cell;
     waiting = subst (AreWaiting p) (sym inputs) settled.waiting;
     selected = subst P (sym selected) settled.selected;
@@ -240,9 +242,9 @@ module _ {p : Object} {job : Job} {number : Key → ℕ} (orderly : IsOrderly p)
 
   pub ending_follows : (P : Selection) → Follows p job number P machine.end_where_last (cards.meant_end_where_last job) P
   ending_follows P =
-      follows_does p job number P P _ (λ s. (cond (set.contains s.world.on last_record || is_none s.selected) EndOfJob GoesOn, s))
+      follows_does p job number P P _ (λ s. (cond (set.contains s.world.data.on last_record || is_none s.selected) EndOfJob GoesOn, s))
       (λ c s settled same. record {
-        ends = λ i. cond (set.contains (same.world.on i) last_record || is_none (same.selected i)) EndOfJob GoesOn;
+        ends = λ i. cond (set.contains (same.world.data.on i) last_record || is_none (same.selected i)) EndOfJob GoesOn;
         same = same;
         fine = either_end (indicators.is_on c.config last_record || is_none c.selected);
         settled = λ on. settled;
@@ -271,10 +273,12 @@ module _ {p : Object} {job : Job} {number : Key → ℕ} (orderly : IsOrderly p)
       let taken = subst (IsTaken p) at settled.selected in
       let inputs = machine_outputs.inputs_at p r.type in
       let right = subst (λ (len : ℕ). All (λ f. input_fault (form_at p.fields) len f ≡ None) inputs) (sym taken.long) (inputs_right p r.type orderly.sound) in
-      follows_effect p job number (λ x. Unit {0}) (length inputs) (record_in (form_at p.fields) r.text inputs) (record_in job.source.forms r.text (cards.meant_inputs_at job r.type))
-      (λ w h. record_keeps p orderly.forms r.text inputs w right taken.characters h)
-      (λ v w a. subst (λ fs. SameEffect job.source.forms number (record_in job.source.forms r.text (cards.meant_inputs_at job r.type) v) (record_in (form_at p.fields) r.text fs w)) (sym (inputs_at_type r.type))
-      (record_same is.calculations.names r.text (cards.meant_inputs_at job r.type) v w a))
+      let fill : Data key_cmp → Ended key_cmp = record_in job.source.forms r.text (cards.meant_inputs_at job r.type) in
+      follows_effect p job number (λ x. Unit {0}) (length inputs) (on_data (record_in (form_at p.fields) r.text inputs)) (on_data fill)
+      (λ w h. on_data_keeps p (record_in (form_at p.fields) r.text inputs) w (record_keeps p orderly.forms r.text inputs w.data right taken.characters h))
+      (λ v w a. subst (λ fs. SameEffect job.source.forms number (on_data fill v) (on_data (record_in (form_at p.fields) r.text fs) w)) (sym (inputs_at_type r.type))
+      (data_same fill (record_in (form_at p.fields) r.text (map (renamed_input number) (cards.meant_inputs_at job r.type))) v w a
+      (record_same is.calculations.names r.text (cards.meant_inputs_at job r.type) v.data w.data a.data)))
       c s (record { values = settled.values; no_cell = settled.no_cell; waiting = settled.waiting; selected = tt }) same e d out met
 
   pub filling_follows : Follows p job number (IsTaken p) (machine.fill_fields p) (cards.meant_fill_fields job) (λ x. Unit {0})

@@ -35,10 +35,8 @@ taken_value cards date k n = if takes_date (key_form (table_of cards) k) && n ==
 
 -- the first values, the first entry of each table, L0 and 1P on, no remainder, and the form at line 1 of page 1
 pub record IsTakenStart (cards : List SpecCard) (date : ℤ) (w : World key_cmp) : Type 0 where
-  pub values : (k : Key) → has_field (key_form (table_of cards) k) ≡ true → (n : ℕ) → value_in w.fields (k, n) ≡ taken_value cards date k n
-  pub current : (k : Key) → has_field (key_form (table_of cards) k) ≡ true → map.get w.fields.current k ≡ (if is_table_form (key_form (table_of cards) k) then Some 1 else None)
-  pub on : w.on ≡ set.from_list (level_zero ∷ first_page ∷ [])
-  pub remainder : w.remainder ≡ with_decimals (pos 0) 0
-  pub here : w.here ≡ record { page = 1; line = 1 }
-  pub was_overflow : w.was_overflow ≡ false
-  pub has_turned_on : w.has_turned_on ≡ false
+  pub values : (k : Key) → has_field (key_form (table_of cards) k) ≡ true → (n : ℕ) → value_in w.data.fields (k, n) ≡ taken_value cards date k n
+  pub current : (k : Key) → has_field (key_form (table_of cards) k) ≡ true → map.get w.data.fields.current k ≡ (if is_table_form (key_form (table_of cards) k) then Some 1 else None)
+  pub on : w.data.on ≡ set.from_list (level_zero ∷ first_page ∷ [])
+  pub remainder : w.data.remainder ≡ with_decimals (pos 0) 0
+  pub paper : w.paper ≡ record { here = record { page = 1; line = 1 }; was_overflow = false; has_turned_on = false }

@@ -3,11 +3,11 @@ use Rattle.std.proofs.Common.{◌≡◌, ℤ, Bool, true, false, ◌&&◌, ◌�
 use Rattle.std.specs.Prelude.{is_some, if◌then◌else◌}
 use Rattle.std.specs.List.{list_all}
 use Rattle.std.specs.Option.{option_map, option_to_list}
-use Rattle.rpg_cards.specs.Keys.{Key, Named}
+use Rattle.rpg_cards.specs.Keys.{Key, Named, key_cmp}
 use Rattle.rpg_decimal_words.specs.Fraction.{over}
 use Rattle.rpg_decimal_words.specs.Move.{number_moved_left, number_moved_right, overlay_left, overlay_right}
 use Rattle.rpg_effect.specs.Act.{act, field_of_entry, found_shown, looked_up, moved, position_fault, remainder_after, store, stored_value, with_found, order_by}
-use Rattle.rpg_effect.specs.Effect.{Leaves, or_halt, unless_wrong}
+use Rattle.rpg_effect.specs.Ended.{Ended, Gives, if_right, on_data, or_halt}
 use Rattle.rpg_effect.specs.Ends.{Storage}
 use Rattle.rpg_effect.specs.Entries.{entry_of, position_of}
 use Rattle.rpg_effect.specs.Operate.{has_entries, names_entry, operate, resolved}
@@ -33,13 +33,17 @@ use Rattle.rpg_sheet_specs.specs.declared.entry.Entry as card
 use Rattle.rpg_job.specs.Calculations.{entry_named}
 
 module _ (source : Source) (s : State) (k : CalculationSpec) where
+  -- what comes of what is done to the data
+  abbrev comes : Ended key_cmp → MeantOutcome
+  comes e = affected s (on_data (λ d. e) s.world)
+
   -- an operation whose operands may name no entry
-  acted : (b : Bool) (x : Action (Entry Key)) → affected s (or_halt (if b then Some x else None) 2 s.world (λ e. act source.forms e s.world)) ≡ (if b then affected s (act source.forms x s.world) else Stops 2 s no_output)
+  acted : (b : Bool) (x : Action (Entry Key)) → comes (or_halt (if b then Some x else None) 2 s.world.data (λ e. act source.forms e s.world.data)) ≡ (if b then comes (act source.forms x s.world.data) else Stops 2 s no_output)
   acted true x = refl
   acted false x = refl
 
   abbrev names : Operand Key → Bool
-  names o = is_some (position_of source.forms s.world.fields o)
+  names o = is_some (position_of source.forms s.world.data.fields o)
 
   one : (a : Bool) → (true && (true && a)) ≡ (a && true)
   one true = refl
@@ -79,8 +83,8 @@ module _ (source : Source) (s : State) (k : CalculationSpec) where
   divided_by : Bool → Bool → MeantOutcome
   unfolding entry_of
   divided_by zero half =
-      affected s (or_halt (if zero then None else Some (over (is.number source s k (is.factor_1_or_result source s k)) (is.number source s k (is.factor_2 source s k)))) 1 s.world
-      (λ n. Leaves (store (record s.world { remainder = remainder_after source.forms half s.world (is.entry source s k (is.factor_1_or_result source s k)) (is.entry source s k (is.factor_2 source s k)) (is.entry source s k (is.result source s k)) })
+      comes (or_halt (if zero then None else Some (over (is.number source s k (is.factor_1_or_result source s k)) (is.number source s k (is.factor_2 source s k)))) 1 s.world.data
+      (λ n. Gives (store (record s.world.data { remainder = remainder_after source.forms half s.world.data (is.entry source s k (is.factor_1_or_result source s k)) (is.entry source s k (is.factor_2 source s k)) (is.entry source s k (is.result source s k)) })
       (is.entry source s k (is.result source s k)) (is.indicators source s k) (stored_value half (is.form source s k (is.result source s k)) n))))
 
   pub divides : Divides source s k
@@ -93,13 +97,13 @@ module _ (source : Source) (s : State) (k : CalculationSpec) where
 
   -- ---- MOVE
 
-  spelled : (o : Option ℤ) → affected s (or_halt o 4 s.world (λ n. Leaves (set_value s.world (is.result source s k).field (is.entry source s k (is.result source s k)).position (Number n)))) ≡ is.takes_number source s k o
+  spelled : (o : Option ℤ) → comes (or_halt o 4 s.world.data (λ n. Gives (set_value s.world.data (is.result source s k).field (is.entry source s k (is.result source s k)).position (Number n)))) ≡ is.takes_number source s k o
   unfolding entry_of
   spelled None = refl
   spelled (Some n) = refl
 
   move_by : Side → Kind → Kind → MeantOutcome
-  move_by side from to = affected s (moved source.forms from to side s.world (is.entry source s k (is.factor_2 source s k)) (is.entry source s k (is.result source s k)))
+  move_by side from to = comes (moved source.forms from to side s.world.data (is.entry source s k (is.factor_2 source s k)) (is.entry source s k (is.result source s k)))
 
   pub moves : Moves source s k op.Move overlay_right number_moved_right
   unfolding operate resolved has_entries row_of position_of entry_of act moved move_by
@@ -125,7 +129,7 @@ module _ (source : Source) (s : State) (k : CalculationSpec) where
   two a b = refl
 
   compare_by : Kind → MeantOutcome
-  compare_by f = is.goes_on source s k (is.turned source s k (shown (is.indicators source s k) (order_by source.forms f s.world (is.entry source s k (is.factor_1 source s k)) (is.entry source s k (is.factor_2 source s k)))) s.world)
+  compare_by f = is.goes_on source s k (is.turned source s k (shown (is.indicators source s k) (order_by source.forms f s.world.data (is.entry source s k (is.factor_1 source s k)) (is.entry source s k (is.factor_2 source s k)))) s.world.data)
 
   pub compares : Compares source s k
   unfolding operate resolved has_entries row_of position_of entry_of act compare_by
@@ -142,7 +146,7 @@ module _ (source : Source) (s : State) (k : CalculationSpec) where
 
   -- ---- LOKUP
 
-  sought : (r : Option (Operand Key)) → (names (is.factor_1 source s k) && (names (is.factor_2 source s k) && all_used (names_entry source.forms s.world.fields) (table_use (form_of source.forms) r)))
+  sought : (r : Option (Operand Key)) → (names (is.factor_1 source s k) && (names (is.factor_2 source s k) && all_used (names_entry source.forms s.world.data.fields) (table_use (form_of source.forms) r)))
       ≡ list_all names (is.factor_1 source s k ∷ is.factor_2 source s k ∷ option_to_list r)
   unfolding position_of
   sought None = refl
@@ -154,11 +158,11 @@ module _ (source : Source) (s : State) (k : CalculationSpec) where
   table_is (Some e) = refl
 
   look : Option Key → Option Found → MeantOutcome
-  look table f = affected s (looked_up source.forms s.world (is.entry source s k (is.factor_2 source s k)) table (is.indicators source s k) f)
+  look table f = comes (looked_up source.forms s.world.data (is.entry source s k (is.factor_2 source s k)) table (is.indicators source s k) f)
 
   look_with : Found → Bool → MeantOutcome
-  look_with f fits = affected s (unless_wrong (if fits then None else Some Storage) s.world
-      (Leaves (found_shown source.forms (is.indicators source s k) (Some f) (with_found source.forms (is.entry source s k (is.factor_2 source s k)) (is.table_field source s k) (Some f) s.world))))
+  look_with f fits = comes (if_right (if fits then None else Some Storage) s.world.data
+      (Gives (found_shown source.forms (is.indicators source s k) (Some f) (with_found source.forms (is.entry source s k (is.factor_2 source s k)) (is.table_field source s k) (Some f) s.world.data))))
 
   pub looks_up : LooksUp source s k
   unfolding operate resolved has_entries row_of entry_of position_of act looked_up position_fault with_found shown_if_any look look_with

@@ -36,7 +36,7 @@ place_in p c part n = place_at (first_place p (part_section c part)) (calculatio
 
 -- a configuration as the runs of an accepted program have it: no step from it is wrong
 abbrev pub IsRunnable : Object → Config → Type 0
-IsRunnable p d = IsSafe p d × FitsIn p.fields d.world
+IsRunnable p d = IsSafe p d × FitsIn p.fields d.world.data
 
 -- from one configuration the machine comes to another, and puts that out on the way
 pub record Comes (p : Object) (c d : Config) (o : Output) : Type 0 where

@@ -52,7 +52,7 @@ part_begun part w allowance = record { world = w; part = part; next = 0; back = 
 abbrev pub KeepsRuns : Object → Source → (Key → ℕ) → Type 0
 KeepsRuns p source number =
     (part : Part) → part_has_end part ≡ true
-    → (v : World key_cmp) (c : Config) → Agree source.forms number v c.world → FitsIn p.fields c.world → c.cells ≡ map.empty
+    → (v : World key_cmp) (c : Config) → Agree source.forms number v c.world → FitsIn p.fields c.world.data → c.cells ≡ map.empty
     → (e : End) (d : Config) (out : Output) → RunsTo p (part_section source.sections part) c e d out
     → (x : MeantOutcome) × CardsCome source (part_begun part v c.allowance) x × EndsAs p source number x e d out
 

@@ -7,6 +7,7 @@ use Rattle.rpg_cards.specs.Deeds.{Acts, Begins, Calculation, Deed, Ends, Execute
 use Rattle.rpg_cards.specs.Keys.{Key, key_cmp}
 use Rattle.rpg_cards.specs.Sections.{Sections}
 use Rattle.rpg_effect.specs.Effect.{Effect}
+use Rattle.rpg_effect.specs.Ended.{on_data}
 use Rattle.rpg_effect.specs.Ends.{End, GoesOn, Halt}
 use Rattle.rpg_effect.specs.Lines.{Line, exception_output}
 use Rattle.rpg_effect.specs.Operate.{operate}
@@ -90,7 +91,7 @@ module _ (source : Source) where
   deed_done s (Marks l) = On (at_next s (s.next + 1)) no_output
   deed_done s (Begins l) = On (at_next s (s.next + 1)) no_output
   deed_done s Nothing = On (at_next s (s.next + 1)) no_output
-  deed_done s (Acts a) = affected s (operate source.forms a s.world)
+  deed_done s (Acts a) = affected s (on_data (operate source.forms a) s.world)
   deed_done s PutsOut = affected s (exception_output source.forms source.words source.overflow source.lines s.world)
   deed_done s (GoesTo label) = gone_to s (label_position label (calculations_in source.sections s.part))
   deed_done s (Executes name) = spending s (record s { part = InSubroutine name; next = 0; back = (s.part, s.next + 1) ∷ s.back })
@@ -99,7 +100,7 @@ module _ (source : Source) where
   -- one calculation: what it does where its conditions hold, and then the next one
   abbrev pub calculation_done : State → Option (Calculation Key) → MeantOutcome
   calculation_done s None = Over
-  calculation_done s (Some g) = if is_done s.world.on g then deed_done s g.deed else On (at_next s (s.next + 1)) no_output
+  calculation_done s (Some g) = if is_done s.world.data.on g then deed_done s g.deed else On (at_next s (s.next + 1)) no_output
 
   -- one calculation
   unfoldable pub cards_step : State → MeantOutcome

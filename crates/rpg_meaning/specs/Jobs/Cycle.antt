@@ -6,6 +6,7 @@ use Rattle.rpg_cards.specs.Keys.{Key}
 use Rattle.rpg_cycle.specs.Ends.{PhaseEnd, GoesOn, EndOfJob, Halt}
 use Rattle.rpg_cycle.specs.Indicators.{first_page, halt_indicators, last_record, level_indicators, matching_record}
 use Rattle.rpg_cycle.specs.Phases.{if_selected}
+use Rattle.rpg_effect.specs.Ended.{on_data}
 use Rattle.rpg_effect.specs.Input.{TypeRow, record_in}
 use Rattle.rpg_effect.specs.Lines.{detail_output, overflow_output, total_output}
 use Rattle.rpg_effect.specs.declared.input.ControlField.{ControlField}
@@ -215,7 +216,7 @@ module _ (job : Job) where
   -- the fields of the selected record
   abbrev pub meant_fill_from : Option Selected → MeantPhase
   meant_fill_from None = meant_passes
-  meant_fill_from (Some r) = by_effect (record_in job.source.forms r.text (meant_inputs_at r.type))
+  meant_fill_from (Some r) = by_effect (on_data (record_in job.source.forms r.text (meant_inputs_at r.type)))
 
   -- the fields take what the record has
   abbrev pub meant_fill_fields : MeantPhase

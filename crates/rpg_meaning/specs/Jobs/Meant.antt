@@ -33,7 +33,7 @@ pub record DoesAsMeant (cards : List SpecCard) (allowance : ℕ) (p : Object) : 
   -- Constants have the values that are written: before the first cycle, and wherever the program's constants have their first values, which a run of
   -- an accepted program keeps.
   pub constants_begin : (date : ℤ) (w : World key_cmp) → IsStart cards date w → ConstantsStand cards w
-  pub constants_stay : (v : World key_cmp) (w : World nat_cmp) → Agree (source_of cards).forms (key_numbers cards) v w → KeepsConstants p w.fields.values → ConstantsStand cards v
+  pub constants_stay : (v : World key_cmp) (w : World nat_cmp) → Agree (source_of cards).forms (key_numbers cards) v w → KeepsConstants p w.data.fields.values → ConstantsStand cards v
   -- whole jobs, from records to bytes, on each date; and there is what the cards start with
   pub jobs : (digits : List ℕ) (date : ℤ) → date_in digits ≡ Some date → RunsAsMeant cards allowance p date
   pub start : (date : ℤ) → (w : World key_cmp) × IsStart cards date w

@@ -7,7 +7,7 @@ use Rattle.rpg_cards.specs.Keys.{key_cmp}
 use Rattle.rpg_cycle.specs.Ends.{PhaseEnd, GoesOn, EndOfJob, Halt, phase_end}
 use Rattle.rpg_cycle.specs.Indicators.{indicators_turned}
 use Rattle.rpg_effect.specs.Effect.{Effect}
-use Rattle.rpg_effect.specs.World.{World}
+use Rattle.rpg_effect.specs.World.{World, with_data}
 use Rattle.rpg_meaning.specs.Jobs.Job.{JobState}
 use Rattle.rpg_machine.specs.Config.{Output, no_output, with_more}
 use Rattle.rpg_meaning.specs.Calculations.Laws as calculations
@@ -68,11 +68,11 @@ calculated source part s e t out = (x : MeantOutcome) × CardsCome source (calcu
 
 -- the indicator is on
 abbrev pub is_on_in : ℕ → JobState → Bool
-is_on_in n s = set.contains s.world.on n
+is_on_in n s = set.contains s.world.data.on n
 
 -- one of the indicators is on
 abbrev pub any_on_in : List ℕ → JobState → Bool
-any_on_in ns s = list_any (λ n. set.contains s.world.on n) ns
+any_on_in ns s = list_any (λ n. set.contains s.world.data.on n) ns
 
 -- the indicators on, once these are turned on or off
 abbrev pub turned_all : List ℕ → Bool → set.FinSet nat_cmp → set.FinSet nat_cmp
@@ -81,4 +81,4 @@ turned_all (n ∷ ns) is_on on = turned_all ns is_on (indicators_turned n is_on 
 
 -- the state, once these indicators are turned on or off
 abbrev pub with_turned : List ℕ → Bool → JobState → JobState
-with_turned ns is_on s = record s { world = record s.world { on = turned_all ns is_on s.world.on } }
+with_turned ns is_on s = record s { world = with_data (record s.world.data { on = turned_all ns is_on s.world.data.on }) s.world }
