@@ -16,16 +16,8 @@ pub record IsSent (start now : Option (List ℕ)) (waiting : List ℕ) (sent : �
   pub count : sent ≡ length gone
 
 -- as a run begins
-pub none_sent : (a : Option (List ℕ)) (waiting : List ℕ) → waiting ≡ [] → IsSent a a waiting 0 []
-none_sent a waiting none = record { gone = []; out = Appends-nil a; order = none; count = refl }
-
--- where all waits or went out
-pub all_gone : (a b : Option (List ℕ)) (waiting left : List ℕ) (sent sent' : ℕ) → left ≡ [] → Appends a b waiting → sent' ≡ sent + length waiting → GoesOut a b waiting left sent sent'
-all_gone a b waiting left sent sent' none out count =
-    record { front = waiting; out = out; order = ap (λ (x : List ℕ). waiting ++ x) none ∙ append-nil waiting; count = count }
-
-pub none_gone : (a : Option (List ℕ)) (waiting : List ℕ) (sent : ℕ) → GoesOut a a waiting waiting sent sent
-none_gone a waiting sent = record { front = []; out = Appends-nil a; order = refl; count = omega arith }
+pub none_gone_yet : (a : Option (List ℕ)) (waiting : List ℕ) → waiting ≡ [] → IsSent a a waiting 0 []
+none_gone_yet a waiting none = record { gone = []; out = Appends-nil a; order = none; count = refl }
 
 module _ (a b : Option (List ℕ)) (waiting : List ℕ) (sent : ℕ) (all : List ℕ) (s : IsSent a b waiting sent all) where
   -- bytes were put after the others

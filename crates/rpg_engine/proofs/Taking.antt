@@ -7,6 +7,8 @@ use Rattle.rpg_cycle.specs.Job.{AtWork, DoesCycle, job_needs_record}
 use Rattle.rpg_cycle.specs.Phases.{Cycle, begun, needs_record}
 use Rattle.rpg_cycle.specs.Runs.{next_of, rest_where_needed}
 use Rattle.rpg_cycle.specs.Stages.{Going, is_going, stage_at}
+use Rattle.rpg_cycle.specs.declared.ends.JobEnd.{JobEnd}
+use Rattle.rpg_cycle.specs.declared.jobs.Need.{Need}
 use Rattle.rpg_cycle_records.specs.Earlier.{Selected, left_by}
 use Rattle.rpg_cycle_records.specs.Identifying.{is_good_record}
 use Rattle.rpg_cycle_records.specs.Merging.{AreMergedInOrder}
@@ -25,7 +27,7 @@ use Rattle.rpg_machine.specs.Running.{config_on}
 use Rattle.rpg_object_program.specs.Object.{Object, input_length}
 use Rattle.rpg_paper.specs.Paper.{Position}
 use Rattle.rpg_engine.specs.Reporting.{AreAlike, IsBad}
-use Rattle.rpg_engine.specs.Streaming.{Asks, IsBehindRecord, TakesCycle, record_with}
+use Rattle.rpg_engine.specs.Streaming.{Asks, IsBehindRecord, IsNeedOf, TakesCycle, record_with}
 use Rattle.rpg_engine.proofs.Passing.{IfNeeded, Takes, cycle_takes, in_list, needed_takes}
 
 -- what holds for the bytes to come, in another form
@@ -156,7 +158,15 @@ module _ {R : Type 0} (remaining : R → Option (List ℕ)) where
 
 -- ---- both
 
--- a job after those earlier records, and after a line placed before, did a cycle with what stands next in both inputs
+-- a job that goes on, with the readers of its files: each gave a record last, unless its file is over, and reads records of the program's length
+pub record AreReady {R S : Type 0} (job : AtWork) (primary : RecordReader R) (secondary : RecordReader S) : Type 0 where
+  pub going : is_going job.stage ≡ true
+  pub behind_primary : IsBehindRecord job Primary primary
+  pub behind_secondary : IsBehindRecord job Secondary secondary
+  pub limit_primary : limit_of primary ≡ job.program.record_length
+  pub limit_secondary : limit_of secondary ≡ job.program.secondary_length
+
+-- a job behind those earlier records, and behind a line placed before, did a cycle with what stands next in both inputs
 pub record TakesNext (earlier : List Selected) (previous : Option Position) (job : AtWork) (a b : Source) (e : PhaseEnd) (job' : AtWork) (a' b' : Source) : Type 0 where
   pub x : Option (List ℕ)
   pub y : Option (List ℕ)
@@ -183,30 +193,30 @@ needs_of : (job : AtWork) (f : InputFile) → is_going job.stage ≡ true → jo
 needs_of job f going = ap (λ b. b && needs_record job.program job.config job.inputs f) going
 
 module _ {R S : Type 0} (remaining : R → Option (List ℕ)) (others : S → Option (List ℕ)) (job job' : AtWork) (primary primary' : RecordReader R) (secondary secondary' : RecordReader S)
-    (going : is_going job.stage ≡ true) (takes : TakesCycle remaining others job primary secondary job' primary' secondary') where
+    (ended : Option JobEnd) (ready : AreReady job primary secondary) (takes : TakesCycle remaining others job primary secondary ended job' primary' secondary') where
   asks_first : Asks remaining (needs_record job.program job.config job.inputs Primary) primary (Ok takes.first) primary'
-  asks_first = subst (λ (b : Bool). Asks remaining b primary (Ok takes.first) primary') (needs_of job Primary going) takes.asks_primary
+  asks_first = subst (λ (b : Bool). Asks remaining b primary (Ok takes.first) primary') (needs_of job Primary ready.going) takes.asks_primary
 
   asks_second : Asks others (needs_record job.program job.config job.inputs Secondary) secondary (Ok takes.second) secondary'
-  asks_second = subst (λ (b : Bool). Asks others b secondary (Ok takes.second) secondary') (needs_of job Secondary going) takes.asks_secondary
+  asks_second = subst (λ (b : Bool). Asks others b secondary (Ok takes.second) secondary') (needs_of job Secondary ready.going) takes.asks_secondary
 
-  -- after all records that leave what the job keeps
-  pub takes_next : limit_of primary ≡ job.program.record_length → limit_of secondary ≡ job.program.secondary_length → (earlier : List Selected) → job.left ≡ left_by job.program earlier
+  -- behind all records that leave what the job keeps
+  pub takes_next : (earlier : List Selected) → job.left ≡ left_by job.program earlier
       → AreMergedInOrder job.program earlier job.inputs → (previous : Option Position) → job.last ≡ line_of previous
       → (e : PhaseEnd) × TakesNext earlier previous job (source_of remaining primary) (source_of others secondary) e job' (source_of remaining primary') (source_of others secondary')
-  takes_next limit limit_too earlier leave order previous placed =
+  takes_next earlier leave order previous placed =
       let x = record_with primary' takes.first in
       let y = record_with secondary' takes.second in
-      let went = takes.cycles.does earlier leave order previous placed in
+      let went = takes.cycle.cycles.does earlier leave order previous placed in
       let c = config_on previous job.config in (
         went.0,
         record {
           x = x;
           y = y;
           does = went.1;
-          primary = gives remaining job.program Primary went.0 primary primary' (needs_record job.program c job.inputs Primary) takes.first limit asks_first
+          primary = gives remaining job.program Primary went.0 primary primary' (needs_record job.program c job.inputs Primary) takes.first ready.limit_primary asks_first
               (λ on needs. (gone_on job job' earlier previous x y went.0 order went.1 on).primary.no_bad (needed_takes job.program c job.inputs Primary needs));
-          secondary = gives others job.program Secondary went.0 secondary secondary' (needs_record job.program c job.inputs Secondary) takes.second limit_too asks_second
+          secondary = gives others job.program Secondary went.0 secondary secondary' (needs_record job.program c job.inputs Secondary) takes.second ready.limit_secondary asks_second
               (λ on needs. (gone_on job job' earlier previous x y went.0 order went.1 on).secondary.no_bad (needed_takes job.program c job.inputs Secondary needs));
         },
       )
@@ -222,26 +232,32 @@ module _ {R S : Type 0} (remaining : R → Option (List ℕ)) (others : S → Op
       (λ needs. took.secondary.no_bad (needed_takes job.program job.config job.inputs Secondary needs))
       (λ needs. took.secondary.over_where_none (needed_takes job.program job.config job.inputs Secondary needs)) took.secondary.over_still
 
-  pub both_behind : (earlier : List Selected) → job.left ≡ left_by job.program earlier → AreMergedInOrder job.program earlier job.inputs → (previous : Option Position) → job.last ≡ line_of previous → job'.stage ≡ Going
-      → IsBehindRecord job Primary primary → IsBehindRecord job Secondary secondary → IsBehindRecord job' Primary primary' × IsBehindRecord job' Secondary secondary'
-  both_behind earlier leave order previous placed stage one two =
+  pub ready_behind : (earlier : List Selected) → job.left ≡ left_by job.program earlier → AreMergedInOrder job.program earlier job.inputs → (previous : Option Position) → job.last ≡ line_of previous → job'.stage ≡ Going
+      → AreReady job' primary' secondary'
+  ready_behind earlier leave order previous placed stage =
       let x = record_with primary' takes.first in
       let y = record_with secondary' takes.second in
-      let done = takes.cycles.does earlier leave order previous placed in
+      let done = takes.cycle.cycles.does earlier leave order previous placed in
       let took = gone_on job job' earlier previous x y done.0 order done.1 (went done.0 (sym done.1.stage ∙ stage)) in
-      (behind_first took one, behind_second took two)
+      record {
+        going = ap is_going stage;
+        behind_primary = behind_first took ready.behind_primary;
+        behind_secondary = behind_second took ready.behind_secondary;
+        limit_primary = limit_stays remaining _ _ primary primary' takes.asks_primary ∙ ready.limit_primary ∙ sym (ap (λ (p : Object). p.record_length) done.1.program);
+        limit_secondary = limit_stays others _ _ secondary secondary' takes.asks_secondary ∙ ready.limit_secondary ∙ sym (ap (λ (p : Object). p.secondary_length) done.1.program);
+      }
 
 -- ---- a job of which output went out
 
-module _ (job mid : AtWork) (same : mid ≡ record job { output = mid.output }) where
-  pub same_going : is_going job.stage ≡ true → is_going mid.stage ≡ true
-  same_going going = ap (λ (j : AtWork). is_going j.stage) same ∙ going
+pub ready_still : {R S : Type 0} (job mid : AtWork) → mid ≡ record job { output = mid.output } → (primary : RecordReader R) (secondary : RecordReader S) → AreReady job primary secondary → AreReady mid primary secondary
+ready_still job mid same primary secondary ready = subst (λ (j : AtWork). AreReady j primary secondary) (sym same) (record {
+  going = ready.going;
+  behind_primary = ready.behind_primary;
+  behind_secondary = ready.behind_secondary;
+  limit_primary = ready.limit_primary;
+  limit_secondary = ready.limit_secondary;
+})
 
-  pub limit_of_taken : {n : ℕ} → n ≡ job.program.record_length → n ≡ mid.program.record_length
-  limit_of_taken is = is ∙ sym (ap (λ (j : AtWork). j.program.record_length) same)
-
-  pub other_limit_of_taken : {n : ℕ} → n ≡ job.program.secondary_length → n ≡ mid.program.secondary_length
-  other_limit_of_taken is = is ∙ sym (ap (λ (j : AtWork). j.program.secondary_length) same)
-
-  pub still_behind : {R : Type 0} (f : InputFile) (reader : RecordReader R) → IsBehindRecord job f reader → IsBehindRecord mid f reader
-  still_behind f reader behind = λ not_over. behind (sym (ap (λ (j : AtWork). (input_at j.inputs f).is_over) same) ∙ not_over)
+-- it needs the same records
+pub needs_still : (need : Need) (job mid : AtWork) → mid ≡ record job { output = mid.output } → IsNeedOf need job → IsNeedOf need mid
+needs_still need job mid same needs = subst (λ (j : AtWork). IsNeedOf need j) (sym same) (record { primary = needs.primary; secondary = needs.secondary })

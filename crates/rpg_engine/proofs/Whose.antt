@@ -19,11 +19,13 @@ use Rattle.rpg_files.specs.declared.reader.RecordReader.{RecordReader}
 use Rattle.rpg_engine.specs.Faults.{Counts, FaultsAre}
 use Rattle.rpg_engine.specs.Inputs.{HasTooMany, OfInputs}
 use Rattle.rpg_engine.specs.Refusing.{start_fault}
-use Rattle.rpg_engine.specs.Streaming.{FaultsOfWriters, GoesOutUnless, HasAnswered, MayFail, SendsSome, StopsBy, TakesNone, WriterFaults}
+use Rattle.rpg_engine.specs.Sending.{Sends, SendsUnless, Writers}
+use Rattle.rpg_engine.specs.Streaming.{FaultsOfWriters, GoesOutUnless, HasAnswered, MayFail, SendsSome, StopsBy, TakesNone}
 use Rattle.rpg_engine.specs.declared.fault.CycleFault.{CycleFault}
 use Rattle.rpg_engine.specs.declared.fault.CycleFault.TheVariants as stops
 use Rattle.rpg_engine.specs.declared.fault.RunFault.{RunFault}
 use Rattle.rpg_engine.specs.declared.fault.RunFault.TheVariants as faults
+use Rattle.rpg_engine.specs.declared.sending.Sent.{Sent}
 use Rattle.rpg_engine.proofs.Stopping.{Moves, moved_by, unread_by}
 use Rattle.rpg_engine.proofs.Streams.{Stands, more_read, was_read}
 use Rattle.rpg_engine.proofs.Taking.{faults_stay, source_of}
@@ -50,11 +52,6 @@ module _ (printed stored : ℕ) (print print' disk disk' : Option (List ℕ)) (l
   some_goes (faults.Disk sent) some rose =
       (all_prefix print print' lines some.2, (some.0, some.3), λ none. absurd (let one = rose.1 in let same = none.1 in omega arith))
 
-  pub goes_unless : {X : Type 0} (r : Result X RunFault) → OnOk r (Appends print print' lines) → OnOk r (Appends disk disk' records_put)
-      → IfErr r (λ e. SendsSome e printed stored print print' disk disk' lines records_put) → WriterFaults r k k' l l' → Goes
-  goes_unless (Ok x) one two some rose = (all_prefix print print' lines one, all_prefix disk disk' records_put two, λ none. (one, two))
-  goes_unless (Err e) one two some rose = some_goes e some rose
-
   some_rise : (e : RunFault) → SendsSome e printed stored print print' disk disk' lines records_put → FaultsOfWriters e k k' l l' → MayFail k k' l l'
   some_rise (faults.Object fault) some rose = absurd some
   some_rise faults.BadDate some rose = absurd some
@@ -63,9 +60,17 @@ module _ (printed stored : ℕ) (print print' disk disk' : Option (List ℕ)) (l
   some_rise (faults.Print sent) some rose = inr (inl rose)
   some_rise (faults.Disk sent) some rose = inr (inr rose)
 
-  pub one_rises : {X : Type 0} (r : Result X RunFault) → IfErr r (λ e. SendsSome e printed stored print print' disk disk' lines records_put) → WriterFaults r k k' l l' → MayFail k k' l l'
-  one_rises (Ok x) some rose = inl rose
-  one_rises (Err e) some rose = some_rise e some rose
+-- bytes were sent, or a writer failed over them
+module _ (old new : Writers) (lines records_put : List ℕ) where
+  pub unless_failed : {X : Type 0} (r : Result X RunFault) (sent : Sent) → Sends r old new lines records_put → SendsUnless old (record new { sent = sent }) lines records_put
+  unless_failed (Ok x) sent all = record {
+    out = (all_prefix old.print new.print lines all.printed, all_prefix old.disk new.disk records_put all.stored, λ none. (all.printed, all.stored));
+    faults = inl all.none_fails;
+  }
+  unless_failed (Err e) sent fails = record {
+    out = some_goes _ _ old.print new.print old.disk new.disk lines records_put old.print_faults new.print_faults old.disk_faults new.disk_faults e fails.some fails.faults;
+    faults = some_rise _ _ old.print new.print old.disk new.disk lines records_put old.print_faults new.print_faults old.disk_faults new.disk_faults e fails.some fails.faults;
+  }
 
 -- ---- which counts rose
 
@@ -75,7 +80,7 @@ answered_faults remaining is_needed old new asks = faults_stay remaining is_need
 abbrev counts : ℕ → ℕ → ℕ → ℕ → Counts
 counts primary secondary print disk = record { primary = primary; secondary = secondary; print = print; disk = disk }
 
-same_counts : (a b c d w x y z : ℕ) → a ≡ w → b ≡ x → c ≡ y → d ≡ z → counts a b c d ≡ counts w x y z
+pub same_counts : (a b c d w x y z : ℕ) → a ≡ w → b ≡ x → c ≡ y → d ≡ z → counts a b c d ≡ counts w x y z
 same_counts a b c d w x y z e f g h = ap (λ n. counts n b c d) e ∙ ap (λ n. counts w n c d) f ∙ ap (λ n. counts w x n d) g ∙ ap (λ n. counts w x y n) h
 
 more_than : (all left : List (List ℕ)) → (0 < length left) × (length all ≡ max_records + length left) → max_records < length all

@@ -2,7 +2,7 @@
 -- `exit.now`. `remaining` is the bytes that a reader has left, and `contents` those that a writer has.
 use denote.Ref.{MutBor}
 use denote.Triple.Both.{Both}
-use Rattle.std.specs.Prelude.{◌≡◌, ℕ, ℤ, List, Option, Some, Result}
+use Rattle.std.specs.Prelude.{◌≡◌, ℕ, ℤ, ◌-◌, ◌^◌, ◌<◌, List, Option, Some, Result}
 use Rattle.rpg_cycle.specs.Job.{AtWork, first_fields, job_started}
 use Rattle.rpg_cycle.specs.Starting.{date_in}
 use Rattle.rpg_files.specs.Counting.{device_of, faults_of}
@@ -14,8 +14,7 @@ use Rattle.rpg_engine.specs.Faults.{FaultsAre, device_counts}
 use Rattle.rpg_engine.specs.Inputs.{Front, OfFronts, OfInputs}
 use Rattle.rpg_engine.specs.Refusing.{IsJobOf}
 use Rattle.rpg_engine.specs.Reporting.{JobEndsWell, Reports, SendsParts}
-use Rattle.rpg_engine.specs.Streaming.{GoesOut, GoesOutUnless, SendsSome, StopsBy, StopsEarly}
-use Rattle.rpg_engine.specs.declared.fault.CycleFault.{CycleFault}
+use Rattle.rpg_engine.specs.Streaming.{StopsEarly}
 use Rattle.rpg_engine.specs.declared.fault.RunFault.{RunFault}
 use Rattle.rpg_engine.specs.declared.report.Report.{Report}
 
@@ -26,6 +25,18 @@ Lent T = Both (MutBor (Counted T)) (MutBor (Counted T))
 -- a reader of records that is lent to a call
 abbrev pub LentRecords : Type 0 → Type 0
 LentRecords R = Both (MutBor (RecordReader R)) (MutBor (RecordReader R))
+
+-- one more fault of each device can be counted
+pub record CanCountFaults {R S P D : Type 0} (input : Counted R) (secondary : Counted S) (print : Counted P) (disk : Counted D) : Type 0 where
+  pub primary_faults : faults_of input < 2 ^ 64 - 1
+  pub secondary_faults : faults_of secondary < 2 ^ 64 - 1
+  pub print_faults : faults_of print < 2 ^ 64 - 1
+  pub disk_faults : faults_of disk < 2 ^ 64 - 1
+
+-- both readers of records still read from what was lent to them
+abbrev pub AreLentOn : {R S : Type 0} → LentRecords R → LentRecords S → Type 0
+AreLentOn primary secondary =
+    (primary.exit.now.reader.ghost_name ≡ primary.entry.now.reader.ghost_name) × (secondary.exit.now.reader.ghost_name ≡ secondary.entry.now.reader.ghost_name)
 
 module _ {R S : Type 0} (remaining : R → Option (List ℕ)) (others : S → Option (List ℕ)) where
   -- Fact holds of each two inputs that begin with what the call read of both readers
@@ -71,29 +82,9 @@ module _ {R S : Type 0} (remaining : R → Option (List ℕ)) (others : S → Op
       (device_counts (reader_of primary.entry.now) (reader_of secondary.entry.now) print.entry.now disk.entry.now)
       (device_counts (reader_of primary.exit.now) (reader_of secondary.exit.now) print.exit.now disk.exit.now)
 
--- a first part was sent of what waited for a writer that is lent to a call
-abbrev pub GoesOutTo : {W : Type 0} → (W → Option (List ℕ)) → Lent W → (waiting left : List ℕ) → (sent sent' : ℕ) → Type 0
-GoesOutTo contents writer waiting left sent sent' = GoesOut (contents (device_of writer.entry.now)) (contents (device_of writer.exit.now)) waiting left sent sent'
-
 -- no call of either writer failed
 abbrev pub NoneFailed : {P D : Type 0} → Lent P → Lent D → Type 0
 NoneFailed print disk = (faults_of print.exit.now ≡ faults_of print.entry.now) × (faults_of disk.exit.now ≡ faults_of disk.entry.now)
-
-module _ {P D : Type 0} (contents : P → Option (List ℕ)) (stored : D → Option (List ℕ)) where
-  -- what a part of a cycle's output did to both writers
-  abbrev pub SendsSomeTo : Lent P → Lent D → ℕ → ℕ → (lines records : List ℕ) → RunFault → Type 0
-  SendsSomeTo print disk printed gone lines records e = SendsSome e printed gone (contents (device_of print.entry.now)) (contents (device_of print.exit.now))
-      (stored (device_of disk.entry.now)) (stored (device_of disk.exit.now)) lines records
-
-  -- these bytes went out, unless a call of a writer failed
-  abbrev pub GoesOutUnlessTo : Lent P → Lent D → (lines records : List ℕ) → Type 0
-  GoesOutUnlessTo print disk lines records = GoesOutUnless (NoneFailed print disk) (contents (device_of print.entry.now)) (contents (device_of print.exit.now))
-      (stored (device_of disk.entry.now)) (stored (device_of disk.exit.now)) lines records
-
-  -- a cycle wasn't done after so many that were, and these bytes waited
-  abbrev pub StopsTo : CycleFault → (cycles : ℕ) → Lent P → Lent D → (lines records : List ℕ) → RunFault → Type 0
-  StopsTo fault cycles print disk lines records e = StopsBy fault cycles e (NoneFailed print disk) (contents (device_of print.entry.now)) (contents (device_of print.exit.now))
-      (stored (device_of disk.entry.now)) (stored (device_of disk.exit.now)) lines records
 
 module _ {R S P D : Type 0} (remaining : R → Option (List ℕ)) (others : S → Option (List ℕ)) (contents : P → Option (List ℕ)) (stored : D → Option (List ℕ)) where
   -- On the day that the date spells, the report and all output are those of the program's run over the inputs' records.

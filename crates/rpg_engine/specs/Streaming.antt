@@ -1,19 +1,22 @@
 -- What is required of two readers for a cycle, and what becomes of its output.
-use Rattle.std.specs.Prelude.{◌≡◌, ℕ, ℤ, ◌+◌, ◌<◌, ◌++◌, ◌⊎◌, Bool, true, false, List, [], ◌∷◌, length, Option, None, Some, Result, Ok, Err}
+use Rattle.std.specs.Prelude.{◌≡◌, ℕ, ℤ, ◌+◌, ◌-◌, ◌^◌, ◌<◌, ◌≤◌, ◌++◌, ◌⊎◌, Bool, true, false, List, [], ◌∷◌, length, Option, None, Some, Result, Ok, Err}
 use Rattle.std.specs.Io.KnownBytes.{Appends}
-use Rattle.rpg_cycle.specs.Job.{AtWork, Cycles, job_needs_record}
+use Rattle.rpg_cycle.specs.Job.{AtWork, Cycles, first_fields, job_needs_record, job_started}
 use Rattle.rpg_cycle.specs.Stages.{Ended, Going, Stage, job_end}
 use Rattle.rpg_cycle.specs.declared.ends.JobEnd.{JobEnd}
+use Rattle.rpg_cycle.specs.declared.jobs.Need.{Need}
 use Rattle.rpg_cycle_records.specs.Waiting.{input_at}
 use Rattle.rpg_effect.specs.declared.input.InputFile.{InputFile}
 use Rattle.rpg_effect.specs.declared.input.InputFile.TheVariants.{Primary, Secondary}
-use Rattle.rpg_files.specs.Reading.{ReadsNext, answer_of, is_record, is_sure, record_of}
+use Rattle.rpg_files.specs.Counting.{faults_of}
+use Rattle.rpg_files.specs.Reading.{IsFresh, ReadsNext, answer_of, is_record, is_sure, reader_of, record_of}
 use Rattle.rpg_files.specs.Sending.{AppendsFirst, AppendsPrefix}
 use Rattle.rpg_files.specs.declared.reader.Next.{Next}
 use Rattle.rpg_files.specs.declared.reader.Next.TheVariants as next
 use Rattle.rpg_files.specs.declared.reader.ReadFault.{ReadFault}
 use Rattle.rpg_files.specs.declared.reader.RecordReader.{RecordReader}
 use Rattle.rpg_object_program.specs.Object.{Object}
+use Rattle.rpg_verify.specs.Bound.{bound}
 use Rattle.rpg_engine.specs.Inputs.{Front, OfEach}
 use Rattle.rpg_engine.specs.Reporting.{NeedsRecord, StopsOver}
 use Rattle.rpg_engine.specs.declared.fault.CycleFault.{CycleFault}
@@ -23,14 +26,30 @@ use Rattle.rpg_engine.specs.declared.fault.RunFault.TheVariants as faults
 
 -- ---- one cycle
 
+-- a job that hasn't begun, with readers of its files that have read nothing
+pub record IsAtStart {R S : Type 0} (job : AtWork) (primary : RecordReader R) (secondary : RecordReader S) : Type 0 where
+  pub starts : (day : ℤ) × (job ≡ job_started job.program day (first_fields job.program))
+  pub fresh_primary : IsFresh job.program.record_length primary
+  pub fresh_secondary : IsFresh job.program.secondary_length secondary
+
 -- the stage of a job that goes on, or that has ended so
 abbrev pub ended_stage : Option JobEnd → Stage
 ended_stage None = Going
 ended_stage (Some e) = Ended (job_end e)
 
+-- the next cycle of a job takes a record in from these files
+pub record IsNeedOf (need : Need) (job : AtWork) : Type 0 where
+  pub primary : need.primary ≡ job_needs_record job Primary
+  pub secondary : need.secondary ≡ job_needs_record job Secondary
+
 -- the reader of a file that isn't over gave a record last
 abbrev pub IsBehindRecord : {R : Type 0} → AtWork → InputFile → RecordReader R → Type 0
 IsBehindRecord job f reader = (input_at job.inputs f).is_over ≡ false → is_record (answer_of reader) ≡ true
+
+-- a reader can be asked for the record that the next cycle of a job needs of its file: it gave one last, and one more fault of it can be counted
+pub record CanBeAsked {R : Type 0} (job : AtWork) (f : InputFile) (reader : RecordReader R) : Type 0 where
+  pub behind : IsBehindRecord job f reader
+  pub faults : faults_of (reader_of reader) < 2 ^ 64 - 1
 
 -- the record for a cycle, by what a reader returned: for a bad record, one that no program can take
 abbrev pub record_with : {R : Type 0} → RecordReader R → Next → Option (List ℕ)
@@ -47,14 +66,20 @@ pub record Asks {R : Type 0} (remaining : R → Option (List ℕ)) (is_needed : 
 abbrev pub IsSureWhereAsked : {R : Type 0} → Bool → RecordReader R → Type 0
 IsSureWhereAsked is_needed reader = is_needed ≡ true → is_sure reader ≡ true
 
--- a job did a cycle with what the readers of the files that need a record returned
+-- a job did a cycle with these records, in no more steps than its program's bound, and goes on or ended so
+pub record CyclesTo (job : AtWork) (primary secondary : Option (List ℕ)) (ended : Option JobEnd) (job' : AtWork) : Type 0 where
+  pub cycles : Cycles job primary secondary job'
+  pub stage : job'.stage ≡ ended_stage ended
+  pub bounded : job'.config.steps ≤ bound job'.program
+
+-- a job did a cycle with what the readers of the files that need a record returned, and goes on or ended so
 pub record TakesCycle {R S : Type 0} (remaining : R → Option (List ℕ)) (others : S → Option (List ℕ)) (job : AtWork) (primary : RecordReader R) (secondary : RecordReader S)
-    (job' : AtWork) (primary' : RecordReader R) (secondary' : RecordReader S) : Type 0 where
+    (ended : Option JobEnd) (job' : AtWork) (primary' : RecordReader R) (secondary' : RecordReader S) : Type 0 where
   pub first : Next
   pub second : Next
   pub asks_primary : Asks remaining (job_needs_record job Primary) primary (Ok first) primary'
   pub asks_secondary : Asks others (job_needs_record job Secondary) secondary (Ok second) secondary'
-  pub cycles : Cycles job (record_with primary' first) (record_with secondary' second) job'
+  pub cycle : CyclesTo job (record_with primary' first) (record_with secondary' second) ended job'
 
 -- a reader was read if that was needed, and it returned an answer
 abbrev pub HasAnswered : {R : Type 0} → (R → Option (List ℕ)) → Bool → RecordReader R → RecordReader R → Type 0
@@ -124,8 +149,3 @@ FaultsOfWriters (faults.Print sent) print print' disk disk' = (print' ≡ print 
 FaultsOfWriters (faults.Disk sent) print print' disk disk' = (print' ≡ print) × (disk' ≡ disk + 1)
 FaultsOfWriters (faults.NoMemory cycles) print print' disk disk' = MayFail print print' disk disk'
 FaultsOfWriters e print print' disk disk' = (print' ≡ print) × (disk' ≡ disk)
-
--- which writer has failed, if one has
-abbrev pub WriterFaults : {X : Type 0} → Result X RunFault → (print print' disk disk' : ℕ) → Type 0
-WriterFaults (Ok x) print print' disk disk' = (print' ≡ print) × (disk' ≡ disk)
-WriterFaults (Err e) print print' disk disk' = FaultsOfWriters e print print' disk disk'

@@ -1,16 +1,15 @@
 //! The next cycle of a job, with what comes next in its files.
 
-ghost use Rattle.std.specs.Prelude.{◌≡◌, ◌-◌, ◌^◌, ◌<◌, ◌≤◌, IfErr, IfOk, IsOk, Ok, OnOk, true};
+ghost use Rattle.std.specs.Prelude.{◌≡◌, ◌-◌, ◌^◌, ◌<◌, IfErr, IfOk, IsOk, Ok, true};
 ghost use Rattle.std.specs.Option.{option_map};
-ghost use Rattle.rpg_cycle.specs.Doing.{IsSeen};
-ghost use Rattle.rpg_cycle.specs.Job.{Cycles, job_needs_record};
+ghost use Rattle.rpg_cycle.specs.Doing.{IsSeen, next_text};
 ghost use Rattle.rpg_cycle.specs.Stages.{is_going};
 ghost use Rattle.rpg_effect.specs.Fronts.{OnlyGrows};
 ghost use Rattle.rpg_effect.specs.declared.input.InputFile.TheVariants as files;
 ghost use Rattle.rpg_files.specs.Counting.{faults_of};
 ghost use Rattle.rpg_files.specs.Reading.{answer_of, is_record, reader_of};
-ghost use Rattle.rpg_verify.specs.Bound.{bound};
-ghost use Rattle.rpg_engine.specs.Streaming.{Asks, IsBehindRecord, IsSureWhereAsked, TakesCycle, TakesNone, ended_stage, record_with};
+ghost use Rattle.rpg_engine.specs.Devices.{AreLentOn};
+ghost use Rattle.rpg_engine.specs.Streaming.{Asks, CanBeAsked, CyclesTo, IsNeedOf, IsSureWhereAsked, TakesCycle, TakesNone, record_with};
 ghost use Rattle.rpg_engine.specs.declared.fault.CycleFault.TheVariants as stops;
 
 use crate::fault::CycleFault;
@@ -33,9 +32,7 @@ fn cycle_with<S: Store + Drop>(
     requires primary { IsSeen seen.primary primary }
     requires secondary { IsSeen seen.secondary secondary }
     requires going { is_going job.old.stage ≡ true }
-    ensures cycle { IfOk result (λ _. Cycles job.old (option_map (λ t. t.now) primary.entry) (option_map (λ t. t.now) secondary.entry) job.new) }
-    ensures told { IfOk result (λ e. job.new.stage ≡ ended_stage e) }
-    ensures bound { OnOk result (job.new.config.steps ≤ bound job.new.program) }
+    ensures cycle { IfOk result (λ e. CyclesTo job.old (next_text primary.entry) (next_text secondary.entry) e job.new) }
     ensures memory { IfErr result (λ e. e ≡ CycleFault.NoMemory) }
     ensures grows { OnlyGrows job.old.output job.new.output }
 {
@@ -88,21 +85,13 @@ pub(crate) fn next_cycle<S: Store + Drop, R1: Read, R2: Read>(
     primary: &mut RecordReader<'_, R1>,
     secondary: &mut RecordReader<'_, R2>,
 ) -> Result<Option<JobEnd>, CycleFault>
-    requires primary { faults_of (reader_of primary.old) < 2 ^ 64 - 1 }
-    requires secondary { faults_of (reader_of secondary.old) < 2 ^ 64 - 1 }
     requires going { is_going job.old.stage ≡ true }
-    requires needs_primary { need.primary ≡ job_needs_record job.old files.Primary }
-    requires needs_secondary { need.secondary ≡ job_needs_record job.old files.Secondary }
-    requires behind_primary { IsBehindRecord job.old files.Primary primary.old }
-    requires behind_secondary { IsBehindRecord job.old files.Secondary secondary.old }
-    ensures same_primary { primary.new.reader.ghost_name ≡ primary.old.reader.ghost_name }
-    ensures same_secondary { secondary.new.reader.ghost_name ≡ secondary.old.reader.ghost_name }
+    requires needs { IsNeedOf need job.old }
+    requires primary { CanBeAsked job.old files.Primary primary.old }
+    requires secondary { CanBeAsked job.old files.Secondary secondary.old }
+    ensures same { AreLentOn primary secondary }
     ensures alone { job.old.program.secondary_length ≡ 0 → secondary.new ≡ secondary.old }
-    ensures cycle { OnOk result (TakesCycle R1.remaining R2.remaining job.old primary.old secondary.old job.new primary.new secondary.new) }
-    ensures told { IfOk result (λ e. job.new.stage ≡ ended_stage e) }
-    ensures bound { OnOk result (job.new.config.steps ≤ bound job.new.program) }
-    ensures faults_primary { OnOk result (faults_of (reader_of primary.new) ≡ faults_of (reader_of primary.old)) }
-    ensures faults_secondary { OnOk result (faults_of (reader_of secondary.new) ≡ faults_of (reader_of secondary.old)) }
+    ensures cycle { IfOk result (λ e. TakesCycle R1.remaining R2.remaining job.old primary.old secondary.old e job.new primary.new secondary.new) }
     ensures none { IfErr result (λ e. TakesNone R1.remaining R2.remaining job.old primary.old secondary.old e primary.new secondary.new) }
     ensures sure { IsSureWhereAsked need.primary primary.old → IsSureWhereAsked need.secondary secondary.old → IfErr result (λ e. e ≡ stops.NoMemory) }
     ensures grows { OnlyGrows job.old.output job.new.output }

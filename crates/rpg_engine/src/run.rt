@@ -1,12 +1,10 @@
 //! A whole run, a cycle at a time.
 
-ghost use Rattle.std.specs.Prelude.{◌≡◌, ℤ, ◌-◌, ◌^◌, ◌<◌, IfErr, IfOk};
-ghost use Rattle.rpg_cycle.specs.Job.{first_fields, job_started};
-ghost use Rattle.rpg_files.specs.Counting.{faults_of};
-ghost use Rattle.rpg_files.specs.Reading.{IsFresh, reader_of};
+ghost use Rattle.std.specs.Prelude.{◌≡◌, IfErr, IfOk};
+ghost use Rattle.rpg_files.specs.Reading.{reader_of};
 ghost use Rattle.rpg_verify.specs.Bound as words;
-ghost use Rattle.rpg_engine.specs.Devices.{ReportsFrom, StopsFrom, TellsWhoseFaultOf};
-ghost use Rattle.rpg_engine.specs.Streaming.{IsRunFault};
+ghost use Rattle.rpg_engine.specs.Devices.{AreLentOn, CanCountFaults, ReportsFrom, StopsFrom, TellsWhoseFaultOf};
+ghost use Rattle.rpg_engine.specs.Streaming.{IsAtStart, IsRunFault};
 
 use crate::cycle::next_cycle;
 use crate::fault::RunFault;
@@ -31,16 +29,10 @@ pub(crate) fn run<S: Store + Drop, R1: Read, R2: Read, W1: Write, W2: Write, W: 
     bound: u64,
     watcher: &mut W,
 ) -> Result<Report, RunFault>
-    requires input { faults_of (reader_of primary.old) < 2 ^ 64 - 1 }
-    requires secondary { faults_of (reader_of secondary.old) < 2 ^ 64 - 1 }
-    requires print { faults_of print.old < 2 ^ 64 - 1 }
-    requires disk { faults_of disk.old < 2 ^ 64 - 1 }
-    requires starts { (day : ℤ) × (job.old ≡ job_started job.old.program day (first_fields job.old.program)) }
-    requires fresh_primary { IsFresh job.old.program.record_length primary.old }
-    requires fresh_secondary { IsFresh job.old.program.secondary_length secondary.old }
+    requires devices { CanCountFaults (reader_of primary.old) (reader_of secondary.old) print.old disk.old }
+    requires begins { IsAtStart job.old primary.old secondary.old }
     requires bound { bound ≡ words.bound job.old.program }
-    ensures same_primary { primary.new.reader.ghost_name ≡ primary.old.reader.ghost_name }
-    ensures same_secondary { secondary.new.reader.ghost_name ≡ secondary.old.reader.ghost_name }
+    ensures same { AreLentOn primary secondary }
     ensures alone { job.old.program.secondary_length ≡ 0 → secondary.new ≡ secondary.old }
     ensures report { IfOk result (ReportsFrom R1.remaining R2.remaining W1.contents W2.contents job.old primary secondary print disk) }
     ensures early { IfErr result (StopsFrom R1.remaining R2.remaining W1.contents W2.contents job.old primary secondary print disk) }

@@ -1,11 +1,9 @@
 //! What a run puts out, on its way to the writers. It waits in the job, so that a writer is called once for many cycles.
 
-ghost use Rattle.std.specs.Prelude.{◌≡◌, ◌+◌, ◌-◌, ◌^◌, ◌<◌, ◌≤◌, ◌⊎◌, length, take, true, is_some, OnOk, IfErr};
-ghost use Rattle.std.specs.Io.KnownBytes.{Appends};
-ghost use Rattle.rpg_files.specs.Counting.{device_of, faults_of};
+ghost use Rattle.std.specs.Prelude.{◌≡◌, ◌≤◌, ◌⊎◌, length, take, true, is_some, OnOk};
 ghost use Rattle.rpg_machine.specs.Running.{no_bytes};
-ghost use Rattle.rpg_engine.specs.Devices.{GoesOutTo, GoesOutUnlessTo, SendsSomeTo, StopsTo};
-ghost use Rattle.rpg_engine.specs.Streaming.{FaultsOfWriters, IsSureWhereAsked, MayFail, WriterFaults};
+ghost use Rattle.rpg_engine.specs.Sending.{CanSend, SendsTo, SendsUnlessTo, SendsWaitingTo, StopsWithTo};
+ghost use Rattle.rpg_engine.specs.Streaming.{IsSureWhereAsked};
 
 use crate::fault::{CycleFault, RunFault};
 use crate::watching::Watcher;
@@ -57,16 +55,8 @@ fn send_both<W1: Write, W2: Write>(
     records: &[u8],
     sent: &mut Sent,
 ) -> Result<(), RunFault>
-    requires print { faults_of print.old < 2 ^ 64 - 1 }
-    requires disk { faults_of disk.old < 2 ^ 64 - 1 }
-    requires printed { sent.old.print ≤ 2 ^ 100 }
-    requires stored { sent.old.disk ≤ 2 ^ 100 }
-    ensures printed { OnOk result (Appends (W1.contents (device_of print.old)) (W1.contents (device_of print.new)) lines.now) }
-    ensures stored { OnOk result (Appends (W2.contents (device_of disk.old)) (W2.contents (device_of disk.new)) records.now) }
-    ensures sent_print { OnOk result (sent.new.print ≡ sent.old.print + length lines.now) }
-    ensures sent_disk { OnOk result (sent.new.disk ≡ sent.old.disk + length records.now) }
-    ensures some { IfErr result (SendsSomeTo W1.contents W2.contents print disk sent.old.print sent.old.disk lines.now records.now) }
-    ensures faults { WriterFaults result (faults_of print.old) (faults_of print.new) (faults_of disk.old) (faults_of disk.new) }
+    requires ready { CanSend print.old disk.old sent.old }
+    ensures { SendsTo W1.contents W2.contents result print disk sent lines.now records.now }
 {
     if let Err(fault) = send(print, lines) {
         let sent = sent.print + fault.sent as u128;
@@ -89,19 +79,9 @@ fn send_waiting<S: Store + Drop, W1: Write, W2: Write>(
     disk: &mut Counted<W2>,
     sent: &mut Sent,
 ) -> Result<(), RunFault>
-    requires print { faults_of print.old < 2 ^ 64 - 1 }
-    requires disk { faults_of disk.old < 2 ^ 64 - 1 }
-    requires printed { sent.old.print ≤ 2 ^ 100 }
-    requires stored { sent.old.disk ≤ 2 ^ 100 }
-    ensures printed { OnOk result (Appends (W1.contents (device_of print.old)) (W1.contents (device_of print.new)) job.old.output.print) }
-    ensures stored { OnOk result (Appends (W2.contents (device_of disk.old)) (W2.contents (device_of disk.new)) job.old.output.disk) }
-    ensures sent_print { OnOk result (sent.new.print ≡ sent.old.print + length job.old.output.print) }
-    ensures sent_disk { OnOk result (sent.new.disk ≡ sent.old.disk + length job.old.output.disk) }
-    ensures few_printed { OnOk result (sent.new.print < sent.old.print + 2 ^ 64) }
-    ensures few_stored { OnOk result (sent.new.disk < sent.old.disk + 2 ^ 64) }
-    ensures taken { OnOk result (job.new ≡ record job.old { output = no_bytes }) }
-    ensures some { IfErr result (SendsSomeTo W1.contents W2.contents print disk sent.old.print sent.old.disk job.old.output.print job.old.output.disk) }
-    ensures faults { WriterFaults result (faults_of print.old) (faults_of print.new) (faults_of disk.old) (faults_of disk.new) }
+    requires ready { CanSend print.old disk.old sent.old }
+    ensures sends { SendsWaitingTo W1.contents W2.contents result job.old job.new print disk sent }
+    ensures all { OnOk result (job.new.output ≡ no_bytes) }
 {
     let output = job.output();
     send_both(print, disk, &output.print, &output.disk, sent)?;
@@ -129,18 +109,9 @@ pub(crate) fn send_before_reading<S: Store + Drop, R1: Read, R2: Read, W1: Write
     disk: &mut Counted<W2>,
     sent: &mut Sent,
 ) -> Result<(), RunFault>
-    requires print { faults_of print.old < 2 ^ 64 - 1 }
-    requires disk { faults_of disk.old < 2 ^ 64 - 1 }
-    requires printed { sent.old.print ≤ 2 ^ 100 }
-    requires stored { sent.old.disk ≤ 2 ^ 100 }
-    ensures printed { OnOk result (GoesOutTo W1.contents print job.old.output.print job.new.output.print sent.old.print sent.new.print) }
-    ensures stored { OnOk result (GoesOutTo W2.contents disk job.old.output.disk job.new.output.disk sent.old.disk sent.new.disk) }
-    ensures few_printed { OnOk result (sent.new.print < sent.old.print + 2 ^ 64) }
-    ensures few_stored { OnOk result (sent.new.disk < sent.old.disk + 2 ^ 64) }
-    ensures rest { OnOk result (job.new ≡ record job.old { output = job.new.output }) }
+    requires ready { CanSend print.old disk.old sent.old }
+    ensures sends { SendsWaitingTo W1.contents W2.contents result job.old job.new print disk sent }
     ensures ready { OnOk result ((job.new.output ≡ no_bytes) ⊎ (IsSureWhereAsked need.primary primary.now × IsSureWhereAsked need.secondary secondary.now)) }
-    ensures some { IfErr result (SendsSomeTo W1.contents W2.contents print disk sent.old.print sent.old.disk job.old.output.print job.old.output.disk) }
-    ensures faults { WriterFaults result (faults_of print.old) (faults_of print.new) (faults_of disk.old) (faults_of disk.new) }
 {
     if is_sure(primary, need.primary) && is_sure(secondary, need.secondary) {
         return Ok(());
@@ -158,19 +129,9 @@ fn look_and_send<S: Store + Drop, W1: Write, W2: Write, W: Watcher>(
     disk: &mut Counted<W2>,
     sent: &mut Sent,
 ) -> Result<(), RunFault>
-    requires print { faults_of print.old < 2 ^ 64 - 1 }
-    requires disk { faults_of disk.old < 2 ^ 64 - 1 }
-    requires printed { sent.old.print ≤ 2 ^ 100 }
-    requires stored { sent.old.disk ≤ 2 ^ 100 }
-    ensures printed { OnOk result (Appends (W1.contents (device_of print.old)) (W1.contents (device_of print.new)) job.old.output.print) }
-    ensures stored { OnOk result (Appends (W2.contents (device_of disk.old)) (W2.contents (device_of disk.new)) job.old.output.disk) }
-    ensures sent_print { OnOk result (sent.new.print ≡ sent.old.print + length job.old.output.print) }
-    ensures sent_disk { OnOk result (sent.new.disk ≡ sent.old.disk + length job.old.output.disk) }
-    ensures few_printed { OnOk result (sent.new.print < sent.old.print + 2 ^ 64) }
-    ensures few_stored { OnOk result (sent.new.disk < sent.old.disk + 2 ^ 64) }
-    ensures taken { OnOk result (job.new ≡ record job.old { output = no_bytes }) }
-    ensures some { IfErr result (SendsSomeTo W1.contents W2.contents print disk sent.old.print sent.old.disk job.old.output.print job.old.output.disk) }
-    ensures faults { WriterFaults result (faults_of print.old) (faults_of print.new) (faults_of disk.old) (faults_of disk.new) }
+    requires ready { CanSend print.old disk.old sent.old }
+    ensures sends { SendsWaitingTo W1.contents W2.contents result job.old job.new print disk sent }
+    ensures all { OnOk result (job.new.output ≡ no_bytes) }
 {
     watcher.look(job, ended);
     send_waiting(job, print, disk, sent)
@@ -187,18 +148,9 @@ pub(crate) fn send_where_enough<S: Store + Drop, W1: Write, W2: Write, W: Watche
     disk: &mut Counted<W2>,
     sent: &mut Sent,
 ) -> Result<(), RunFault>
-    requires print { faults_of print.old < 2 ^ 64 - 1 }
-    requires disk { faults_of disk.old < 2 ^ 64 - 1 }
-    requires printed { sent.old.print ≤ 2 ^ 100 }
-    requires stored { sent.old.disk ≤ 2 ^ 100 }
-    ensures printed { OnOk result (GoesOutTo W1.contents print job.old.output.print job.new.output.print sent.old.print sent.new.print) }
-    ensures stored { OnOk result (GoesOutTo W2.contents disk job.old.output.disk job.new.output.disk sent.old.disk sent.new.disk) }
-    ensures few_printed { OnOk result (sent.new.print < sent.old.print + 2 ^ 64) }
-    ensures few_stored { OnOk result (sent.new.disk < sent.old.disk + 2 ^ 64) }
-    ensures rest { OnOk result (job.new ≡ record job.old { output = job.new.output }) }
+    requires ready { CanSend print.old disk.old sent.old }
+    ensures sends { SendsWaitingTo W1.contents W2.contents result job.old job.new print disk sent }
     ensures all { is_some ended ≡ true → OnOk result (job.new.output ≡ no_bytes) }
-    ensures some { IfErr result (SendsSomeTo W1.contents W2.contents print disk sent.old.print sent.old.disk job.old.output.print job.old.output.disk) }
-    ensures faults { WriterFaults result (faults_of print.old) (faults_of print.new) (faults_of disk.old) (faults_of disk.new) }
 {
     let waiting = waiting_in(job.output());
     if ended.is_none() && waiting.print < enough && waiting.disk < enough {
@@ -215,12 +167,8 @@ fn send_or_leave<W1: Write, W2: Write>(
     records: &[u8],
     mut sent: Sent,
 )
-    requires print { faults_of print.old < 2 ^ 64 - 1 }
-    requires disk { faults_of disk.old < 2 ^ 64 - 1 }
-    requires printed { sent.print ≤ 2 ^ 100 }
-    requires stored { sent.disk ≤ 2 ^ 100 }
-    ensures out { GoesOutUnlessTo W1.contents W2.contents print disk lines.now records.now }
-    ensures faults { MayFail (faults_of print.old) (faults_of print.new) (faults_of disk.old) (faults_of disk.new) }
+    requires ready { CanSend print.old disk.old sent }
+    ensures { SendsUnlessTo W1.contents W2.contents print disk sent lines.now records.now }
 {
     let _told = send_both(print, disk, lines, records, &mut sent);
 }
@@ -237,15 +185,11 @@ pub(crate) fn fault_behind<W1: Write, W2: Write>(
     waiting: Waiting,
     sent: Sent,
 ) -> RunFault
-    requires print { faults_of print.old < 2 ^ 64 - 1 }
-    requires disk { faults_of disk.old < 2 ^ 64 - 1 }
-    requires printed { sent.print ≤ 2 ^ 100 }
-    requires stored { sent.disk ≤ 2 ^ 100 }
+    requires ready { CanSend print.old disk.old sent }
     requires lines { waiting.print ≤ length output.now.print.items }
     requires records { waiting.disk ≤ length output.now.disk.items }
-    ensures stops { StopsTo W1.contents W2.contents fault cycles print disk
+    ensures { StopsWithTo W1.contents W2.contents fault cycles print disk sent
         (take waiting.print output.now.print.items) (take waiting.disk output.now.disk.items) result }
-    ensures faults { FaultsOfWriters result (faults_of print.old) (faults_of print.new) (faults_of disk.old) (faults_of disk.new) }
 {
     match fault {
         CycleFault::Read { file, fault } => RunFault::Read { file, fault },
