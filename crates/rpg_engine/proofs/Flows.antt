@@ -48,7 +48,7 @@ module _ (first job : AtWork) (given others : Option (List ℕ)) (a b : Source) 
         none_fails = (sends.none_fails.0 ∙ f.none_fails.0, sends.none_fails.1 ∙ f.none_fails.1);
       }
 
-  -- behind one more cycle: what it was, and what went out and waits of all that was put out
+  -- after one more cycle: what it was, and what went out and waits of all that was put out
   pub record IsCycled (mid : AtWork) (a' b' : Source) : Type 0 where
     pub ending : PhaseEnd
     pub takes : TakesNext f.streams.earlier (last_position f.streams.out.lines) job a b ending mid a' b'

@@ -166,7 +166,7 @@ pub record AreReady {R S : Type 0} (job : AtWork) (primary : RecordReader R) (se
   pub limit_primary : limit_of primary ≡ job.program.record_length
   pub limit_secondary : limit_of secondary ≡ job.program.secondary_length
 
--- a job behind those earlier records, and behind a line placed before, did a cycle with what stands next in both inputs
+-- a job after those earlier records, and after a line placed before, did a cycle with what stands next in both inputs
 pub record TakesNext (earlier : List Selected) (previous : Option Position) (job : AtWork) (a b : Source) (e : PhaseEnd) (job' : AtWork) (a' b' : Source) : Type 0 where
   pub x : Option (List ℕ)
   pub y : Option (List ℕ)
@@ -200,7 +200,7 @@ module _ {R S : Type 0} (remaining : R → Option (List ℕ)) (others : S → Op
   asks_second : Asks others (needs_record job.program job.config job.inputs Secondary) secondary (Ok takes.second) secondary'
   asks_second = subst (λ (b : Bool). Asks others b secondary (Ok takes.second) secondary') (needs_of job Secondary ready.going) takes.asks_secondary
 
-  -- behind all records that leave what the job keeps
+  -- after all records that leave what the job keeps
   pub takes_next : (earlier : List Selected) → job.left ≡ left_by job.program earlier
       → AreMergedInOrder job.program earlier job.inputs → (previous : Option Position) → job.last ≡ line_of previous
       → (e : PhaseEnd) × TakesNext earlier previous job (source_of remaining primary) (source_of others secondary) e job' (source_of remaining primary') (source_of others secondary')

@@ -150,7 +150,7 @@ returns-in-Err-clause-faults g c =
     stop_faults g.R1.Read.remaining g.R2.Read.remaining c.cycles.primary c.next_cycle.new.primary c.cycles.secondary c.next_cycle.new.secondary _ _ streams.primary streams.secondary c.send_before_reading.new.job c.in-Err.fault _ _ _ _ _ _ _ _ _
     _ _ _ _ _ _ _ _ Report c.in-Err.ensures.none stops.stops stops.faults i.primary i.secondary (same.0 ∙ i.flows.none_fails.0) (same.1 ∙ i.flows.none_fails.1)
 
--- behind a cycle
+-- after a cycle
 pub send_where_enough-requires : goal.send_where_enough-requires
 send_where_enough-requires g c =
     let i = c.cycles.invariant in
