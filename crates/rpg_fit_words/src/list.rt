@@ -3,7 +3,7 @@
 use rpg_fit_terms::Stop;
 use std::alloc::Global;
 
-/// Values in their order. A list for which memory ran out remembers it, so that only `finish` returns an error.
+/// Values in their order. A list for which memory ran out remembers it, so that only `checked` and `finish` return an error.
 #[derive(Drop)]
 pub struct List<T> {
     values: Vec<T>,
