@@ -1,19 +1,21 @@
 //! The cause of a fault of any code.
 
 ghost use Rattle.std.specs.Prelude.{◌≡◌, ◌≤◌, [], ◌∷◌, ◌++◌, length, is_some};
-ghost use Rattle.rpg_cards.specs.Sheets.{AreSheets};
 ghost use Rattle.rpg_causes.specs.Causes as causes;
+ghost use Rattle.rpg_causes.specs.Files as file_causes;
 ghost use Rattle.rpg_faults.specs.Rules as rules;
 ghost use Rattle.rpg_faults.specs.declared.code.FaultCode.TheVariants.{F9, F12, F16};
 ghost use Rattle.rpg_faults_flow.specs.Flow as flow_rules;
-ghost use Rattle.rpg_faults_flow.specs.Seen.{IsFlow};
-ghost use Rattle.rpg_faults_limits.specs.State.{AreLimits};
+ghost use Rattle.rpg_faults_limits.specs.Causes as limit_causes;
+ghost use Rattle.rpg_faults_limits.specs.Files as file_rules;
+ghost use Rattle.rpg_faults_limits.specs.Limits as limit_rules;
 
 use crate::editing::{EditingCause, editing_cause};
 use crate::files::{FileCause, FileOnCard, file_cause, moved_disk};
 use crate::joins::{JoinCause, join_cause};
+use crate::known::{flow_before, limits_before, no_cards, sheets_before};
 use crate::places::{PlaceCause, outside_cause};
-use rpg_cards::{IndexedCards, Sheets, SpecCard};
+use rpg_cards::{IndexedCards, SpecCard};
 use rpg_causes_flow::{
     ColumnCause, NowhereCause, OrderCause, RoundingCause, StrayCause, Target, TwiceCause,
     apart_cause, nowhere_cause, on_calculation, order_cause, rounding_cause, stray_cause,
@@ -26,8 +28,8 @@ use rpg_causes_operands::{
 };
 use rpg_faults::FaultCode;
 use rpg_faults_data::{DataCause, data_cause};
-use rpg_faults_flow::{Flow, Labels, calls_itself};
-use rpg_faults_limits::{LimitCause, Limits, limit_cause};
+use rpg_faults_flow::{Labels, calls_itself};
+use rpg_faults_limits::{LimitCause, limit_cause};
 use rpg_symbols::Name;
 
 /// Why a card has a fault.
@@ -79,14 +81,6 @@ pub enum Cause {
     Data(DataCause),
 }
 
-/// What the cards before a card come to.
-#[derive(Clone, Copy)]
-struct Known {
-    sheets: Sheets,
-    limits: Limits,
-    flow: Flow,
-}
-
 /// Why the first card with a number breaks the rule of a code; nothing where it doesn't. The labels are those of the source.
 pub fn fault_cause(
     source: &IndexedCards,
@@ -99,40 +93,22 @@ pub fn fault_cause(
     ensures cause { result ≡ causes.cause_at [] source.now number code }
     ensures rule { is_some result ≡ causes.is_broken_at [] source.now number code }
 {
-    let mut sheets = Sheets::none();
-    let mut limits = Limits::nothing(source);
-    let mut flow = Flow::nothing();
     let mut before = no_cards(source);
     let mut rest = source.as_slice();
     while let Some((card, after)) = rest.split_first() {
         if card.number == number {
-            let known = Known {
-                sheets,
-                limits,
-                flow,
-            };
-            return cause_of(source, labels, &known, before, card, after, code);
+            return cause_of(source, labels, before, card, after, code);
         }
-        sheets = sheets.with(source, before, card);
-        limits = limits.with(source, before, card, after);
-        flow = flow.with(before, card, after);
         before = with_card(source, before, card, after);
         rest = after;
     }
     None
 }
 
-fn no_cards<'a>(source: &IndexedCards<'a>) -> &'a [SpecCard]
-    ensures { result.now ≡ [] }
-{
-    &source.as_slice()[..0]
-}
-
 #[tactic(auto, unfolding(crate::specs::Causes::cause_of, rpg_faults::specs::Rules::rule))]
 fn cause_of(
     source: &IndexedCards,
     labels: &Labels,
-    known: &Known,
     before: &[SpecCard],
     card: &SpecCard,
     after: &[SpecCard],
@@ -141,9 +117,6 @@ fn cause_of(
     requires split { source.now ≡ before.now ++ card.now ∷ after.now }
     requires few { length source.now ≤ 2000 }
     requires labels { labels.now ≡ source.now }
-    requires sheets { AreSheets source.now before.now known.now.sheets }
-    requires limits { AreLimits source.now before.now (card.now ∷ after.now) known.now.limits }
-    requires flow { IsFlow before.now (card.now ∷ after.now) known.now.flow }
     ensures cause { result ≡ causes.cause_of code before.now card.now after.now }
     ensures rule { is_some result ≡ rules.rule code before.now card.now after.now }
 {
@@ -153,23 +126,16 @@ fn cause_of(
         FaultCode::F3 => Some(Cause::Size(size_cause(card)?)),
         FaultCode::F4 => Some(Cause::Operand(operand_cause(source, card, after)?)),
         FaultCode::F5 => Some(Cause::Index(index_cause(source, card, after)?)),
-        FaultCode::F6 => Some(Cause::Limit(limit_cause(
-            source,
-            &known.sheets,
-            &known.limits,
-            before,
-            card,
-            after,
-        )?)),
-        FaultCode::F7 => Some(Cause::File(file_cause(source, &known.sheets, before, card)?)),
+        FaultCode::F6 => Some(Cause::Limit(passed_limit(source, before, card, after)?)),
+        FaultCode::F7 => Some(Cause::File(wrong_file(source, before, card, after)?)),
         FaultCode::F8 => Some(Cause::Indicator(indicator_cause(source, card)?)),
         FaultCode::F9 => missing(source, before, card, after),
         FaultCode::F10 => Some(Cause::Nowhere(nowhere_cause(source, before, card, after)?)),
         FaultCode::F11 => Some(Cause::Twice(twice_cause(source, before, card, after)?)),
-        FaultCode::F12 => misordered(source, &known.sheets, before, card, after),
+        FaultCode::F12 => misordered(source, before, card, after),
         FaultCode::F13 => Some(Cause::Apart(apart_cause(source, before, card, after)?)),
         FaultCode::F14 => {
-            let cause = recursion_cause(source, labels, &known.flow, before, card, after);
+            let cause = recursion_cause(source, labels, before, card, after);
             Some(Cause::Recursion(cause?))
         }
         FaultCode::F15 => Some(Cause::Rounding(rounding_cause(before, card, after)?)),
@@ -179,38 +145,70 @@ fn cause_of(
     }
 }
 
+/// F6: which limit is passed with the card.
+fn passed_limit(
+    source: &IndexedCards,
+    before: &[SpecCard],
+    card: &SpecCard,
+    after: &[SpecCard],
+) -> Option<LimitCause>
+    requires split { source.now ≡ before.now ++ card.now ∷ after.now }
+    requires few { length source.now ≤ 2000 }
+    ensures cause { result ≡ limit_causes.limit_cause source.now before.now card.now after.now }
+    ensures rule { is_some result ≡ limit_rules.passes_limit source.now before.now card.now after.now }
+{
+    let sheets = sheets_before(source, before, card, after);
+    let limits = limits_before(source, before, card, after);
+    limit_cause(source, &sheets, &limits, before, card, after)
+}
+
+/// F7: what is wrong with the file of the card.
+fn wrong_file(
+    source: &IndexedCards,
+    before: &[SpecCard],
+    card: &SpecCard,
+    after: &[SpecCard],
+) -> Option<FileCause>
+    requires split { source.now ≡ before.now ++ card.now ∷ after.now }
+    requires few { length source.now ≤ 2000 }
+    ensures cause { result ≡ file_causes.file_cause source.now before.now card.now }
+    ensures rule { is_some result ≡ file_rules.breaks_files source.now before.now card.now }
+{
+    let sheets = sheets_before(source, before, card, after);
+    file_cause(source, &sheets, before, card)
+}
+
 /// F14: the subroutine that the calculation calls, if that one leads back.
 fn recursion_cause(
     source: &IndexedCards,
     labels: &Labels,
-    flow: &Flow,
     before: &[SpecCard],
     card: &SpecCard,
     after: &[SpecCard],
 ) -> Option<Target>
     requires split { source.now ≡ before.now ++ card.now ∷ after.now }
+    requires few { length source.now ≤ 2000 }
     requires labels { labels.now ≡ source.now }
-    requires flow { IsFlow before.now (card.now ∷ after.now) flow.now }
     ensures cause { result ≡ causes.recursion before.now card.now after.now }
     ensures rule { is_some result ≡ flow_rules.calls_itself (before.now ++ card.now ∷ after.now) before.now card.now after.now }
 {
-    recursion(source, labels, flow, before, card, after)
+    recursion(source, labels, before, card, after)
 }
 
 fn recursion(
     source: &IndexedCards,
     labels: &Labels,
-    flow: &Flow,
     before: &[SpecCard],
     card: &SpecCard,
     after: &[SpecCard],
 ) -> Option<Target>
     requires split { source.now ≡ before.now ++ card.now ∷ after.now }
+    requires few { length source.now ≤ 2000 }
     requires labels { labels.now ≡ source.now }
-    requires flow { IsFlow before.now (card.now ∷ after.now) flow.now }
     ensures { result ≡ causes.recursion before.now card.now after.now }
 {
-    if calls_itself(labels, flow, before, card, after) {
+    let flow = flow_before(source, before, card, after);
+    if calls_itself(labels, &flow, before, card, after) {
         target_on(source, card, after)
     } else {
         None
@@ -242,20 +240,20 @@ fn missing(
 #[tactic(auto, unfolding(rpg_faults::specs::Rules::rule))]
 fn misordered(
     source: &IndexedCards,
-    sheets: &Sheets,
     before: &[SpecCard],
     card: &SpecCard,
     after: &[SpecCard],
 ) -> Option<Cause>
     requires split { source.now ≡ before.now ++ card.now ∷ after.now }
-    requires sheets { AreSheets source.now before.now sheets.now }
+    requires few { length source.now ≤ 2000 }
     ensures cause { result ≡ causes.misordered before.now card.now after.now }
     ensures rule { is_some result ≡ rules.rule F12 before.now card.now after.now }
 {
     if let Some(cause) = order_cause(source.as_slice(), before, card, after) {
         return Some(Cause::Order(cause));
     }
-    Some(Cause::Stray(stray_cause(source, sheets, before, card)?))
+    let sheets = sheets_before(source, before, card, after);
+    Some(Cause::Stray(stray_cause(source, &sheets, before, card)?))
 }
 
 /// F16: of the card's own columns, or of control fields and match fields.

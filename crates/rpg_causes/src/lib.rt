@@ -5,6 +5,7 @@ mod cause;
 mod editing;
 mod files;
 mod joins;
+mod known;
 mod places;
 
 pub use cause::{Cause, fault_cause};

@@ -1,16 +1,10 @@
 use Rattle.std.proofs.Common.{◌≡◌, [], ◌++◌, length}
-use Rattle.rpg_cards.specs.Sheets.{AreSheets}
 use Rattle.rpg_causes.specs.Causes.{cause_at, is_broken_at}
-use Rattle.rpg_faults_flow.specs.Seen.{IsFlow}
-use Rattle.rpg_faults_limits.specs.State.{AreLimits}
 use Rattle.rpg_causes.proofs.cause.fault_cause.Given as goal
 
 abbrev pub invariant-loop-card : goal.invariant-loop-card
 invariant-loop-card l = record {
   split : l.source ≡ l.before ++ l.rest;
-  sheets : AreSheets l.source l.before l.sheets;
-  limits : AreLimits l.source l.before l.rest l.limits;
-  flow : IsFlow l.before l.rest l.flow;
   cause : cause_at l.before l.rest l.number l.code ≡ cause_at [] l.source l.number l.code;
   rule : is_broken_at l.before l.rest l.number l.code ≡ is_broken_at [] l.source l.number l.code;
 }
