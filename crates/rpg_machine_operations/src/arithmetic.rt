@@ -11,7 +11,7 @@ ghost use Rattle.rpg_effect.specs.declared.operation.Action.TheVariants as actio
 ghost use Rattle.rpg_memory.specs.Fields.{IsValue};
 ghost use Rattle.rpg_memory.specs.Memory.{NamesNumber, data_put, forms_in, rest_value};
 ghost use Rattle.rpg_machine_operations.specs.Fixed.{are_aligned};
-ghost use Rattle.rpg_machine_operations.specs.Words.{DidData, DidOperate, FitsResult, IsNumberOperand, act_in, assigned_in, computed_in, quotient_in, stored_value_in, with_remainder_of};
+ghost use Rattle.rpg_machine_operations.specs.Words.{AreNumbersNamed, DidData, DidOperate, FitsResult, IsNumberOperand, act_in, assigned_in, computed_in, quotient_in, stored_value_in, with_remainder_of};
 
 use crate::resolving::number_named;
 use rpg_decimal::{Num, Rest, Scale, Target, add, div, fit, keep, mult, remainder, sub};
@@ -93,9 +93,7 @@ fn computed<S: Store + Drop>(
     factor2: Resolved,
     to: Resolved,
 ) -> i64
-    requires factor1 { NamesNumber memory.now factor1 }
-    requires factor2 { NamesNumber memory.now factor2 }
-    requires to { NamesNumber memory.now to }
+    requires { AreNumbersNamed memory.now factor1 factor2 to }
     ensures value { result ≡ computed_in memory.now operator half factor1 factor2 to }
     ensures length { FitsResult memory.now to result }
 {
@@ -110,8 +108,7 @@ pub(crate) fn kept_with_sign(is_negated: bool, b: Num, target: Target) -> i64
     ensures value { result ≡ stored_number target.half target.dec target.len (with_decimals (acts.assigned is_negated b.value) b.dec) }
     ensures length { unsigned_abs result < 10 ^ target.len }
 {
-    let scale = Scale { value: b.dec };
-    keep(signed(is_negated, b.value), scale, target)
+    keep(signed(is_negated, b.value), Scale { value: b.dec }, target)
 }
 
 /// The same of a number with the target's decimals.
@@ -183,12 +180,9 @@ fn divided<S: Store + Drop>(
     factor2: Resolved,
     to: Resolved,
 ) -> Option<i64>
-    requires factor1 { NamesNumber memory.old factor1 }
-    requires factor2 { NamesNumber memory.old factor2 }
-    requires to { NamesNumber memory.old to }
+    requires { AreNumbersNamed memory.old factor1 factor2 to }
     ensures quotient { result ≡ quotient_in memory.old half factor1 factor2 to }
-    ensures length { IfSome result (λ n. FitsResult memory.old to n) }
-    ensures left { IfSome result (λ n. memory.new ≡ data_put (with_remainder_of memory.old half factor1 factor2 to) memory.old) }
+    ensures left { IfSome result (λ n. FitsResult memory.old to n × (memory.new ≡ data_put (with_remainder_of memory.old half factor1 factor2 to) memory.old)) }
     ensures none { result ≡ None → memory.new ≡ memory.old }
 {
     let a = number_at(memory, factor1);
@@ -248,18 +242,14 @@ fn divide_numbers<S: Store + Drop>(
     to: Resolved,
     shows: Shows,
 ) -> End
-    requires factor1 { NamesNumber memory.old factor1 }
-    requires factor2 { NamesNumber memory.old factor2 }
-    requires to { NamesNumber memory.old to }
+    requires { AreNumbersNamed memory.old factor1 factor2 to }
     ensures { DidData (act_in memory.old (actions.Divide half factor1 factor2 to shows)) memory.old (end_of result) memory.new }
 {
-    match divided(memory, half, factor1, factor2, to) {
-        None => End::Halt(Halt::ZeroDivisor),
-        Some(quotient) => {
-            store(memory, to.entry, shows, quotient);
-            End::GoesOn
-        }
-    }
+    let Some(quotient) = divided(memory, half, factor1, factor2, to) else {
+        return End::Halt(Halt::ZeroDivisor);
+    };
+    store(memory, to.entry, shows, quotient);
+    End::GoesOn
 }
 
 /// DIV. None where an index is out of range.

@@ -2,8 +2,8 @@
 ghost use Rattle.std.specs.Prelude.{◌≡◌};
 ghost use Rattle.rpg_effect.specs.declared.operation.Action.TheVariants as actions;
 ghost use Rattle.rpg_memory.specs.Fields.{IsResolved};
-ghost use Rattle.rpg_memory.specs.Memory.{NamesLike, data_put};
-ghost use Rattle.rpg_machine_operations.specs.Words.{DidOperate, IsLikeOperand, compared_in, order_in};
+ghost use Rattle.rpg_memory.specs.Memory.{data_put};
+ghost use Rattle.rpg_machine_operations.specs.Words.{AreAlike, DidOperate, IsLikeOperand, compared_in, order_in};
 
 use crate::resolving::entry_named;
 use rpg_decimal::{compare, compare_text};
@@ -43,8 +43,7 @@ fn show_order<S: Store + Drop>(
     factor2: Resolved,
     shows: Shows,
 )
-    requires factor1 { NamesLike memory.old factor1 factor1 }
-    requires factor2 { NamesLike memory.old factor1 factor2 }
+    requires { AreAlike memory.old factor1 factor2 }
     ensures { memory.new ≡ data_put (compared_in memory.old factor1 factor2 shows) memory.old }
 {
     let order = compared(memory, factor1.form.kind, factor1, factor2);

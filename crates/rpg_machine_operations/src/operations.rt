@@ -116,8 +116,5 @@ pub fn operate<S: Store + Drop>(memory: &mut Memory<'_, S>, action: &Action<Oper
     requires right { IsRightAction memory.old.program.fields action.now }
     ensures { DidData (operate_in memory.old action.now) memory.old (end_of result) memory.new }
 {
-    match operate_in_range(memory, action) {
-        None => End::Halt(Halt::BadIndex),
-        Some(end) => end,
-    }
+    operate_in_range(memory, action).unwrap_or(End::Halt(Halt::BadIndex))
 }

@@ -82,13 +82,11 @@ fn move_to_number<S: Store + Drop>(
     requires to { NamesNumber memory.old to }
     ensures { DidData (moved_in memory.old kinds.Number side factor2 to) memory.old (end_of result) memory.new }
 {
-    match number_after(memory, side, factor2, to) {
-        None => End::Halt(Halt::BadDigit),
-        Some(n) => {
-            memory.set_number(to.entry.field, to.entry.position, n);
-            End::GoesOn
-        }
-    }
+    let Some(n) = number_after(memory, side, factor2, to) else {
+        return End::Halt(Halt::BadDigit);
+    };
+    memory.set_number(to.entry.field, to.entry.position, n);
+    End::GoesOn
 }
 
 fn put_over(side: Side, source: Source<'_>, text: &mut [u8])

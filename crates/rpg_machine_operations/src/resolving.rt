@@ -52,11 +52,9 @@ pub fn table_named<S: Store + Drop>(
     ensures entry { option_map (λ o. option_map resolved_entry o) result ≡ entry_if_any memory.now operand.now }
     ensures field { IfSome result (λ t. field_in t ≡ operand_field operand.now) }
 {
-    match operand {
-        None => Some(None),
-        Some(operand) => match resolve(memory, operand) {
-            None => None,
-            Some(resolved) => Some(Some(resolved)),
-        }
-    }
+    let Some(operand) = operand else {
+        return Some(None);
+    };
+    let resolved = resolve(memory, operand)?;
+    Some(Some(resolved))
 }

@@ -9,9 +9,9 @@ ghost use Rattle.rpg_effect.specs.Search as of;
 ghost use Rattle.rpg_effect.specs.declared.operation.Action.TheVariants as actions;
 ghost use Rattle.rpg_effect.specs.declared.operation.Found.{Found};
 ghost use Rattle.rpg_memory.specs.Fields.{CanBeResolved, reads_index};
-ghost use Rattle.rpg_memory.specs.Memory.{NamesLike, data_put, forms_in};
+ghost use Rattle.rpg_memory.specs.Memory.{data_put, forms_in};
 ghost use Rattle.rpg_machine_operations.specs.Good.{FitsPosition, HasPosition, written_operand};
-ghost use Rattle.rpg_machine_operations.specs.Words.{DidData, DidOperate, HoldsPositions, IsLikeOperand, current_made, current_made_if_any, field_in, found_by, found_put, looked_up_in, nearest_by, operand_field, orders_in};
+ghost use Rattle.rpg_machine_operations.specs.Words.{AreAlike, DidData, DidOperate, GoesThrough, HoldsPositions, IsLikeOperand, current_made, current_made_if_any, field_in, found_by, found_put, looked_up_in, nearest_by, operand_field, orders_in};
 
 use crate::comparing::compared;
 use crate::resolving::{entry_named, table_named};
@@ -27,21 +27,9 @@ fn same_order(a: Ordering, b: Ordering) -> bool
     ensures { result ≡ of.same_order a b }
 {
     match a {
-        Ordering::Less => match b {
-            Ordering::Less => true,
-            Ordering::Equal => false,
-            Ordering::Greater => false,
-        },
-        Ordering::Equal => match b {
-            Ordering::Less => false,
-            Ordering::Equal => true,
-            Ordering::Greater => false,
-        },
-        Ordering::Greater => match b {
-            Ordering::Less => false,
-            Ordering::Equal => false,
-            Ordering::Greater => true,
-        },
+        Ordering::Less => matches!(b, Ordering::Less),
+        Ordering::Equal => matches!(b, Ordering::Equal),
+        Ordering::Greater => matches!(b, Ordering::Greater),
     }
 }
 
@@ -54,20 +42,13 @@ fn stands<S: Store + Drop>(
     order: Ordering,
     position: u16,
 ) -> bool
-    requires factor1 { NamesLike memory.now factor1 factor1 }
-    requires factor2 { NamesLike memory.now factor1 factor2 }
+    requires alike { AreAlike memory.now factor1 factor2 }
     requires low { 1 ≤ position }
     requires high { position ≤ forms_of.entries_of (forms_in memory.now factor2.entry.field) }
     ensures { result ≡ of.stands (orders_in memory.now factor1 factor2) order position }
 {
-    let entry = Entry {
-        position,
-        ..factor2.entry
-    };
-    let other = Resolved {
-        entry,
-        form: factor2.form,
-    };
+    let mut other = factor2;
+    other.entry.position = position;
     same_order(order, compared(memory, factor1.form.kind, other, factor1))
 }
 
@@ -80,11 +61,8 @@ fn first_one<S: Store + Drop>(
     from: u16,
     last: u16,
 ) -> Option<u16>
-    requires factor1 { NamesLike memory.now factor1 factor1 }
-    requires factor2 { NamesLike memory.now factor1 factor2 }
-    requires low { 1 ≤ from }
-    requires last { last ≡ forms_of.entries_of (forms_in memory.now factor2.entry.field) }
-    requires few { last ≤ 9999 }
+    requires alike { AreAlike memory.now factor1 factor2 }
+    requires through { GoesThrough memory.now factor2 from last }
     ensures { result ≡ of.first_one (orders_in memory.now factor1 factor2) order (of.positions from last) }
 {
     'positions: for position in from..last + 1 {
@@ -104,12 +82,9 @@ fn last_one<S: Store + Drop>(
     from: u16,
     last: u16,
 ) -> Option<u16>
-    requires factor1 { NamesLike memory.now factor1 factor1 }
-    requires factor2 { NamesLike memory.now factor1 factor2 }
-    requires low { 1 ≤ from }
+    requires alike { AreAlike memory.now factor1 factor2 }
+    requires through { GoesThrough memory.now factor2 from last }
     requires some { from ≤ last }
-    requires last { last ≡ forms_of.entries_of (forms_in memory.now factor2.entry.field) }
-    requires few { last ≤ 9999 }
     ensures { result ≡ of.last_one (orders_in memory.now factor1 factor2) order (of.positions from last) }
 {
     'positions: for back in 0..last + 1 - from {
@@ -127,8 +102,7 @@ fn start_of(factor2: Resolved) -> u16
 {
     match factor2.entry.index {
         Index::Blank => 1,
-        Index::Literal(_) => factor2.entry.position,
-        Index::Field(_) => factor2.entry.position,
+        Index::Literal(_) | Index::Field(_) => factor2.entry.position,
     }
 }
 
@@ -140,8 +114,7 @@ fn nearest<S: Store + Drop>(
     factor2: Resolved,
     order: Ordering,
 ) -> Option<u16>
-    requires factor1 { NamesLike memory.now factor1 factor1 }
-    requires factor2 { NamesLike memory.now factor1 factor2 }
+    requires { AreAlike memory.now factor1 factor2 }
     ensures { result ≡ nearest_by memory.now factor1 factor2 order }
 {
     memory.is_kept();
@@ -149,8 +122,9 @@ fn nearest<S: Store + Drop>(
     let last = factor2.form.entries;
     match order {
         Ordering::Less => last_one(memory, factor1, factor2, order, from, last),
-        Ordering::Equal => first_one(memory, factor1, factor2, order, from, last),
-        Ordering::Greater => first_one(memory, factor1, factor2, order, from, last),
+        Ordering::Equal | Ordering::Greater => {
+            first_one(memory, factor1, factor2, order, from, last)
+        }
     }
 }
 
@@ -162,17 +136,12 @@ fn nearest_if_asked<S: Store + Drop>(
     order: Ordering,
     indicator: Option<u8>,
 ) -> Option<Found>
-    requires factor1 { NamesLike memory.now factor1 factor1 }
-    requires factor2 { NamesLike memory.now factor1 factor2 }
+    requires { AreAlike memory.now factor1 factor2 }
     ensures { result ≡ of.if_asked indicator (of.found_as order (nearest_by memory.now factor1 factor2 order)) }
 {
-    match indicator {
-        None => None,
-        Some(_) => match nearest(memory, factor1, factor2, order) {
-            None => None,
-            Some(position) => Some(Found { order, position }),
-        },
-    }
+    let _asked = indicator?;
+    let position = nearest(memory, factor1, factor2, order)?;
+    Some(Found { order, position })
 }
 
 /// What a search finds: an equal entry first, if an indicator is named for it.
@@ -183,17 +152,14 @@ fn search<S: Store + Drop>(
     factor2: Resolved,
     shows: Shows,
 ) -> Option<Found>
-    requires factor1 { NamesLike memory.now factor1 factor1 }
-    requires factor2 { NamesLike memory.now factor1 factor2 }
+    requires { AreAlike memory.now factor1 factor2 }
     ensures { result ≡ found_by memory.now factor1 factor2 shows }
 {
-    match nearest_if_asked(memory, factor1, factor2, Ordering::Equal, shows.zero) {
-        Some(found) => return Some(found),
-        None => {}
+    if let Some(found) = nearest_if_asked(memory, factor1, factor2, Ordering::Equal, shows.zero) {
+        return Some(found);
     }
-    match nearest_if_asked(memory, factor1, factor2, Ordering::Greater, shows.plus) {
-        Some(found) => return Some(found),
-        None => {}
+    if let Some(found) = nearest_if_asked(memory, factor1, factor2, Ordering::Greater, shows.plus) {
+        return Some(found);
     }
     nearest_if_asked(memory, factor1, factor2, Ordering::Less, shows.minus)
 }
@@ -207,8 +173,7 @@ fn set_index<S: Store + Drop>(memory: &mut Memory<'_, S>, index: Index<u16>, pos
 {
     memory.is_kept();
     match index {
-        Index::Blank => {}
-        Index::Literal(_) => {}
+        Index::Blank | Index::Literal(_) => {}
         Index::Field(by) => memory.set_number(by, 1, i64::from(position)),
     }
 }
@@ -234,9 +199,8 @@ fn make_current_if_any<S: Store + Drop>(
     requires high { HasPosition memory.old.program.fields table position }
     ensures { memory.new ≡ data_put (current_made_if_any memory.old table position) memory.old }
 {
-    match table {
-        None => {}
-        Some(table) => make_current(memory, table, position),
+    if let Some(table) = table {
+        make_current(memory, table, position);
     }
 }
 
@@ -266,19 +230,13 @@ fn place<S: Store + Drop>(
 fn field_of(to: Option<Resolved>) -> Option<u16>
     ensures { result ≡ field_in to }
 {
-    match to {
-        None => None,
-        Some(to) => Some(to.entry.field),
-    }
+    Some(to?.entry.field)
 }
 
 fn order_of(found: Option<Found>) -> Option<Ordering>
     ensures { result ≡ option_map (λ (f : Found). f.order) found }
 {
-    match found {
-        None => None,
-        Some(found) => Some(found.order),
-    }
+    Some(found?.order)
 }
 
 /// Searches factor 1 among the entries of factor 2, puts the position where it goes, and shows what was found.
@@ -290,8 +248,7 @@ fn search_and_place<S: Store + Drop>(
     to: Option<Resolved>,
     shows: Shows,
 ) -> End
-    requires factor1 { NamesLike memory.old factor1 factor1 }
-    requires factor2 { NamesLike memory.old factor1 factor2 }
+    requires alike { AreAlike memory.old factor1 factor2 }
     requires reads { reads_index memory.old.program.fields factor2.entry.index ≡ true }
     requires positions { HoldsPositions memory.old (written_operand factor2.entry) (field_in to) }
     ensures { DidData (looked_up_in memory.old factor1 factor2 to shows) memory.old (end_of result) memory.new }

@@ -30,9 +30,8 @@ fn sum<S: Store + Drop>(memory: &Memory<'_, S>, array: Resolved) -> i128
     ensures bound { unsigned_abs result < 10 ^ 36 }
 {
     memory.is_kept();
-    let last = array.form.entries;
     let mut total = 0i128;
-    'entries: for position in 1..last + 1 {
+    'entries: for position in 1..array.form.entries + 1 {
         total = plus(total, memory.number(array.entry.field, position));
     }
     total
@@ -52,9 +51,8 @@ fn summed<S: Store + Drop>(
     ensures length { FitsResult memory.now to result }
 {
     memory.is_kept();
-    let scale = Scale {
-        value: factor2.form.decimals,
-    };
+    let value = factor2.form.decimals;
+    let scale = Scale { value };
     keep(sum(memory, factor2), scale, target_of(memory, to, half))
 }
 

@@ -6,11 +6,11 @@ use Rattle.rpg_machine_operations.proofs.Rights.{names_like}
 use Rattle.rpg_machine_operations.proofs.searching.look_up.Goals as goal
 use Rattle.rpg_machine_operations.specs.Words.{DidData}
 
-pub search_and_place-requires-clause-factor1 : goal.search_and_place-requires-clause-factor1
-search_and_place-requires-clause-factor1 g c = names_like c.args.memory.now.program.fields _ _ c.in_ok-factor1.factor1 _ c.in_ok-factor1.ensures.operand c.in_ok-factor1.ensures.named c.requires.factor1
-
-pub search_and_place-requires-clause-factor2 : goal.search_and_place-requires-clause-factor2
-search_and_place-requires-clause-factor2 g c = names_like c.args.memory.now.program.fields _ _ c.in_ok-factor1.factor1 _ c.in_ok-factor1.ensures.operand c.in_ok-factor2.ensures.named c.requires.factor2
+pub search_and_place-requires-clause-alike : goal.search_and_place-requires-clause-alike
+search_and_place-requires-clause-alike g c = record {
+  factor1 = names_like c.args.memory.now.program.fields _ _ c.in_ok-factor1.factor1 _ c.in_ok-factor1.ensures.operand c.in_ok-factor1.ensures.named c.requires.factor1;
+  factor2 = names_like c.args.memory.now.program.fields _ _ c.in_ok-factor1.factor1 _ c.in_ok-factor1.ensures.operand c.in_ok-factor2.ensures.named c.requires.factor2;
+}
 
 pub returns : goal.returns
 returns g c =

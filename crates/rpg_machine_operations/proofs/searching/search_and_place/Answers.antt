@@ -13,7 +13,7 @@ place-requires-clause-fits g c =
     let forms = c.args.memory.now.program.fields in
     let w = c.args.memory.now.world.data in
     let holds : holds_position (form_at forms) c.args.factor2.entry.index c.field_of.result (entries_of (form_at forms c.args.factor2.entry.field)) ≡ true = rw c.field_of.ensures c.requires.positions in
-    found_fits forms (kind_of (form_at forms c.args.factor1.entry.field)) w c.args.factor1.entry c.args.factor2.entry c.field_of.result c.args.shows c.search-found.result c.requires.factor2.value holds c.search-found.ensures
+    found_fits forms (kind_of (form_at forms c.args.factor1.entry.field)) w c.args.factor1.entry c.args.factor2.entry c.field_of.result c.args.shows c.search-found.result c.requires.alike.factor2.value holds c.search-found.ensures
 
 pub returns : goal.returns
 returns g c =
@@ -21,7 +21,7 @@ returns g c =
     let w = c.args.memory.now.world.data in
     let u = c.place.new.memory.world.data in
     let holds : holds_position (form_at forms) c.args.factor2.entry.index c.field_of.result (entries_of (form_at forms c.args.factor2.entry.field)) ≡ true = rw c.field_of.ensures c.requires.positions in
-    let fits = found_fits forms (kind_of (form_at forms c.args.factor1.entry.field)) w c.args.factor1.entry c.args.factor2.entry c.field_of.result c.args.shows c.search-found.result c.requires.factor2.value holds c.search-found.ensures in
+    let fits = found_fits forms (kind_of (form_at forms c.args.factor1.entry.field)) w c.args.factor1.entry c.args.factor2.entry c.field_of.result c.args.shows c.search-found.result c.requires.alike.factor2.value holds c.search-found.ensures in
     record {
       leaves = rw (← c.field_of.ensures, ← c.search-found.ensures)
           (looked forms w _ c.args.factor2.entry c.field_of.result c.args.shows c.search-found.result fits
