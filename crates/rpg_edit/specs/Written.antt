@@ -1,9 +1,10 @@
 -- Numbers written from the last mark to the first.
-use Rattle.std.specs.Prelude.{◌≡◌, ℕ, zero, suc, ◌+◌, ◌≤◌, Bool, false, true, ◌||◌, nat_le, nat_lt, List, [], ◌∷◌, ◌++◌, length, take, drop}
+use Rattle.std.specs.Prelude.{◌≡◌, ℕ, ℤ, zero, suc, ◌+◌, ◌-◌, ◌%◌, ◌<◌, ◌≤◌, Bool, false, true, ◌||◌, nat_le, nat_lt, IsTrue, List, [], ◌∷◌, ◌++◌, length, replicate, take, drop, unsigned_abs}
+use Rattle.std.specs.Int.{is_negative}
 use Rattle.rpg_edit_marks.specs.declared.mark.Mark.{Mark}
 use Rattle.rpg_edit_marks.specs.declared.mark.Mark.TheVariants.{Digit, Insert, Always, Sign}
 use Rattle.rpg_edit.specs.declared.suppression.Pass.{Pass}
-use Rattle.rpg_edit_marks.specs.Code.{comma_marks}
+use Rattle.rpg_edit_marks.specs.Code.{comma_marks, whole_marks}
 use Rattle.rpg_edit_marks.specs.Edited.{is_begun, is_digit_place, places, character}
 
 -- the characters at marks that k more digits follow
@@ -21,6 +22,64 @@ pub record Writes (marks : List Mark) (old : Pass) (before : List ℕ) (new : Pa
   pub after : new.after ≡ old.after + places marks
   pub number : new.number ≡ old.number
   pub suppression : new.suppression ≡ old.suppression
+
+-- there is room for n characters before the text so far, which stands within what it is written over
+pub record HasRoom (n : ℕ) (pass : Pass) (out : List ℕ) : Type 0 where
+  pub room : n ≤ pass.start
+  pub within : pass.start ≤ length out
+
+-- a pass over the text of n, which ends at a place: nothing is written
+pub record Begins (n : ℤ) (end : ℕ) (pass : Pass) : Type 0 where
+  pub negative : pass.number.negative ≡ is_negative n
+  pub size : pass.number.size ≡ unsigned_abs n
+  pub start : pass.start ≡ end
+  pub after : pass.after ≡ 0
+
+-- one more digit is passed, and so much is left of the number; nothing else changes
+pub record PassesDigit (old new : Pass) (left : ℕ) : Type 0 where
+  pub after : new.after ≡ old.after + 1
+  pub start : new.start ≡ old.start
+  pub number : new.number ≡ old.number
+  pub suppression : new.suppression ≡ old.suppression
+  pub rest : new.rest ≡ left
+
+-- the characters at the marks are written, and so much is left of the number
+pub record WritesTo (marks : List Mark) (left : ℕ) (old : Pass) (before : List ℕ) (new : Pass) (now : List ℕ) : Type 0 where
+  pub writes : Writes marks old before new now
+  pub rest : new.rest ≡ left
+
+-- one or two digits are written, at most so many; where they are fewer, nothing is left of the number
+pub record WritesLast (digits written : ℕ) (old : Pass) (before : List ℕ) (new : Pass) (now : List ℕ) : Type 0 where
+  pub some : 0 < written
+  pub two : written ≤ 2
+  pub most : written ≤ digits
+  pub writes : Writes (replicate written Digit) old before new now
+  pub used : written < digits → new.rest ≡ 0
+
+-- at most two digits more may be written, or fewer than three are left of the number
+abbrev pub AreFewLeft : ℕ → Pass → Type 0
+AreFewLeft more p = IsTrue (nat_le more 2 || nat_lt p.rest 100)
+
+-- three digits or more are written, at most so many, and then few are left
+pub record WritesThrees (digits written : ℕ) (old : Pass) (before : List ℕ) (new : Pass) (now : List ℕ) : Type 0 where
+  pub least : 3 ≤ written
+  pub most : written ≤ digits
+  pub few : AreFewLeft (digits - written) new
+  pub writes : Writes (replicate written Digit) old before new now
+
+-- full groups of three digits, at least one, of no more digits than there are
+pub record AreGroups (digits written : ℕ) : Type 0 where
+  pub full : written % 3 ≡ 0
+  pub some : 0 < written
+  pub most : written ≤ digits
+
+-- full groups are written, with a comma between any two, and then few digits are left
+pub record WritesGroups (digits written : ℕ) (old : Pass) (before : List ℕ) (new : Pass) (now : List ℕ) : Type 0 where
+  pub full : written % 3 ≡ 0
+  pub least : 3 ≤ written
+  pub most : written ≤ digits
+  pub few : AreFewLeft (digits - written) new
+  pub writes : Writes (whole_marks true written) old before new now
 
 -- digits, and characters between them, which show the fill in front of a number
 abbrev pub is_suppressed : Mark → Bool
@@ -40,6 +99,18 @@ pub record IsUsedUp (p : Pass) : Type 0 where
   pub rest : p.rest ≡ 0
   pub kept : p.suppression.kept ≤ p.after
 
+-- digits are written, at most so many; where they are fewer, no more show
+pub record WritesShown (digits written : ℕ) (old : Pass) (before : List ℕ) (new : Pass) (now : List ℕ) : Type 0 where
+  pub most : written ≤ digits
+  pub writes : Writes (replicate written Digit) old before new now
+  pub used : written < digits → IsUsedUp new
+
+-- digits with commas between groups are written, at most so many; where they are fewer, no more show
+pub record WritesGrouped (digits written : ℕ) (old : Pass) (before : List ℕ) (new : Pass) (now : List ℕ) : Type 0 where
+  pub most : written ≤ digits
+  pub writes : Writes (whole_marks true written) old before new now
+  pub used : written < digits → IsUsedUp new
+
 -- the next digit shows
 abbrev pub is_clear : Pass → Bool
 is_clear p = is_begun p.number.size p.after || nat_lt p.after p.suppression.kept
@@ -52,3 +123,10 @@ are_clear p = nat_le 10 p.rest || nat_le (p.after + 2) p.suppression.kept
 abbrev pub marks_before : Bool → ℕ → ℕ → List Mark
 marks_before commas left zero = []
 marks_before commas left (suc n) = (Digit ∷ comma_marks commas (n + left)) ++ marks_before commas left n
+
+-- after full groups come more digits and a comma, at most so many digits in all; where they are fewer, no more show
+pub record WritesAfter (digits full written : ℕ) (old : Pass) (before : List ℕ) (new : Pass) (now : List ℕ) : Type 0 where
+  pub most : written ≤ digits
+  pub more : full ≤ written
+  pub writes : Writes (marks_before true full (written - full)) old before new now
+  pub used : written < digits → IsUsedUp new

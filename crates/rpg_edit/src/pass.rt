@@ -5,9 +5,8 @@
 
 ghost use Rattle.std.specs.Prelude.{◌≡◌, ◌+◌, ◌-◌, ◌/◌, ◌%◌, ◌^◌, ◌<◌, ◌≤◌, List, ◌==◌, ◌||◌, [], ◌∷◌, IsTrue, length, nat_le, nat_lt, not, replicate, true, unsigned_abs};
 ghost use Rattle.std.specs.List.{list_all};
-ghost use Rattle.std.specs.Int.{is_negative};
 ghost use Rattle.rpg_edit_marks.specs.Edited.{character, digit_character, is_begun, places};
-ghost use Rattle.rpg_edit.specs.Written.{are_clear, is_clear, is_digit_last, is_suppressed, IsUsedUp, Writes};
+ghost use Rattle.rpg_edit.specs.Written.{are_clear, is_clear, is_digit_last, is_suppressed, AreFewLeft, Begins, HasRoom, IsUsedUp, PassesDigit, Writes, WritesLast, WritesShown, WritesThrees, WritesTo};
 
 use crate::suppression::{Number, Pass};
 use rpg_decimal::pair_of;
@@ -17,11 +16,8 @@ use rpg_edit_widths::Suppression;
 impl Pass {
     /// A pass over a text that ends at this place.
     pub(crate) fn new(n: i64, suppression: Suppression, end: usize) -> Pass
-        ensures negative { result.number.negative ≡ is_negative n }
-        ensures size { result.number.size ≡ unsigned_abs n }
+        ensures begins { Begins n end result }
         ensures suppression { result.suppression ≡ suppression }
-        ensures start { result.start ≡ end }
-        ensures after { result.after ≡ 0 }
     {
         Pass {
             number: Number {
@@ -72,8 +68,7 @@ impl Pass {
         requires used_up { IsUsedUp self.old }
         requires some { 0 < digits }
         requires digits { digits ≤ marks }
-        requires room { marks ≤ self.old.start }
-        requires within { self.old.start ≤ length out.old }
+        requires room { HasRoom marks self.old out.old }
         ensures { (ms : List Mark) → length ms ≡ marks → places ms ≡ digits → list_all is_suppressed ms ≡ true
             → (nat_lt self.old.suppression.kept self.old.after || is_digit_last ms) ≡ true → Writes ms self.old out.old self.new out.new }
     {
@@ -108,11 +103,7 @@ impl Pass {
     fn pass_digit(&mut self, rest: u64)
         requires few { self.old.after + 1 + self.old.start < 2 ^ 64 }
         requires rest { rest ≡ self.old.rest / 10 }
-        ensures after { self.new.after ≡ self.old.after + 1 }
-        ensures start { self.new.start ≡ self.old.start }
-        ensures number { self.new.number ≡ self.old.number }
-        ensures suppression { self.new.suppression ≡ self.old.suppression }
-        ensures rest { self.new.rest ≡ rest }
+        ensures { PassesDigit self.old self.new rest }
     {
         self.rest = rest;
         self.after += 1;
@@ -120,8 +111,7 @@ impl Pass {
 
     /// Writes the character at the next digit: one division gives it and what is left of the number.
     pub(crate) fn put_digit(&mut self, out: &mut [u8])
-        requires room { 1 ≤ self.old.start }
-        requires within { self.old.start ≤ length out.old }
+        requires room { HasRoom 1 self.old out.old }
         ensures { Writes (Mark.Digit ∷ []) self.old out.old self.new out.new }
     {
         let rest = self.rest / 10;
@@ -132,8 +122,7 @@ impl Pass {
 
     /// Writes the character at the next mark.
     pub(crate) fn put(&mut self, mark: Mark, out: &mut [u8])
-        requires room { 1 ≤ self.old.start }
-        requires within { self.old.start ≤ length out.old }
+        requires room { HasRoom 1 self.old out.old }
         ensures { Writes (mark ∷ []) self.old out.old self.new out.new }
     {
         self.start -= 1;
@@ -155,8 +144,7 @@ impl Pass {
     #[inline(always)]
     pub(crate) fn put_kept_digits(&mut self, count: u8, out: &mut [u8])
         requires kept { self.old.after + count ≤ self.old.suppression.kept }
-        requires room { count ≤ self.old.start }
-        requires within { self.old.start ≤ length out.old }
+        requires room { HasRoom count self.old out.old }
         ensures { Writes (replicate count Mark.Digit) self.old out.old self.new out.new }
     {
         if count == 2 {
@@ -170,8 +158,7 @@ impl Pass {
     /// Writes a character between digits that always shows.
     pub(crate) fn put_kept_character(&mut self, character: u8, out: &mut [u8])
         requires kept { self.old.after ≤ self.old.suppression.kept }
-        requires room { 1 ≤ self.old.start }
-        requires within { self.old.start ≤ length out.old }
+        requires room { HasRoom 1 self.old out.old }
         ensures { Writes (Mark.Insert character ∷ []) self.old out.old self.new out.new }
     {
         self.start -= 1;
@@ -182,10 +169,8 @@ impl Pass {
     #[inline(always)]
     fn put_two(&mut self, out: &mut [u8])
         requires shows { are_clear self.old ≡ true }
-        requires room { 2 ≤ self.old.start }
-        requires within { self.old.start ≤ length out.old }
-        ensures writes { Writes (replicate 2 Mark.Digit) self.old out.old self.new out.new }
-        ensures rest { self.new.rest ≡ self.old.rest / 100 }
+        requires room { HasRoom 2 self.old out.old }
+        ensures { WritesTo (replicate 2 Mark.Digit) (self.old.rest / 100) self.old out.old self.new out.new }
     {
         let rest = self.rest / 100;
         self.put_pair((self.rest - rest * 100) as u8, rest, out);
@@ -197,10 +182,8 @@ impl Pass {
         requires shows { are_clear self.old ≡ true }
         requires two { two ≡ self.old.rest % 100 }
         requires rest { rest ≡ self.old.rest / 100 }
-        requires room { 2 ≤ self.old.start }
-        requires within { self.old.start ≤ length out.old }
-        ensures writes { Writes (replicate 2 Mark.Digit) self.old out.old self.new out.new }
-        ensures rest { self.new.rest ≡ rest }
+        requires room { HasRoom 2 self.old out.old }
+        ensures { WritesTo (replicate 2 Mark.Digit) rest self.old out.old self.new out.new }
     {
         let (tens, ones) = pair_of(two);
         self.put_known(ones, self.rest / 10, out);
@@ -211,10 +194,8 @@ impl Pass {
     #[inline(always)]
     pub(crate) fn put_clear_digit(&mut self, out: &mut [u8])
         requires shows { is_clear self.old ≡ true }
-        requires room { 1 ≤ self.old.start }
-        requires within { self.old.start ≤ length out.old }
-        ensures writes { Writes (Mark.Digit ∷ []) self.old out.old self.new out.new }
-        ensures rest { self.new.rest ≡ self.old.rest / 10 }
+        requires room { HasRoom 1 self.old out.old }
+        ensures { WritesTo (Mark.Digit ∷ []) (self.old.rest / 10) self.old out.old self.new out.new }
     {
         let rest = self.rest / 10;
         self.put_known(b'0' + (self.rest - rest * 10) as u8, rest, out);
@@ -226,10 +207,8 @@ impl Pass {
         requires shows { is_clear self.old ≡ true }
         requires digit { character ≡ 48 + self.old.rest % 10 }
         requires rest { rest ≡ self.old.rest / 10 }
-        requires room { 1 ≤ self.old.start }
-        requires within { self.old.start ≤ length out.old }
-        ensures writes { Writes (Mark.Digit ∷ []) self.old out.old self.new out.new }
-        ensures rest { self.new.rest ≡ rest }
+        requires room { HasRoom 1 self.old out.old }
+        ensures { WritesTo (Mark.Digit ∷ []) rest self.old out.old self.new out.new }
     {
         self.start -= 1;
         out[self.start] = character;
@@ -247,8 +226,7 @@ impl Pass {
     #[inline(always)]
     pub(crate) fn put_three(&mut self, out: &mut [u8])
         requires left { 100 ≤ self.old.rest }
-        requires room { 3 ≤ self.old.start }
-        requires within { self.old.start ≤ length out.old }
+        requires room { HasRoom 3 self.old out.old }
         ensures { Writes (replicate 3 Mark.Digit) self.old out.old self.new out.new }
     {
         let rest = self.rest / 1000;
@@ -264,14 +242,9 @@ impl Pass {
     pub(crate) fn put_last_digits(&mut self, most: usize, out: &mut [u8]) -> usize
         requires shows { is_clear self.old ≡ true }
         requires some { 0 < most }
-        requires few { IsTrue (nat_le most 2 || nat_lt self.old.rest 100) }
-        requires room { most ≤ self.old.start }
-        requires within { self.old.start ≤ length out.old }
-        ensures some { 0 < result }
-        ensures two { result ≤ 2 }
-        ensures most { result ≤ most }
-        ensures writes { Writes (replicate result Mark.Digit) self.old out.old self.new out.new }
-        ensures used { result < most → self.new.rest ≡ 0 }
+        requires few { AreFewLeft most self.old }
+        requires room { HasRoom most self.old out.old }
+        ensures { WritesLast most result self.old out.old self.new out.new }
     {
         if most == 1 || self.rest < 10 {
             self.put_clear_digit(out);
@@ -289,13 +262,10 @@ impl Pass {
     #[inline(always)]
     pub(crate) fn put_first_digits(&mut self, most: usize, out: &mut [u8]) -> usize
         requires kept { self.old.suppression.kept ≤ self.old.after + 1 }
-        requires few { IsTrue (nat_le most 2 || nat_lt self.old.rest 100) }
-        requires room { most ≤ self.old.start }
-        requires within { self.old.start ≤ length out.old }
+        requires few { AreFewLeft most self.old }
+        requires room { HasRoom most self.old out.old }
         ensures two { result ≤ 2 }
-        ensures most { result ≤ most }
-        ensures writes { Writes (replicate result Mark.Digit) self.old out.old self.new out.new }
-        ensures used { result < most → IsUsedUp self.new }
+        ensures shown { WritesShown most result self.old out.old self.new out.new }
     {
         if most == 0 || !self.is_clear() {
             return 0;
@@ -308,12 +278,8 @@ impl Pass {
     fn put_threes(&mut self, most: usize, out: &mut [u8]) -> usize
         requires least { 3 ≤ most }
         requires left { 100 ≤ self.old.rest }
-        requires room { most ≤ self.old.start }
-        requires within { self.old.start ≤ length out.old }
-        ensures least { 3 ≤ result }
-        ensures most { result ≤ most }
-        ensures few { IsTrue (nat_le (most - result) 2 || nat_lt self.new.rest 100) }
-        ensures writes { Writes (replicate result Mark.Digit) self.old out.old self.new out.new }
+        requires room { HasRoom most self.old out.old }
+        ensures { WritesThrees most result self.old out.old self.new out.new }
     {
         self.put_three(out);
         let mut written = 3;
@@ -328,11 +294,8 @@ impl Pass {
     #[inline(always)]
     pub(crate) fn put_shown_digits(&mut self, most: usize, out: &mut [u8]) -> usize
         requires kept { self.old.suppression.kept ≤ self.old.after + 1 }
-        requires room { most ≤ self.old.start }
-        requires within { self.old.start ≤ length out.old }
-        ensures most { result ≤ most }
-        ensures writes { Writes (replicate result Mark.Digit) self.old out.old self.new out.new }
-        ensures used { result < most → IsUsedUp self.new }
+        requires room { HasRoom most self.old out.old }
+        ensures { WritesShown most result self.old out.old self.new out.new }
     {
         if most < 3 || !self.has_three() {
             return self.put_first_digits(most, out);
@@ -345,8 +308,7 @@ impl Pass {
     }
 
     pub(crate) fn put_digits(&mut self, count: u8, out: &mut [u8])
-        requires room { count ≤ self.old.start }
-        requires within { self.old.start ≤ length out.old }
+        requires room { HasRoom count self.old out.old }
         ensures { Writes (replicate count Mark.Digit) self.old out.old self.new out.new }
     {
         for _ in 0..count {
@@ -356,8 +318,7 @@ impl Pass {
 
     /// Writes the characters at all marks.
     pub(crate) fn put_all(&mut self, marks: &[Mark], out: &mut [u8])
-        requires room { length marks.now ≤ self.old.start }
-        requires within { self.old.start ≤ length out.old }
+        requires room { HasRoom (length marks.now) self.old out.old }
         ensures { Writes marks.now self.old out.old self.new out.new }
     {
         let mut left = marks.len();

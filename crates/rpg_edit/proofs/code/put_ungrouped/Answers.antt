@@ -9,12 +9,16 @@ use Rattle.rpg_edit.specs.Written.{marks_before, Writes}
 use Rattle.rpg_edit.proofs.code.put_ungrouped.Goals as goal
 
 pub put_shown_digits-written-requires-clause-room : goal.put_shown_digits-written-requires-clause-room
-put_shown_digits-written-requires-clause-room c = omega (arith, whole_plain c.args.digits, c.requires.room)
+put_shown_digits-written-requires-clause-room c = record { room = omega (arith, whole_plain c.args.digits, c.requires.room.room); within = c.requires.room.within }
 
 pub put_fill-requires-clause-room : goal.put_fill-requires-clause-room
 put_fill-requires-clause-room c =
     let shown = c.put_shown_digits-written in
-    omega (arith, whole_plain c.args.digits, c.requires.room, shown.ensures.writes.start, length-replicate shown.result Digit)
+    let so_far = shown.ensures.writes in
+    record {
+      room = omega (arith, whole_plain c.args.digits, c.requires.room.room, so_far.start, length-replicate shown.result Digit);
+      within = omega (arith, so_far.start, so_far.same_length, c.requires.room.within);
+    }
 
 pub returns-then-written-digits : goal.returns-then-written-digits
 returns-then-written-digits c =

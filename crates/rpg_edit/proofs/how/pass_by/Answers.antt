@@ -9,11 +9,9 @@ returns c =
     let made = c.new.ensures in
     let hidden = c.suppression_by.ensures in
     let number = to_z-of_z _ _ c.ranges.n in
+    let begun = made.begins in
     record {
-      negative = made.negative ∙ ap is_negative number;
-      size = made.size ∙ ap unsigned_abs number;
+      begins = record { negative = begun.negative ∙ ap is_negative number; size = begun.size ∙ ap unsigned_abs number; start = begun.start; after = begun.after };
       kept = ap (λ s. s.kept) made.suppression ∙ hidden.kept ∙ ap (kept_digits c.args.code c.args.len c.args.dec) (c.unsigned_abs.ensures.value ∙ ap unsigned_abs number);
       fill = ap (λ s. s.fill) made.suppression ∙ hidden.fill;
-      start = made.start;
-      after = made.after;
     }

@@ -13,6 +13,6 @@ returns-clause-text c =
     let kept = kept_digits c.args.code c.args.len c.args.dec in
     finished_text marks c.args.n (kept (unsigned_abs c.args.n)) (fill_of c.args.fill) _ _ _ (dollar_in c.args.fill) _
     (is_written marks c.args.n (kept (unsigned_abs c.args.n)) (fill_of c.args.fill) _ _ _ _
-    (made.negative ∙ ap is_negative number) (made.size ∙ ap unsigned_abs number) (made.kept ∙ ap (λ z. kept (unsigned_abs z)) number) made.fill
-    made.start made.after c.put_by.ensures)
+    (made.begins.negative ∙ ap is_negative number) (made.begins.size ∙ ap unsigned_abs number) (made.kept ∙ ap (λ z. kept (unsigned_abs z)) number) made.fill
+    made.begins.start made.begins.after c.put_by.ensures)
     c.finish.ensures

@@ -14,6 +14,6 @@ returns-clause-text c =
     let number = to_z-of_z _ _ c.ranges.n in
     rw c.marks.ensures at (written_text marks c.args.n (digits_behind_stop word) (word_fill word) _ _ _
     (is_written marks c.args.n (digits_behind_stop word) (word_fill word) _ _ _ _
-    (made.negative ∙ ap is_negative number) (made.size ∙ ap unsigned_abs number)
+    (made.begins.negative ∙ ap is_negative number) (made.begins.size ∙ ap unsigned_abs number)
     (ap (λ s. s.kept) made.suppression ∙ hidden.kept) (ap (λ s. s.fill) made.suppression ∙ hidden.fill)
-    made.start made.after c.put_all.ensures))
+    made.begins.start made.begins.after c.put_all.ensures))

@@ -9,7 +9,7 @@ invariant_of-self c =
     let none : self.number.size / 10 ^ self.after ≡ 0 = sym self.is_rest ∙ c.requires.used_up.rest in
     let later : c.args.digits + self.after ≡ self.after + c.args.digits = omega arith in
     record {
-      few = omega (arith, self.few, c.requires.digits, c.requires.room);
+      few = omega (arith, self.few, c.requires.digits, c.requires.room.room);
       is_rest = c.requires.used_up.rest ∙ sym (none_left self.number.size c.args.digits self.after none) ∙ ap (λ k. self.number.size / 10 ^ k) later;
     }
 
@@ -19,6 +19,6 @@ returns c =
     let out = c.args.out.now in
     let at = self.start - c.args.marks in
     let filled : c.fill.new.text ≡ replicate c.args.marks self.suppression.fill =
-    c.fill.ensures ∙ ap (λ n. replicate n self.suppression.fill) (length-mid out c.args.marks self.start c.requires.room c.requires.within) in
-    λ ms are_marks are_digits are last. writes_fill ms c.args.marks self _ out _ c.requires.used_up c.requires.room c.requires.within are_marks are last refl
+    c.fill.ensures ∙ ap (λ n. replicate n self.suppression.fill) (length-mid out c.args.marks self.start c.requires.room.room c.requires.room.within) in
+    λ ms are_marks are_digits are last. writes_fill ms c.args.marks self _ out _ c.requires.used_up c.requires.room.room c.requires.room.within are_marks are last refl
     (ap (λ n. self.after + n) (sym are_digits)) refl refl (ap (put_mid at (self.start - at) out) filled)

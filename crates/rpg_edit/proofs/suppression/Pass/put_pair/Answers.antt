@@ -10,5 +10,5 @@ put_known-requires-2-clause-shows c =
     let one = c.put_known.ensures in
     tens_clear c.args.self.now c.put_known.new.self c.requires.shows one.rest one.writes.after one.writes.suppression
 
-pub returns-clause-writes : goal.returns-clause-writes
-returns-clause-writes c = writes-digit 1 _ _ _ _ _ _ c.put_known.ensures.writes c.put_known-2.ensures.writes
+pub returns : goal.returns
+returns c = record { writes = writes-digit 1 _ _ _ _ _ _ c.put_known.ensures.writes c.put_known-2.ensures.writes; rest = c.put_known-2.ensures.rest }
