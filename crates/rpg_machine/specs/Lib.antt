@@ -7,6 +7,7 @@ pub mod Config
 pub mod Control
 pub mod Finding
 pub mod Laws
+pub mod Leaving
 pub mod Outputs
 pub mod Potential
 pub mod Ran

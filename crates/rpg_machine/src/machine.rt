@@ -1,8 +1,7 @@
 //! The machine, to its callers.
-ghost use Rattle.std.specs.Prelude.{◌≡◌, ◌≤◌, length, IfOk};
-ghost use Rattle.rpg_machine.specs.Running as of;
+ghost use Rattle.std.specs.Prelude.{IfOk};
 ghost use Rattle.rpg_machine_lines.specs.Right.{HasLineRoom};
-ghost use Rattle.rpg_machine.specs.State.{running_of};
+ghost use Rattle.rpg_machine.specs.Leaving.{IsStartOf};
 ghost use Rattle.rpg_object_program.specs.Object.{seen};
 
 use crate::accepted::Accepted;
@@ -62,9 +61,7 @@ fn first_state<'a, S: Store + Drop>(
     alloc: Global,
     memory: Memory<'a, S>,
 ) -> Result<State<'a, S>, AllocError>
-    ensures start { IfOk result (λ s. running_of memory.entry.program s ≡ of.at_start memory.entry) }
-    ensures own { IfOk result (λ s. s.memory.program ≡ memory.entry.program) }
-    ensures room { IfOk result (λ s. HasLineRoom memory.entry.program s.writer.text.items) }
+    ensures { IfOk result (λ s. IsStartOf memory.entry s) }
 {
     let rows = memory.rows();
     let text = line_room(alloc, rows)?;

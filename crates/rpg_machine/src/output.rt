@@ -1,13 +1,12 @@
 //! The outputs of a cycle.
-ghost use Rattle.std.specs.Prelude.{◌≡◌, length, IfOk, OnOk};
+ghost use Rattle.std.specs.Prelude.{◌≡◌, IfOk, OnOk};
 ghost use Rattle.rpg_effect.specs.Ends.{end_of};
-ghost use Rattle.rpg_effect.specs.Fronts.{OnlyGrows};
 ghost use Rattle.rpg_machine.specs.Outputs as spec;
 ghost use Rattle.rpg_machine.specs.Outputs.{output_weight};
-ghost use Rattle.rpg_machine_lines.specs.Outputs.{PutsOwn, output_of};
-ghost use Rattle.rpg_machine_lines.specs.Plans.{IsPlanOf};
+ghost use Rattle.rpg_machine.specs.Leaving.{CanPutLines, KeepsRoom};
+ghost use Rattle.rpg_machine_lines.specs.Outputs.{PutsOwn};
 ghost use Rattle.rpg_machine_lines.specs.Ready.{IsNear};
-ghost use Rattle.rpg_machine_lines.specs.Right.{AreRightLines, HasLineRoom};
+ghost use Rattle.rpg_machine_lines.specs.Right.{AreRightLines};
 
 use crate::state::Writer;
 use crate::time::OutputTime;
@@ -27,15 +26,11 @@ pub(crate) fn put_out<S: Store + Drop>(
     plan: &Plan,
 ) -> Result<End, AllocError>
     requires lines { AreRightLines memory.old.program }
-    requires near { IsNear memory.old.world.paper.here }
-    requires room { HasLineRoom memory.old.program writer.old.text.items }
-    requires plan { IsPlanOf memory.old.program plan.now }
+    requires can { CanPutLines memory.old writer.old.text.items plan.now }
     requires weighed { weight ≡ output_weight memory.old.program time }
     ensures done { IfOk result (λ e. PutsOwn (λ p. spec.output_effect p time) memory.old writer.old.output (end_of e) memory.new writer.new.output) }
     ensures near { OnOk result (IsNear memory.new.world.paper.here) }
-    ensures own { memory.new.program ≡ memory.old.program }
-    ensures room { length writer.new.text.items ≡ length writer.old.text.items }
-    ensures grows { OnlyGrows (output_of writer.old.output) (output_of writer.new.output) }
+    ensures keeps { KeepsRoom memory.old memory.new writer.old writer.new }
 {
     let output = &mut writer.output;
     let text = &mut writer.text;

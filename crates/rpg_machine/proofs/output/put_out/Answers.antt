@@ -11,7 +11,7 @@ use Rattle.rpg_object_program.specs.Object.{lines_of}
 use Rattle.rpg_memory.specs.Memory.{held_of}
 
 pub put_details-requires-clause-room : goal.put_details-requires-clause-room
-put_details-requires-clause-room g c = subst (λ (x : List ℕ). HasLineRoom c.args.memory.now.program x) (sym c.deref_mut.ensures.value) c.requires.room
+put_details-requires-clause-room g c = subst (λ (x : List ℕ). HasLineRoom c.args.memory.now.program x) (sym c.deref_mut.ensures.value) c.requires.can.room
 
 pub returns-in-Detail-clause-done : goal.returns-in-Detail-clause-done
 returns-in-Detail-clause-done g c =
@@ -27,7 +27,7 @@ returns-in-Total-clause-done g c =
     subst (λ (t : OutputTime). Puts (output_effect m.program t) m before GoesOn m before) (sym c.in-Total.is) (no_totals m.program (held_of m) (output_of before) nothing)
 
 pub put_totals-requires-clause-room : goal.put_totals-requires-clause-room
-put_totals-requires-clause-room g c = subst (λ (x : List ℕ). HasLineRoom c.args.memory.now.program x) (sym c.deref_mut-in-Total-2.ensures.value) c.requires.room
+put_totals-requires-clause-room g c = subst (λ (x : List ℕ). HasLineRoom c.args.memory.now.program x) (sym c.deref_mut-in-Total-2.ensures.value) c.requires.can.room
 
 pub returns-in-Total-2-clause-done : goal.returns-in-Total-2-clause-done
 returns-in-Total-2-clause-done g c =
@@ -36,7 +36,7 @@ returns-in-Total-2-clause-done g c =
     c.put_totals.ensures.done
 
 pub put_overflow-requires-clause-room : goal.put_overflow-requires-clause-room
-put_overflow-requires-clause-room g c = subst (λ (x : List ℕ). HasLineRoom c.args.memory.now.program x) (sym c.deref_mut-in-Overflow.ensures.value) c.requires.room
+put_overflow-requires-clause-room g c = subst (λ (x : List ℕ). HasLineRoom c.args.memory.now.program x) (sym c.deref_mut-in-Overflow.ensures.value) c.requires.can.room
 
 pub returns-in-Overflow-clause-done : goal.returns-in-Overflow-clause-done
 returns-in-Overflow-clause-done g c =

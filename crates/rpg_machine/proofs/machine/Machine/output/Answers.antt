@@ -9,11 +9,9 @@ use Rattle.rpg_machine.proofs.machine.Machine.output.Goals as goal
 pub put_out-requires-clause-lines : goal.put_out-requires-clause-lines
 put_out-requires-clause-lines g c = subst (λ (o : Object). AreRightLines o) (sym c.self.invariant.own) c.is_orderly.ensures.lines
 
-pub put_out-requires-clause-near : goal.put_out-requires-clause-near
-put_out-requires-clause-near g c = subst (λ (r : Running). IsNear r.config.world.paper.here) (sym c.self.view_is) c.requires.ready.few_pages
-
-pub put_out-requires-clause-room : goal.put_out-requires-clause-room
-put_out-requires-clause-room g c = subst (λ (o : Object). HasLineRoom o c.self.inside.state.writer.text.items) (sym c.self.invariant.own) c.self.invariant.room
-
-pub put_out-requires-clause-plan : goal.put_out-requires-clause-plan
-put_out-requires-clause-plan g c = subst (λ (o : Object). IsPlanOf o c.plan-plan.result.now) (sym c.self.invariant.own) c.plan-plan.ensures
+pub put_out-requires-clause-can : goal.put_out-requires-clause-can
+put_out-requires-clause-can g c = record {
+  near = subst (λ (r : Running). IsNear r.config.world.paper.here) (sym c.self.view_is) c.requires.ready.few_pages;
+  room = subst (λ (o : Object). HasLineRoom o c.self.inside.state.writer.text.items) (sym c.self.invariant.own) c.self.invariant.room;
+  plan = subst (λ (o : Object). IsPlanOf o c.plan-plan.result.now) (sym c.self.invariant.own) c.plan-plan.ensures;
+}
