@@ -2,8 +2,8 @@
 
 ghost use Rattle.std.specs.Prelude.{◌≡◌, ◌+◌, ◌-◌, ◌^◌, ◌<◌, ◌≤◌, ◌⊎◌, false, length, IsOk, OnOk, IfErr, IfOk, true};
 ghost use Rattle.rpg_text.specs.Lines.{is_line};
-ghost use Rattle.rpg_files.specs.Counting.{faults_after, device_of, faults_of};
-ghost use Rattle.rpg_files.specs.Reads.{Reads};
+ghost use Rattle.rpg_files.specs.Counting.{faults_after, faults_of};
+ghost use Rattle.rpg_files.specs.Reads.{ReadsInto};
 ghost use Rattle.rpg_files.specs.FirstLine.{IsIncomplete};
 ghost use Rattle.rpg_files.specs.NextLine.{HasMore, IsNextLine};
 ghost use Rattle.rpg_files.specs.Buffers.{capacity_of, left_in};
@@ -32,7 +32,7 @@ fn read_more<R: Read>(
     requires faults { faults_of reader.old < 2 ^ 64 - 1 }
     requires room { length (left_in buffer.old) < capacity_of buffer.old }
     requires open { is_ended.old ≡ false }
-    ensures read { Reads (R.remaining (device_of reader.old)) (R.remaining (device_of reader.new)) (left_in buffer.old) (left_in buffer.new) is_ended.old is_ended.new }
+    ensures read { ReadsInto R.remaining reader.old reader.new buffer.old buffer.new is_ended.old is_ended.new }
     ensures same { IfErr result (λ _. left_in buffer.new ≡ left_in buffer.old) }
     ensures more { OnOk result (is_ended.new ≡ false → length (left_in buffer.old) < length (left_in buffer.new)) }
     ensures capacity { capacity_of buffer.new ≡ capacity_of buffer.old }
@@ -53,7 +53,7 @@ pub(crate) fn has_more<R: Read>(
 ) -> Result<bool, DeviceFault>
     requires faults { faults_of reader.old < 2 ^ 64 - 1 }
     requires room { 0 < capacity_of buffer.old }
-    ensures read { Reads (R.remaining (device_of reader.old)) (R.remaining (device_of reader.new)) (left_in buffer.old) (left_in buffer.new) is_ended.old is_ended.new }
+    ensures read { ReadsInto R.remaining reader.old reader.new buffer.old buffer.new is_ended.old is_ended.new }
     ensures ok { IfOk result (λ more. HasMore more (left_in buffer.new) is_ended.new) }
     ensures waits { IfErr result (λ _. is_line (left_in buffer.new) ≡ true) }
     ensures capacity { capacity_of buffer.new ≡ capacity_of buffer.old }
@@ -89,7 +89,7 @@ pub(crate) fn read_line<R: Read>(
 ) -> Result<NextLine, DeviceFault>
     requires faults { faults_of reader.old < 2 ^ 64 - 1 }
     requires room { limit + 1 < capacity_of buffer.old }
-    ensures read { Reads (R.remaining (device_of reader.old)) (R.remaining (device_of reader.new)) (left_in buffer.old) (left_in buffer.new) is_ended.old is_ended.new }
+    ensures read { ReadsInto R.remaining reader.old reader.new buffer.old buffer.new is_ended.old is_ended.new }
     ensures ok { IfOk result (λ line. IsNextLine limit (left_in buffer.new) is_ended.new line) }
     ensures waits { IfErr result (λ _. is_line (left_in buffer.new) ≡ true) }
     ensures sure { (is_ended.old ≡ true) ⊎ (limit + 2 ≤ length (left_in buffer.old)) → IsOk result }
