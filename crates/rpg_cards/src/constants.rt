@@ -1,6 +1,7 @@
 //! The constants that stand on the cards themselves.
 
-ghost use Rattle.std.specs.Prelude.{◌≡◌, ◌≤◌, ◌++◌, length, IsTrue};
+ghost use Rattle.std.specs.Prelude.{◌≡◌, ◌≤◌, [], ◌++◌, None, length, IsTrue};
+ghost use Rattle.std.specs.Bool.{OnFalse};
 ghost use Rattle.std.specs.List.{list_all};
 ghost use Rattle.std.specs.Option.{option_and_then, option_to_list};
 ghost use Rattle.rpg_text.specs.Texts.{is_character};
@@ -182,6 +183,29 @@ impl SpecCard {
             Spec::Output(OutputSpec::Field(field)) => one(of_field(field)),
             _ => ArrayVec::new(),
         }
+    }
+
+    /// Whether the card may have a constant. Most cards have none, and this costs less than the list of their constants.
+    pub(crate) fn may_have_constants(&self) -> bool
+        ensures { OnFalse result (constants.constants_on self.now.spec ≡ []) }
+    {
+        match &self.spec {
+            Spec::Calculation(calculation) => {
+                is_literal(&calculation.factor_1) || is_literal(&calculation.factor_2)
+            }
+            Spec::Output(OutputSpec::Field(field)) => field.text.is_some(),
+            _ => false,
+        }
+    }
+}
+
+fn is_literal(factor: &Option<Factor>) -> bool
+    ensures { OnFalse result (option_and_then constants.factor_constant factor.now ≡ None) }
+{
+    match factor {
+        None => false,
+        Some(Factor::Entry(_)) => false,
+        Some(Factor::Literal(_)) => true,
     }
 }
 

@@ -53,9 +53,12 @@ pub fn group_end<'a>(card: &'a CalculationSpec, after: &'a [SpecCard]) -> &'a Ca
 pub fn last_card<'a>(card: &'a SpecCard, after: &[SpecCard]) -> Option<&'a CalculationSpec>
     ensures { option_copied result ≡ calculations.card_ending card.now after.now }
 {
+    let Some(calculation) = card.calculation() else {
+        return None;
+    };
     if goes_on(after) {
         None
     } else {
-        card.calculation()
+        Some(calculation)
     }
 }

@@ -1,18 +1,18 @@
 //! The cards of a source, with the first place of each name and of each constant.
 
-ghost use Rattle.std.specs.Prelude.{◌≡◌, ℕ, ◌+◌, ◌<◌, ◌^◌, List, take, not, Some, None, nat_eq, if◌then◌else◌, option_copied, IfOk, OnOk};
+ghost use Rattle.std.specs.Prelude.{◌≡◌, ℕ, ◌+◌, ◌<◌, ◌^◌, List, length, take, not, Some, None, nat_eq, if◌then◌else◌, option_copied, IfOk, OnOk};
 ghost use Rattle.std.specs.Cmp.Lexicographic.{pointwise};
 ghost use Rattle.std.specs.List.{list_any};
 ghost use Rattle.std.specs.Map.{lookup};
 ghost use Rattle.std.specs.Option.{option_or};
 ghost use Rattle.arrayvec.specs.ArrayVec.{array_vec_len};
 ghost use Rattle.rpg_cards.specs.Constants as constants;
-ghost use Rattle.rpg_cards.specs.Constants.{is_same};
+ghost use Rattle.rpg_cards.specs.Constants.{constants_on, is_same};
 ghost use Rattle.rpg_cards.specs.Files as files;
 ghost use Rattle.rpg_cards.specs.Index.{defined_first, first_at, place_of_constant, placed_definition, HasSameFiles};
 ghost use Rattle.rpg_cards.specs.Levels as levels;
 ghost use Rattle.rpg_cards.specs.Names as names;
-ghost use Rattle.rpg_cards.specs.Names.{is_of};
+ghost use Rattle.rpg_cards.specs.Names.{definitions_on, is_of};
 ghost use Rattle.rpg_cards.specs.declared.constants.Constant.{Constant};
 
 use crate::constants::{Constant, factor_constant};
@@ -76,8 +76,8 @@ impl<'a> IndexedCards<'a> {
         let mut name_place = 0;
         let mut constant_place = 0;
         for card in cards {
-            name_place = note_names(&mut names, name_place, card.definitions())?;
-            constant_place = note_constants(&mut constants, constant_place, card.constants())?;
+            name_place = note_names_of(&mut names, name_place, card)?;
+            constant_place = note_constants_of(&mut constants, constant_place, card)?;
         }
         Ok(IndexedCards {
             cards,
@@ -220,6 +220,38 @@ fn defined_first(first: Option<FirstDefinition>) -> Defined
         None => Defined::Bad,
         Some(form) => Defined::Good(form),
     }
+}
+
+/// Notes the definitions of a card, if it may have any.
+fn note_names_of(
+    names: &mut HashMap<Name, FirstDefinition>,
+    start: usize,
+    card: &SpecCard,
+) -> Result<usize, AllocError>
+    requires { start + length (definitions_on card.now.spec) < 2 ^ 64 }
+    ensures place { IfOk result (λ place. place ≡ start + length (definitions_on card.now.spec)) }
+    ensures noted { OnOk result ((name : List ℕ) → lookup (pointwise nat_eq name) names.new.entries ≡ option_or (lookup (pointwise nat_eq name) names.old.entries) (first_at (is_of name) placed_definition start (definitions_on card.now.spec))) }
+{
+    if !card.may_define() {
+        return Ok(start);
+    }
+    note_names(names, start, card.definitions())
+}
+
+/// Notes the constants of a card, if it may have any.
+fn note_constants_of(
+    constants: &mut HashMap<Constant, usize>,
+    start: usize,
+    card: &SpecCard,
+) -> Result<usize, AllocError>
+    requires { start + length (constants_on card.now.spec) < 2 ^ 64 }
+    ensures place { IfOk result (λ place. place ≡ start + length (constants_on card.now.spec)) }
+    ensures noted { OnOk result ((x : Constant) → lookup (is_same x) constants.new.entries ≡ option_or (lookup (is_same x) constants.old.entries) (first_at (is_same x) place_of_constant start (constants_on card.now.spec))) }
+{
+    if !card.may_have_constants() {
+        return Ok(start);
+    }
+    note_constants(constants, start, card.constants())
 }
 
 /// Notes definitions, whose places are counted on from this one, where their names have none before. Returns the place after them.

@@ -1,6 +1,7 @@
 //! The names that cards define, and their forms.
 
 ghost use Rattle.std.specs.Prelude.{◌≡◌, ◌≤◌, [], ◌∷◌, map, if◌then◌else◌};
+ghost use Rattle.std.specs.Bool.{OnFalse};
 ghost use Rattle.std.specs.Option.{option_to_list};
 ghost use Rattle.rpg_cards.specs.Names as names;
 ghost use Rattle.rpg_symbols.specs.Fields as fields;
@@ -122,6 +123,18 @@ impl SpecCard {
             Spec::Input(InputSpec::Field(field)) => one(Some(of_field(field))),
             Spec::Calculation(calculation) => one(of_result(calculation)),
             _ => ArrayVec::new(),
+        }
+    }
+
+    /// Whether the card may define a name. Most cards don't, and this costs less than the list of their definitions.
+    pub(crate) fn may_define(&self) -> bool
+        ensures { OnFalse result (names.definitions_on self.now.spec ≡ []) }
+    {
+        match &self.spec {
+            Spec::Extension(_) => true,
+            Spec::Input(InputSpec::Field(_)) => true,
+            Spec::Calculation(calculation) => calculation.length.is_some(),
+            _ => false,
         }
     }
 }

@@ -54,6 +54,7 @@ impl Sheets {
     }
 
     /// With the card after those before.
+    #[inline(always)]
     pub fn with(&self, source: &IndexedCards, before: &[SpecCard], card: &SpecCard) -> Self
         requires few { length before.now ≤ 2000 }
         requires sheets { AreSheets source.now before.now self.now }
@@ -67,6 +68,7 @@ impl Sheets {
 }
 
 impl Groups {
+    #[inline(always)]
     fn with_input(self, source: &IndexedCards, card: &SpecCard) -> Self
         requires { self.number ≤ 2000 }
         ensures { result ≡ with_role source.now (input_role card.now.spec) self }
@@ -77,6 +79,7 @@ impl Groups {
         }
     }
 
+    #[inline(always)]
     fn with_output(self, source: &IndexedCards, card: &SpecCard) -> Self
         requires { self.number ≤ 2000 }
         ensures { result ≡ with_role source.now (output_role card.now.spec) self }

@@ -1,12 +1,13 @@
 -- What is kept of the lines before says what is wrong with the next.
 use Rattle.std.proofs.Common.{◌≡◌, ℕ, ◌+◌, ◌<◌, ◌≤◌, Bool, true, false, List, [], ◌∷◌, ◌++◌, length, Option, Some, None, refl, sym, ap, ◌∙◌, arith, length-append, map}
-use Rattle.std.specs.Prelude.{if◌then◌else◌, ◌||◌, ◌&&◌, not, nat_lt, nat_le, is_none}
+use Rattle.std.specs.Prelude.{Result, Ok, Err, IfOk, IfErr, OnOk, if◌then◌else◌, ◌||◌, ◌&&◌, not, nat_lt, nat_le, is_none}
 use Rattle.std.specs.List.{list_any, list_all}
 use Rattle.std.specs.Option.{option_map_or, option_or}
 use Rattle.std.specs.Str.Lines.{lines}
 use Rattle.std.proofs.lemmas.List.Folds.{list_any-append}
 use Rattle.std.proofs.lemmas.Grind.{common_steps}
 use Rattle.rpg_sheet_specs.specs.declared.form_type.FormType.{FormType}
+use Rattle.rpg_sheet.specs.declared.sheet.CardFault.{CardFault}
 use Rattle.rpg_sheet.specs.declared.sheet.SheetCode.{SheetCode}
 use Rattle.rpg_sheet.specs.declared.sheet.SheetCode.TheVariants.{S1, S2, S3, S4, S5, S6}
 use Rattle.rpg_sheet.specs.declared.sheet.SheetFault.TheVariants.{At}
@@ -106,13 +107,26 @@ pub code_good : (count latest : ℕ) (behind : Bool) (line columns : List ℕ) �
     → sheet_code latest behind columns ≡ None → count < 2000 → code_seen count latest behind line ≡ None
 code_good count latest behind line columns short is characters good few = code_fit count latest behind line columns short is characters ∙ rw (good, few_cards count few) refl
 
-pub code_many : (count latest : ℕ) (behind : Bool) (line columns : List ℕ) → length line ≤ 80 → columns ≡ card_of line → list_all is_character columns ≡ true
-    → sheet_code latest behind columns ≡ None → 2000 ≤ count → code_seen count latest behind line ≡ Some S6
-code_many count latest behind line columns short is characters good many = code_fit count latest behind line columns short is characters ∙ rw (good, many_cards count many) refl
-
 pub code_bad : (count latest : ℕ) (behind : Bool) (line columns : List ℕ) (code : SheetCode) → length line ≤ 80 → columns ≡ card_of line → list_all is_character columns ≡ true
     → sheet_code latest behind columns ≡ Some code → code_seen count latest behind line ≡ Some code
 code_bad count latest behind line columns code short is characters bad = code_fit count latest behind line columns short is characters ∙ rw bad refl
+
+-- card 2,001, with the code that it has as a card, or else that it is one too many
+pub code_past : (count latest : ℕ) (behind : Bool) (line columns : List ℕ) (code : SheetCode) → length line ≤ 80 → columns ≡ card_of line → list_all is_character columns ≡ true
+    → 2000 ≤ count → Some code ≡ option_or (sheet_code latest behind columns) (Some S6) → code_seen count latest behind line ≡ Some code
+code_past count latest behind line columns code short is characters many by = code_fit count latest behind line columns short is characters ∙ rw (many_cards count many) (sym by)
+
+-- a card before card 2,001, as it is read
+pub code_if_read : {X E : Type 0} (count latest : ℕ) (behind : Bool) (line columns : List ℕ) (Means : X → Type 0) (read : Result X E) → length line ≤ 80 → columns ≡ card_of line
+    → list_all is_character columns ≡ true → count < 2000 → IfOk read (λ x. Means x × (sheet_code latest behind columns ≡ None)) → OnOk read (code_seen count latest behind line ≡ None)
+code_if_read count latest behind line columns Means (Ok x) short is characters few good = code_good count latest behind line columns short is characters good.1 few
+code_if_read count latest behind line columns Means (Err e) short is characters few good = tt
+
+pub code_if_bad : {X : Type 0} (count latest : ℕ) (behind : Bool) (line columns : List ℕ) (Tells : CardFault → Type 0) (read : Result X CardFault) → length line ≤ 80 → columns ≡ card_of line
+    → list_all is_character columns ≡ true → IfErr read (λ fault. (sheet_code latest behind columns ≡ Some fault.code) × Tells fault)
+    → IfErr read (λ fault. code_seen count latest behind line ≡ Some fault.code)
+code_if_bad count latest behind line columns Tells (Ok x) short is characters bad = tt
+code_if_bad count latest behind line columns Tells (Err e) short is characters bad = code_bad count latest behind line columns e.code short is characters bad.0
 
 -- ---- a line more
 

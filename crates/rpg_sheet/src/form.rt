@@ -2,6 +2,7 @@
 
 ghost use Rattle.std.specs.Prelude.{◌≡◌};
 ghost use Rattle.rpg_sheet_specs.specs.Cards as cards;
+ghost use Rattle.rpg_text.specs.Texts.{all_blank};
 
 use crate::card::{Card, has_only_blanks};
 use rpg_sheet_specs::FormType;
@@ -21,7 +22,19 @@ pub(crate) fn begins_data(card: &[u8; 80]) -> bool
 fn is_skipped(card: &[u8; 80]) -> bool
     ensures { result ≡ cards.is_skipped card.now }
 {
-    has_only_blanks(card) || &card[6..7] == b"*".as_slice()
+    is_empty(card) || &card[6..7] == b"*".as_slice()
+}
+
+/// Whether no column is filled. Nearly every card has a form type in column 6, so that column is tested first.
+#[inline(always)]
+#[tactic(auto, using(std::proofs::lemmas::List::Folds::list_all_at))]
+fn is_empty(card: &[u8; 80]) -> bool
+    ensures { result ≡ all_blank card.now }
+{
+    if card[5] != b' ' {
+        return false;
+    }
+    has_only_blanks(card)
 }
 
 fn is_sheet(card: &[u8; 80], behind: bool) -> bool

@@ -1,7 +1,9 @@
 //! From the bytes of a source to what its cards mean.
 
 ghost use Rattle.std.specs.Prelude.{◌≡◌, ℕ, ◌≤◌, ◌||◌, ◌∷◌, ◌++◌, List, [], None, Some, map, nat_lt, OnOk, IfOk, IfErr};
-ghost use Rattle.rpg_sheet.specs.Seen.{AreLinesSeen, code_seen};
+ghost use Rattle.std.specs.Option.{option_or};
+ghost use Rattle.rpg_sheet.specs.Seen.{AreLinesSeen, code_seen, sheet_code};
+ghost use Rattle.rpg_sheet.specs.declared.sheet.SheetCode.TheVariants.{S6};
 ghost use Rattle.rpg_sheet.specs.Sheet as sheets;
 ghost use Rattle.rpg_sheet_specs.specs.Cards.{card_of};
 ghost use Rattle.rpg_sheet_specs.specs.Specs.{spec_of, specs_of};
@@ -63,7 +65,9 @@ pub fn cards(alloc: Global, text: &[u8]) -> Result<Cards, SheetFault>
     ensures faultless { OnOk result (sheets.first_sheet_fault (sheets.source text.now) ≡ None) }
     ensures fault { IfErr result (λ fault. sheets.IsSheetRefusal fault text.now) }
 {
-    let mut specs = Vec::new(alloc);
+    let Ok(mut specs) = Vec::with_capacity(alloc, room_for(text)) else {
+        return Err(SheetFault::NoMemory);
+    };
     let mut earlier = NO_LINES;
     let mut rest = text;
     while !rest.is_empty() {
@@ -88,6 +92,11 @@ pub fn cards(alloc: Global, text: &[u8]) -> Result<Cards, SheetFault>
     Ok(Cards::new(specs))
 }
 
+/// For how many cards there is room at once: cards of 40 characters need no more. A card takes 264 bytes there, so moving them costs.
+fn room_for(text: &[u8]) -> usize {
+    (text.len() / 40).min(usize::from(CARDS))
+}
+
 /// What the card of a line with these columns means, after others, or what is wrong with it.
 pub(crate) fn checked(
     earlier: Earlier,
@@ -106,9 +115,20 @@ pub(crate) fn checked(
     if !has_only_characters(columns) {
         return Err(SheetCode::S2.into());
     }
-    match read(&Card::of(columns), earlier.latest, earlier.behind) {
-        Ok(_) if earlier.count >= CARDS => Err(SheetCode::S6.into()),
-        Ok(spec) => Ok(spec),
-        Err(fault) => Err(fault),
+    let card = Card::of(columns);
+    if earlier.count >= CARDS {
+        return Err(past_last(&card, earlier.latest, earlier.behind));
+    }
+    read(&card, earlier.latest, earlier.behind)
+}
+
+/// What is wrong with card 2,001: that it is that card, unless it can't be read.
+fn past_last(card: &Card, latest: u8, behind: bool) -> CardFault
+    ensures code { Some result.code ≡ option_or (sheet_code latest behind card.now) (Some S6) }
+    ensures columns { result.columns ≡ sheets.fault_columns behind card.now result.code }
+{
+    match read(card, latest, behind) {
+        Ok(_) => SheetCode::S6.into(),
+        Err(fault) => fault,
     }
 }

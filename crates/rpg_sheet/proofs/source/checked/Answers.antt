@@ -1,6 +1,8 @@
-use Rattle.std.proofs.Common.{◌∙◌, sym, ap, arith, Some}
+use Rattle.std.proofs.Common.{◌≡◌, ◌∙◌, sym, ap, arith, Some}
 use Rattle.rpg_sheet.specs.declared.sheet.SheetCode.{SheetCode}
-use Rattle.rpg_sheet.proofs.SheetLemmas.{code_unfit, code_good, code_many, code_bad}
+use Rattle.rpg_sheet.proofs.SheetLemmas.{code_if_bad, code_if_read, code_past, code_unfit}
+use Rattle.rpg_sheet.specs.Sheet.{fault_columns}
+use Rattle.rpg_sheet_specs.specs.Specs.{spec_of}
 use Rattle.rpg_sheet.proofs.source.checked.Goals as goal
 
 pub returns-then-not-has_only_characters-clause-code : goal.returns-then-not-has_only_characters-clause-code
@@ -9,21 +11,20 @@ returns-then-not-has_only_characters-clause-code c =
     code_unfit e.count e.latest e.behind c.args.line.now c.args.columns.now (omega arith) c.requires (sym c.has_only_characters.ensures ∙ c.if-not-has_only_characters.true)
     ∙ sym (ap (λ (code : SheetCode). Some code) c.into-then-not-has_only_characters.ensures.0)
 
-pub returns-in-Ok-clause-code : goal.returns-in-Ok-clause-code
-returns-in-Ok-clause-code c =
+pub returns-then-earlier-ge-CARDS-clause-code : goal.returns-then-earlier-ge-CARDS-clause-code
+returns-then-earlier-ge-CARDS-clause-code c =
     let e = c.args.earlier in
-    let good = rw c.of.ensures at c.in-Ok.ensures.ok.1 in
-    code_many e.count e.latest e.behind c.args.line.now c.args.columns.now (omega arith) c.requires (sym c.has_only_characters.ensures ∙ c.if-not-has_only_characters.false) good (omega arith)
-    ∙ sym (ap (λ (code : SheetCode). Some code) c.into-in-Ok.ensures.0)
+    code_past e.count e.latest e.behind c.args.line.now c.args.columns.now _ (omega arith) c.requires (sym c.has_only_characters.ensures ∙ c.if-not-has_only_characters.false) (omega arith)
+    (rw c.of-card.ensures at c.past_last.ensures.code)
 
-pub returns-in-Ok-2-clause-good : goal.returns-in-Ok-2-clause-good
-returns-in-Ok-2-clause-good c =
+pub returns-clause-good : goal.returns-clause-good
+returns-clause-good c =
     let e = c.args.earlier in
-    let good = rw c.of.ensures at c.in-Ok-2.ensures.ok.1 in
-    code_good e.count e.latest e.behind c.args.line.now c.args.columns.now (omega arith) c.requires (sym c.has_only_characters.ensures ∙ c.if-not-has_only_characters.false) good (omega arith)
+    code_if_read e.count e.latest e.behind c.args.line.now c.args.columns.now (λ spec. spec ≡ spec_of e.behind c.args.columns.now) c.read.result (omega arith) c.requires
+    (sym c.has_only_characters.ensures ∙ c.if-not-has_only_characters.false) (omega arith) (rw c.of-card.ensures at c.read.ensures.ok)
 
-pub returns-in-Err-clause-code : goal.returns-in-Err-clause-code
-returns-in-Err-clause-code c =
+pub returns-clause-code : goal.returns-clause-code
+returns-clause-code c =
     let e = c.args.earlier in
-    let bad = rw c.of.ensures at c.in-Err.ensures.err.0 in
-    code_bad e.count e.latest e.behind c.args.line.now c.args.columns.now _ (omega arith) c.requires (sym c.has_only_characters.ensures ∙ c.if-not-has_only_characters.false) bad
+    code_if_bad e.count e.latest e.behind c.args.line.now c.args.columns.now (λ fault. fault.columns ≡ fault_columns e.behind c.args.columns.now fault.code) c.read.result (omega arith) c.requires
+    (sym c.has_only_characters.ensures ∙ c.if-not-has_only_characters.false) (rw c.of-card.ensures at c.read.ensures.err)
