@@ -61,10 +61,14 @@ fn tables_of(card: &Card) -> [Option<Array>; 2] {
     [table_at(card, 27, 40), table_at(card, 46, 52)]
 }
 
-fn push_array(found: &mut Vec<Array>, array: Option<Array>) -> Result<(), Stop> {
-    if let Some(array) = array {
-        if !matches!(array.name.text(), [b'T', b'A', b'B', ..]) {
-            found.push(array)?;
+/// Appends the arrays of an E card.
+fn push_arrays(found: &mut Vec<Array>, card: &Card) -> Result<(), Stop> {
+    for table in &tables_of(card) {
+        match table {
+            Some(array) if !matches!(array.name.text(), [b'T', b'A', b'B', ..]) => {
+                found.push(*array)?;
+            }
+            _ => {}
         }
     }
     Ok(())
@@ -79,9 +83,7 @@ pub fn arrays(alloc: Global, view: &View) -> Result<Vec<Array>, Stop> {
     let mut found = Vec::new(alloc);
     for seen in view.cards.iter() {
         if is_card(seen, b'E') {
-            let [first, second] = tables_of(&seen.card);
-            push_array(&mut found, first)?;
-            push_array(&mut found, second)?;
+            push_arrays(&mut found, &seen.card)?;
         }
     }
     Ok(found)
@@ -185,17 +187,6 @@ fn form_of_date_or_page(name: &[u8]) -> Option<Form> {
     None
 }
 
-/// The form of the parts of the date where no card defines them.
-fn form_of_date_part(name: &[u8]) -> Option<Form> {
-    if is_date_part(name) {
-        return Some(Form {
-            length: 2,
-            decimals: b'0',
-        });
-    }
-    None
-}
-
 /// The form of a name, without its index; none where nothing defines it.
 pub fn form_of(view: &View, name: &[u8]) -> Option<Form> {
     if let Some(form) = form_by_tables(view, name) {
@@ -208,7 +199,10 @@ pub fn form_of(view: &View, name: &[u8]) -> Option<Form> {
         return Some(form);
     }
     match form_by_result(view, name) {
-        Some(form) => Some(form),
-        None => form_of_date_part(name),
+        None if is_date_part(name) => Some(Form {
+            length: 2,
+            decimals: b'0',
+        }),
+        form => form,
     }
 }

@@ -129,7 +129,7 @@ pub(crate) fn is_prefix_used(view: &View, prefix: &[u8]) -> bool
 }
 
 /// Whether a name is that of a part of the date.
-pub(crate) fn is_date_part(name: &[u8]) -> bool
+pub fn is_date_part(name: &[u8]) -> bool
     ensures { result ≡ is_date_part name.now }
 {
     name == b"UDAY".as_slice() || name == b"UMONTH".as_slice() || name == b"UYEAR".as_slice()

@@ -73,6 +73,15 @@ fn card_of(view: &View, name: &[u8]) -> usize {
     0
 }
 
+/// A name that no card has, of at most so many characters: one that begins as this one does, if there is one.
+fn shorter_name(view: &View, name: &[u8], room: usize, card: usize) -> Result<Word, Stop> {
+    let stem = name.get(..room).unwrap_or(name);
+    match FreshNames::of(stem, room).find(view) {
+        Some(new) => Ok(new),
+        None => FreshNames::of(b"#", room).take(view, card),
+    }
+}
+
 /// An array's name with room for a tail of some characters in a result. If its own has none, all cards have a shorter one from now
 /// on, and its card gets a sentence about that.
 ///
@@ -89,14 +98,9 @@ pub fn with_room(
     if old.len().saturating_add(tail) <= RESULT {
         return Ok(old);
     }
-    let room = RESULT.saturating_sub(tail);
     let view = editor.view(alloc)?;
     let card = card_of(&view, name);
-    let stem = name.get(..room).unwrap_or(name);
-    let new = match FreshNames::of(stem, room).find(&view) {
-        Some(new) => new,
-        None => FreshNames::of(b"#", room).take(&view, card)?,
-    };
+    let new = shorter_name(&view, name, RESULT.saturating_sub(tail), card)?;
     editor.tell(
         card,
         Sentence::of_two("% is called %, so that an index has room", old, new),
