@@ -12,6 +12,9 @@ const SOURCE: &str = "{}: {}: {}: this is a source: compile it first with rpg2 c
 /// The most bytes of a value that are shown.
 const MOST_SHOWN: usize = 32;
 
+/// The digits of a byte.
+const HEX: &[u8; 16] = b"0123456789abcdef";
+
 /// Whether columns 1 to 5 of a card may be its number: they are blanks and digits.
 fn is_numbering(columns: &[u8]) -> bool {
     for byte in columns {
@@ -60,8 +63,14 @@ fn write_found(out: &mut TextWriter, bytes: &[u8], offset: usize, count: usize) 
         _ => (", and bytes", " .. were found"),
     };
     out.write_str(bytes_stand);
-    for byte in bytes.iter().skip(offset).take(count.min(MOST_SHOWN)) {
-        write!(out, " {byte:02x}");
+    let rest = bytes.get(offset..).unwrap_or(&[]);
+    for byte in rest.get(..count.min(MOST_SHOWN)).unwrap_or(rest) {
+        let digits = [
+            b' ',
+            HEX[usize::from(*byte / 16)],
+            HEX[usize::from(*byte % 16)],
+        ];
+        out.write_shown(digits.as_slice());
     }
     out.write_str(stand);
 }

@@ -5,7 +5,6 @@ use crate::parts::{
     INSTRUCTION, LINE, LINE_FIELD, MATCH_FIELD, RECORD_CODE, SUBROUTINE, TYPE, TYPE_2,
 };
 use rpg_object_program::row::Version;
-use std::ops::ControlFlow;
 
 /// A row of a table; the header has no number.
 #[derive(Clone, Copy)]
@@ -27,12 +26,14 @@ fn row_of(table: &'static str, number: usize) -> TableRow {
     TableRow { table, number }
 }
 
-/// The bytes, the offset that is looked for, and how far the tables were gone through.
+/// The bytes, the offset that is looked for, how far the tables were gone through, and the part in which the offset is, once it is found. From
+/// then on nothing is gone past.
 #[derive(Clone, Copy)]
 struct Walk<'a> {
     bytes: &'a [u8],
     offset: usize,
     at: usize,
+    found: Option<Spot>,
 }
 
 impl Walk<'_> {
@@ -61,137 +62,148 @@ impl Walk<'_> {
     }
 
     /// Goes past a part of a row, or stops in it.
-    fn pass(&mut self, name: &'static str, bytes: usize, row: TableRow) -> ControlFlow<Spot> {
+    fn pass(&mut self, name: &'static str, bytes: usize, row: TableRow) {
         let end = self.at.saturating_add(bytes);
-        if self.offset < end {
-            return ControlFlow::Break(Spot { name, bytes, row });
+        if self.found.is_none() {
+            if self.offset < end {
+                self.found = Some(Spot { name, bytes, row });
+            } else {
+                self.at = end;
+            }
         }
-        self.at = end;
-        ControlFlow::Continue(())
     }
 
     /// Goes past these parts of a row, or stops in one.
-    fn pass_parts(&mut self, parts: &'static str, row: TableRow) -> ControlFlow<Spot> {
+    fn pass_parts(&mut self, parts: &'static str, row: TableRow) {
         for part in parts.lines() {
             if let Some((bytes, name)) = part.split_once(' ') {
-                self.pass(name, bytes.parse().unwrap_or(1), row)?;
+                self.pass(name, bytes.parse().unwrap_or(1), row);
             }
         }
-        ControlFlow::Continue(())
     }
 
     /// Goes past these parts of a row, which stand in it so many times.
-    fn pass_all(&mut self, count: usize, parts: &'static str, row: TableRow) -> ControlFlow<Spot> {
+    fn pass_all(&mut self, count: usize, parts: &'static str, row: TableRow) {
         for _ in 0..count {
-            self.pass_parts(parts, row)?;
+            if self.found.is_some() {
+                break;
+            }
+            self.pass_parts(parts, row);
         }
-        ControlFlow::Continue(())
     }
 
-    fn pass_header(&mut self) -> ControlFlow<Spot> {
+    fn pass_header(&mut self) {
         let header = TableRow {
             table: "header",
             number: None,
         };
-        self.pass_parts(HEADER, header)?;
+        self.pass_parts(HEADER, header);
         let end = match self.version() {
             Version::One => HEADER_END,
             Version::Two => HEADER_END_2,
         };
-        self.pass_parts(end, header)
+        self.pass_parts(end, header);
     }
 
-    fn pass_fields(&mut self) -> ControlFlow<Spot> {
+    fn pass_fields(&mut self) {
         for field in 1..=self.number(18) {
-            self.pass_parts(FIELD, row_of("field", field))?;
+            if self.found.is_some() {
+                break;
+            }
+            self.pass_parts(FIELD, row_of("field", field));
         }
-        ControlFlow::Continue(())
     }
 
     /// Goes past the first values of all fields, whose rows begin after the header.
-    fn pass_values(&mut self) -> ControlFlow<Spot> {
+    fn pass_values(&mut self) {
         let mut row: usize = 32;
         for field in 1..=self.number(18) {
+            if self.found.is_some() {
+                break;
+            }
             let length = self.number(row.saturating_add(2));
             let entries = self.number(row.saturating_add(6));
-            self.pass_entries(entries, length, row_of("field", field))?;
+            self.pass_entries(entries, length, row_of("field", field));
             row = row.saturating_add(8);
         }
-        ControlFlow::Continue(())
     }
 
-    fn pass_entries(&mut self, count: usize, length: usize, row: TableRow) -> ControlFlow<Spot> {
+    fn pass_entries(&mut self, count: usize, length: usize, row: TableRow) {
         for _ in 0..count {
-            self.pass("a first value", length, row)?;
+            if self.found.is_some() {
+                break;
+            }
+            self.pass("a first value", length, row);
         }
-        ControlFlow::Continue(())
     }
 
     /// Goes past the record types. Version 1 has no match fields.
-    fn pass_types(&mut self) -> ControlFlow<Spot> {
+    fn pass_types(&mut self) {
         for number in 0..self.number(20) {
+            if self.found.is_some() {
+                break;
+            }
             let row = row_of("record type", number);
             let head = *self;
             let (parts, matches) = match self.version() {
                 Version::One => (TYPE, 0),
                 Version::Two => (TYPE_2, head.ahead(8)),
             };
-            self.pass_parts(parts, row)?;
-            self.pass_all(head.ahead(2), RECORD_CODE, row)?;
-            self.pass_all(head.ahead(4), CONTROL_FIELD, row)?;
-            self.pass_all(head.ahead(6), INPUT_FIELD, row)?;
-            self.pass_all(matches, MATCH_FIELD, row)?;
+            self.pass_parts(parts, row);
+            self.pass_all(head.ahead(2), RECORD_CODE, row);
+            self.pass_all(head.ahead(4), CONTROL_FIELD, row);
+            self.pass_all(head.ahead(6), INPUT_FIELD, row);
+            self.pass_all(matches, MATCH_FIELD, row);
         }
-        ControlFlow::Continue(())
     }
 
-    fn pass_alternatives(&mut self, count: usize, row: TableRow) -> ControlFlow<Spot> {
+    fn pass_alternatives(&mut self, count: usize, row: TableRow) {
         for _ in 0..count {
+            if self.found.is_some() {
+                break;
+            }
             let conditions = self.ahead(0);
-            self.pass_parts(ALTERNATIVE, row)?;
-            self.pass_all(conditions, CONDITION, row)?;
+            self.pass_parts(ALTERNATIVE, row);
+            self.pass_all(conditions, CONDITION, row);
         }
-        ControlFlow::Continue(())
     }
 
-    fn pass_lines(&mut self) -> ControlFlow<Spot> {
+    fn pass_lines(&mut self) {
         for number in 0..self.number(22) {
+            if self.found.is_some() {
+                break;
+            }
             let row = row_of("line", number);
             let head = *self;
-            self.pass_parts(LINE, row)?;
-            self.pass_alternatives(head.ahead(6), row)?;
-            self.pass_all(head.ahead(8), LINE_FIELD, row)?;
+            self.pass_parts(LINE, row);
+            self.pass_alternatives(head.ahead(6), row);
+            self.pass_all(head.ahead(8), LINE_FIELD, row);
         }
-        ControlFlow::Continue(())
     }
 
     /// Goes past so many instructions, of which the first has this number, and returns the number after them.
-    fn pass_code(&mut self, count: usize, first: usize) -> ControlFlow<Spot, usize> {
+    fn pass_code(&mut self, count: usize, first: usize) -> usize {
         let end = first.saturating_add(count);
         for place in first..end {
-            self.pass_parts(INSTRUCTION, row_of("instruction", place))?;
+            if self.found.is_some() {
+                break;
+            }
+            self.pass_parts(INSTRUCTION, row_of("instruction", place));
         }
-        ControlFlow::Continue(end)
+        end
     }
 
-    fn pass_calculations(&mut self) -> ControlFlow<Spot> {
-        let total = self.pass_code(self.number(24), 0)?;
-        let mut first = self.pass_code(self.number(26), total)?;
+    fn pass_calculations(&mut self) {
+        let total = self.pass_code(self.number(24), 0);
+        let mut first = self.pass_code(self.number(26), total);
         for number in 0..self.number(28) {
+            if self.found.is_some() {
+                break;
+            }
             let count = self.ahead(2);
-            self.pass_parts(SUBROUTINE, row_of("subroutine", number))?;
-            first = self.pass_code(count, first)?;
+            self.pass_parts(SUBROUTINE, row_of("subroutine", number));
+            first = self.pass_code(count, first);
         }
-        ControlFlow::Continue(())
-    }
-
-    fn pass_program(&mut self) -> ControlFlow<Spot> {
-        self.pass_header()?;
-        self.pass_fields()?;
-        self.pass_values()?;
-        self.pass_types()?;
-        self.pass_lines()?;
-        self.pass_calculations()
     }
 }
 
@@ -201,6 +213,13 @@ pub(crate) fn spot_at(bytes: &[u8], offset: usize) -> Option<Spot> {
         bytes,
         offset,
         at: 0,
+        found: None,
     };
-    walk.pass_program().break_value()
+    walk.pass_header();
+    walk.pass_fields();
+    walk.pass_values();
+    walk.pass_types();
+    walk.pass_lines();
+    walk.pass_calculations();
+    walk.found
 }

@@ -118,20 +118,26 @@ pub(crate) fn write_bound(out: &mut TextWriter, rows: &Rows, bound: u64, costs: 
             "for codes, control fields, input fields and match fields of all record types"
         }
     };
-    let mut spent = bound;
+    let records = types_weight(rows);
     out.fill(BOUND, &[bound.into()]);
-    for (steps, words) in [
-        (types_weight(rows), types),
-        (
-            lines,
-            "for heading, detail and total lines and their fields",
-        ),
-        (overflow, "for the same at an overflow"),
-        (detail, "for detail calculations, without what is spent"),
-        (total, "for total calculations, without what is spent"),
-    ] {
-        write_part(out, steps, words);
-        spent = spent.saturating_sub(steps);
-    }
+    write_part(out, records, types);
+    write_part(
+        out,
+        lines,
+        "for heading, detail and total lines and their fields",
+    );
+    write_part(out, overflow, "for the same at an overflow");
+    write_part(
+        out,
+        detail,
+        "for detail calculations, without what is spent",
+    );
+    write_part(out, total, "for total calculations, without what is spent");
+    let spent = bound
+        .saturating_sub(records)
+        .saturating_sub(lines)
+        .saturating_sub(overflow)
+        .saturating_sub(detail)
+        .saturating_sub(total);
     write_part(out, spent, "for all that branches back and calls lead to");
 }

@@ -12,7 +12,15 @@ const FIELD: usize = 8;
 
 /// Whether entries that aren't all empty are shown apart from their field.
 fn are_listed(values: &[Value]) -> bool {
-    values.len() > 1 && !values.iter().all(is_empty)
+    if values.len() <= 1 {
+        return false;
+    }
+    for value in values {
+        if !is_empty(value) {
+            return true;
+        }
+    }
+    false
 }
 
 /// Writes what a field has at the start of a job.

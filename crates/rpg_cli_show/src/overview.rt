@@ -4,6 +4,7 @@ use crate::header::{write_length, write_version};
 use crate::shown::{broken_by, write_refusal};
 use rpg_cli_show_fields::{uses_date, write_named};
 use rpg_cli_text::TextWriter;
+use rpg_effect::input::ControlField;
 use rpg_object::encode;
 use rpg_object_program::Program;
 use rpg_object_program::row::Rows;
@@ -16,10 +17,19 @@ const BYTES_OF_STEP: u64 = 10_000;
 const STEPS: &str =
     "  steps    a cycle takes at most {}\n  output   a cycle puts out at most {} bytes, print and disk together\n";
 
+fn has_field(fields: &[ControlField], level: u8) -> bool {
+    for field in fields {
+        if field.level == level {
+            return true;
+        }
+    }
+    false
+}
+
 /// Whether a record type has a control field of a level.
 fn has_level(rows: &Rows, level: u8) -> bool {
     for record_type in &rows.types {
-        if record_type.levels.iter().any(|field| field.level == level) {
+        if has_field(&record_type.levels, level) {
             return true;
         }
     }
@@ -68,14 +78,14 @@ fn write_run(out: &mut TextWriter, verified: &Verified) {
     let bytes = steps.saturating_mul(BYTES_OF_STEP);
     out.fill(STEPS, &[steps.into(), bytes.into()]);
     out.write_str("  run      rpg2 run OBJ INPUT PRINT");
-    for (is_wanted, word) in [
-        (uses_date(verified.program()), " --date today"),
-        (rows.secondary_length > 0, " --secondary FILE"),
-        (rows.disk_length > 0, " --disk FILE"),
-    ] {
-        if is_wanted {
-            out.write_str(word);
-        }
+    if uses_date(verified.program()) {
+        out.write_str(" --date today");
+    }
+    if rows.secondary_length > 0 {
+        out.write_str(" --secondary FILE");
+    }
+    if rows.disk_length > 0 {
+        out.write_str(" --disk FILE");
     }
     out.write_char('\n');
 }

@@ -53,14 +53,14 @@ fn shown_text(
 fn accepted_text(
     alloc: Global,
     verified: &Verified,
-    source: Option<&SourceRows>,
+    source: &SourceRows,
+    is_named: bool,
 ) -> Result<String, AllocError> {
     let costs = path_costs(alloc, verified)?;
-    let unknown = SourceRows::none(alloc);
     let shown = Shown {
         rows: verified.program().rows(),
-        source: source.unwrap_or(&unknown),
-        is_named: source.is_some(),
+        source,
+        is_named,
         costs: &costs,
         broken: None,
     };
@@ -70,18 +70,33 @@ fn accepted_text(
 fn refused_text(
     alloc: Global,
     program: &Program,
-    source: Option<&SourceRows>,
+    source: &SourceRows,
+    is_named: bool,
     broken: BrokenRule,
 ) -> Result<String, AllocError> {
-    let unknown = SourceRows::none(alloc);
     let shown = Shown {
         rows: program.rows(),
-        source: source.unwrap_or(&unknown),
-        is_named: source.is_some(),
+        source,
+        is_named,
         costs: &[],
         broken: Some(broken),
     };
     shown_text(alloc, program, shown, None)
+}
+
+/// The text about a program by the cards of its source, which have names if it is known.
+fn text_of(
+    alloc: Global,
+    program: Program,
+    source: &SourceRows,
+    is_named: bool,
+) -> Result<String, AllocError> {
+    match verify(alloc, program) {
+        Ok(verified) => accepted_text(alloc, &verified, source, is_named),
+        Err((program, fault)) => {
+            refused_text(alloc, &program, source, is_named, broken_by(fault)?)
+        }
+    }
 }
 
 /// The whole text about a program: its header, its fields with their first values and their uses, its record types and lines,
@@ -92,8 +107,8 @@ pub fn program_text(
     program: Program,
     source: Option<&SourceRows>,
 ) -> Result<String, AllocError> {
-    match verify(alloc, program) {
-        Ok(verified) => accepted_text(alloc, &verified, source),
-        Err((program, fault)) => refused_text(alloc, &program, source, broken_by(fault)?),
+    match source {
+        Some(source) => text_of(alloc, program, source, true),
+        None => text_of(alloc, program, &SourceRows::none(alloc), false),
     }
 }

@@ -3,6 +3,7 @@
 use rpg_cli_text::TextWriter;
 use rpg_effect::line::Editing;
 use rpg_effect::operation::{Index, Instruction, Operand};
+use rpg_effect::row::Use;
 use rpg_object_program::Program;
 use rpg_object_program::columns::columns_of;
 use rpg_object_program::row::{Line, RecordType, Rows};
@@ -22,7 +23,7 @@ enum By {
 }
 
 /// A row that uses a field.
-#[derive(Clone, Copy, PartialEq, Eq)]
+#[derive(Clone, Copy)]
 struct RowUse {
     by: By,
     row: usize,
@@ -56,13 +57,13 @@ fn write_rows(out: &mut TextWriter, words: &str, uses: &[RowUse], by: By) {
 impl Uses {
     /// Notes a use of a field, if there is one of that number and the use isn't noted as its last one already.
     fn note(&mut self, field: u16, by: By, row: usize) -> Result<(), AllocError> {
-        let used = RowUse { by, row };
-        if let Some(uses) = self.fields.get_mut(usize::from(field)) {
-            if uses.last().copied() != Some(used) {
-                uses.push(used)?;
-            }
+        let Some(uses) = self.fields.get_mut(usize::from(field)) else {
+            return Ok(());
+        };
+        match uses.last() {
+            Some(last) if last.by == by && last.row == row => Ok(()),
+            _ => Ok(uses.push(RowUse { by, row })?),
         }
-        Ok(())
     }
 
     /// Notes an operand. It uses its index, however it uses the field.
@@ -96,6 +97,19 @@ impl Uses {
         Ok(())
     }
 
+    /// Notes an operand, if there is one.
+    fn note_used(
+        &mut self,
+        used: Option<Use<Operand<u16>>>,
+        by: By,
+        row: usize,
+    ) -> Result<(), AllocError> {
+        match used {
+            Some(used) => self.note_operand(used.operand, by, row),
+            None => Ok(()),
+        }
+    }
+
     fn note_instruction(
         &mut self,
         rows: &Rows,
@@ -103,16 +117,9 @@ impl Uses {
         instruction: Instruction<u16>,
     ) -> Result<(), AllocError> {
         let row = columns_of(rows, instruction);
-        for (used, by) in [
-            (row.factor1, By::Using),
-            (row.factor2, By::Using),
-            (row.result, By::Setting),
-        ] {
-            if let Some(used) = used {
-                self.note_operand(used.operand, by, place)?;
-            }
-        }
-        Ok(())
+        self.note_used(row.factor1, By::Using, place)?;
+        self.note_used(row.factor2, By::Using, place)?;
+        self.note_used(row.result, By::Setting, place)
     }
 
     fn note_places(&mut self, program: &Program) -> Result<(), AllocError> {

@@ -4,48 +4,30 @@ use rpg_cli_text::TextWriter;
 use rpg_edit_marks::{EditCode, Ending, Fill};
 use rpg_effect::line::{Spacing, Time};
 
-fn is_same_ending(one: Ending, other: Ending) -> bool {
-    matches!(
-        (one, other),
-        (Ending::Unsigned, Ending::Unsigned)
-            | (Ending::Credit, Ending::Credit)
-            | (Ending::Minus, Ending::Minus)
-    )
-}
-
-fn is_same(one: EditCode, other: EditCode) -> bool {
-    match (one, other) {
-        (
-            EditCode::Combination {
-                commas,
-                zeros,
-                ending,
-            },
-            EditCode::Combination {
-                commas: other_commas,
-                zeros: other_zeros,
-                ending: other_ending,
-            },
-        ) => {
-            commas == other_commas && zeros == other_zeros && is_same_ending(ending, other_ending)
-        }
-        (EditCode::X, EditCode::X) | (EditCode::Y, EditCode::Y) | (EditCode::Z, EditCode::Z) => {
-            true
-        }
-        _ => false,
-    }
-}
-
-/// The character of an edit code, as the table of codes has it.
+/// The character of an edit code: the table of codes has a row of four for each ending.
 fn code_letter(code: EditCode) -> u8 {
-    for letter in b'1'..=b'Z' {
-        if let Some(found) = EditCode::of(letter) {
-            if is_same(found, code) {
-                return letter;
-            }
-        }
-    }
-    b' '
+    let (ending, commas, zeros) = match code {
+        EditCode::X => return b'X',
+        EditCode::Y => return b'Y',
+        EditCode::Z => return b'Z',
+        EditCode::Combination {
+            ending,
+            commas,
+            zeros,
+        } => (ending, commas, zeros),
+    };
+    let first: u8 = match ending {
+        Ending::Unsigned => b'1',
+        Ending::Credit => b'A',
+        Ending::Minus => b'J',
+    };
+    let column: u8 = match (commas, zeros) {
+        (true, true) => 0,
+        (true, false) => 1,
+        (false, true) => 2,
+        (false, false) => 3,
+    };
+    first.saturating_add(column)
 }
 
 /// Writes the edit code of a field, and what fills the places before its number.

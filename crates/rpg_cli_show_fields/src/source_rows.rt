@@ -47,13 +47,16 @@ fn note(cards: &mut Vec<RowCard>, card: u16, is_first: bool) -> Result<(), Alloc
 
 /// The card of a row, whose place is 0, or of one of its fields.
 fn card_at(cards: &[RowCard], row: usize, place: usize) -> Option<u16> {
-    let first = cards.iter().position(|it| it.row == row)?;
-    let found = cards.get(first.checked_add(place)?)?;
-    if found.row == row {
-        Some(found.card)
-    } else {
-        None
+    let mut before: usize = 0;
+    for noted in cards {
+        if noted.row == row {
+            if before == place {
+                return Some(noted.card);
+            }
+            before = before.saturating_add(1);
+        }
     }
+    None
 }
 
 impl SourceRows {
@@ -115,17 +118,20 @@ impl SourceRows {
     /// Notes the row or the instructions of a card. So many places are those of calculations that are done with.
     fn note_row(&mut self, card: &SpecCard, places: usize) -> Result<usize, AllocError> {
         let number = card.number;
-        match &card.spec {
-            Spec::Input(InputSpec::Type(_)) => note(&mut self.types, number, true)?,
-            Spec::Input(InputSpec::Field(_)) => note(&mut self.types, number, false)?,
-            Spec::Output(OutputSpec::Record(_)) => note(&mut self.lines, number, true)?,
-            Spec::Output(OutputSpec::Field(_)) => note(&mut self.lines, number, false)?,
+        let noted = match &card.spec {
+            Spec::Input(InputSpec::Type(_)) => note(&mut self.types, number, true),
+            Spec::Input(InputSpec::Field(_)) => note(&mut self.types, number, false),
+            Spec::Output(OutputSpec::Record(_)) => note(&mut self.lines, number, true),
+            Spec::Output(OutputSpec::Field(_)) => note(&mut self.lines, number, false),
             Spec::Calculation(calculation) => {
                 return self.note_places(number, calculation, places);
             }
-            _ => {}
+            _ => Ok(()),
+        };
+        match noted {
+            Ok(()) => Ok(places),
+            Err(error) => Err(error),
         }
-        Ok(places)
     }
 
     /// Notes the instructions of a card. A calculation whose operation becomes none has none for its indicator and its conditions either.

@@ -3,7 +3,6 @@
 use rpg_cli_text::{TextWriter, indicator_name};
 use rpg_effect::condition::{Condition, Conditions, has_conditions};
 use rpg_effect::operation::Shows;
-use std::fmt;
 
 /// A name of a card as a text. Its characters are letters, digits, `$`, `#` and `@`.
 pub fn name_text(name: &[u8]) -> &str {
@@ -18,12 +17,6 @@ impl Indicator {
     /// Its name on cards.
     pub fn name(self) -> &'static str {
         indicator_name(self.0).unwrap_or("MR")
-    }
-}
-
-impl fmt::Display for Indicator {
-    fn fmt<W: fmt::Write>(&self, f: &mut fmt::Formatter<W>) -> fmt::Result {
-        f.write_str(self.name())
     }
 }
 

@@ -47,10 +47,17 @@ fn arg<'a>(alloc: Global, word: Word) -> Result<Arg<'a>, AllocError> {
         .required_unless_present_any(word.unless().as_slice())
 }
 
+/// Appends what was made, if there was memory for it.
+fn put<T: Drop>(made: &mut Vec<T>, one: Result<T, AllocError>) -> Result<(), AllocError> {
+    made.push(one?)?;
+    Ok(())
+}
+
+/// The words of these keys.
 fn args_of<'a>(alloc: Global, keys: &'static str) -> Result<Vec<Arg<'a>>, AllocError> {
     let mut args = Vec::new(alloc);
     for key in keys.split(' ') {
-        args.push(arg(alloc, Word::of(key))?)?;
+        put(&mut args, arg(alloc, Word::of(key)))?;
     }
     Ok(args)
 }
@@ -65,7 +72,7 @@ fn command_of<'a>(alloc: Global, row: CommandRow) -> Result<Command<'a>, AllocEr
 fn commands<'a>(alloc: Global, lines: &'static str) -> Result<Vec<Command<'a>>, AllocError> {
     let mut commands = Vec::new(alloc);
     for line in lines.lines() {
-        commands.push(command_of(alloc, CommandRow::of(line))?)?;
+        put(&mut commands, command_of(alloc, CommandRow::of(line)))?;
     }
     Ok(commands)
 }
@@ -73,15 +80,15 @@ fn commands<'a>(alloc: Global, lines: &'static str) -> Result<Vec<Command<'a>>, 
 /// The line of the command that comes first after the program's name, or those of all, as where clap is asked for help: clap reads no other
 /// command, and each costs it some ten allocations.
 fn lines_of(words: &[String]) -> &'static str {
-    let Some(first) = words.get(1) else {
-        return COMMANDS;
-    };
-    for line in COMMANDS.lines() {
-        if CommandRow::of(line).name == first.as_str() {
-            return line;
+    let all = COMMANDS;
+    if let Some(first) = words.get(1) {
+        for line in all.lines() {
+            if CommandRow::of(line).name == first.as_str() {
+                return line;
+            }
         }
     }
-    COMMANDS
+    all
 }
 
 /// What each exit status means, below the commands.
@@ -120,7 +127,8 @@ pub(crate) fn fault(
     kind: ErrorKind,
     message: &str,
 ) -> Result<Error, AllocError> {
-    command(alloc, COMMANDS)?
-        .bin_name(program)?
-        .error(kind, message)
+    let mut command = command(alloc, COMMANDS)?.bin_name(program)?;
+    let error = command.error(kind, message);
+    drop(command);
+    error
 }

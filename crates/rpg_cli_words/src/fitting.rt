@@ -1,6 +1,7 @@
 //! The words of the command that rewrites an old deck.
 
 use crate::format::{Format, format_of};
+use crate::given::needed;
 use crate::request::{FileWord, Request, may_be_standard};
 use clap::ArgMatches;
 use std::alloc::{AllocError, Global};
@@ -41,7 +42,7 @@ impl<'a> FitWords<'a> {
         match word {
             FileWord::Source => Some(self.source),
             FileWord::Fitted => self.new_deck,
-            FileWord::Table(place) => self.tables.get(place).map(|table| table.path),
+            FileWord::Table(place) => Some(self.tables.get(place)?.path),
             _ => None,
         }
     }
@@ -55,7 +56,12 @@ fn table_of(text: &str) -> Option<TableWord<'_>> {
 
 /// Whether a text has a digit 0 or 1 for each switch.
 fn are_switches(text: &str) -> bool {
-    text.len() == 8 && text.bytes().all(|digit| matches!(digit, b'0' | b'1'))
+    for digit in text.as_bytes() {
+        if !matches!(*digit, b'0' | b'1') {
+            return false;
+        }
+    }
+    text.len() == 8
 }
 
 /// What is wrong with a value that clap takes.
@@ -76,28 +82,21 @@ pub(crate) fn fault_of(given: &ArgMatches) -> Option<&'static str> {
 
 /// The table files that the words name.
 fn tables_of<'a>(alloc: Global, given: &ArgMatches<'a>) -> Result<Vec<TableWord<'a>>, AllocError> {
-    let mut tables = Vec::new(alloc);
-    for text in given.get_strs("table").unwrap_or(&[]) {
-        if let Some(table) = table_of(*text) {
-            tables.push(table)?;
-        }
-    }
-    Ok(tables)
+    let texts = given.get_strs("table").unwrap_or(&[]);
+    texts.iter().copied().filter_map(table_of).collect(alloc)
 }
 
 pub(crate) fn fit_words<'a>(
     alloc: Global,
     given: &ArgMatches<'a>,
-) -> Result<Option<Request<'a>>, AllocError> {
-    let Some(source) = given.get_str("SRC") else {
-        return Ok(None);
-    };
-    Ok(Some(Request::Fit(FitWords {
-        source,
+) -> Result<Request<'a>, AllocError> {
+    let tables = tables_of(alloc, given)?;
+    Ok(Request::Fit(FitWords {
+        source: needed(given, "SRC"),
         new_deck: given.get_str("NEW"),
-        tables: tables_of(alloc, given)?,
+        tables,
         switches: given.get_str("switches"),
         keeps_forms: given.get_flag("forms"),
         format: format_of(given),
-    })))
+    }))
 }

@@ -28,10 +28,10 @@ impl<'a> GoWords<'a> {
     }
 }
 
-pub(crate) fn go_words<'a>(given: &ArgMatches<'a>) -> Option<Request<'a>> {
-    Some(Request::Go(GoWords {
-        run: run_words(given, FileWord::Source)?,
-        allowance: allowance_of(given)?,
-        warnings: warning_words(given)?,
-    }))
+pub(crate) fn go_words<'a>(given: &ArgMatches<'a>) -> Request<'a> {
+    Request::Go(GoWords {
+        run: run_words(given, FileWord::Source),
+        allowance: allowance_of(given),
+        warnings: warning_words(given),
+    })
 }

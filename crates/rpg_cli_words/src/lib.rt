@@ -6,6 +6,7 @@ mod commands;
 mod dates;
 mod fitting;
 mod format;
+mod given;
 mod going;
 mod listing;
 mod looks;

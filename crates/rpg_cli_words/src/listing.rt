@@ -1,6 +1,7 @@
 //! The words of the commands that show a source.
 
 use crate::format::{Format, format_of};
+use crate::given::needed;
 use crate::request::Request;
 use clap::ArgMatches;
 
@@ -28,11 +29,11 @@ pub enum CardsWanted {
     Shorthand,
 }
 
-pub(crate) fn list_words<'a>(given: &ArgMatches<'a>) -> Option<Request<'a>> {
-    Some(Request::List(ListWords {
-        source: given.get_str("SRC")?,
+pub(crate) fn list_words<'a>(given: &ArgMatches<'a>) -> Request<'a> {
+    Request::List(ListWords {
+        source: needed(given, "SRC"),
         format: format_of(given),
-    }))
+    })
 }
 
 fn wanted(given: &ArgMatches) -> CardsWanted {
@@ -45,9 +46,9 @@ fn wanted(given: &ArgMatches) -> CardsWanted {
     }
 }
 
-pub(crate) fn cards_words<'a>(given: &ArgMatches<'a>) -> Option<Request<'a>> {
-    Some(Request::Cards(CardsWords {
-        source: given.get_str("SRC")?,
+pub(crate) fn cards_words<'a>(given: &ArgMatches<'a>) -> Request<'a> {
+    Request::Cards(CardsWords {
+        source: needed(given, "SRC"),
         wanted: wanted(given),
-    }))
+    })
 }

@@ -1,6 +1,7 @@
 //! The words of the command that makes lines of records.
 
 use crate::format::{Format, format_of};
+use crate::given::needed;
 use crate::request::{FileWord, Request, may_be_standard};
 use clap::ArgMatches;
 
@@ -78,19 +79,19 @@ fn framing(given: &ArgMatches) -> RecordFraming {
 }
 
 /// The deck, and which way the records go.
-fn deck<'a>(given: &ArgMatches<'a>) -> Option<(&'a str, RecordsWay)> {
+fn deck<'a>(given: &ArgMatches<'a>) -> (&'a str, RecordsWay) {
     match given.get_str("by") {
-        Some(deck) => Some((deck, RecordsWay::ToLines)),
-        None => Some((given.get_str("to")?, RecordsWay::ToRecords)),
+        Some(deck) => (deck, RecordsWay::ToLines),
+        None => (needed(given, "to"), RecordsWay::ToRecords),
     }
 }
 
 /// The byte of two hexadecimal digits.
 fn byte_of(text: &str) -> Option<u8> {
-    if text.len() == 2 && text.bytes().all(|b| b.is_ascii_hexdigit()) {
-        u8::from_str_radix(text, 16).ok()
-    } else {
-        None
+    match text.as_bytes() {
+        [b'+', _] => None,
+        [_, _] => u8::from_str_radix(text, 16).ok(),
+        _ => None,
     }
 }
 
@@ -115,41 +116,20 @@ pub(crate) fn fault_of(given: &ArgMatches) -> Option<&'static str> {
     }
 }
 
-/// The files of a conversion, and which way it goes.
-#[derive(Clone, Copy)]
-struct RecordFiles<'a> {
-    input: &'a str,
-    output: &'a str,
-    deck: &'a str,
-    way: RecordsWay,
-    new_deck: Option<&'a str>,
-}
-
-fn record_files<'a>(given: &ArgMatches<'a>) -> Option<RecordFiles<'a>> {
-    let (deck, way) = deck(given)?;
-    Some(RecordFiles {
-        input: given.get_str("IN")?,
-        output: given.get_str("OUT")?,
+pub(crate) fn records_words<'a>(given: &ArgMatches<'a>) -> Request<'a> {
+    let (deck, way) = deck(given);
+    Request::Records(RecordsWords {
+        input: needed(given, "IN"),
+        output: needed(given, "OUT"),
         deck,
         way,
-        new_deck: given.get_str("deck"),
-    })
-}
-
-pub(crate) fn records_words<'a>(given: &ArgMatches<'a>) -> Option<Request<'a>> {
-    let files = record_files(given)?;
-    Some(Request::Records(RecordsWords {
-        input: files.input,
-        output: files.output,
-        deck: files.deck,
-        way: files.way,
         file: given.get_str("file"),
         length: given.get_one::<u16>("length"),
         framing: framing(given),
         is_ascii: given.get_flag("ascii"),
         low_blank: given.get_flag("low-blank"),
         dropped: dropped(given),
-        new_deck: files.new_deck,
+        new_deck: given.get_str("deck"),
         format: format_of(given),
-    }))
+    })
 }

@@ -1,12 +1,13 @@
 //! What the words ask for, or what clap says in place of that.
 
-ghost use Rattle.std.specs.Prelude.{◌<◌, ◌≤◌, IfSome};
+ghost use Rattle.std.specs.Prelude.{◌<◌, ◌≤◌};
 
 use crate::building::{fault, matches_of};
 use crate::commands::cut;
 use crate::dates::DateWord;
 use crate::fitting::{self, FitWords, fit_words};
 use crate::format::{Format, format_of};
+use crate::given::needed;
 use crate::going::{GoWords, go_words};
 use crate::listing::{CardsWords, ListWords, cards_words, list_words};
 use crate::looks::{LookWords, look_words};
@@ -221,23 +222,44 @@ impl Shared {
     }
 }
 
+/// The file that a word names of a command that has a source, an object program, or both.
+fn program_path<'a>(
+    word: FileWord,
+    source: Option<&'a str>,
+    object: Option<&'a str>,
+) -> Option<&'a str> {
+    match word {
+        FileWord::Source => source,
+        FileWord::Object => object,
+        _ => None,
+    }
+}
+
+impl<'a> ShowWords<'a> {
+    fn path(&self, word: FileWord) -> Option<&'a str> {
+        match word {
+            FileWord::Object => Some(self.object),
+            FileWord::OwnSource => self.source,
+            _ => None,
+        }
+    }
+}
+
 impl<'a> Request<'a> {
     /// The file that a word names, if there is that word.
     pub fn path(&self, word: FileWord) -> Option<&'a str> {
-        match (self, word) {
-            (Request::Compile(words), FileWord::Source) => Some(words.source),
-            (Request::Compile(words), FileWord::Object) => Some(words.object),
-            (Request::Check(words), FileWord::Source) => words.sources.first().copied(),
-            (Request::List(words), FileWord::Source) => Some(words.source),
-            (Request::Cards(words), FileWord::Source) => Some(words.source),
-            (Request::Verify(words), FileWord::Object) => Some(words.object),
-            (Request::Show(words), FileWord::Object) => Some(words.object),
-            (Request::Show(words), FileWord::OwnSource) => words.source,
-            (Request::Run(words), word) => words.path(word),
-            (Request::Go(words), word) => words.run.path(word),
-            (Request::Records(words), word) => words.path(word),
-            (Request::Fit(words), word) => words.path(word),
-            _ => None,
+        match self {
+            Request::Compile(words) => program_path(word, Some(words.source), Some(words.object)),
+            Request::Check(words) => program_path(word, words.sources.first().copied(), None),
+            Request::List(words) => program_path(word, Some(words.source), None),
+            Request::Cards(words) => program_path(word, Some(words.source), None),
+            Request::Verify(words) => program_path(word, None, Some(words.object)),
+            Request::Show(words) => words.path(word),
+            Request::Run(words) => words.path(word),
+            Request::Go(words) => words.run.path(word),
+            Request::Records(words) => words.path(word),
+            Request::Fit(words) => words.path(word),
+            Request::Explain(_) => None,
         }
     }
 
@@ -326,26 +348,20 @@ impl<'a> RunWords<'a> {
         is_standard(self.print) || may_be_standard(self.disk)
     }
 
-    /// The first word that names standard input before the records of a secondary file.
-    fn earlier_input(&self) -> Option<FileWord> {
-        if is_standard(self.object) {
-            Some(self.program)
-        } else {
-            is_standard(self.input).then_some(FileWord::Input)
-        }
-    }
-
-    /// Two words that name standard input.
+    /// The first two words that name standard input.
     fn shared_input(&self) -> Option<SameFile> {
-        let written = if is_standard(self.object) && is_standard(self.input) {
-            FileWord::Input
-        } else if may_be_standard(self.secondary) {
-            FileWord::Secondary
-        } else {
-            return None;
+        let (earlier, written) = match (
+            is_standard(self.object),
+            is_standard(self.input),
+            may_be_standard(self.secondary),
+        ) {
+            (true, true, _) => (self.program, FileWord::Input),
+            (true, false, true) => (self.program, FileWord::Secondary),
+            (false, true, true) => (FileWord::Input, FileWord::Secondary),
+            _ => return None,
         };
         Some(SameFile {
-            earlier: self.earlier_input()?,
+            earlier,
             written,
             shared: Shared::StandardInput,
         })
@@ -443,108 +459,83 @@ pub fn refuse_same_file(alloc: Global, same: SameFile) -> Refusal {
     Refusal::of(same_file_error(alloc, same))
 }
 
+/// The allowance where the words have none.
+const ALLOWANCE: u16 = 1000;
+
 /// How many backward branches and calls a cycle may take: clap takes no 0.
-pub(crate) fn allowance_of(given: &ArgMatches<'_>) -> Option<u16>
-    ensures { IfSome result (λ allowance. 0 < allowance) }
+pub(crate) fn allowance_of(given: &ArgMatches<'_>) -> u16
+    ensures { 0 < result }
 {
-    let allowance = given.get_one::<u16>("allowance")?;
-    (allowance > 0).then_some(allowance)
+    match given.get_one::<u16>("allowance") {
+        Some(allowance) if allowance > 0 => allowance,
+        _ => ALLOWANCE,
+    }
 }
 
-fn compile_words<'a>(given: &ArgMatches<'a>) -> Option<Request<'a>> {
-    Some(Request::Compile(CompileWords {
-        source: given.get_str("SRC")?,
-        object: given.get_str("OBJ")?,
-        allowance: allowance_of(given)?,
-        warnings: warning_words(given)?,
+fn compile_words<'a>(given: &ArgMatches<'a>) -> Request<'a> {
+    Request::Compile(CompileWords {
+        source: needed(given, "SRC"),
+        object: needed(given, "OBJ"),
+        allowance: allowance_of(given),
+        warnings: warning_words(given),
         is_quiet: given.get_flag("quiet"),
         format: format_of(given),
-    }))
-}
-
-fn check_words<'a>(
-    alloc: Global,
-    given: &ArgMatches<'a>,
-) -> Result<Option<Request<'a>>, AllocError> {
-    let Some(warnings) = warning_words(given) else {
-        return Ok(None);
-    };
-    Ok(Some(Request::Check(CheckWords {
-        sources: texts(alloc, given, "SRC")?,
-        warnings,
-        is_quiet: given.get_flag("quiet"),
-        format: format_of(given),
-    })))
-}
-
-fn verify_words<'a>(given: &ArgMatches<'a>) -> Option<Request<'a>> {
-    Some(Request::Verify(VerifyWords {
-        object: given.get_str("OBJ")?,
-        is_quiet: given.get_flag("quiet"),
-        format: format_of(given),
-    }))
-}
-
-fn show_words<'a>(given: &ArgMatches<'a>) -> Option<Request<'a>> {
-    Some(Request::Show(ShowWords {
-        object: given.get_str("OBJ")?,
-        source: given.get_str("source"),
-        rows: given.get_flag("rows") || given.get_str("source").is_some(),
-        format: format_of(given),
-    }))
-}
-
-/// The files of a run.
-#[derive(Clone, Copy)]
-struct RunFiles<'a> {
-    object: &'a str,
-    input: &'a str,
-    print: &'a str,
-    secondary: Option<&'a str>,
-    disk: Option<&'a str>,
-    source: Option<&'a str>,
-}
-
-/// The files of a run whose program a word names. Where PRINT isn't given, standard output is meant.
-fn run_files<'a>(given: &ArgMatches<'a>, program: FileWord) -> Option<RunFiles<'a>> {
-    Some(RunFiles {
-        object: given.get_str(program.name())?,
-        input: given.get_str("INPUT")?,
-        print: given.get_str("PRINT").unwrap_or(STANDARD),
-        secondary: given.get_str("secondary"),
-        disk: given.get_str("disk"),
-        source: given.get_str("source"),
     })
 }
 
-/// The words of a run whose program a word names.
-pub(crate) fn run_words<'a>(given: &ArgMatches<'a>, program: FileWord) -> Option<RunWords<'a>> {
-    let files = run_files(given, program)?;
-    Some(RunWords {
-        object: files.object,
+fn check_words<'a>(alloc: Global, given: &ArgMatches<'a>) -> Result<Request<'a>, AllocError> {
+    let sources = texts(alloc, given, "SRC")?;
+    Ok(Request::Check(CheckWords {
+        sources,
+        warnings: warning_words(given),
+        is_quiet: given.get_flag("quiet"),
+        format: format_of(given),
+    }))
+}
+
+fn verify_words<'a>(given: &ArgMatches<'a>) -> Request<'a> {
+    Request::Verify(VerifyWords {
+        object: needed(given, "OBJ"),
+        is_quiet: given.get_flag("quiet"),
+        format: format_of(given),
+    })
+}
+
+fn show_words<'a>(given: &ArgMatches<'a>) -> Request<'a> {
+    let source = given.get_str("source");
+    Request::Show(ShowWords {
+        object: needed(given, "OBJ"),
+        source,
+        rows: given.get_flag("rows") || source.is_some(),
+        format: format_of(given),
+    })
+}
+
+/// The words of a run whose program a word names. Where PRINT isn't given, standard output is meant.
+pub(crate) fn run_words<'a>(given: &ArgMatches<'a>, program: FileWord) -> RunWords<'a> {
+    RunWords {
+        object: needed(given, program.name()),
         program,
-        input: files.input,
-        print: files.print,
+        input: needed(given, "INPUT"),
+        print: given.get_str("PRINT").unwrap_or(STANDARD),
         date: given.get_str("date").map(DateWord::of),
-        secondary: files.secondary,
-        disk: files.disk,
+        secondary: given.get_str("secondary"),
+        disk: given.get_str("disk"),
         most: given.get_one::<u64>("most"),
         keeps: given.get_flag("keep"),
-        source: files.source,
+        source: given.get_str("source"),
         looks: look_words(given),
         is_quiet: given.get_flag("quiet"),
         format: format_of(given),
-    })
+    }
 }
 
-fn explain_words<'a>(
-    alloc: Global,
-    given: &ArgMatches<'a>,
-) -> Result<Option<Request<'a>>, AllocError> {
-    Ok(Some(Request::Explain(ExplainWords {
-        codes: texts(alloc, given, "CODE")?,
+fn explain_words<'a>(alloc: Global, given: &ArgMatches<'a>) -> Result<Request<'a>, AllocError> {
+    let codes = texts(alloc, given, "CODE")?;
+    Ok(Request::Explain(ExplainWords {
+        codes,
         lists: given.get_flag("list"),
-    })))
+    }))
 }
 
 /// The words for sources and object programs that no standard stream stands for, and what is said where one does.
@@ -575,12 +566,8 @@ fn bad_value(matches: &ArgMatches) -> Option<&'static str> {
     }
 }
 
-fn run_request<'a>(given: &ArgMatches<'a>) -> Option<Request<'a>> {
-    Some(Request::Run(run_words(given, FileWord::Object)?))
-}
-
-/// The request of a command whose words need no memory.
-fn plain_request<'a>(name: &str, given: &ArgMatches<'a>) -> Option<Request<'a>> {
+/// The request of a command whose words need no memory. Clap knows no other command, so that one which isn't named here is `go`.
+fn plain_request<'a>(name: &str, given: &ArgMatches<'a>) -> Request<'a> {
     match name {
         "compile" => compile_words(given),
         "list" => list_words(given),
@@ -588,9 +575,8 @@ fn plain_request<'a>(name: &str, given: &ArgMatches<'a>) -> Option<Request<'a>> 
         "records" => records_words(given),
         "verify" => verify_words(given),
         "show" => show_words(given),
-        "run" => run_request(given),
-        "go" => go_words(given),
-        _ => None,
+        "run" => Request::Run(run_words(given, FileWord::Object)),
+        _ => go_words(given),
     }
 }
 
@@ -599,7 +585,7 @@ fn command_request<'a>(
     alloc: Global,
     name: &str,
     given: &ArgMatches<'a>,
-) -> Result<Option<Request<'a>>, AllocError> {
+) -> Result<Request<'a>, AllocError> {
     match name {
         "check" => check_words(alloc, given),
         "explain" => explain_words(alloc, given),
@@ -608,12 +594,15 @@ fn command_request<'a>(
     }
 }
 
+/// The request of words that clap takes, if they have a command and good values.
 fn request_in<'a>(
     alloc: Global,
     matches: &ArgMatches<'a>,
 ) -> Result<Option<Request<'a>>, AllocError> {
     match matches.subcommand() {
-        Some((name, given)) if bad_value(matches).is_none() => command_request(alloc, name, given),
+        Some((name, given)) if bad_value(matches).is_none() => {
+            Ok(Some(command_request(alloc, name, given)?))
+        }
         _ => Ok(None),
     }
 }

@@ -4,6 +4,9 @@ use clap::ArgMatches;
 use rpg_cli_values::{WarningCode, WarningCodes};
 use std::alloc::{AllocError, Global};
 
+/// How many faults or warnings are listed where the words don't say.
+const MOST: u16 = 20;
+
 /// What becomes of the warnings of a source.
 #[derive(Clone, Copy)]
 pub struct WarningWords {
@@ -25,12 +28,12 @@ fn codes_of(texts: &[&str]) -> WarningCodes {
     codes
 }
 
-pub(crate) fn warning_words(given: &ArgMatches<'_>) -> Option<WarningWords> {
-    Some(WarningWords {
+pub(crate) fn warning_words(given: &ArgMatches<'_>) -> WarningWords {
+    WarningWords {
         denies: given.get_flag("deny"),
         allowed: codes_of(given.get_strs("allow").unwrap_or(&[])),
-        most: given.get_one::<u16>("faults")?,
-    })
+        most: given.get_one::<u16>("faults").unwrap_or(MOST),
+    }
 }
 
 /// The values of a word that may have several.
@@ -39,7 +42,5 @@ pub(crate) fn texts<'a>(
     given: &ArgMatches<'a>,
     name: &str,
 ) -> Result<Vec<&'a str>, AllocError> {
-    let mut texts = Vec::new(alloc);
-    texts.extend_from_slice(given.get_strs(name).unwrap_or(&[]))?;
-    Ok(texts)
+    given.get_strs(name).unwrap_or(&[]).to_vec(alloc)
 }
