@@ -1,13 +1,18 @@
 -- One input field with which nothing is wrong.
-use Rattle.std.specs.Prelude.{ℕ, List, Option}
+use Rattle.std.specs.Prelude.{◌≡◌, ℕ, ◌≤◌, List, Option, length}
 use Rattle.std.specs.Ordering.{nat_cmp}
 use Rattle.std.specs.declared.cmp.Ordering.{Ordering}
 use Rattle.rpg_effect.specs.Ended.{Ended, Gives, or_halt}
+use Rattle.rpg_effect.specs.Forms.{form_at, length_of}
 use Rattle.rpg_effect.specs.Input.{order_of, taken_in, value_read}
 use Rattle.rpg_effect.specs.Values.{Text}
 use Rattle.rpg_effect.specs.World.{Data}
+use Rattle.rpg_effect.specs.declared.form.FieldForm.{FieldForm}
 use Rattle.rpg_effect.specs.declared.form.Kind.{Kind}
 use Rattle.rpg_effect.specs.declared.input.InputField.{InputField}
+use Rattle.rpg_machine_inputs.specs.FixedInputs.{IsFixedInput}
+use Rattle.rpg_machine_inputs.specs.declared.fixed_inputs.FixedInput.{FixedInput}
+use Rattle.rpg_memory.specs.Fields.{IsValue}
 
 -- how a text compares with zero
 abbrev pub order_of_text : List ℕ → Option Ordering
@@ -16,3 +21,15 @@ order_of_text text = order_of (Text text)
 -- columns become the value of a field of that kind; a bad digit is halt 4
 abbrev pub filled_field : Kind → InputField ℕ → List ℕ → Data nat_cmp → Ended nat_cmp
 filled_field k f text d = or_halt (value_read k text) 4 d (λ v. Gives (taken_in f.field f.shows v d))
+
+-- the columns of an input field are some of a record of that many
+pub record HasColumns (input : InputField ℕ) (len : ℕ) : Type 0 where
+  pub low : 1 ≤ input.from
+  pub ordered : input.from ≤ input.to
+  pub high : input.to ≤ len
+
+-- an input field fills a field of that kind, of which this was found, and its columns are as long
+pub record CanFill (forms : List FieldForm) (k : Kind) (input : InputField ℕ) (found : FixedInput) (part : List ℕ) : Type 0 where
+  pub field : IsValue forms k input.field 1
+  pub fixed : IsFixedInput forms input found
+  pub long : length part ≡ length_of (form_at forms input.field)

@@ -1,15 +1,13 @@
 //! The columns of a record that become values of fields. No field is tested here: the rules have tested them all.
-ghost use Rattle.std.specs.Prelude.{◌≡◌, ◌+◌, ◌-◌, ◌≤◌, All, length, true, None};
+ghost use Rattle.std.specs.Prelude.{◌≡◌, ◌+◌, ◌-◌, All, length, true, None};
 ghost use Rattle.rpg_effect.specs.Ends.{end_of};
-ghost use Rattle.rpg_effect.specs.Forms.{length_of};
 ghost use Rattle.rpg_effect.specs.Input as of;
 ghost use Rattle.rpg_effect.specs.Showing.{shown_if_any};
 ghost use Rattle.rpg_effect.specs.declared.form.Kind.TheVariants as kinds;
 ghost use Rattle.rpg_machine_inputs.specs.FixedInputs.{AreFixedInputs, IsFixedInput};
-ghost use Rattle.rpg_machine_inputs.specs.Inputs.{filled_field, order_of_text};
+ghost use Rattle.rpg_machine_inputs.specs.Inputs.{CanFill, HasColumns, filled_field, order_of_text};
 ghost use Rattle.rpg_machine_operations.specs.Words.{DidData};
 ghost use Rattle.rpg_object_program.specs.Kept.{IsCharacter};
-ghost use Rattle.rpg_memory.specs.Fields.{IsValue};
 ghost use Rattle.rpg_memory.specs.Memory.{data_put, forms_in, with_on};
 ghost use Rattle.rpg_memory.specs.Silent.{names_none};
 
@@ -26,10 +24,9 @@ use rpg_text::is_blank;
 use std::cmp::Ordering;
 
 /// The columns of a record that an input field takes.
+#[inline(always)]
 fn columns_of(text: &[u8], input: InputField<u16>) -> &[u8]
-    requires low { 1 ≤ input.from }
-    requires ordered { input.from ≤ input.to }
-    requires high { input.to ≤ length text.now }
+    requires { HasColumns input (length text.now) }
     ensures value { result.now ≡ of.record_part input text.now }
     ensures length { length result.now ≡ input.to + 1 - input.from }
 {
@@ -37,6 +34,7 @@ fn columns_of(text: &[u8], input: InputField<u16>) -> &[u8]
 }
 
 /// How a text compares with zero: only a blank text has an order.
+#[inline(always)]
 fn order_of_text(text: &[u8]) -> Option<Ordering>
     ensures { result ≡ order_of_text text.now }
 {
@@ -48,6 +46,7 @@ fn order_of_text(text: &[u8]) -> Option<Ordering>
 }
 
 /// Puts the number that digits spell into a field, if they spell one.
+#[inline(always)]
 #[tactic(auto, using(crate::proofs::Filling::numbers, crate::proofs::Filling::silent), unfolding(rpg_effect::specs::Showing::shown_if_any))]
 fn fill_number<S: Store + Drop>(
     memory: &mut Memory<'_, S>,
@@ -55,9 +54,7 @@ fn fill_number<S: Store + Drop>(
     fixed: FixedInput,
     digits: &[u8],
 ) -> End
-    requires field { IsValue memory.old.program.fields kinds.Number input.now.field 1 }
-    requires fixed { IsFixedInput memory.old.program.fields input.now fixed }
-    requires long { length digits.now ≡ length_of (forms_in memory.old input.now.field) }
+    requires { CanFill memory.old.program.fields kinds.Number input.now fixed digits.now }
     ensures { DidData (filled_field kinds.Number input.now digits.now memory.old.world.data) memory.old (end_of result) memory.new }
 {
     memory.is_kept();
@@ -93,15 +90,14 @@ fn show_text<S: Store + Drop>(
 }
 
 /// Puts characters into a field. The indicators are set first, so that fewer values stay live over the call that copies them.
+#[inline(always)]
 fn fill_text<S: Store + Drop>(
     memory: &mut Memory<'_, S>,
     input: &InputField<u16>,
     fixed: FixedInput,
     text: &[u8],
 ) -> End
-    requires field { IsValue memory.old.program.fields kinds.Text input.now.field 1 }
-    requires fixed { IsFixedInput memory.old.program.fields input.now fixed }
-    requires long { length text.now ≡ length_of (forms_in memory.old input.now.field) }
+    requires fill { CanFill memory.old.program.fields kinds.Text input.now fixed text.now }
     requires characters { All IsCharacter text.now }
     ensures { DidData (filled_field kinds.Text input.now text.now memory.old.world.data) memory.old (end_of result) memory.new }
 {
@@ -111,6 +107,7 @@ fn fill_text<S: Store + Drop>(
 }
 
 /// Fills one field, by what was found of it.
+#[inline(always)]
 fn fill_one<S: Store + Drop>(
     memory: &mut Memory<'_, S>,
     text: &[u8],

@@ -4,6 +4,7 @@ pub mod Outputs
 pub mod PassLines
 pub mod Passages
 pub mod Plans
+pub mod Putting
 pub mod Ready
 pub mod Right
 pub mod Weighed

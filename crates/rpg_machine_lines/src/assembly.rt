@@ -1,13 +1,14 @@
 //! A line is assembled: the fields whose conditions hold are laid over blanks, in order.
-ghost use Rattle.std.specs.Prelude.{◌≡◌, ◌≤◌, ◌<◌, ◌+◌, length, drop, true, None};
+ghost use Rattle.std.specs.Prelude.{◌≡◌, ◌≤◌, ◌+◌, length, drop, true, None};
 ghost use Rattle.arrayvec.specs.ArrayVec.{array_vec_len};
 ghost use Rattle.rpg_effect.specs.Ends.{GoesOn, end_of};
 ghost use Rattle.rpg_effect.specs.LineFaults as faults;
 ghost use Rattle.rpg_effect.specs.Lines as lines;
 ghost use Rattle.rpg_effect.specs.World.{three_hold};
-ghost use Rattle.rpg_machine_lines.specs.Drafts.{assembled_in, drafted_in, fields_replaced, with_field_in};
+ghost use Rattle.rpg_machine_lines.specs.Drafts.{assembled_in, drafted_in, with_field_in};
 ghost use Rattle.rpg_machine_lines.specs.Entries.{AreFieldEntries, IsFieldEntry};
 ghost use Rattle.rpg_machine_lines.specs.Plans.{IsFieldPlan, IsFixedField, AreFieldPlans, reach_of};
+ghost use Rattle.rpg_machine_lines.specs.Putting.{CanRemember, ChangesFields, ChangesValues, RemembersOne};
 ghost use Rattle.rpg_object_program.specs.Constants.{word_at};
 ghost use Rattle.rpg_memory.specs.Memory.{forms_in};
 
@@ -38,12 +39,10 @@ fn remember<S: Store + Drop>(
     is_blanked: bool,
     entry: (u16, u16),
 )
-    requires room { array_vec_len to_blank.old < 200 }
-    requires entries { AreFieldEntries memory.now.program.fields to_blank.old.items }
+    requires more { CanRemember memory.now.program.fields (array_vec_len to_blank.old) to_blank.old.items }
     requires entry { IsFieldEntry memory.now.program.fields entry.0 entry.1 }
     ensures items { to_blank.new.items ≡ lines.remembered is_blanked (entry.0, entry.1) to_blank.old.items }
-    ensures entries { AreFieldEntries memory.now.program.fields to_blank.new.items }
-    ensures few { array_vec_len to_blank.new ≤ array_vec_len to_blank.old + 1 }
+    ensures one { RemembersOne memory.now.program.fields (array_vec_len to_blank.old) (array_vec_len to_blank.new) to_blank.new.items }
 {
     if is_blanked {
         to_blank.push(entry);
@@ -60,12 +59,9 @@ fn with_field<S: Store + Drop>(
     field: &LineField<u16>,
 ) -> End
     requires right { faults.field_fault (forms_in memory.old) (word_at memory.old.program) (length text.old) field.now ≡ None }
-    requires room { array_vec_len to_blank.old < 200 }
-    requires entries { AreFieldEntries memory.old.program.fields to_blank.old.items }
+    requires more { CanRemember memory.old.program.fields (array_vec_len to_blank.old) to_blank.old.items }
     ensures drafted { drafted_in (end_of result) memory.new text.new to_blank.new.items ≡ with_field_in memory.old text.old to_blank.old.items field.now }
-    ensures rest { memory.new ≡ fields_replaced memory.new.world.data.fields memory.old }
-    ensures entries { AreFieldEntries memory.old.program.fields to_blank.new.items }
-    ensures few { array_vec_len to_blank.new ≤ array_vec_len to_blank.old + 1 }
+    ensures changes { ChangesFields memory.old memory.new (array_vec_len to_blank.old) (array_vec_len to_blank.new) to_blank.new.items }
 {
     if !three_hold(memory.on(), field.conditions) {
         return End::GoesOn;
@@ -100,11 +96,9 @@ fn with_fixed_field<S: Store + Drop>(
     requires right { faults.field_fault (forms_in memory.now) (word_at memory.now.program) (length text.old) field.now ≡ None }
     requires holds { three_hold memory.now.world.data.on field.now.conditions ≡ true }
     requires fixed { IsFixedField memory.now.program.fields field.now fixed.now }
-    requires room { array_vec_len to_blank.old < 200 }
-    requires entries { AreFieldEntries memory.now.program.fields to_blank.old.items }
+    requires more { CanRemember memory.now.program.fields (array_vec_len to_blank.old) to_blank.old.items }
     ensures drafted { drafted_in GoesOn memory.now text.new to_blank.new.items ≡ with_field_in memory.now text.old to_blank.old.items field.now }
-    ensures entries { AreFieldEntries memory.now.program.fields to_blank.new.items }
-    ensures few { array_vec_len to_blank.new ≤ array_vec_len to_blank.old + 1 }
+    ensures one { RemembersOne memory.now.program.fields (array_vec_len to_blank.old) (array_vec_len to_blank.new) to_blank.new.items }
 {
     memory.is_kept();
     lay_fixed_value(memory, text, field, fixed);
@@ -127,12 +121,9 @@ fn with_planned_field<S: Store + Drop>(
 ) -> End
     requires right { faults.field_fault (forms_in memory.old) (word_at memory.old.program) (length text.old) field.now ≡ None }
     requires planned { IsFieldPlan memory.old.program.fields field.now found.now }
-    requires room { array_vec_len to_blank.old < 200 }
-    requires entries { AreFieldEntries memory.old.program.fields to_blank.old.items }
+    requires more { CanRemember memory.old.program.fields (array_vec_len to_blank.old) to_blank.old.items }
     ensures drafted { drafted_in (end_of result) memory.new text.new to_blank.new.items ≡ with_field_in memory.old text.old to_blank.old.items field.now }
-    ensures rest { memory.new ≡ fields_replaced memory.new.world.data.fields memory.old }
-    ensures entries { AreFieldEntries memory.old.program.fields to_blank.new.items }
-    ensures few { array_vec_len to_blank.new ≤ array_vec_len to_blank.old + 1 }
+    ensures changes { ChangesFields memory.old memory.new (array_vec_len to_blank.old) (array_vec_len to_blank.new) to_blank.new.items }
 {
     let fixed = match found {
         FieldPlan::Always(fixed) => fixed,
@@ -161,8 +152,7 @@ pub fn assemble<S: Store + Drop>(
     requires entries { AreFieldEntries memory.old.program.fields to_blank.old.items }
     requires planned { AreFieldPlans memory.old.program.fields fields.now plan.now }
     ensures drafted { drafted_in (end_of result) memory.new text.new to_blank.new.items ≡ assembled_in memory.old text.old to_blank.old.items fields.now }
-    ensures rest { memory.new ≡ fields_replaced memory.new.world.data.fields memory.old }
-    ensures entries { AreFieldEntries memory.old.program.fields to_blank.new.items }
+    ensures changes { ChangesValues memory.old memory.new to_blank.new.items }
     ensures behind { drop (reach_of fields.now) text.new ≡ drop (reach_of fields.now) text.old }
 {
     let (mut left, mut found) = (fields, plan);

@@ -1,12 +1,10 @@
 //! One line is put out.
-ghost use Rattle.std.specs.Prelude.{◌≡◌, length, IfOk, OnOk};
+ghost use Rattle.std.specs.Prelude.{IfOk};
 ghost use Rattle.rpg_effect.specs.Ends.{end_of};
 ghost use Rattle.rpg_effect.specs.Fronts.{OnlyGrows};
 ghost use Rattle.rpg_machine_lines.specs.Outputs.{PutsOwn, line_effect, output_of};
-ghost use Rattle.rpg_machine_lines.specs.Plans.{IsLinePlan};
-ghost use Rattle.rpg_machine_lines.specs.Ready.{IsNear};
-ghost use Rattle.rpg_machine_lines.specs.Right.{IsRightLine};
-ghost use Rattle.rpg_object_program.specs.Object.{file_length, line_row};
+ghost use Rattle.rpg_machine_lines.specs.Putting.{CanPutLine, StaysNear};
+ghost use Rattle.rpg_object_program.specs.Object.{line_row};
 
 use crate::assembly::{Entries, assemble};
 use crate::bytes::Output;
@@ -28,13 +26,9 @@ pub fn put_line<S: Store + Drop>(
     line: &Line,
     plan: &LinePlan,
 ) -> Result<End, AllocError>
-    requires near { IsNear memory.old.world.paper.here }
-    requires right { IsRightLine memory.old.program (line_row line.now) }
-    requires planned { IsLinePlan memory.old.program.fields line.now.fields.items plan.now }
-    requires len { length text.old ≡ file_length memory.old.program line.now.file }
+    requires { CanPutLine memory.old text.old line.now plan.now }
     ensures done { IfOk result (λ e. PutsOwn (λ p. line_effect p (line_row line.now)) memory.old output.old (end_of e) memory.new output.new) }
-    ensures near { OnOk result (IsNear memory.new.world.paper.here) }
-    ensures program { memory.new.program ≡ memory.old.program }
+    ensures kept { StaysNear result memory.old memory.new }
     ensures grows { OnlyGrows (output_of output.old) (output_of output.new) }
 {
     fill_blanks(text);

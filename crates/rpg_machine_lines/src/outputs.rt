@@ -4,6 +4,7 @@ ghost use Rattle.rpg_effect.specs.Ends.{end_of};
 ghost use Rattle.rpg_effect.specs.Fronts.{OnlyGrows};
 ghost use Rattle.rpg_machine_lines.specs.Outputs.{PutsOwn, detail_effect, exception_effect, output_of, overflow_detail_effect, overflow_effect, total_effect};
 ghost use Rattle.rpg_machine_lines.specs.Plans.{IsPlanOf};
+ghost use Rattle.rpg_machine_lines.specs.Putting.{CanPutLines, StaysNear};
 ghost use Rattle.rpg_machine_lines.specs.Ready.{IsNear};
 ghost use Rattle.rpg_machine_lines.specs.Right.{AreRightLines, HasLineRoom};
 
@@ -73,13 +74,9 @@ fn put_overflow_details<S: Store + Drop>(
     to_blank: &mut Entries,
     plan: &Plan,
 ) -> Result<End, AllocError>
-    requires near { IsNear memory.old.world.paper.here }
-    requires right { AreRightLines memory.old.program }
-    requires room { HasLineRoom memory.old.program text.old }
-    requires plan { IsPlanOf memory.old.program plan.now }
+    requires { CanPutLines memory.old text.old plan.now }
     ensures done { IfOk result (λ e. PutsOwn overflow_detail_effect memory.old output.old (end_of e) memory.new output.new) }
-    ensures near { OnOk result (IsNear memory.new.world.paper.here) }
-    ensures program { memory.new.program ≡ memory.old.program }
+    ensures kept { StaysNear result memory.old memory.new }
     ensures grows { OnlyGrows (output_of output.old) (output_of output.new) }
 {
     match put_lines(memory, output, text, to_blank, Pass::OverflowDetail, plan)? {

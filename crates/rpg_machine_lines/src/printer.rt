@@ -1,11 +1,11 @@
 //! Lines on the printer's form, and records on the disk.
-ghost use Rattle.std.specs.Prelude.{◌≡◌, ◌≤◌, ◌+◌, ◌++◌, ◌∷◌, [], take, true, vec_len, OnErr, OnOk};
+ghost use Rattle.std.specs.Prelude.{◌≡◌, ◌≤◌, ◌+◌, ◌++◌, ◌∷◌, [], take, vec_len, OnErr, OnOk};
 ghost use Rattle.rpg_effect.specs.Ends.{GoesOn};
 ghost use Rattle.rpg_effect.specs.Fronts.{OnlyGrows};
-ghost use Rattle.rpg_effect.specs.LineFaults.{is_spacing};
 ghost use Rattle.rpg_effect.specs.Lines as lines;
 ghost use Rattle.rpg_machine_lines.specs.Outputs.{Puts, form_moved, output_of};
-ghost use Rattle.rpg_machine_lines.specs.Ready.{IsBlankBehind, IsNear};
+ghost use Rattle.rpg_machine_lines.specs.Putting.{CanPlace, PlacesNear};
+ghost use Rattle.rpg_machine_lines.specs.Ready.{IsNear};
 
 use crate::bytes::Output;
 use rpg_effect::line::{File, Spacing};
@@ -35,13 +35,9 @@ fn print_line<S: Store + Drop>(
     text: &[u8],
     reach: u16,
 ) -> Result<(), AllocError>
-    requires spacing { is_spacing spacing ≡ true }
-    requires near { IsNear memory.old.world.paper.here }
-    requires blank { IsBlankBehind reach text.now }
+    requires { CanPlace memory.old spacing text.now reach }
     ensures done { OnOk result (Puts (lines.put_on memory.old.program.overflow File.Printer spacing text.now) memory.old output.old GoesOn memory.new output.new) }
-    ensures near { OnOk result (IsNear memory.new.world.paper.here) }
-    ensures program { memory.new.program ≡ memory.old.program }
-    ensures grows { OnlyGrows (output_of output.old) (output_of output.new) }
+    ensures kept { PlacesNear result memory.old memory.new (output_of output.old) (output_of output.new) }
 {
     move_form(memory, spacing.skip_before, spacing.space_before);
     memory.place(&text[..reach as usize], &mut output.print)?;
@@ -82,13 +78,9 @@ pub fn put_on<S: Store + Drop>(
     text: &[u8],
     reach: u16,
 ) -> Result<(), AllocError>
-    requires spacing { is_spacing spacing ≡ true }
-    requires near { IsNear memory.old.world.paper.here }
-    requires blank { IsBlankBehind reach text.now }
+    requires { CanPlace memory.old spacing text.now reach }
     ensures done { OnOk result (Puts (lines.put_on memory.old.program.overflow file spacing text.now) memory.old output.old GoesOn memory.new output.new) }
-    ensures near { OnOk result (IsNear memory.new.world.paper.here) }
-    ensures program { memory.new.program ≡ memory.old.program }
-    ensures grows { OnlyGrows (output_of output.old) (output_of output.new) }
+    ensures kept { PlacesNear result memory.old memory.new (output_of output.old) (output_of output.new) }
 {
     match file {
         File::Printer => print_line(memory, output, spacing, text, reach),

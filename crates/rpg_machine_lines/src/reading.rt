@@ -1,8 +1,8 @@
 //! What lines read of a program: the entries that operands name.
-ghost use Rattle.std.specs.Prelude.{◌≡◌, true, IfSome, Some};
-ghost use Rattle.rpg_effect.specs.Rows as rules;
+ghost use Rattle.std.specs.Prelude.{◌≡◌, IfSome, Some};
 ghost use Rattle.rpg_machine_lines.specs.Entries.{IsFieldEntry};
-ghost use Rattle.rpg_memory.specs.Memory.{forms_in, position_in};
+ghost use Rattle.rpg_machine_lines.specs.Putting.{CanBeRead};
+ghost use Rattle.rpg_memory.specs.Memory.{position_in};
 
 use rpg_effect::form::FieldForm;
 use rpg_effect::operation::Operand;
@@ -17,9 +17,7 @@ pub fn position_of<S: Store + Drop>(
     form: Option<FieldForm>,
     operand: Operand<u16>,
 ) -> Option<u16>
-    requires form { form ≡ forms_in memory.now operand.field }
-    requires there { rules.has_entry (forms_in memory.now) operand ≡ true }
-    requires index { rules.is_one_entry (forms_in memory.now) operand ≡ true }
+    requires { CanBeRead memory.now form operand }
     ensures value { result ≡ position_in memory.now operand }
     ensures entry { IfSome result (λ e. IsFieldEntry memory.now.program.fields operand.field e) }
 {

@@ -1,5 +1,5 @@
 -- The position of a form. A form counts pages from the page of the line placed last, so no page number grows without bound.
-use Rattle.std.specs.Prelude.{◌≡◌, ℕ, ◌+◌, ◌-◌, ◌≤◌, List, [], ◌∷◌, ◌++◌, replicate, Option, Some, None, option_map, unwrap_or, if◌then◌else◌, ◌==◌}
+use Rattle.std.specs.Prelude.{◌≡◌, ℕ, ◌+◌, ◌-◌, ◌≤◌, List, [], ◌∷◌, ◌++◌, length, replicate, take, Option, Some, None, option_map, unwrap_or, Result, OnOk, OnErr, if◌then◌else◌, ◌==◌}
 pub use Rattle.rpg_text.specs.Texts.{trimmed}
 use Rattle.rpg_paper.specs.Paper.{Position, Placed, spaced, skipped, paper, last_position}
 
@@ -64,6 +64,11 @@ way_on_page (Some last) line = if line == last then 13 ∷ [] else replicate (li
 -- what brings the paper from the line placed last to the present one
 abbrev pub way_of : Standing → List ℕ
 way_of form = if form.begun == 0 then way_on_page form.last form.line else replicate form.begun 12 ++ replicate (form.line - 1) 10
+
+-- bytes were added at the end, or memory for them was refused and those that were there still stand in front
+pub record Adds {X E : Type 0} (result : Result X E) (old new bytes : List ℕ) : Type 0 where
+  pub ok : OnOk result (new ≡ old ++ bytes)
+  pub err : OnErr result (take (length old) new ≡ old)
 
 -- a line as a form places it: the pages begun since the line before, the line, and its text
 pub record FormLine : Type 0 where

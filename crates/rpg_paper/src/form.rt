@@ -1,9 +1,9 @@
 //! The printed form: where the paper is, and the bytes that bring it to a line.
 
-ghost use Rattle.std.specs.Prelude.{◌≡◌, ℕ, ◌+◌, ◌<◌, ◌≤◌, ◌↔◌, List, [], ◌∷◌, ◌++◌, take, vec_len, Option, Some, None, IsTrue, OnOk, OnErr};
+ghost use Rattle.std.specs.Prelude.{◌≡◌, ℕ, ◌+◌, ◌<◌, ◌≤◌, ◌↔◌, List, [], ◌∷◌, ◌++◌, Option, Some, None, IsTrue, OnOk, OnErr};
 ghost use Rattle.rpg_text.specs.Texts.{trimmed};
 ghost use Rattle.rpg_paper.specs.Paper.{Position, Placed, TurnsOverflowOn, turns_overflow_on, top_of_paper, spaced, skipped, bytes_from};
-ghost use Rattle.rpg_paper.specs.Form.{StandsAt, HasPrinted, at_first_line, here_of, form_after_space, form_after_skip, after_line, way_of};
+ghost use Rattle.rpg_paper.specs.Form.{Adds, StandsAt, HasPrinted, at_first_line, here_of, form_after_space, form_after_skip, after_line, way_of};
 
 use crate::paper::append_times;
 use rpg_text::trimmed;
@@ -166,16 +166,14 @@ impl Form {
     }
 
     fn append_line(&self, text: &[u8], out: &mut Vec<u8>) -> Result<(), AllocError>
-        ensures ok { OnOk result (out.new.items ≡ out.old.items ++ way_of self.now ++ trimmed text.now) }
-        ensures err { OnErr result (take (vec_len out.old) out.new.items ≡ out.old.items) }
+        ensures { Adds result out.old.items out.new.items (way_of self.now ++ trimmed text.now) }
     {
         self.append_way(out)?;
         out.extend_from_slice(trimmed(text))
     }
 
     fn append_way(&self, out: &mut Vec<u8>) -> Result<(), AllocError>
-        ensures ok { OnOk result (out.new.items ≡ out.old.items ++ way_of self.now) }
-        ensures err { OnErr result (take (vec_len out.old) out.new.items ≡ out.old.items) }
+        ensures { Adds result out.old.items out.new.items (way_of self.now) }
     {
         if self.begun > 0 {
             append_times(out, FORM_FEED, self.begun)?;

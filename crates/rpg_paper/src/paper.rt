@@ -1,13 +1,13 @@
 //! Parts of what is sent to the printer.
 
-ghost use Rattle.std.specs.Prelude.{◌≡◌, ◌++◌, take, vec_len, replicate, OnOk, OnErr};
+ghost use Rattle.std.specs.Prelude.{replicate};
+ghost use Rattle.rpg_paper.specs.Form.{Adds};
 
 use std::alloc::AllocError;
 
 /// Appends `times` copies of a byte.
 pub(crate) fn append_times(out: &mut Vec<u8>, byte: u8, times: u16) -> Result<(), AllocError>
-    ensures ok { OnOk result (out.new.items ≡ out.old.items ++ replicate times byte) }
-    ensures err { OnErr result (take (vec_len out.old) out.new.items ≡ out.old.items) }
+    ensures { Adds result out.old.items out.new.items (replicate times byte) }
 {
     if times == 1 {
         out.push(byte)?;

@@ -3,36 +3,30 @@ use Rattle.rpg_effect.specs.declared.form.Kind.TheVariants as kinds
 use Rattle.rpg_machine_inputs.proofs.Filling.{field_filled, fits_field, long_there, value_there}
 use Rattle.rpg_machine_inputs.proofs.inputs.fill_one.Goals as goal
 
-pub columns_of-part-requires-clause-low : goal.columns_of-part-requires-clause-low
-columns_of-part-requires-clause-low g c = (fits_field c.args.memory.now.program.fields (length c.args.text.now) c.args.input.now c.requires.right).low
+pub columns_of-part-requires : goal.columns_of-part-requires
+columns_of-part-requires g c =
+    let fits = fits_field c.args.memory.now.program.fields (length c.args.text.now) c.args.input.now c.requires.right in
+    record { low = fits.low; ordered = fits.ordered; high = fits.high }
 
-pub columns_of-part-requires-clause-ordered : goal.columns_of-part-requires-clause-ordered
-columns_of-part-requires-clause-ordered g c = (fits_field c.args.memory.now.program.fields (length c.args.text.now) c.args.input.now c.requires.right).ordered
-
-pub columns_of-part-requires-clause-high : goal.columns_of-part-requires-clause-high
-columns_of-part-requires-clause-high g c = (fits_field c.args.memory.now.program.fields (length c.args.text.now) c.args.input.now c.requires.right).high
-
-pub fill_number-requires-clause-field : goal.fill_number-requires-clause-field
-fill_number-requires-clause-field g c =
+pub fill_number-requires : goal.fill_number-requires
+fill_number-requires g c =
     let forms = c.args.memory.now.program.fields in
-    value_there forms (length c.args.text.now) c.args.input.now kinds.Number c.is_kept.ensures.good (fits_field forms (length c.args.text.now) c.args.input.now c.requires.right)
-    (sym c.in-Number.is ∙ c.requires.fixed.kind)
+    let fits = fits_field forms (length c.args.text.now) c.args.input.now c.requires.right in
+    record {
+      field = value_there forms (length c.args.text.now) c.args.input.now kinds.Number c.is_kept.ensures.good fits (sym c.in-Number.is ∙ c.requires.fixed.kind);
+      fixed = c.requires.fixed;
+      long = long_there forms (length c.args.text.now) _ c.args.input.now fits c.columns_of-part.ensures.length;
+    }
 
-pub fill_number-requires-clause-long : goal.fill_number-requires-clause-long
-fill_number-requires-clause-long g c =
+pub fill_text-requires-clause-fill : goal.fill_text-requires-clause-fill
+fill_text-requires-clause-fill g c =
     let forms = c.args.memory.now.program.fields in
-    long_there forms (length c.args.text.now) _ c.args.input.now (fits_field forms (length c.args.text.now) c.args.input.now c.requires.right) c.columns_of-part.ensures.length
-
-pub fill_text-requires-clause-field : goal.fill_text-requires-clause-field
-fill_text-requires-clause-field g c =
-    let forms = c.args.memory.now.program.fields in
-    value_there forms (length c.args.text.now) c.args.input.now kinds.Text c.is_kept.ensures.good (fits_field forms (length c.args.text.now) c.args.input.now c.requires.right)
-    (sym c.in-Text.is ∙ c.requires.fixed.kind)
-
-pub fill_text-requires-clause-long : goal.fill_text-requires-clause-long
-fill_text-requires-clause-long g c =
-    let forms = c.args.memory.now.program.fields in
-    long_there forms (length c.args.text.now) _ c.args.input.now (fits_field forms (length c.args.text.now) c.args.input.now c.requires.right) c.columns_of-part.ensures.length
+    let fits = fits_field forms (length c.args.text.now) c.args.input.now c.requires.right in
+    record {
+      field = value_there forms (length c.args.text.now) c.args.input.now kinds.Text c.is_kept.ensures.good fits (sym c.in-Text.is ∙ c.requires.fixed.kind);
+      fixed = c.requires.fixed;
+      long = long_there forms (length c.args.text.now) _ c.args.input.now fits c.columns_of-part.ensures.length;
+    }
 
 pub returns-in-Number : goal.returns-in-Number
 returns-in-Number g c = record {

@@ -37,13 +37,13 @@ fields-preserved g c =
     let len = length c.args.text.now in
     let reach = reach_of c.args.fields.now in
     record {
-      rest = c.with_planned_field.ensures.rest ∙ ap (λ (x : Working). fields_replaced new.world.data.fields x) same;
+      rest = c.with_planned_field.ensures.changes.rest ∙ ap (λ (x : Working). fields_replaced new.world.data.fields x) same;
       len = c.with_planned_field.auto.text ∙ c.fields.invariant.len;
       entries = subst (λ (p : Object). AreFieldEntries p.fields c.with_planned_field.new.to_blank.items) (ap (λ (x : Working). x.program) same)
-          c.with_planned_field.ensures.entries;
+          c.with_planned_field.ensures.changes.each;
       right = All-rest (λ x. field_fault (forms_in m) (word_at m.program) len x ≡ None) f behind left is c.fields.invariant.right;
       planned = plan_behind m.program.fields left behind f c.fields.found.now is c.fields.invariant.planned;
-      room = omega (arith, c.in-Some.ensures.cases.1, c.with_planned_field.ensures.few, c.fields.invariant.room);
+      room = omega (arith, c.in-Some.ensures.cases.1, c.with_planned_field.ensures.changes.few, c.fields.invariant.room);
       ends = All-rest (λ x. x.end ≤ reach) f behind left is c.fields.invariant.ends;
       behind = first_behind (forms_in m) (word_at m.program) len reach left behind f c.fields.memory new c.fields.text c.with_planned_field.new.text
           c.fields.to_blank.items c.with_planned_field.new.to_blank.items (end_of c.with_planned_field.result) is c.fields.invariant.right c.fields.invariant.ends

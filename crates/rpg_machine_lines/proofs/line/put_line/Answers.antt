@@ -1,4 +1,4 @@
-use Rattle.std.proofs.Common.{ℕ, List, ap, ◌∙◌, replicate, subst}
+use Rattle.std.proofs.Common.{ℕ, List, ap, ◌∙◌, replicate, subst, sym}
 use Rattle.rpg_effect.proofs.Fronts.{grows_not}
 use Rattle.rpg_effect.specs.Ends.{GoesOn, Halt, end_of}
 use Rattle.rpg_effect.specs.Forms.{form_at}
@@ -11,20 +11,22 @@ use Rattle.rpg_machine_lines.specs.Drafts.{draft_in, fields_replaced}
 use Rattle.rpg_machine_lines.specs.Outputs.{output_of}
 use Rattle.rpg_object_program.specs.Constants.{word_at}
 use Rattle.rpg_object_program.specs.Object.{file_length, line_row, program_line}
+use Rattle.rpg_machine_lines.specs.Ready.{IsNear}
 use Rattle.rpg_memory.specs.Memory.{Working, held_of}
 use Rattle.rpg_machine_lines.proofs.line.put_line.Goals as goal
 
-pub put_on-requires-clause-spacing : goal.put_on-requires-clause-spacing
-put_on-requires-clause-spacing g c = right_moves _ _ c.requires.right.fault
-
-pub put_on-requires-clause-blank : goal.put_on-requires-clause-blank
-put_on-requires-clause-blank g c =
+pub put_on-requires : goal.put_on-requires
+put_on-requires g c =
     let p = c.args.memory.now.program in
     let l = c.args.line.now in
     let len = file_length p l.file in
     let blank = c.fill_blanks.ensures ∙ ap (λ (n : ℕ). replicate n 32) c.requires.len in
-    blank_behind l.fields.items c.deref.result.now c.args.plan.now.reach len c.fill_blanks.new.text c.assemble.new.text c.requires.planned.reach c.deref.ensures.value
-    (reach_in_line (form_at p.fields) (word_at p) len l.fields.items c.requires.right.fields) blank c.assemble.auto.text c.assemble.ensures.behind
+    record {
+      spacing = right_moves _ _ c.requires.right.fault;
+      near = subst (λ (m : Working). IsNear m.world.paper.here) (sym c.assemble.ensures.changes.rest) c.requires.near;
+      blank = blank_behind l.fields.items c.deref.result.now c.args.plan.now.reach len c.fill_blanks.new.text c.assemble.new.text c.requires.planned.reach c.deref.ensures.value
+          (reach_in_line (form_at p.fields) (word_at p) len l.fields.items c.requires.right.fields) blank c.assemble.auto.text c.assemble.ensures.behind;
+    }
 
 pub returns-in-Halt-clause-done : goal.returns-in-Halt-clause-done
 returns-in-Halt-clause-done g c =
@@ -38,7 +40,7 @@ returns-in-Halt-clause-done g c =
     (Halt (halt_number c.in-Halt.halt)) d _ l.len c.deref.result.now l.fields _ _
     (ap end_of c.in-Halt.is) long c.deref.ensures.value blank c.clear.ensures c.assemble.ensures.drafted in
     line_halted (form_at p.fields) (word_at p) p.overflow l (held_of m) (output_of c.args.output.now) (halt_number c.in-Halt.halt) d
-    (held_of c.assemble.new.memory) c.requires.right.fault a (ap held_of c.assemble.ensures.rest)
+    (held_of c.assemble.new.memory) c.requires.right.fault a (ap held_of c.assemble.ensures.changes.rest)
 
 pub returns-clause-done : goal.returns-clause-done
 returns-clause-done g c =
@@ -52,7 +54,7 @@ returns-clause-done g c =
     GoesOn d _ l.len c.deref.result.now l.fields _ _
     (ap end_of c.in-GoesOn.is) long c.deref.ensures.value blank c.clear.ensures c.assemble.ensures.drafted in
     let placed = c.put_on.new.memory in
-    let drafted = c.assemble.ensures.rest in
+    let drafted = c.assemble.ensures.changes.rest in
     let put = subst (λ (x : Working). IsDone (put_on x.program.overflow l.file l.spacing d.text) (held_of x) (output_of c.args.output.now) GoesOn (held_of placed) (output_of c.put_on.new.output)) drafted
     c.in_ok-put_on.ensures.done in
     let blanked = c.blank_all.ensures ∙ ap (λ (es : List (ℕ × ℕ)). fields_replaced (blanked_all es placed.world.data.fields) placed) c.deref-3.ensures.0 in

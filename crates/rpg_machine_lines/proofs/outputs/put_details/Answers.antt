@@ -21,7 +21,7 @@ returns-clause-done g c =
     let u = held_of c.settle.new.self in
     went_on (passage_effect p passes.Detail) (λ x. Leaves (settled p.overflow x)) w v q o _ c.in_ok-put_lines.ensures.done u o GoesOn c.in-GoesOn.is
     (quiet_done (settled p.overflow) GoesOn v u o (ap (λ (m : Working). m.last) c.settle.ensures)
-    (λ x. ap (λ (m : Working). on_paper x m.world) c.settle.ensures ∙ ap (λ (p : Object). on_paper x (settled p.overflow v.world)) c.put_lines.ensures.program))
+    (λ x. ap (λ (m : Working). on_paper x m.world) c.settle.ensures ∙ ap (λ (p : Object). on_paper x (settled p.overflow v.world)) c.put_lines.ensures.kept.program))
 
 pub returns-in-Halt-clause-done : goal.returns-in-Halt-clause-done
 returns-in-Halt-clause-done g c =

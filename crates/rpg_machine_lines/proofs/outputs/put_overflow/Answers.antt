@@ -21,7 +21,7 @@ returns-clause-done g c =
     let total = passage_effect p passes.OverflowTotal in
     ok_each c.put_overflow_details.result _ _
     (λ e h. went_on total (overflow_detail_effect p) w v q o _ c.in_ok-put_lines.ensures.done u t (end_of e) c.in-GoesOn.is
-    (subst (λ (x : Object). IsDone (overflow_detail_effect x) v o (end_of e) u t) c.put_lines.ensures.program h))
+    (subst (λ (x : Object). IsDone (overflow_detail_effect x) v o (end_of e) u t) c.put_lines.ensures.kept.program h))
     c.put_overflow_details.ensures.done
 
 pub returns-in-Halt-clause-done : goal.returns-in-Halt-clause-done

@@ -12,7 +12,7 @@ use Rattle.rpg_machine_lines.specs.Outputs.{line_effect, output_of}
 use Rattle.rpg_machine_lines.specs.PassLines.{pass_lines}
 use Rattle.rpg_machine_lines.specs.Passages.{needed_at}
 use Rattle.rpg_machine_lines.specs.Plans.{IsPlannedLine}
-use Rattle.rpg_machine_lines.specs.Right.{IsRightLine}
+use Rattle.rpg_machine_lines.specs.Right.{HasLineRoom, IsRightLine}
 use Rattle.rpg_machine_lines.specs.declared.pass_lines.PassLine.{PassLine}
 use Rattle.rpg_object_program.specs.Object.{Object, line_row}
 use Rattle.rpg_memory.specs.Memory.{held_of}
@@ -103,22 +103,8 @@ index-found-requires g c =
     let low = number_low p c.args.pass c.args.plan.now.passages has c.lines_at-listed-items.result.now told c.lines.listed-index none c.lines-test.true lines rows in
     omega (arith, low, plans_many p c.args.plan.now lines c.requires.plan rows)
 
-pub put_asked-requires-clause-right : goal.put_asked-requires-clause-right
-put_asked-requires-clause-right g c =
-    let p = c.args.memory.now.program in
-    let lines = c.rows-rows.result.now.lines.items in
-    let listed = c.lines_at-listed-items.result.now in
-    let i = c.lines.listed-index in
-    let l = c.index-line.result.now in
-    let rows = ap (λ (x : Object). x.lines) (sym c.rows-rows.ensures.same) in
-    let has = c.requires.plan.passages in
-    let told = c.lines_at-listed-items.ensures in
-    let low = number_low p c.args.pass c.args.plan.now.passages has listed told i none c.lines-test.true lines rows in
-    subst (λ (x : Object). IsRightLine x (line_row l)) (sym c.lines.invariant.program)
-    (right_at p lines (get_or listed i none).number l c.requires.right rows low c.index-line.ensures)
-
-pub put_asked-requires-clause-planned : goal.put_asked-requires-clause-planned
-put_asked-requires-clause-planned g c =
+pub put_asked-requires : goal.put_asked-requires
+put_asked-requires g c =
     let p = c.args.memory.now.program in
     let lines = c.rows-rows.result.now.lines.items in
     let listed = c.lines_at-listed-items.result.now in
@@ -130,7 +116,15 @@ put_asked-requires-clause-planned g c =
     let told = c.lines_at-listed-items.ensures in
     let low = number_low p c.args.pass c.args.plan.now.passages has listed told i none c.lines-test.true lines rows in
     let here = plan_at p c.args.plan.now lines (get_or listed i none).number l found c.requires.plan rows low c.index-line.ensures c.index-found.ensures in
-    subst (λ (x : Object). IsPlannedLine x (line_row l) found) (sym c.lines.invariant.program) here
+    let same = c.lines.invariant.program in
+    record {
+      near = c.lines.invariant.near;
+      right = subst (λ (x : Object). IsRightLine x (line_row l)) (sym same)
+          (right_at p lines (get_or listed i none).number l c.requires.right rows low c.index-line.ensures);
+      room = subst (λ (x : Object). HasLineRoom x c.lines.text) (sym same)
+          (record { printer = omega (arith, c.lines.auto.text, c.requires.room.printer); disk = omega (arith, c.lines.auto.text, c.requires.room.disk) });
+      planned = subst (λ (x : Object). IsPlannedLine x (line_row l) found) (sym same) here;
+    }
 
 pub lines-preserved : goal.lines-preserved
 lines-preserved g c =
@@ -156,8 +150,8 @@ lines-preserved g c =
     let done : IsDone (one p pass (line_row l)) w q (end_of c.in_ok-put_asked.field-0) v o =
     asked p pass l w v q o (end_of c.in_ok-put_asked.field-0) (sym asks ∙ c.if-not-is_asked_then.false) put in
     record {
-      near = c.in_ok-put_asked.ensures.near;
-      program = c.put_asked.ensures.program ∙ c.lines.invariant.program;
+      near = c.in_ok-put_asked.ensures.kept.near;
+      program = c.put_asked.ensures.kept.program ∙ c.lines.invariant.program;
       grows = grows_on (output_of c.args.output.now) (output_of c.lines.output) (output_of c.put_asked.new.output) c.lines.invariant.grows c.put_asked.ensures.grows;
       onward = λ e u t h.
           c.lines.invariant.onward e u t (rest_next p pass (pass_lines p pass) (line_row l) i low is w v u q o t c.in_ok-put_asked.field-0 e c.in-GoesOn.is done h);

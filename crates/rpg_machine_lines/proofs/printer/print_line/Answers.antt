@@ -1,4 +1,5 @@
-use Rattle.std.proofs.Common.{◌≡◌, ℕ, List, ◌++◌, Some, refl, ap, ◌∙◌, append_assoc, arith}
+use Rattle.std.proofs.Common.{◌≡◌, ℕ, List, ◌++◌, Some, Result, Ok, Err, IsErr, OnOk, refl, ap, ◌∙◌, append_assoc, arith}
+use Rattle.rpg_machine_lines.specs.Ready.{IsNear}
 use Rattle.rpg_paper.specs.Form.{way_of}
 use Rattle.rpg_text.specs.Texts.{trimmed}
 use Rattle.rpg_effect.proofs.Fronts.{grows_same}
@@ -31,13 +32,23 @@ returns g c =
           (front_trimmed c.args.reach c.args.text.now c.requires.blank.blank)
           ∙ ap (λ (m : Working). c.args.output.now.print.items ++ way_of (standing_of m) ++ trimmed c.args.text.now) before)
           refl;
-      near = omega (arith, first, c.move_form-2.ensures.few);
-      program = ap (λ (m : Working). m.program) after ∙ own;
-      grows = grows_print (output_of c.args.output.now) (record { print = c.place.new.print.items; disk = c.args.output.now.disk.items }) _
-          (c.in_ok-place.ensures.bytes ∙ append_assoc c.args.output.now.print.items _ _) refl;
+      kept = record {
+        near = omega (arith, first, c.move_form-2.ensures.few);
+        program = ap (λ (m : Working). m.program) after ∙ own;
+        grows = grows_print (output_of c.args.output.now) (record { print = c.place.new.print.items; disk = c.args.output.now.disk.items }) _
+            (c.in_ok-place.ensures.bytes ∙ append_assoc c.args.output.now.print.items _ _) refl;
+      };
     }
 
-pub returns-in_err-place-clause-grows : goal.returns-in_err-place-clause-grows
-returns-in_err-place-clause-grows g c =
-    grows_same (output_of c.args.output.now) (record { print = c.place.new.print.items; disk = c.args.output.now.disk.items })
-    (ap (λ (x : List ℕ). record { print = x; disk = c.args.output.now.disk.items }) c.in_err-place.ensures.same_bytes)
+-- nothing is claimed of an error
+not_ok : {X E : Type 0} (r : Result X E) (P : Type 0) → IsErr r → OnOk r P
+not_ok (Ok x) P h = cc
+not_ok (Err e) P h = tt
+
+pub returns-in_err-place-clause-kept : goal.returns-in_err-place-clause-kept
+returns-in_err-place-clause-kept g c = record {
+  near = not_ok c.from_residual.result (IsNear c.place.new.self.world.paper.here) c.from_residual.ensures.0;
+  program = ap (λ (m : Working). m.program) c.in_err-place.ensures.same ∙ ap (λ (m : Working). m.program) c.move_form.ensures.moved;
+  grows = grows_same (output_of c.args.output.now) (record { print = c.place.new.print.items; disk = c.args.output.now.disk.items })
+      (ap (λ (x : List ℕ). record { print = x; disk = c.args.output.now.disk.items }) c.in_err-place.ensures.same_bytes);
+}
