@@ -19,13 +19,14 @@ use Rattle.std.specs.Option.{ForSome}
 use Rattle.rpg_effect.specs.declared.input.InputFile.TheVariants.{Primary, Secondary}
 use Rattle.rpg_cycle_records.specs.Identifying.{code_holds, has_position, same_file, trial_weight}
 use Rattle.rpg_effect.specs.declared.input.InputFile.{InputFile}
-use Rattle.rpg_cycle.specs.Phases.{all_off}
+use Rattle.rpg_cycle.specs.Phases.{all_off, has_no_overflow}
 use Rattle.rpg_cycle.specs.Spending.{SpendsSelecting, Spends, SpendsTakingIn, compared_weight, cycle_weight, fields_weight, full_page_weight, matched_weight, phases_weight, reach, record_weight, section_cost, totals_weight}
 use Rattle.rpg_machine.specs.Config.{Config, charged}
 use Rattle.rpg_machine.specs.Potential.{PaysForSection}
 use Rattle.rpg_machine.specs.Outputs.{FillsFields, PutsOut, inputs_at, input_fields_of, output_weight}
-use Rattle.rpg_machine.specs.Running.{Did, Running, refilled}
+use Rattle.rpg_machine.specs.Running.{Did, Running, refilled, with_indicator}
 use Rattle.rpg_machine.specs.declared.time.OutputTime.{OutputTime}
+use Rattle.rpg_machine.specs.declared.time.OutputTime.TheVariants as outputs
 use Rattle.rpg_object_program.specs.Object.{Object, lines_of}
 use Rattle.rpg_object_program.specs.Sections.{first_place}
 use Rattle.rpg_object_program.specs.declared.section.Section.{Section}
@@ -45,6 +46,21 @@ same_reach p q a b is =
   where
     zero-right : (n : ℕ) → n ≡ n + 0
     zero-right n = omega arith
+
+-- an indicator costs nothing
+pub turns_free : (p : Object) (n : ℕ) (on : Bool) (a b : Running) → b ≡ with_indicator n on a → Spends p 0 a b
+turns_free p n on a b is = reach_of p 0 a b (ap (λ (r : Running). r.config.steps) is ∙ zero-right a.config.steps) (ap (λ (r : Running). r.config.allowance) is)
+  where
+    zero-right : (n : ℕ) → n ≡ n + 0
+    zero-right n = omega arith
+
+-- a full page is put out only where there is an overflow indicator
+pub page_spends : (p : Object) (c : Config) {a b : Running} → has_no_overflow p.overflow c ≡ false → Spends p (output_weight p outputs.Overflow) a b → Spends p (full_page_weight p) a b
+page_spends p c {a} {b} off s = subst (λ (n : ℕ). Spends p n a b) (weight p.overflow c (output_weight p outputs.Overflow) off) s
+  where
+    weight : (o : Option ℕ) (c : Config) (w : ℕ) → has_no_overflow o c ≡ false → w ≡ cond (is_some o) w 0
+    weight None c w h = cc
+    weight (Some n) c w h = refl
 
 -- some line may have been placed before
 pub some_before : (last : Option ℕ) → (previous : Option Position) × (last ≡ line_of previous)

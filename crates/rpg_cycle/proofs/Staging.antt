@@ -1,22 +1,28 @@
 -- Phases one after another, with all that is known of how each came out.
-use Rattle.std.proofs.Common.{Result, Err, IfOk, ◌≡◌, ℕ, ◌+◌, ◌*◌, ◌≤◌, ◌^◌, subst, arith}
+use Rattle.std.proofs.Common.{Result, Ok, Err, IfOk, ◌≡◌, ℕ, Bool, ◌+◌, ◌*◌, ◌≤◌, ◌<◌, ◌^◌, true, false, Option, ap, subst, arith}
 use Rattle.std.specs.Result.{IsErrAnd}
-use Rattle.rpg_cycle.proofs.Composing.{ends, goes, memory_both, memory_map, ok_map, ok_of_err, passed_map, passed_memory, stops_map}
+use Rattle.rpg_cycle.proofs.Composing.{ends, goes, goes_own, left_out, memory_both, memory_map, not_left_out, ok_map, ok_of_err, passed_map, passed_memory, passes_ends, same_program, stops_map}
 use Rattle.rpg_cycle.proofs.Growing.{and_grows}
-use Rattle.rpg_cycle.proofs.Spending.{and_less, and_then}
+use Rattle.rpg_cycle.proofs.Spending.{and_less, and_then, of_same}
 use Rattle.rpg_cycle.specs.Doing.{Beside, Does, DoesAlone, DoesHolding}
-use Rattle.rpg_cycle.specs.Ends.{GoesOn, PhaseEnd}
-use Rattle.rpg_cycle.specs.Phases.{Phase, detail_lines, halt_where_asked, set_off, ◌before◌}
-use Rattle.rpg_cycle.specs.Spending.{Spends, reach}
+use Rattle.rpg_cycle.specs.Ends.{GoesOn, PhaseEnd, phase_end}
+use Rattle.rpg_cycle.specs.Phases.{Phase, detail_lines, halt_where_asked, set_off, unless, ◌before◌}
+use Rattle.rpg_cycle.specs.Spending.{Spends, cycle_weight, reach, section_cost}
 use Rattle.rpg_cycle.specs.Stages.{IfStops, UnlessNoMemory, job_end}
-use Rattle.rpg_cycle.specs.Staging.{DoesStage}
+use Rattle.rpg_cycle.specs.Staging.{CanDo, CanSpend, DoesPhase, DoesStage}
 use Rattle.rpg_cycle.specs.declared.ends.Stop.{Stop}
 use Rattle.rpg_effect.proofs.Fronts.{grows_not}
+use Rattle.rpg_effect.specs.Ends as effects
+use Rattle.rpg_effect.specs.declared.outcome.End as answers
+use Rattle.rpg_effect.specs.declared.outcome.End.TheVariants as ways
 use Rattle.rpg_effect.specs.Fronts.{OnlyGrows}
+use Rattle.rpg_machine.specs.Config.{Config}
 use Rattle.rpg_machine.specs.Ready.{IsReady}
-use Rattle.rpg_machine.specs.Running.{Running}
+use Rattle.rpg_machine.specs.Running.{Running, config_on}
 use Rattle.rpg_object_program.specs.Object.{Object}
-use Rattle.rpg_verify.specs.Bound.{most}
+use Rattle.rpg_object_program.specs.declared.section.Section.TheVariants as sections
+use Rattle.rpg_paper.specs.Paper.{Position}
+use Rattle.rpg_verify.specs.Bound.{bound, most}
 
 -- ---- what is still to come
 
@@ -60,16 +66,91 @@ unspent p a = record { few = same (reach p a) }
     same : (x : ℕ) → x ≤ x + 0
     same x = omega arith
 
+-- it costs no more than anything
+pub costs_none : (p : Object) (n : ℕ) (a : Running) → Spends p n a a
+costs_none p n a = record { few = more (reach p a) n }
+  where
+    more : (x n : ℕ) → x ≤ x + n
+    more x n = omega arith
+
+-- room for phases is room for one
+pub can_do : {m : ℕ} {a : Running} → CanSpend m a → CanDo a
+can_do {m} {a} h = record { ready = h.ready; few = steps_few a.program m a h.few }
+
+pub can_less : (m : ℕ) {a : Running} → CanSpend m a → CanSpend 0 a
+can_less m {a} h = record { ready = h.ready; few = less (reach a.program a) m h.few }
+  where
+    less : (x m : ℕ) → x + m ≤ 2 ^ 59 → x + 0 ≤ 2 ^ 59
+    less x m h = omega (arith, h)
+
+-- total lines still have room after total calculations
+pub lines_few : (p : Object) {a b : Running} → reach p a + 0 ≤ 2 ^ 59 → Spends p (section_cost p sections.Total) a b → cycle_weight p ≤ bound p → bound p < 2 ^ 48 → b.config.steps ≤ 2 ^ 60
+lines_few p {a} {b} few s within low =
+    in_all b.config.steps (b.config.allowance * most p) (reach p a) (section_cost p sections.Total) _ _ _ _ _ _ _ few s.few within low
+  where
+    in_all : (s x r t f o y l d w k : ℕ) → r + 0 ≤ 2 ^ 59 → s + x ≤ r + t → f + o + y + (t + l) + d + w ≤ k → k < 2 ^ 48 → s ≤ 2 ^ 60
+    in_all s x r t f o y l d w n h g k low = omega (arith, h, g, k, low)
+
 -- ---- a phase that selects nothing, whatever is beside it
 
-pub of_alone : {P : Phase} {p : Object} {n : ℕ} {a b : Running} (h : Beside) (r : Result (Unit {0}) Stop) → IfOk r (λ _. DoesAlone P a GoesOn b) → IfStops r (λ e. DoesAlone P a (job_end e) b) →
-    IfOk r (λ _. IsReady b) → UnlessNoMemory r (Spends p n a b) → OnlyGrows a.output b.output → DoesStage p P n h a r b
-of_alone h r d s ready few grown = record {
-  goes = ok_map r _ _ (λ x e. e.each h) d;
-  stops = stops_map r _ _ (λ e f. f.each h) s;
-  ready = ready;
-  spends = few;
+-- what the machine answered is passed on
+pub answered : {P : Phase} {n : ℕ} {a b : Running} (last : answers.End) (r : Result (Unit {0}) Stop) → IfOk r (λ _. last ≡ ways.GoesOn) → IfStops r (λ e. phase_end (effects.end_of last) ≡ job_end e) →
+    ((e : PhaseEnd) → phase_end (effects.end_of last) ≡ e → DoesAlone P a e b) → (last ≡ ways.GoesOn → IsReady b) → Spends a.program n a b → OnlyGrows a.output b.output → DoesPhase P n a r b
+answered last r on off did ready few grown = record {
+  goes = ok_map r _ _ (λ x h. did GoesOn (ap (λ (e : answers.End). phase_end (effects.end_of e)) h)) on;
+  stops = stops_map r _ _ (λ e h. did (job_end e) h) off;
+  ready = ok_map r _ _ (λ x h. ready h) on;
+  spends = memory_both r _ few;
   grows = grown;
+}
+
+-- what is beside it stays
+pub of_phase : {P : Phase} {n : ℕ} {a b : Running} {r : Result (Unit {0}) Stop} (h : Beside) → DoesPhase P n a r b → DoesStage a.program P n h a r b
+of_phase {P} {n} {a} {b} {r} h x = record {
+  goes = ok_map r _ _ (λ u e. e.each h) x.goes;
+  stops = stops_map r _ _ (λ e f. f.each h) x.stops;
+  ready = x.ready;
+  spends = x.spends;
+  grows = x.grows;
+}
+
+-- it weighs another number
+pub weighs : {P : Phase} {n m : ℕ} {a b : Running} {r : Result (Unit {0}) Stop} → (Spends a.program n a b → Spends a.program m a b) → DoesPhase P n a r b → DoesPhase P m a r b
+weighs {P} {n} {m} {a} {b} {r} f x = record { goes = x.goes; stops = x.stops; ready = x.ready; spends = memory_map r _ _ f x.spends; grows = x.grows }
+
+-- it is left out, or it isn't
+pub leaves_out : (test : Config → Bool) (P : Phase) (n : ℕ) (a : Running) → IsReady a → ((previous : Option Position) → test (config_on previous a.config) ≡ true) → DoesPhase (unless test P) n a (Ok tt) a
+leaves_out test P n a ready h = record { goes = left_out test P a h; stops = tt; ready = ready; spends = costs_none a.program n a; grows = grows_not a.output }
+
+pub leaves_in : (test : Config → Bool) {P : Phase} {n : ℕ} {a b : Running} {r : Result (Unit {0}) Stop} → ((previous : Option Position) → test (config_on previous a.config) ≡ false) → DoesPhase P n a r b →
+    DoesPhase (unless test P) n a r b
+leaves_in test {P} {n} {a} {b} {r} h x = record {
+  goes = ok_map r _ _ (λ u d. not_left_out test P a b GoesOn h d) x.goes;
+  stops = stops_map r _ _ (λ e d. not_left_out test P a b (job_end e) h d) x.stops;
+  ready = x.ready;
+  spends = x.spends;
+  grows = x.grows;
+}
+
+-- it ends the job before another
+pub phase_ends : {P : Phase} (Q : Phase) {n : ℕ} (m : ℕ) {a b : Running} (s : Stop) (r : Result (Unit {0}) Stop) → IsErrAnd r (λ x. x ≡ s) → DoesPhase P n a (Err s) b → DoesPhase (P before Q) (n + m) a r b
+phase_ends {P} Q {n} m {a} {b} s r is x = record {
+  goes = ok_of_err r _ _ is;
+  stops = passed_map (Unit {0}) (Unit {0}) r s _ _ (λ e h. passes_ends e h) is x.stops;
+  ready = ok_of_err r _ _ is;
+  spends = passed_memory (Unit {0}) (Unit {0}) r s _ _ (λ t. and_less m t) is x.spends;
+  grows = x.grows;
+}
+
+-- it goes on, and then one of the machine's own program is done
+pub phase_then : (F : Object → Phase) (w : Object → ℕ) {P : Phase} {n : ℕ} {a b c : Running} {u : Unit {0}} {r : Result (Unit {0}) Stop} → DoesPhase P n a (Ok u) b → DoesPhase (F b.program) (w b.program) b r c →
+    DoesPhase (P before F a.program) (n + w a.program) a r c
+phase_then F w {P} {n} {a} {b} {c} {u} {r} x y = record {
+  goes = ok_map r _ _ (λ v h. goes_own F x.goes h) y.goes;
+  stops = stops_map r _ _ (λ e h. goes_own F x.goes h) y.stops;
+  ready = y.ready;
+  spends = memory_map r _ _ (λ h. and_then x.spends (of_same w (same_program x.goes) h)) y.spends;
+  grows = and_grows x.grows y.grows;
 }
 
 -- a stage of the machine's own program

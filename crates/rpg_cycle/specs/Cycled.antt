@@ -1,14 +1,30 @@
--- What a cycle that goes on leaves.
-use Rattle.std.specs.Prelude.{ℕ, ◌<◌, List, Option, length}
+-- What a cycle requires, how it came out, and what one that goes on leaves.
+use Rattle.std.specs.Prelude.{◌≡◌, ℕ, ◌<◌, ◌≤◌, List, Option, Result, IfOk, length}
 use Rattle.std.specs.Option.{ForSome}
 use denote.Bor.{Bor}
-use Rattle.rpg_cycle.specs.Doing.{CycleGoesOn}
+use Rattle.rpg_cycle.specs.Doing.{CycleEnds, CycleGoesOn, IsSeen}
 use Rattle.rpg_cycle.specs.Selecting.{RenewsLeft}
+use Rattle.rpg_cycle.specs.Spending.{Spends, phases_weight}
+use Rattle.rpg_cycle.specs.Stages.{IfStops, UnlessNoMemory, job_end}
+use Rattle.rpg_cycle.specs.declared.ends.Stop.{Stop}
+use Rattle.rpg_cycle.specs.declared.seen.Seen.{Seen}
 use Rattle.rpg_cycle_records.specs.Holding.{AreFilesKept}
 use Rattle.rpg_cycle_records.specs.declared.kept.Kept.{Kept}
+use Rattle.rpg_effect.specs.Fronts.{OnlyGrows}
 use Rattle.rpg_machine.specs.Ready.{IsReady}
-use Rattle.rpg_machine.specs.Running.{Running}
+use Rattle.rpg_machine.specs.Running.{Running, refilled}
 use Rattle.rpg_object_program.specs.Object.{Object}
+use Rattle.rpg_verify.specs.Bound.{bound}
+
+-- the records that are next in both files have only characters, if that was seen
+pub record AreSeen (seen : Seen) (first second : Option (Bor (List ℕ))) : Type 0 where
+  pub primary : IsSeen seen.primary first
+  pub secondary : IsSeen seen.secondary second
+
+-- nine levels and both files are kept, and fit the program
+pub record KeepsWell (p : Object) (k : Kept) : Type 0 where
+  pub nine : length k.levels.items ≡ 9
+  pub files : AreFilesKept p k
 
 -- a machine did a cycle that selected the record of that type, if one was selected, and everything is as the next cycle requires
 pub record HasCycled (p : Object) (k : Kept) (primary secondary : Option (Bor (List ℕ))) (old : Running) (t : Option ℕ) (k' : Kept) (new : Running) : Type 0 where
@@ -17,3 +33,17 @@ pub record HasCycled (p : Object) (k : Kept) (primary secondary : Option (Bor (L
   pub there : ForSome t (λ n. n < length p.types)
   pub left : RenewsLeft p t k k'
   pub kept : AreFilesKept p k'
+
+-- all phases of a cycle were done, up to the one that ended the job, if one did: how that came out, and what it took at most
+pub record DoesPhases (p : Object) (k : Kept) (primary secondary : Option (Bor (List ℕ))) (old : Running) (r : Result (Option ℕ) Stop) (k' : Kept) (new : Running) : Type 0 where
+  pub goes : IfOk r (λ t. HasCycled p k primary secondary old t k' new)
+  pub stops : IfStops r (λ e. CycleEnds p k primary secondary old (job_end e) new)
+  pub spends : UnlessNoMemory r (Spends p (phases_weight p) old new)
+  pub grows : OnlyGrows old.output new.output
+
+-- a cycle was done with the allowance full: how it came out, within the program's bound
+pub record RunsCycle (k : Kept) (primary secondary : Option (Bor (List ℕ))) (old : Running) (r : Result (Option ℕ) Stop) (k' : Kept) (new : Running) : Type 0 where
+  pub goes : IfOk r (λ t. HasCycled old.program k primary secondary (refilled old) t k' new)
+  pub stops : IfStops r (λ e. CycleEnds old.program k primary secondary (refilled old) (job_end e) new)
+  pub few : UnlessNoMemory r (new.config.steps ≤ bound old.program)
+  pub grows : OnlyGrows old.output new.output

@@ -11,7 +11,7 @@ use Rattle.rpg_cycle_records.specs.Keeping.{left_of, selected_as}
 use Rattle.rpg_cycle_records.specs.Waiting.{Inputs, finds_match}
 use Rattle.rpg_cycle_records.specs.declared.kept.Kept.{Kept}
 use Rattle.rpg_cycle.specs.Ends.{GoesOn, PhaseEnd}
-use Rattle.rpg_cycle.specs.Phases.{CycleOn, Phase, UnderWay, fill_fields, if_selected, show_match}
+use Rattle.rpg_cycle.specs.Phases.{CycleOn, Phase, UnderWay, if_selected}
 use Rattle.rpg_machine.specs.Config.{Config, Output}
 use Rattle.rpg_machine.specs.Running.{Running, config_on}
 use Rattle.rpg_object_program.specs.Object.{Object}
@@ -85,18 +85,6 @@ DoesWith P s old e new = (i : Inputs) → DoesHolding P (record { inputs = i; se
 -- a machine did a phase that neither reads nor selects, whatever the files and the selected record
 pub record DoesAlone (P : Phase) (old : Running) (e : PhaseEnd) (new : Running) : Type 0 where
   pub each : (h : Beside) → DoesHolding P h old e new
-
--- a machine did a phase of its own program
-abbrev pub DoesOwn : (Object → Phase) → Running → PhaseEnd → Running → Type 0
-DoesOwn P old e new = DoesAlone (P old.program) old e new
-
--- MR showed whether the selected record has a match, by what is kept of earlier records
-abbrev pub ShowsMatch : Kept → Option ℕ → Running → Running → Type 0
-ShowsMatch k t old new = DoesHolding (show_match (match_by old.program k)) (holding_kept old.program k t) old GoesOn new
-
--- fields were filled from the selected record, whatever the files
-abbrev pub FillsSelected : Kept → Option ℕ → Running → PhaseEnd → Running → Type 0
-FillsSelected k t old e new = DoesWith (fill_fields old.program) (selected_in old.program k t) old e new
 
 -- With what is kept of earlier records and of its files, and with the record that is next in each, a machine with its allowance full did
 -- a cycle that goes on, and selected the record of that type, if one was selected.

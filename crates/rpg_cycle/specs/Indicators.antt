@@ -1,10 +1,12 @@
 -- Indicators that the cycle itself reads and sets, by number.
-use Rattle.std.specs.Prelude.{ℕ, Bool, true, false, ◌||◌, ◌==◌, List, [], ◌∷◌, take, Option, None, Some, if◌then◌else◌}
+use Rattle.std.specs.Prelude.{◌≡◌, ℕ, Bool, true, false, ◌||◌, ◌==◌, List, [], ◌∷◌, take, Option, None, Some, if◌then◌else◌}
 use Rattle.std.specs.FinSet as set
 use Rattle.std.specs.Ordering.{nat_cmp}
 use Rattle.rpg_effect.specs.Input.{TypeRow}
 use Rattle.rpg_effect.specs.World.{with_data}
 use Rattle.rpg_machine.specs.Config.{Config}
+use Rattle.rpg_machine.specs.Ready.{IsReady}
+use Rattle.rpg_machine.specs.Running.{Running}
 
 -- LR
 abbrev pub last_record : ℕ
@@ -70,3 +72,8 @@ without_type (Some n) c = if n == last_record then c else with_one n false c
 abbrev pub without_types : List (TypeRow ℕ) → Config → Config
 without_types [] c = c
 without_types (t ∷ ts) c = without_types ts (without_type t.indicator c)
+
+-- a machine's indicators were turned like that, it is as ready as before, and nothing else changed
+pub record Turns (f : Config → Config) (old new : Running) : Type 0 where
+  pub turned : new ≡ record old { config = f old.config }
+  pub ready : IsReady old → IsReady new

@@ -1,11 +1,12 @@
 -- What `run_records` returns.
-use Rattle.std.specs.Prelude.{◌≡◌, ℕ, ℤ, List, [], ◌++◌, None, Some, map}
+use Rattle.std.specs.Prelude.{◌≡◌, ℕ, ℤ, true, List, [], ◌++◌, None, Some, map}
 use Rattle.std.specs.Global.{Vec}
+use Rattle.rpg_cycle_records.specs.Earlier.{left_by}
 use Rattle.rpg_cycle_records.specs.Waiting.{unread}
 use Rattle.rpg_cycle.specs.Job.{AtWork, first_fields}
 use Rattle.rpg_cycle.specs.Phases.{UnderWay}
 use Rattle.rpg_cycle.specs.Runs.{Course, IsRun, Records, Runs, printed, stored}
-use Rattle.rpg_cycle.specs.Stages.{job_end}
+use Rattle.rpg_cycle.specs.Stages.{is_going, job_end}
 use Rattle.rpg_cycle.specs.Starting.{date_in}
 use Rattle.rpg_cycle.specs.declared.runs.Run.{Run}
 use Rattle.rpg_cycle.specs.declared.runs.Summary.{Summary}
@@ -25,6 +26,13 @@ records_in primary secondary = record { primary = texts primary; secondary = tex
 -- the course of a run that put this out and led there
 abbrev pub course_of : Summary → Output → UnderWay → Course
 course_of s out there = record { ending = job_end s.ending; cycles = s.cycles; most = s.most; output = out; there = there }
+
+-- a job is before its first cycle: nothing was read, nothing is kept of earlier records, and no line was placed
+pub record IsAtStart (j : AtWork) : Type 0 where
+  pub going : is_going j.stage ≡ true
+  pub first : j.left ≡ left_by j.program []
+  pub files : j.inputs ≡ unread
+  pub top : j.last ≡ None
 
 -- a job before its first cycle ran over records to its end
 pub record RunsRecords (old : AtWork) (records : Records) (s : Summary) (new : AtWork) : Type 0 where

@@ -1,5 +1,5 @@
 -- What the parts of taking records in, and of selecting one, do.
-use Rattle.std.specs.Prelude.{◌≡◌, ℕ, ◌<◌, ◌≤◌, All, List, length, slice_get, Option, Some}
+use Rattle.std.specs.Prelude.{◌≡◌, ℕ, ◌+◌, ◌<◌, ◌≤◌, All, List, length, slice_get, Option, None, Some}
 use Rattle.std.specs.Option.{ForSome}
 use denote.Bor.{Bor}
 use Rattle.rpg_cycle_records.specs.Earlier.{Left, control_fields, file_of, last_of_file}
@@ -8,7 +8,7 @@ use Rattle.rpg_cycle.specs.Ends.{GoesOn, Halt, PhaseEnd}
 use Rattle.rpg_cycle_records.specs.Fitting.{IsControlIn}
 use Rattle.rpg_cycle_records.specs.Identifying.{IsOf, IsOfNone, identified, trial_weight}
 use Rattle.rpg_cycle.specs.Indicators.{with_levels, with_type}
-use Rattle.rpg_cycle_records.specs.Holding.{HoldsRecord, input_state_of, inputs_of, text_in}
+use Rattle.rpg_cycle_records.specs.Holding.{AreFilesKept, HoldsRecord, HoldsSelected, IsFileKept, input_state_of, inputs_of, text_in}
 use Rattle.rpg_cycle_records.specs.Keeping.{left_of, renewed, renewed_by, seen_levels, seen_value}
 use Rattle.rpg_cycle_records.specs.Levels.{broken_in}
 use Rattle.rpg_cycle_records.specs.Waiting.{Inputs, input_at, waiting_in, with_input}
@@ -18,12 +18,14 @@ use Rattle.rpg_cycle_records.specs.declared.levels.LastBytes.{LastBytes}
 use Rattle.rpg_cycle_records.specs.declared.matching.LastValues.{LastValues}
 use Rattle.rpg_cycle_records.specs.declared.matching.MatchValue.{MatchValue}
 use Rattle.rpg_cycle.specs.Phases.{done, read_record, select_one, select_record, select_waiting, take_in, type_indicator}
+use Rattle.rpg_cycle.specs.Spending.{Spends, compared_weight}
 use Rattle.rpg_cycle.specs.Stages.{job_end}
 use Rattle.rpg_cycle.specs.declared.ends.JobEnd.{JobEnd}
 use Rattle.rpg_paper.specs.Paper.{Position}
 use Rattle.rpg_effect.specs.declared.input.ControlField.{ControlField}
 use Rattle.rpg_effect.specs.declared.input.InputFile.{InputFile}
 use Rattle.rpg_machine.specs.Config.{Config, charged}
+use Rattle.rpg_machine.specs.Ready.{IsReady}
 use Rattle.rpg_machine.specs.Running.{Running, config_on}
 use Rattle.rpg_object_program.specs.Object.{Object}
 
@@ -126,3 +128,33 @@ SelectsRecord p k primary secondary old t k' new =
 abbrev pub EndsSelecting : Object → Kept → (primary secondary : Option (Bor (List ℕ))) → Running → PhaseEnd → Running → Type 0
 EndsSelecting p k primary secondary old e new =
     (i : Inputs) × Does (select_record p (left_of k) (next_text primary) (next_text secondary)) old (unselected (inputs_of k)) e new (unselected i)
+
+-- ---- what follows can count on
+
+-- a record was taken in, if the file takes one in: few steps were taken, and what is kept of the file fits the program
+pub record IsTakenIn (p : Object) (f : InputFile) (old : Running) (k' : KeptFile) (new : Running) : Type 0 where
+  pub ready : IsReady old → IsReady new
+  pub few : new.config.steps ≤ old.config.steps + 20009
+  pub kept : IsFileKept p f k'
+
+-- the record that waits in a file, if one does, waits no longer, and levels and match values were renewed by it
+pub record IsTakenUp (p : Object) (levels : List LastBytes) (values : LastValues) (k : KeptFile) (old : Running) (t : Option ℕ) (levels' : List LastBytes) (values' : LastValues) (k' : KeptFile) (new : Running) : Type 0 where
+  pub row : t ≡ k.waiting
+  pub file : k' ≡ record k { waiting = None }
+  pub program : new.program ≡ old.program
+  pub ready : IsReady old → IsReady new
+  pub left : RenewsSeen p t k'.record.items levels values levels' values'
+
+-- one of the records that wait was selected, or none: its control fields were paid for, and what is kept was renewed by it
+pub record IsPicked (p : Object) (k : Kept) (old : Running) (t : Option ℕ) (k' : Kept) (new : Running) : Type 0 where
+  pub ready : IsReady old → IsReady new
+  pub spends : Spends p (compared_weight p t) old new
+  pub kept : AreFilesKept p k'
+  pub left : RenewsLeft p t k k'
+
+-- a record was selected, or none, and everything is as the phases that follow require
+pub record IsChosen (p : Object) (k : Kept) (t : Option ℕ) (k' : Kept) (new : Running) : Type 0 where
+  pub ready : IsReady new
+  pub held : HoldsSelected p k' t
+  pub kept : AreFilesKept p k'
+  pub left : RenewsLeft p t k k'

@@ -1,12 +1,13 @@
--- What several phases of a cycle do, one after another, up to one that ends the job.
-use Rattle.std.specs.Prelude.{ℕ, Bool, Option, Result, IfOk}
-use Rattle.rpg_cycle.specs.Doing.{Beside, DoesHolding, holding_kept, match_by}
+-- How a phase of a cycle came out, and several of them one after another, up to one that ends the job.
+use Rattle.std.specs.Prelude.{◌+◌, ◌^◌, ◌≤◌, ℕ, Bool, Option, Result, Ok, IfOk}
+use Rattle.rpg_cycle.specs.Doing.{Beside, DoesAlone, DoesHolding, holding_kept, match_by, selected_in}
 use Rattle.rpg_cycle.specs.Ends.{GoesOn}
 use Rattle.rpg_cycle.specs.Phases.{Phase, detail_calculations, end_where_last, fill_fields, overflow_lines, show_match, total_time, ◌before◌}
-use Rattle.rpg_cycle.specs.Spending.{Spends, detail_time_weight, record_weight}
+use Rattle.rpg_cycle.specs.Spending.{Spends, detail_time_weight, fields_weight, reach, record_weight}
 use Rattle.rpg_cycle.specs.Stages.{IfStops, UnlessNoMemory, job_end}
 use Rattle.rpg_cycle.specs.declared.ends.Stop.{Stop}
 use Rattle.rpg_cycle_records.specs.Earlier.{Left, Selected}
+use Rattle.rpg_cycle_records.specs.Holding.{AreFilesKept, HoldsSelected}
 use Rattle.rpg_cycle_records.specs.Keeping.{left_of}
 use Rattle.rpg_cycle_records.specs.Waiting.{Inputs}
 use Rattle.rpg_cycle_records.specs.declared.kept.Kept.{Kept}
@@ -14,6 +15,39 @@ use Rattle.rpg_effect.specs.Fronts.{OnlyGrows}
 use Rattle.rpg_machine.specs.Ready.{IsReady}
 use Rattle.rpg_machine.specs.Running.{Running}
 use Rattle.rpg_object_program.specs.Object.{Object}
+
+-- ---- what a phase requires
+
+-- a machine is ready, and can still count a phase's steps
+pub record CanDo (r : Running) : Type 0 where
+  pub ready : IsReady r
+  pub few : r.config.steps ≤ 2 ^ 60
+
+-- it is ready, and has room for phases that weigh so much
+pub record CanSpend (n : ℕ) (r : Running) : Type 0 where
+  pub ready : IsReady r
+  pub few : reach r.program r + n ≤ 2 ^ 59
+
+-- what is kept fits the program, and the record of that type, if one was selected, is the one that its file holds
+pub record KeepsSelected (p : Object) (k : Kept) (t : Option ℕ) : Type 0 where
+  pub kept : AreFilesKept p k
+  pub held : HoldsSelected p k t
+
+-- ---- single phases
+
+-- A phase was done that neither reads nor selects: how that came out, and what it took at most.
+pub record DoesPhase (P : Phase) (n : ℕ) (old : Running) (r : Result (Unit {0}) Stop) (new : Running) : Type 0 where
+  pub goes : IfOk r (λ _. DoesAlone P old GoesOn new)
+  pub stops : IfStops r (λ e. DoesAlone P old (job_end e) new)
+  pub ready : IfOk r (λ _. IsReady new)
+  pub spends : UnlessNoMemory r (Spends old.program n old new)
+  pub grows : OnlyGrows old.output new.output
+
+-- a phase of the machine's own program was done, which costs nothing and always goes on
+abbrev pub DoesFreely : (Object → Phase) → Running → Running → Type 0
+DoesFreely P old new = DoesPhase (P old.program) 0 old (Ok tt) new
+
+-- ---- phases with the selected record, and several phases
 
 -- from overflow lines on
 abbrev pub detail_time : Object → (Inputs → Selected → Bool) → Phase
@@ -30,6 +64,18 @@ pub record DoesStage (p : Object) (P : Phase) (n : ℕ) (h : Beside) (old : Runn
   pub ready : IfOk r (λ _. IsReady new)
   pub spends : UnlessNoMemory r (Spends p n old new)
   pub grows : OnlyGrows old.output new.output
+
+-- MR showed whether the selected record has a match, by what is kept of earlier records
+abbrev pub ShowsMatch : Kept → Option ℕ → Running → Running → Type 0
+ShowsMatch k t old new =
+    let p = old.program in
+    DoesStage p (show_match (match_by p k)) 0 (holding_kept p k t) old (Ok tt) new
+
+-- fields were filled from the selected record, whatever the files
+abbrev pub FillsSelected : Kept → Option ℕ → Running → Result (Unit {0}) Stop → Running → Type 0
+FillsSelected k t old r new =
+    let p = old.program in
+    (i : Inputs) → DoesStage p (fill_fields p) (fields_weight p t) (record { inputs = i; selected = selected_in p k t }) old r new
 
 -- with the selected record, by what is kept: overflow lines and what follows
 abbrev pub TakesDetailTime : Kept → Option ℕ → Running → Result (Unit {0}) Stop → Running → Type 0

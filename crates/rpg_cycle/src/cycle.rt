@@ -1,15 +1,9 @@
 //! One cycle.
-ghost use Rattle.std.specs.Prelude.{◌≡◌, ◌≤◌, ◌+◌, ◌^◌, IfOk, length};
-ghost use Rattle.rpg_cycle.specs.Cycled.{HasCycled};
-ghost use Rattle.rpg_cycle.specs.Doing.{CycleEnds, IsSeen};
-ghost use Rattle.rpg_cycle.specs.Spending.{Spends, detail_time_weight, phases_weight, reach, record_weight};
-ghost use Rattle.rpg_cycle.specs.Stages.{IfStops, UnlessNoMemory, job_end};
-ghost use Rattle.rpg_cycle.specs.Staging.{FollowsSelection, TakesDetailTime};
-ghost use Rattle.rpg_cycle_records.specs.Holding.{AreFilesKept, HoldsSelected};
-ghost use Rattle.rpg_effect.specs.Fronts.{OnlyGrows};
+ghost use Rattle.std.specs.Prelude.{◌≤◌, ◌+◌, ◌^◌};
+ghost use Rattle.rpg_cycle.specs.Cycled.{AreSeen, DoesPhases, KeepsWell, RunsCycle};
+ghost use Rattle.rpg_cycle.specs.Spending.{detail_time_weight, phases_weight, reach, record_weight};
+ghost use Rattle.rpg_cycle.specs.Staging.{CanSpend, FollowsSelection, KeepsSelected, TakesDetailTime};
 ghost use Rattle.rpg_machine.specs.Ready.{IsReady};
-ghost use Rattle.rpg_machine.specs.Running.{refilled};
-ghost use Rattle.rpg_verify.specs.Bound.{bound};
 
 use crate::ends::Stop;
 use crate::phases::{
@@ -30,10 +24,8 @@ fn take_detail_time<S: Store + Drop>(
     kept: &Kept,
     selected: Option<usize>,
 ) -> Result<(), Stop>
-    requires ready { IsReady machine.old }
-    requires few { reach machine.old.program machine.old + detail_time_weight machine.old.program selected ≤ 2 ^ 59 }
-    requires kept { AreFilesKept machine.old.program kept.now }
-    requires held { HoldsSelected machine.old.program kept.now selected }
+    requires can { CanSpend (detail_time_weight machine.old.program selected) machine.old }
+    requires held { KeepsSelected machine.old.program kept.now selected }
     ensures { TakesDetailTime kept.now selected machine.old result machine.new }
 {
     put_out_overflow(machine)?;
@@ -49,10 +41,8 @@ fn follow_selection<S: Store + Drop>(
     kept: &Kept,
     selected: Option<usize>,
 ) -> Result<(), Stop>
-    requires ready { IsReady machine.old }
-    requires few { reach machine.old.program machine.old + record_weight machine.old.program selected ≤ 2 ^ 59 }
-    requires kept { AreFilesKept machine.old.program kept.now }
-    requires held { HoldsSelected machine.old.program kept.now selected }
+    requires can { CanSpend (record_weight machine.old.program selected) machine.old }
+    requires held { KeepsSelected machine.old.program kept.now selected }
     ensures { FollowsSelection kept.now selected machine.old result machine.new }
 {
     take_total_time(machine, kept.has_any, kept.has_control)?;
@@ -69,16 +59,11 @@ fn do_phases<S: Store + Drop>(
     secondary: Option<&[u8]>,
     seen: Seen,
 ) -> Result<Option<usize>, Stop>
-    requires primary { IsSeen seen.primary primary }
-    requires secondary { IsSeen seen.secondary secondary }
+    requires seen { AreSeen seen primary secondary }
     requires ready { IsReady machine.old }
     requires few { reach machine.old.program machine.old + phases_weight machine.old.program ≤ 2 ^ 48 }
-    requires nine { length kept.old.levels.items ≡ 9 }
-    requires kept { AreFilesKept machine.old.program kept.old }
-    ensures goes { IfOk result (λ t. HasCycled machine.old.program kept.old primary.entry secondary.entry machine.old t kept.new machine.new) }
-    ensures stops { IfStops result (λ e. CycleEnds machine.old.program kept.old primary.entry secondary.entry machine.old (job_end e) machine.new) }
-    ensures spends { UnlessNoMemory result (Spends machine.old.program (phases_weight machine.old.program) machine.old machine.new) }
-    ensures grows { OnlyGrows machine.old.output machine.new.output }
+    requires kept { KeepsWell machine.old.program kept.old }
+    ensures { DoesPhases machine.old.program kept.old primary.entry secondary.entry machine.old result kept.new machine.new }
 {
     put_out_details(machine)?;
     halt_where_asked(machine)?;
@@ -97,15 +82,10 @@ pub(crate) fn run_cycle<S: Store + Drop>(
     secondary: Option<&[u8]>,
     seen: Seen,
 ) -> Result<Option<usize>, Stop>
-    requires primary { IsSeen seen.primary primary }
-    requires secondary { IsSeen seen.secondary secondary }
+    requires seen { AreSeen seen primary secondary }
     requires ready { IsReady machine.old }
-    requires nine { length kept.old.levels.items ≡ 9 }
-    requires kept { AreFilesKept machine.old.program kept.old }
-    ensures goes { IfOk result (λ t. HasCycled machine.old.program kept.old primary.entry secondary.entry (refilled machine.old) t kept.new machine.new) }
-    ensures stops { IfStops result (λ e. CycleEnds machine.old.program kept.old primary.entry secondary.entry (refilled machine.old) (job_end e) machine.new) }
-    ensures few { UnlessNoMemory result (machine.new.config.steps ≤ bound machine.old.program) }
-    ensures grows { OnlyGrows machine.old.output machine.new.output }
+    requires kept { KeepsWell machine.old.program kept.old }
+    ensures { RunsCycle kept.old primary.entry secondary.entry machine.old result kept.new machine.new }
 {
     is_bounded(machine.program());
     machine.refill();

@@ -2,7 +2,6 @@
 ghost use Rattle.std.specs.Prelude.{◌≡◌, ◌≤◌, All};
 ghost use Rattle.std.specs.Option.{ForSome};
 ghost use Rattle.rpg_cycle.specs.Indicators as spec;
-ghost use Rattle.rpg_machine.specs.Ready.{IsReady};
 ghost use Rattle.rpg_object_program.specs.Kept.{IsIndicator};
 
 use rpg_machine::Machine;
@@ -32,8 +31,7 @@ pub(crate) fn is_halt_asked<S: Store + Drop>(machine: &Machine<S>) -> bool
 /// Turns indicators on or off, in order.
 pub(crate) fn turn_all<S: Store + Drop>(machine: &mut Machine<S>, numbers: &[u8], on: bool)
     requires { All IsIndicator numbers.now }
-    ensures turned { machine.new ≡ record machine.old { config = spec.with_all numbers.now on machine.old.config } }
-    ensures ready { IsReady machine.old → IsReady machine.new }
+    ensures { spec.Turns (spec.with_all numbers.now on) machine.old machine.new }
 {
     for number in numbers {
         machine.set_indicator(*number, on);
@@ -43,8 +41,7 @@ pub(crate) fn turn_all<S: Store + Drop>(machine: &mut Machine<S>, numbers: &[u8]
 /// Turns a record type's indicator off, unless it is LR.
 pub(crate) fn turn_type_off<S: Store + Drop>(machine: &mut Machine<S>, indicator: Option<u8>)
     requires { ForSome indicator IsIndicator }
-    ensures turned { machine.new ≡ record machine.old { config = spec.without_type indicator machine.old.config } }
-    ensures ready { IsReady machine.old → IsReady machine.new }
+    ensures { spec.Turns (spec.without_type indicator) machine.old machine.new }
 {
     match indicator {
         Some(LAST_RECORD) | None => {}
@@ -55,8 +52,7 @@ pub(crate) fn turn_type_off<S: Store + Drop>(machine: &mut Machine<S>, indicator
 /// Turns a record type's indicator on.
 pub(crate) fn turn_type_on<S: Store + Drop>(machine: &mut Machine<S>, indicator: Option<u8>)
     requires { ForSome indicator IsIndicator }
-    ensures turned { machine.new ≡ record machine.old { config = spec.with_type indicator machine.old.config } }
-    ensures ready { IsReady machine.old → IsReady machine.new }
+    ensures { spec.Turns (spec.with_type indicator) machine.old machine.new }
 {
     if let Some(number) = indicator {
         machine.set_indicator(number, true);

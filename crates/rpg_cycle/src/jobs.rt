@@ -99,6 +99,7 @@ impl<'a> Job<'a, FlatStore> {
 
 impl<'a, S: Store + Drop> Job<'a, S> {
     ghost use Rattle.std.specs.Prelude.{◌≤◌, ◌&&◌, true, false, ◌↔◌, None, IfOk, OnErr, IsOk, IsErrOf};
+    ghost use Rattle.rpg_cycle.specs.Cycled.{AreSeen};
     ghost use Rattle.rpg_cycle.specs.Doing.{IsSeen, next_text};
     ghost use Rattle.rpg_effect.specs.Fronts.{OnlyGrows};
     ghost use Rattle.rpg_effect.specs.declared.input.InputFile.TheVariants as files;
@@ -226,8 +227,7 @@ impl<'a, S: Store + Drop> Job<'a, S> {
         secondary: Option<&[u8]>,
         seen: Seen,
     ) -> Result<Progress, AllocError>
-        requires primary { IsSeen seen.primary primary }
-        requires secondary { IsSeen seen.secondary secondary }
+        requires seen { AreSeen seen primary secondary }
         requires going { is_going self.old.stage ≡ true }
         ensures done { IfOk result (λ _. of.Cycles self.old (next_text primary.entry) (next_text secondary.entry) self.new) }
         ensures stage { IfOk result (λ g. stage_of g ≡ self.new.stage) }

@@ -1,18 +1,18 @@
 //! The phases of a cycle that select no record.
-ghost use Rattle.std.specs.Prelude.{◌≡◌, ℕ, ◌+◌, ◌^◌, ◌≤◌, All, IfOk, List, map, true};
+ghost use Rattle.std.specs.Prelude.{◌≡◌, ℕ, All, IfOk, List, map, true};
 ghost use Rattle.std.specs.Option.{ForSome};
-ghost use Rattle.rpg_cycle.specs.Doing.{DoesAlone, DoesOwn, DoesWith, FillsSelected, ShowsMatch, selected_has_match};
+ghost use Rattle.rpg_cycle.specs.Doing.{DoesAlone, DoesWith, selected_has_match};
 ghost use Rattle.rpg_cycle.specs.Ends as ends;
 ghost use Rattle.rpg_cycle.specs.Ends.{GoesOn};
 ghost use Rattle.rpg_cycle.specs.Indicators as lights;
-ghost use Rattle.rpg_cycle_records.specs.Holding.{AreFilesKept, HoldsSelected};
+ghost use Rattle.rpg_cycle_records.specs.Holding.{HoldsSelected};
 ghost use Rattle.rpg_cycle_records.specs.Keeping.{selected_as};
 ghost use Rattle.rpg_machine.specs.Ready.{IsReady};
 ghost use Rattle.rpg_cycle.specs.Phases as spec;
-ghost use Rattle.rpg_cycle.specs.Spending.{Spends, section_cost, fields_weight, reach, full_page_weight, totals_weight};
-ghost use Rattle.rpg_cycle.specs.Stages.{IfStops, UnlessNoMemory, job_end};
+ghost use Rattle.rpg_cycle.specs.Spending.{section_cost, full_page_weight, totals_weight};
+ghost use Rattle.rpg_cycle.specs.Stages.{IfStops, job_end};
+ghost use Rattle.rpg_cycle.specs.Staging.{CanDo, CanSpend, DoesFreely, DoesPhase, FillsSelected, KeepsSelected, ShowsMatch};
 ghost use Rattle.rpg_effect.specs.Ends as effects;
-ghost use Rattle.rpg_effect.specs.Fronts.{OnlyGrows};
 ghost use Rattle.rpg_machine.specs.Outputs.{output_weight};
 ghost use Rattle.rpg_machine.specs.declared.time.OutputTime.TheVariants as times;
 ghost use Rattle.rpg_object_program.specs.Kept.{IsIndicator};
@@ -39,7 +39,6 @@ use rpg_verify::Verified;
 fn go_on(end: End) -> Result<(), Stop>
     ensures goes { IfOk result (λ _. end ≡ End.GoesOn) }
     ensures stops { IfStops result (λ e. ends.phase_end (effects.end_of end) ≡ job_end e) }
-    ensures memory { UnlessNoMemory result (Unit {0}) }
 {
     match end {
         End::GoesOn => Ok(()),
@@ -49,13 +48,8 @@ fn go_on(end: End) -> Result<(), Stop>
 
 /// The lines of a time.
 fn put_out<S: Store + Drop>(machine: &mut Machine<S>, time: OutputTime) -> Result<(), Stop>
-    requires ready { IsReady machine.old }
-    requires few { machine.old.config.steps ≤ 2 ^ 60 }
-    ensures goes { IfOk result (λ _. DoesAlone (spec.output machine.old.program time) machine.old GoesOn machine.new) }
-    ensures stops { IfStops result (λ e. DoesAlone (spec.output machine.old.program time) machine.old (job_end e) machine.new) }
-    ensures ready { IfOk result (λ _. IsReady machine.new) }
-    ensures spends { UnlessNoMemory result (Spends machine.old.program (output_weight machine.old.program time) machine.old machine.new) }
-    ensures grows { OnlyGrows machine.old.output machine.new.output }
+    requires { CanDo machine.old }
+    ensures { DoesPhase (spec.output machine.old.program time) (output_weight machine.old.program time) machine.old result machine.new }
 {
     let end = machine.output(time)?;
     go_on(end)
@@ -65,13 +59,8 @@ fn put_out<S: Store + Drop>(machine: &mut Machine<S>, time: OutputTime) -> Resul
 #[inline(always)]
 fn calculate<S: Store + Drop>(machine: &mut Machine<S>, section: Section) -> Result<(), Stop>
     requires section { has_end section ≡ true }
-    requires ready { IsReady machine.old }
-    requires few { machine.old.config.steps ≤ 2 ^ 60 }
-    ensures goes { IfOk result (λ _. DoesAlone (spec.section machine.old.program section) machine.old GoesOn machine.new) }
-    ensures stops { IfStops result (λ e. DoesAlone (spec.section machine.old.program section) machine.old (job_end e) machine.new) }
-    ensures ready { IfOk result (λ _. IsReady machine.new) }
-    ensures spends { UnlessNoMemory result (Spends machine.old.program (section_cost machine.old.program section) machine.old machine.new) }
-    ensures grows { OnlyGrows machine.old.output machine.new.output }
+    requires can { CanDo machine.old }
+    ensures { DoesPhase (spec.section machine.old.program section) (section_cost machine.old.program section) machine.old result machine.new }
 {
     let end = machine.section(section)?;
     go_on(end)
@@ -79,13 +68,8 @@ fn calculate<S: Store + Drop>(machine: &mut Machine<S>, section: Section) -> Res
 
 /// 1. Heading and detail lines.
 pub(crate) fn put_out_details<S: Store + Drop>(machine: &mut Machine<S>) -> Result<(), Stop>
-    requires ready { IsReady machine.old }
-    requires few { machine.old.config.steps ≤ 2 ^ 60 }
-    ensures goes { IfOk result (λ _. DoesOwn spec.detail_lines machine.old GoesOn machine.new) }
-    ensures stops { IfStops result (λ e. DoesOwn spec.detail_lines machine.old (job_end e) machine.new) }
-    ensures ready { IfOk result (λ _. IsReady machine.new) }
-    ensures spends { UnlessNoMemory result (Spends machine.old.program (output_weight machine.old.program times.Detail) machine.old machine.new) }
-    ensures grows { OnlyGrows machine.old.output machine.new.output }
+    requires { CanDo machine.old }
+    ensures { DoesPhase (spec.detail_lines machine.old.program) (output_weight machine.old.program times.Detail) machine.old result machine.new }
 {
     put_out(machine, OutputTime::Detail)
 }
@@ -104,8 +88,7 @@ pub(crate) fn halt_where_asked<S: Store + Drop>(machine: &Machine<S>) -> Result<
 /// Turns the indicators of record types off.
 fn turn_types_off<S: Store + Drop>(machine: &mut Machine<S>, types: &[RecordType])
     requires { All (λ t. ForSome t.indicator IsIndicator) types.now }
-    ensures turned { machine.new ≡ record machine.old { config = lights.without_types (map type_row types.now) machine.old.config } }
-    ensures ready { IsReady machine.old → IsReady machine.new }
+    ensures { lights.Turns (lights.without_types (map type_row types.now)) machine.old machine.new }
 {
     for record_type in types {
         turn_type_off(machine, record_type.indicator);
@@ -114,8 +97,7 @@ fn turn_types_off<S: Store + Drop>(machine: &mut Machine<S>, types: &[RecordType
 
 /// Turns the indicators of record types, L1 to L9 and 1P off.
 fn turn_off<S: Store + Drop>(machine: &mut Machine<S>)
-    ensures turned { machine.new ≡ record machine.old { config = spec.all_off machine.old.program machine.old.config } }
-    ensures ready { IsReady machine.old → IsReady machine.new }
+    ensures { lights.Turns (spec.all_off machine.old.program) machine.old machine.new }
 {
     turn_types_off(machine, types_of(machine.program()));
     turn_all(machine, &LEVELS, false);
@@ -124,10 +106,8 @@ fn turn_off<S: Store + Drop>(machine: &mut Machine<S>)
 
 /// 3. The indicators of record types, L1 to L9 and 1P go off.
 pub(crate) fn set_off<S: Store + Drop>(machine: &mut Machine<S>)
-    requires ready { IsReady machine.old }
-    ensures goes { DoesOwn spec.set_off machine.old GoesOn machine.new }
-    ensures ready { IsReady machine.new }
-    ensures spends { Spends machine.old.program 0 machine.old machine.new }
+    requires { IsReady machine.old }
+    ensures { DoesFreely spec.set_off machine.old machine.new }
 {
     turn_off(machine);
 }
@@ -154,13 +134,8 @@ fn is_bypassed<S: Store + Drop>(machine: &Machine<S>, has_any: bool, has_control
 
 /// Total calculations and total lines.
 fn do_totals<S: Store + Drop>(machine: &mut Machine<S>) -> Result<(), Stop>
-    requires ready { IsReady machine.old }
-    requires few { reach machine.old.program machine.old ≤ 2 ^ 59 }
-    ensures goes { IfOk result (λ _. DoesOwn spec.totals machine.old GoesOn machine.new) }
-    ensures stops { IfStops result (λ e. DoesOwn spec.totals machine.old (job_end e) machine.new) }
-    ensures ready { IfOk result (λ _. IsReady machine.new) }
-    ensures spends { UnlessNoMemory result (Spends machine.old.program (totals_weight machine.old.program) machine.old machine.new) }
-    ensures grows { OnlyGrows machine.old.output machine.new.output }
+    requires { CanSpend 0 machine.old }
+    ensures { DoesPhase (spec.totals machine.old.program) (totals_weight machine.old.program) machine.old result machine.new }
 {
     is_bounded(machine.program());
     calculate(machine, Section::Total)?;
@@ -173,13 +148,8 @@ pub(crate) fn take_total_time<S: Store + Drop>(
     has_any: bool,
     has_control: bool,
 ) -> Result<(), Stop>
-    requires ready { IsReady machine.old }
-    requires few { reach machine.old.program machine.old ≤ 2 ^ 59 }
-    ensures goes { IfOk result (λ _. DoesAlone (spec.total_time_by machine.old.program has_any has_control) machine.old GoesOn machine.new) }
-    ensures stops { IfStops result (λ e. DoesAlone (spec.total_time_by machine.old.program has_any has_control) machine.old (job_end e) machine.new) }
-    ensures ready { IfOk result (λ _. IsReady machine.new) }
-    ensures spends { UnlessNoMemory result (Spends machine.old.program (totals_weight machine.old.program) machine.old machine.new) }
-    ensures grows { OnlyGrows machine.old.output machine.new.output }
+    requires { CanSpend 0 machine.old }
+    ensures { DoesPhase (spec.total_time_by machine.old.program has_any has_control) (totals_weight machine.old.program) machine.old result machine.new }
 {
     if is_bypassed(machine, has_any, has_control) {
         return Ok(());
@@ -215,13 +185,8 @@ fn has_no_overflow<S: Store + Drop>(machine: &Machine<S>, overflow: Option<u8>) 
 /// 7. All lines of a new page, where the overflow indicator is on.
 #[inline(always)]
 pub(crate) fn put_out_overflow<S: Store + Drop>(machine: &mut Machine<S>) -> Result<(), Stop>
-    requires ready { IsReady machine.old }
-    requires few { machine.old.config.steps ≤ 2 ^ 60 }
-    ensures goes { IfOk result (λ _. DoesOwn spec.overflow_lines machine.old GoesOn machine.new) }
-    ensures stops { IfStops result (λ e. DoesOwn spec.overflow_lines machine.old (job_end e) machine.new) }
-    ensures ready { IfOk result (λ _. IsReady machine.new) }
-    ensures spends { UnlessNoMemory result (Spends machine.old.program (full_page_weight machine.old.program) machine.old machine.new) }
-    ensures grows { OnlyGrows machine.old.output machine.new.output }
+    requires { CanDo machine.old }
+    ensures { DoesPhase (spec.overflow_lines machine.old.program) (full_page_weight machine.old.program) machine.old result machine.new }
 {
     if has_no_overflow(machine, overflow_of(machine.program())) {
         return Ok(());
@@ -232,8 +197,7 @@ pub(crate) fn put_out_overflow<S: Store + Drop>(machine: &mut Machine<S>) -> Res
 /// Whether the selected record has a match, if one was selected.
 #[inline(always)]
 fn finds_match_of(program: &Verified, kept: &Kept, selected: Option<usize>) -> bool
-    requires kept { AreFilesKept program.now kept.now }
-    requires held { HoldsSelected program.now kept.now selected }
+    requires { KeepsSelected program.now kept.now selected }
     ensures { result ≡ selected_has_match program.now kept.now selected }
 {
     match selected {
@@ -250,11 +214,8 @@ pub(crate) fn show_match<S: Store + Drop>(
     selected: Option<usize>,
 )
     requires ready { IsReady machine.old }
-    requires kept { AreFilesKept machine.old.program kept.now }
-    requires held { HoldsSelected machine.old.program kept.now selected }
-    ensures goes { ShowsMatch kept.now selected machine.old machine.new }
-    ensures ready { IsReady machine.new }
-    ensures spends { Spends machine.old.program 0 machine.old machine.new }
+    requires held { KeepsSelected machine.old.program kept.now selected }
+    ensures { ShowsMatch kept.now selected machine.old machine.new }
 {
     let program = machine.program();
     let is_found = finds_match_of(program, kept, selected);
@@ -268,14 +229,9 @@ pub(crate) fn fill_fields<S: Store + Drop>(
     kept: &Kept,
     selected: Option<usize>,
 ) -> Result<(), Stop>
-    requires ready { IsReady machine.old }
-    requires few { machine.old.config.steps ≤ 2 ^ 60 }
+    requires can { CanDo machine.old }
     requires held { HoldsSelected machine.old.program kept.now selected }
-    ensures goes { IfOk result (λ _. FillsSelected kept.now selected machine.old GoesOn machine.new) }
-    ensures stops { IfStops result (λ e. FillsSelected kept.now selected machine.old (job_end e) machine.new) }
-    ensures ready { IfOk result (λ _. IsReady machine.new) }
-    ensures spends { UnlessNoMemory result (Spends machine.old.program (fields_weight machine.old.program selected) machine.old machine.new) }
-    ensures grows { OnlyGrows machine.old.output machine.new.output }
+    ensures { FillsSelected kept.now selected machine.old result machine.new }
 {
     match selected {
         None => Ok(()),
@@ -290,13 +246,8 @@ pub(crate) fn fill_fields<S: Store + Drop>(
 /// 9. Detail calculations.
 #[inline(always)]
 pub(crate) fn calculate_details<S: Store + Drop>(machine: &mut Machine<S>) -> Result<(), Stop>
-    requires ready { IsReady machine.old }
-    requires few { machine.old.config.steps ≤ 2 ^ 60 }
-    ensures goes { IfOk result (λ _. DoesOwn spec.detail_calculations machine.old GoesOn machine.new) }
-    ensures stops { IfStops result (λ e. DoesOwn spec.detail_calculations machine.old (job_end e) machine.new) }
-    ensures ready { IfOk result (λ _. IsReady machine.new) }
-    ensures spends { UnlessNoMemory result (Spends machine.old.program (section_cost machine.old.program sections.Detail) machine.old machine.new) }
-    ensures grows { OnlyGrows machine.old.output machine.new.output }
+    requires { CanDo machine.old }
+    ensures { DoesPhase (spec.detail_calculations machine.old.program) (section_cost machine.old.program sections.Detail) machine.old result machine.new }
 {
     calculate(machine, Section::Detail)
 }

@@ -1,11 +1,8 @@
 //! Whole runs of a program over records.
-ghost use Rattle.std.specs.Prelude.{◌≡◌, ◌↔◌, ◌≤◌, ◌+◌, None, IfOk, IsErrOf, [], length, true};
-ghost use Rattle.rpg_cycle_records.specs.Earlier.{left_by};
+ghost use Rattle.std.specs.Prelude.{◌≡◌, ◌↔◌, ◌≤◌, ◌+◌, None, IfOk, IsErrOf, length};
 ghost use Rattle.std.specs.Option.{option_map};
-ghost use Rattle.rpg_cycle.specs.RunAnswers.{RunsRecords, RunsWhole, records_in, texts};
+ghost use Rattle.rpg_cycle.specs.RunAnswers.{IsAtStart, RunsRecords, RunsWhole, records_in, texts};
 ghost use Rattle.rpg_cycle.specs.Runs.{next_of, rest_where_needed};
-ghost use Rattle.rpg_cycle_records.specs.Waiting.{unread};
-ghost use Rattle.rpg_cycle.specs.Stages.{is_going};
 ghost use Rattle.rpg_cycle.specs.Starting.{date_in};
 ghost use Rattle.rpg_verify.specs.Bound.{bound};
 
@@ -75,10 +72,7 @@ fn run_on<S: Store + Drop>(
     primary: &[Vec<u8>],
     secondary: &[Vec<u8>],
 ) -> Result<Summary, AllocError>
-    requires going { is_going job.old.stage ≡ true }
-    requires first { job.old.left ≡ left_by job.old.program [] }
-    requires unread { job.old.inputs ≡ unread }
-    requires top { job.old.last ≡ None }
+    requires { IsAtStart job.old }
     ensures runs { IfOk result (λ s. RunsRecords job.old (records_in primary.now secondary.now) s job.new) }
     ensures cycles { IfOk result (λ s. s.cycles ≤ length primary.now + length secondary.now + 1) }
     ensures bound { IfOk result (λ s. s.most ≤ bound job.old.program) }

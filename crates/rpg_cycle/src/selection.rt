@@ -1,14 +1,15 @@
 //! Records are taken in, and one is selected.
-ghost use Rattle.std.specs.Prelude.{◌≡◌, ◌+◌, ◌^◌, ◌<◌, ◌≤◌, IfOk, OnOk, Some, None, length, true};
+ghost use Rattle.std.specs.Prelude.{◌≡◌, ◌^◌, ◌<◌, ◌≤◌, IfOk, OnOk, Some, length, true};
 ghost use Rattle.std.specs.List.{list_all};
+ghost use Rattle.rpg_cycle.specs.Cycled.{AreSeen, KeepsWell};
 ghost use Rattle.rpg_cycle.specs.Doing.{IsSeen};
 ghost use Rattle.rpg_cycle.specs.Ends.{GoesOn};
 ghost use Rattle.rpg_cycle.specs.Indicators as lights;
-ghost use Rattle.rpg_cycle.specs.Selecting.{ComparesLevels, EndsAtRecord, EndsSelecting, EndsTakingIn, HoldsWaiting, IsUntaken, ReadsRecord, RenewsLeft, RenewsSeen, SelectsOne, SelectsRecord, SelectsWaiting, TakesIn, TakesType};
+ghost use Rattle.rpg_cycle.specs.Selecting.{ComparesLevels, EndsAtRecord, EndsSelecting, EndsTakingIn, HoldsWaiting, IsChosen, IsPicked, IsTakenIn, IsTakenUp, IsUntaken, ReadsRecord, SelectsOne, SelectsRecord, SelectsWaiting, TakesIn, TakesType};
 ghost use Rattle.rpg_cycle.specs.Spending.{Spends, SpendsSelecting, SpendsTakingIn, compared_weight};
 ghost use Rattle.rpg_cycle.specs.Stages.{IfStops, UnlessNoMemory, job_end};
 ghost use Rattle.rpg_cycle_records.specs.Fitting.{IsFilledAs};
-ghost use Rattle.rpg_cycle_records.specs.Holding.{AreFilesKept, HoldsSelected, IsFileKept};
+ghost use Rattle.rpg_cycle_records.specs.Holding.{HoldsSelected, IsFileKept};
 ghost use Rattle.rpg_cycle_records.specs.Identifying.{is_good_record};
 ghost use Rattle.rpg_effect.specs.Weights.{types_weight};
 ghost use Rattle.rpg_machine.specs.Ready.{IsReady};
@@ -33,8 +34,7 @@ use std::alloc::AllocError;
 /// L1 to the n-th turn on.
 fn turn_levels_on<S: Store + Drop>(machine: &mut Machine<S>, n: usize)
     requires { n ≤ 9 }
-    ensures turned { machine.new ≡ record machine.old { config = lights.with_levels n machine.old.config } }
-    ensures ready { IsReady machine.old → IsReady machine.new }
+    ensures { lights.Turns (lights.with_levels n) machine.old machine.new }
 {
     turn_all(machine, &LEVELS[..n], true);
 }
@@ -88,11 +88,9 @@ fn read<S: Store + Drop>(
     requires seen { is_seen ≡ true → list_all is_character text.now ≡ true }
     ensures goes { IfOk result (λ _. ReadsRecord program.now file last.now (Some text.now) kept.old machine.old GoesOn kept.new machine.new) }
     ensures stops { IfStops result (λ e. EndsAtRecord program.now file last.now text.now machine.old (job_end e) machine.new) }
-    ensures ready { IfOk result (λ _. IsReady machine.old → IsReady machine.new) }
     ensures program { IfOk result (λ _. machine.new.program ≡ machine.old.program) }
+    ensures taken { IfOk result (λ _. IsTakenIn program.now file machine.old kept.new machine.new) }
     ensures takes { UnlessNoMemory result (SpendsTakingIn program.now file machine.old machine.new) }
-    ensures few { IfOk result (λ _. machine.new.config.steps ≤ machine.old.config.steps + 20009) }
-    ensures kept { IfOk result (λ _. IsFileKept program.now file kept.new) }
     ensures output { machine.new.output ≡ machine.old.output }
 {
     if !can_take(program, file, text, is_seen) {
@@ -123,11 +121,9 @@ fn take_in<S: Store + Drop>(
     requires seen { IsSeen is_seen next }
     ensures goes { IfOk result (λ _. TakesIn program.now file last.now next.entry kept.old machine.old kept.new machine.new) }
     ensures stops { IfStops result (λ e. EndsTakingIn program.now file last.now next.entry kept.old machine.old (job_end e) machine.new) }
-    ensures ready { IfOk result (λ _. IsReady machine.old → IsReady machine.new) }
     ensures program { IfOk result (λ _. machine.new.program ≡ machine.old.program) }
+    ensures taken { IfOk result (λ _. IsTakenIn program.now file machine.old kept.new machine.new) }
     ensures takes { UnlessNoMemory result (SpendsTakingIn program.now file machine.old machine.new) }
-    ensures few { IfOk result (λ _. machine.new.config.steps ≤ machine.old.config.steps + 20009) }
-    ensures kept { IfOk result (λ _. IsFileKept program.now file kept.new) }
     ensures output { machine.new.output ≡ machine.old.output }
 {
     if !kept.takes_in(program, file) {
@@ -178,12 +174,8 @@ fn select_waiting<S: Store + Drop>(
     requires nine { length levels.old ≡ 9 }
     requires held { HoldsWaiting program.now kept.old }
     ensures goes { IfOk result (λ t. SelectsWaiting program.now levels.old values.old kept.old machine.old t kept.new machine.new) }
-    ensures row { IfOk result (λ t. t ≡ kept.old.waiting) }
-    ensures file { IfOk result (λ _. kept.new ≡ record kept.old { waiting = None }) }
-    ensures program { IfOk result (λ _. machine.new.program ≡ machine.old.program) }
-    ensures ready { IfOk result (λ _. IsReady machine.old → IsReady machine.new) }
+    ensures taken { IfOk result (λ t. IsTakenUp program.now levels.old values.old kept.old machine.old t levels.new values.new kept.new machine.new) }
     ensures spends { IfOk result (λ t. Spends program.now (compared_weight program.now t) machine.old machine.new) }
-    ensures left { IfOk result (λ t. RenewsSeen program.now t kept.new.record.items levels.old values.old levels.new values.new) }
     ensures output { machine.new.output ≡ machine.old.output }
 {
     let Some(row) = kept.waiting else {
@@ -203,15 +195,10 @@ fn select_one<S: Store + Drop>(
     kept: &mut Kept,
 ) -> Result<Option<usize>, AllocError>
     requires few { machine.old.config.steps ≤ 2 ^ 51 }
-    requires nine { length kept.old.levels.items ≡ 9 }
-    requires kept { AreFilesKept program.now kept.old }
+    requires kept { KeepsWell program.now kept.old }
     ensures goes { IfOk result (λ t. SelectsOne program.now kept.old machine.old t kept.new machine.new) }
-    ensures program { IfOk result (λ _. machine.new.program ≡ machine.old.program) }
-    ensures ready { IfOk result (λ _. IsReady machine.old → IsReady machine.new) }
-    ensures spends { IfOk result (λ t. Spends program.now (compared_weight program.now t) machine.old machine.new) }
     ensures held { IfOk result (λ t. HoldsSelected program.now kept.new t) }
-    ensures kept { IfOk result (λ t. AreFilesKept program.now kept.new) }
-    ensures left { IfOk result (λ t. RenewsLeft program.now t kept.old kept.new) }
+    ensures picked { IfOk result (λ t. IsPicked program.now kept.old machine.old t kept.new machine.new) }
     ensures output { machine.new.output ≡ machine.old.output }
 {
     match chosen(program, &kept.primary, &kept.secondary) {
@@ -242,20 +229,15 @@ pub(crate) fn select_record<S: Store + Drop>(
     secondary: Option<&[u8]>,
     seen: Seen,
 ) -> Result<Option<usize>, Stop>
-    requires primary { IsSeen seen.primary primary }
-    requires secondary { IsSeen seen.secondary secondary }
+    requires seen { AreSeen seen primary secondary }
     requires ready { IsReady machine.old }
     requires few { machine.old.config.steps ≤ 2 ^ 49 }
-    requires nine { length kept.old.levels.items ≡ 9 }
-    requires kept { AreFilesKept program.now kept.old }
+    requires kept { KeepsWell program.now kept.old }
     ensures goes { IfOk result (λ t. SelectsRecord program.now kept.old primary.entry secondary.entry machine.old t kept.new machine.new) }
     ensures stops { IfStops result (λ e. EndsSelecting program.now kept.old primary.entry secondary.entry machine.old (job_end e) machine.new) }
-    ensures ready { IfOk result (λ _. IsReady machine.new) }
+    ensures chosen { IfOk result (λ t. IsChosen program.now kept.old t kept.new machine.new) }
     ensures spends { IfStops result (λ _. Spends program.now (types_weight program.now.types) machine.old machine.new) }
     ensures selects { IfOk result (λ t. SpendsSelecting program.now t machine.old machine.new) }
-    ensures held { IfOk result (λ t. HoldsSelected program.now kept.new t) }
-    ensures kept { IfOk result (λ t. AreFilesKept program.now kept.new) }
-    ensures left { IfOk result (λ t. RenewsLeft program.now t kept.old kept.new) }
     ensures output { machine.new.output ≡ machine.old.output }
 {
     if machine.indicator(LAST_RECORD) {

@@ -1,27 +1,29 @@
-use Rattle.rpg_cycle.proofs.Composing.{goes_own, memory_map, ok_map, passed_map, passes_ends, same_program, stops_map}
-use Rattle.rpg_cycle.proofs.Spending.{and_then, of_same}
+use Rattle.std.proofs.Common.{◌≤◌, ◌<◌, ◌^◌, subst}
+use Rattle.rpg_cycle.proofs.Staging.{can_do, lines_few, phase_ends, phase_then}
 use Rattle.rpg_cycle.specs.Phases.{output}
+use Rattle.rpg_cycle.specs.Spending.{cycle_weight}
 use Rattle.rpg_machine.specs.Outputs.{output_weight}
 use Rattle.rpg_machine.specs.declared.time.OutputTime.TheVariants as times
 use Rattle.rpg_object_program.specs.Object.{Object}
-use Rattle.rpg_cycle.proofs.Growing.{and_grows}
+use Rattle.rpg_verify.specs.Bound.{bound}
+use Rattle.rpg_cycle.proofs.Composing.{same_program}
 use Rattle.rpg_cycle.proofs.phases.do_totals.Goals as goal
 
-pub returns-in_err-calculate-clause-stops : goal.returns-in_err-calculate-clause-stops
-returns-in_err-calculate-clause-stops g c =
-    passed_map (Unit {0}) _ c.from_residual.result c.in_err-calculate.field-0.0 _ _ (λ e h. passes_ends e h) c.from_residual.ensures.1 c.in_err-calculate.ensures.stops
+pub calculate-requires-clause-can : goal.calculate-requires-clause-can
+calculate-requires-clause-can g c = can_do c.requires
 
-pub returns-clause-goes : goal.returns-clause-goes
-returns-clause-goes g c = ok_map c.put_out.result _ _ (λ x h. goes_own (λ (q : Object). output q times.Total) c.in_ok-calculate.ensures.goes h) c.put_out.ensures.goes
+pub put_out-requires : goal.put_out-requires
+put_out-requires g c = record {
+  ready = c.in_ok-calculate.ensures.ready;
+  few = lines_few c.args.machine.now.program c.requires.few c.in_ok-calculate.ensures.spends
+      (subst (λ (o : Object). cycle_weight o ≤ bound o) c.program.ensures c.is_bounded.ensures.sum)
+      (subst (λ (o : Object). bound o < 2 ^ 48) c.program.ensures c.is_bounded.ensures.few);
+}
 
-pub returns-clause-stops : goal.returns-clause-stops
-returns-clause-stops g c = stops_map c.put_out.result _ _ (λ e h. goes_own (λ (q : Object). output q times.Total) c.in_ok-calculate.ensures.goes h) c.put_out.ensures.stops
+pub returns-in_err-calculate : goal.returns-in_err-calculate
+returns-in_err-calculate g c =
+    let p = c.args.machine.now.program in
+    phase_ends (output p times.Total) (output_weight p times.Total) c.in_err-calculate.field-0.0 c.from_residual.result c.from_residual.ensures.1 c.in_err-calculate.ensures
 
-pub returns-clause-spends : goal.returns-clause-spends
-returns-clause-spends g c =
-    memory_map c.put_out.result _ _
-    (λ h. and_then c.in_ok-calculate.ensures.spends (of_same (λ (q : Object). output_weight q times.Total) (same_program c.in_ok-calculate.ensures.goes) h))
-    c.put_out.ensures.spends
-
-pub returns-clause-grows : goal.returns-clause-grows
-returns-clause-grows g c = and_grows c.in_ok-calculate.ensures.grows c.put_out.ensures.grows
+pub returns : goal.returns
+returns g c = phase_then (λ (o : Object). output o times.Total) (λ (o : Object). output_weight o times.Total) c.in_ok-calculate.ensures c.put_out.ensures

@@ -1,7 +1,11 @@
-use Rattle.rpg_cycle.proofs.Composing.{memory_both}
+use Rattle.rpg_cycle.proofs.Machining.{put_out}
 use Rattle.rpg_cycle.proofs.Spending.{output_spends}
+use Rattle.rpg_cycle.proofs.Staging.{answered}
 use Rattle.rpg_cycle.proofs.phases.put_out.Goals as goal
 
-pub returns-clause-spends : goal.returns-clause-spends
-returns-clause-spends g c =
-    memory_both c.go_on.result _ (output_spends c.args.time _ c.args.machine.now c.output.new.self c.in_ok-end.ensures.done)
+pub returns : goal.returns
+returns g c =
+    let a = c.args.machine.now in
+    let b = c.output.new.self in
+    let x = c.in_ok-end.ensures in
+    answered c.in_ok-end.end c.go_on.result c.go_on.ensures.goes c.go_on.ensures.stops (λ e is. put_out c.args.time a b _ e is x.done) x.ready (output_spends c.args.time _ a b x.done) x.grows

@@ -11,7 +11,7 @@ use Rattle.rpg_cycle.proofs.runs.run_on.Goals as goal
 pub loop-progress-init : goal.loop-progress-init
 loop-progress-init g c = record {
   going = c.requires.going;
-  under_way = begins c.args.job.now (records_in c.args.primary.now c.args.secondary.now) c.requires.first c.requires.unread c.requires.top;
+  under_way = begins c.args.job.now (records_in c.args.primary.now c.args.secondary.now) c.requires.first c.requires.files c.requires.top;
   low = omega arith;
 }
 

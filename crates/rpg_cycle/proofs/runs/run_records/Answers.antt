@@ -29,19 +29,15 @@ ran_whole p date j k records s r starts ran same print disk = record {
   };
 }
 
-pub run_on-requires-clause-going : goal.run_on-requires-clause-going
-run_on-requires-clause-going c = ap (λ (j : AtWork). is_going j.stage) c.in_ok-job.ensures.start.job
-
-pub run_on-requires-clause-first : goal.run_on-requires-clause-first
-run_on-requires-clause-first c =
+pub run_on-requires : goal.run_on-requires
+run_on-requires c =
     let start = c.in_ok-job.ensures.start.job in
-    ap (λ (j : AtWork). j.left) start ∙ sym (ap (λ (j : AtWork). left_by j.program []) start)
-
-pub run_on-requires-clause-unread : goal.run_on-requires-clause-unread
-run_on-requires-clause-unread c = ap (λ (j : AtWork). j.inputs) c.in_ok-job.ensures.start.job
-
-pub run_on-requires-clause-top : goal.run_on-requires-clause-top
-run_on-requires-clause-top c = ap (λ (j : AtWork). j.last) c.in_ok-job.ensures.start.job
+    record {
+      going = ap (λ (j : AtWork). is_going j.stage) start;
+      first = ap (λ (j : AtWork). j.left) start ∙ sym (ap (λ (j : AtWork). left_by j.program []) start);
+      files = ap (λ (j : AtWork). j.inputs) start;
+      top = ap (λ (j : AtWork). j.last) start;
+    }
 
 pub returns-in_err-job-clause-run : goal.returns-in_err-job-clause-run
 returns-in_err-job-clause-run c = ok_of_err c.from_residual.result _ _ c.from_residual.ensures.1

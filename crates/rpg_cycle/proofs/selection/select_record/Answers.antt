@@ -67,4 +67,4 @@ returns-clause-goes g c =
 pub returns-clause-selects : goal.returns-clause-selects
 returns-clause-selects g c =
     both_paid c.args.program.now c.in_ok-row.row c.args.machine.now c.take_in.new.machine c.take_in-2.new.machine c.select_one.new.machine c.in_ok-take_in.ensures.takes c.in_ok-take_in-2.ensures.takes
-    c.in_ok-row.ensures.spends
+    c.in_ok-row.ensures.picked.spends

@@ -1,4 +1,5 @@
 use Rattle.std.proofs.Common.{◌<◌, ◌≤◌, length, sym, ap, ◌∙◌, subst}
+use Rattle.std.proofs.lemmas.List.{length-map}
 use Rattle.std.specs.Option.{ForSome}
 use Rattle.rpg_cycle.proofs.JobCycles.{job, goes_on, ends, one_more}
 use Rattle.rpg_cycle.proofs.Spending.{some_before}
@@ -6,7 +7,8 @@ use Rattle.rpg_cycle.specs.Doing.{CycleEnds, CycleGoesOn, next_text}
 use Rattle.rpg_cycle.specs.Ends.{GoesOn}
 use Rattle.rpg_cycle.specs.Job as of
 use Rattle.rpg_cycle_records.specs.Holding.{AreFilesKept, inputs_of, text_in}
-use Rattle.rpg_cycle_records.specs.Keeping.{left_of, noted}
+use Rattle.rpg_cycle_records.specs.Earlier.{Left}
+use Rattle.rpg_cycle_records.specs.Keeping.{left_of, noted, seen_bytes}
 use Rattle.rpg_cycle_records.specs.Waiting.{Inputs}
 use Rattle.rpg_cycle.specs.Selecting.{RenewsLeft}
 use Rattle.rpg_cycle.specs.Stages.{Going, Ended, is_going, job_end, stage_of}
@@ -98,7 +100,10 @@ note-requires g c =
 pub run_cycle-requires-clause-kept : goal.run_cycle-requires-clause-kept
 run_cycle-requires-clause-kept g c =
     let going = ap (λ (r : of.AtWork). is_going r.stage) c.self.view_is ∙ c.requires.going in
-    subst (λ (o : Object). AreFilesKept o c.self.inside.kept) (sym (c.self.invariant.program going)) (c.self.invariant.files going)
+    record {
+      nine = sym (length-map c.self.inside.kept.levels.items seen_bytes) ∙ ap (λ (l : Left). length l.bytes) (c.self.invariant.behind going).leave;
+      files = subst (λ (o : Object). AreFilesKept o c.self.inside.kept) (sym (c.self.invariant.program going)) (c.self.invariant.files going);
+    }
 
 pub returns-in-Ok-clause-grows : goal.returns-in-Ok-clause-grows
 returns-in-Ok-clause-grows g c =

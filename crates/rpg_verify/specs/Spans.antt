@@ -1,0 +1,9 @@
+-- Subroutines while their instructions are judged.
+use Rattle.std.specs.Prelude.{ℕ, ◌+◌, length}
+use Rattle.rpg_object_program.specs.declared.row.Subroutine.{Subroutine}
+use Rattle.rpg_object_program.specs.declared.section.Section.TheVariants as sections
+use Rattle.rpg_object_program.specs.declared.spans.Span.{Span}
+
+-- a subroutine with its number and its first place
+abbrev pub span_of : (number first : ℕ) → Subroutine → Span
+span_of number first s = record { section = sections.Subroutine number; level = s.level; first = first; end = first + length s.instructions.items }
