@@ -1,2 +1,3 @@
 pub mod Listed
 pub mod SizeLemmas
+pub mod Unedited

@@ -1,6 +1,7 @@
 //! F17: edit codes and words that don't fit; and how wide an output field is.
 
-ghost use Rattle.std.specs.Prelude.{◌≡◌, ◌≤◌, true, is_some, IfSome};
+ghost use Rattle.std.specs.Prelude.{◌≡◌, ◌≤◌, ◌&&◌, true, is_some, IfSome};
+ghost use Rattle.std.specs.Option.{is_none};
 ghost use Rattle.rpg_edit_marks.specs.How.{width_of};
 ghost use Rattle.rpg_edit_marks.specs.declared.how.How.TheVariants as how;
 ghost use Rattle.rpg_faults_operands.specs.Editing as editing;
@@ -110,10 +111,20 @@ fn is_badly_edited(source: &IndexedCards, field: &OutputField) -> bool
     let Some(entry) = &field.operand else {
         return false;
     };
+    if is_unedited(field) {
+        return false;
+    }
     match entry_form(source, entry) {
         None => lacks_fill(field),
         Some(form) => fitting_how(form, field).is_none(),
     }
+}
+
+/// Whether a field has neither a code nor a word, so that its form doesn't matter: of most fields nothing is looked up.
+pub(crate) fn is_unedited(field: &OutputField) -> bool
+    ensures { result ≡ (is_none field.now.code && is_none field.now.text) }
+{
+    field.code.is_none() && field.text.is_none()
 }
 
 /// F17: an edit code or word that doesn't fit.

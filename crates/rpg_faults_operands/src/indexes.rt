@@ -2,25 +2,44 @@
 
 ghost use Rattle.std.specs.Prelude.{◌≡◌, false};
 ghost use Rattle.std.specs.Option.{option_map_or};
+ghost use Rattle.std.specs.List.{list_any};
+ghost use Rattle.rpg_cards.specs.Calculations.{card_ending};
 ghost use Rattle.rpg_faults_operands.specs.Indexes as indexes;
+ghost use Rattle.rpg_faults_operands.specs.Operands.{operands_listed, operands_of};
 
 use crate::forms::can_index;
 use crate::names::index_name;
-use crate::operands::{Operand, entry_form, form_in, operands_ending, output_operand};
-use rpg_cards::{Content, IndexedCards, SpecCard};
+use crate::operands::{Operand, entry_form, form_in, operands_of, output_operand};
+use rpg_cards::{Content, IndexedCards, SpecCard, last_card};
 use rpg_effect::form::{FieldForm, fits_digits, is_array};
-use rpg_sheet_specs::{Entry, EntryIndex};
+use rpg_sheet_specs::{CalculationSpec, Entry, EntryIndex};
 
 /// F5: an index that is missing or not allowed, a literal out of range, or a field that can't be an index.
-#[tactic(auto, using(crate::proofs::Listed::any_listed))]
+#[tactic(auto, using(crate::proofs::Listed::any_on))]
 pub fn bad_index(source: &IndexedCards, card: &SpecCard, after: &[SpecCard]) -> bool
     ensures { result ≡ indexes.bad_index source.now card.now after.now }
 {
-    let operands = operands_ending(card, after);
+    ending_indexes_badly(source, card, after) || is_badly_indexed(source, &output_operand(card))
+}
+
+/// Of the calculation that ends on the card.
+fn ending_indexes_badly(source: &IndexedCards, card: &SpecCard, after: &[SpecCard]) -> bool
+    ensures { result ≡ option_map_or (λ k. list_any (indexes.bad_index_of source.now) (operands_listed (operands_of k))) (card_ending card.now after.now) false }
+{
+    match last_card(card, after) {
+        None => false,
+        Some(calculation) => indexes_badly(source, calculation),
+    }
+}
+
+#[tactic(auto, using(crate::proofs::Listed::any_of_three))]
+fn indexes_badly(source: &IndexedCards, calculation: &CalculationSpec) -> bool
+    ensures { result ≡ list_any (indexes.bad_index_of source.now) (operands_listed (operands_of calculation.now)) }
+{
+    let operands = operands_of(calculation);
     is_badly_indexed(source, &operands.first)
         || is_badly_indexed(source, &operands.second)
         || is_badly_indexed(source, &operands.third)
-        || is_badly_indexed(source, &output_operand(card))
 }
 
 pub(crate) fn is_badly_indexed(source: &IndexedCards, operand: &Option<Operand>) -> bool

@@ -100,7 +100,8 @@ fn no_operands<'a>() -> Three<Option<Operand<'a>>>
     }
 }
 
-fn operands_of(calculation: &CalculationSpec) -> Three<Option<Operand<'_>>>
+/// By the columns of the operation, which the last card of a group has.
+pub(crate) fn operands_of(calculation: &CalculationSpec) -> Three<Option<Operand<'_>>>
     ensures { result ≡ operands.operands_of calculation.now }
 {
     match calculation.operation {
