@@ -1,16 +1,15 @@
 //! UDAY, UMONTH and UYEAR.
 
-use crate::columns::Columns;
 use rpg_fit_deck::{Card, Editor, Seen, Sentence, View, Word};
 use rpg_fit_words::{
-    Array, Calculation, Group, Indicator, Line, NewCard, Operand, Place, Printer, Section, Stop,
-    Time, array_of, arrays, fresh_name, groups, insert_at, is_card, is_field_put_first,
-    is_name_used, is_total_skipped_late, lines, printer_of, record_types,
+    Array, Calculation, Columns, Group, Indicator, Line, List, NewCard, Operand, Place, Printer,
+    Section, Stop, Time, array_of, arrays, fresh_name, groups, insert_at, is_card,
+    is_field_put_first, is_name_used, is_total_skipped_late, lines, printer_of,
 };
 use std::alloc::Global;
 
 /// A part of the date that the old system had as a field.
-#[derive(Clone, Copy, PartialEq, Eq)]
+#[derive(Clone, Copy)]
 enum DatePart {
     Day,
     Month,
@@ -38,33 +37,39 @@ impl DatePart {
 pub fn dates(alloc: Global, editor: &mut Editor) -> Result<(), Stop> {
     let view = editor.view(alloc)?;
     let parts = undefined_parts(alloc, &view)?;
-    let Some((first, more)) = parts.as_slice().split_first() else {
-        return Ok(());
-    };
-    check_lines(alloc, &view, parts.as_slice())?;
-    let number = first_card(&view, parts.as_slice());
-    let half = fresh_name(&view, b"UDMD", number)?;
-    let filling = Filling { half, number };
-    if has_total(alloc, &view)? {
-        let cards = filling.cards(alloc, parts.as_slice(), Indicator::ALWAYS)?;
-        insert_at(alloc, editor, Place::TotalFront, cards.as_slice(), number)?;
+    match parts.checked()? {
+        [] => Ok(()),
+        parts => fill(alloc, editor, &view, parts),
     }
-    let cards = filling.cards(alloc, parts.as_slice(), Indicator::BLANK)?;
-    insert_at(alloc, editor, Place::DetailFront, cards.as_slice(), number)?;
-    editor.tell(number, sentence(*first, more));
-    Ok(())
 }
 
 /// The parts of the date that a deck uses and no card defines.
-fn undefined_parts(alloc: Global, view: &View) -> Result<Vec<DatePart>, Stop> {
+fn undefined_parts(alloc: Global, view: &View) -> Result<List<DatePart>, Stop> {
     let arrays = arrays(alloc, view)?;
-    let mut parts = Vec::new(alloc);
-    for part in DatePart::ALL {
-        if is_name_used(view, part.name()) && !is_defined(view, arrays.as_slice(), part.name()) {
-            parts.push(part)?;
+    let mut found = List::new(alloc);
+    for part in &DatePart::ALL {
+        let name = part.name();
+        if is_name_used(view, name) && !is_defined(view, arrays.as_slice(), name) {
+            found.push(*part);
         }
     }
-    Ok(parts)
+    Ok(found)
+}
+
+/// Puts the calculations that fill parts of the date.
+fn fill(alloc: Global, editor: &mut Editor, view: &View, parts: &[DatePart]) -> Result<(), Stop> {
+    check_lines(alloc, view, parts)?;
+    let number = first_card(view, parts);
+    let filling = Filling {
+        half: fresh_name(view, b"UDMD", number)?,
+        number,
+    };
+    if has_total(alloc, view)? {
+        filling.put(alloc, editor, parts, Place::TotalFront, Indicator::ALWAYS)?;
+    }
+    filling.put(alloc, editor, parts, Place::DetailFront, Indicator::BLANK)?;
+    editor.tell(number, sentence(parts));
+    Ok(())
 }
 
 /// Whether an array, a result or an input field defines a name.
@@ -137,8 +142,7 @@ fn first_card(view: &View, parts: &[DatePart]) -> usize {
 fn check_lines(alloc: Global, view: &View, parts: &[DatePart]) -> Result<(), Stop> {
     let printer = printer_of(view);
     let lines = lines(alloc, view)?;
-    let types = record_types(alloc, view)?;
-    let is_late = is_total_skipped_late(printer, lines.as_slice(), types.as_slice());
+    let is_late = is_total_skipped_late(alloc, view, printer, lines.as_slice())?;
     for line in lines.iter() {
         check_line(printer, line, parts, is_late && has_overflow(printer, line))?;
     }
@@ -210,38 +214,34 @@ struct Filling {
 }
 
 impl Filling {
-    /// The calculations of some parts of the date, at a level.
-    fn cards(
+    /// Puts the calculations of some parts of the date in a place, at a level.
+    fn put(
         &self,
         alloc: Global,
+        editor: &mut Editor,
         parts: &[DatePart],
-        level: Indicator,
-    ) -> Result<Vec<NewCard>, Stop> {
-        let mut cards = Vec::new(alloc);
-        for part in [DatePart::Month, DatePart::Day, DatePart::Year] {
-            if parts.contains(&part) {
-                self.push_part(&mut cards, part, level)?;
-            }
-        }
-        Ok(cards)
-    }
-
-    fn push_part(
-        &self,
-        cards: &mut Vec<NewCard>,
-        part: DatePart,
+        place: Place,
         level: Indicator,
     ) -> Result<(), Stop> {
+        let mut cards = List::new(alloc);
+        for part in &[DatePart::Month, DatePart::Day, DatePart::Year] {
+            if is_part(parts, part.name()) {
+                self.push_part(&mut cards, *part, level);
+            }
+        }
+        insert_at(alloc, editor, place, cards.checked()?, self.number)
+    }
+
+    fn push_part(&self, cards: &mut List<NewCard>, part: DatePart, level: Indicator) {
         let half = self.half;
         match part {
-            DatePart::Month => cards.push(self.card(level, b"MOVEL", b"UDATE", b"UMONTH", 2))?,
+            DatePart::Month => cards.push(self.card(level, b"MOVEL", b"UDATE", b"UMONTH", 2)),
             DatePart::Day => {
-                cards.push(self.card(level, b"MOVEL", b"UDATE", half.text(), 4))?;
-                cards.push(self.card(level, b"MOVE", half.text(), b"UDAY", 2))?;
+                cards.push(self.card(level, b"MOVEL", b"UDATE", half.text(), 4));
+                cards.push(self.card(level, b"MOVE", half.text(), b"UDAY", 2));
             }
-            DatePart::Year => cards.push(self.card(level, b"MOVE", b"UDATE", b"UYEAR", 2))?,
+            DatePart::Year => cards.push(self.card(level, b"MOVE", b"UDATE", b"UYEAR", 2)),
         }
-        Ok(())
     }
 
     /// A move to a number without decimals.
@@ -263,20 +263,23 @@ impl Filling {
 }
 
 /// The sentence about the parts of the date that are fields now.
-fn sentence(first: DatePart, more: &[DatePart]) -> Sentence {
-    let first = Word::of(first.name());
-    match more {
-        [] => Sentence::about("% from UDATE, so --date is month, day, year", first),
-        [second] => Sentence::of_two(
-            "%, % from UDATE, so --date is month, day, year",
-            first,
-            Word::of(second.name()),
-        ),
-        [second, third, ..] => Sentence::of_three(
+fn sentence(parts: &[DatePart]) -> Sentence {
+    match parts {
+        [first, second, third] => Sentence::of_three(
             "%, %, % from UDATE, so --date is month, day, year",
-            first,
+            Word::of(first.name()),
             Word::of(second.name()),
             Word::of(third.name()),
         ),
+        [first, second] => Sentence::of_two(
+            "%, % from UDATE, so --date is month, day, year",
+            Word::of(first.name()),
+            Word::of(second.name()),
+        ),
+        [first, ..] => Sentence::about(
+            "% from UDATE, so --date is month, day, year",
+            Word::of(first.name()),
+        ),
+        [] => Sentence::of(""),
     }
 }

@@ -10,7 +10,7 @@ const LITERAL: usize = 8;
 const DIGITS: usize = 15;
 
 /// A figurative constant.
-#[derive(Clone, Copy, PartialEq, Eq)]
+#[derive(Clone, Copy)]
 pub(crate) enum Figure {
     Blanks,
     Zeros,
@@ -66,7 +66,7 @@ impl Beside {
 }
 
 /// The operation that a figurative constant is an operand of.
-#[derive(Clone, Copy, PartialEq, Eq)]
+#[derive(Clone, Copy)]
 pub(crate) enum Use {
     /// MOVE and MOVEL.
     Move,
@@ -130,7 +130,7 @@ fn beside_number(figure: Figure) -> Result<Instead, Sentence> {
 fn moved(figure: Figure, length: usize) -> Result<Instead, Sentence> {
     if length <= LITERAL {
         Ok(Instead::Literal(figure.literal(length)))
-    } else if figure == Figure::Zeros && length > DIGITS {
+    } else if matches!(figure, Figure::Zeros) && length > DIGITS {
         Err(Sentence::of("*ZERO to a text of more than 15 characters"))
     } else {
         Ok(Instead::Field)

@@ -1,10 +1,9 @@
 //! Figurative constants.
 
-use crate::columns::Columns;
 use crate::figure::{Beside, Figure, Instead, Use, replacement};
 use rpg_fit_deck::{Card, Editor, Seen, Sentence, View, Word};
 use rpg_fit_words::{
-    Calculation, Indicator, Operand, Place, Stop, form_of, fresh_name, insert_at, is_card,
+    Calculation, Columns, Indicator, Operand, Place, Stop, form_of, fresh_name, insert_at, is_card,
 };
 use std::alloc::Global;
 
@@ -103,13 +102,8 @@ fn rewritten(
 fn meaning(view: &View, seen: &Seen, columns: Columns, figure: Figure) -> Result<Instead, Stop> {
     let constant = columns.value(&seen.card);
     let Some(beside) = beside(view, other_operand(&seen.card, columns)) else {
-        return Err(Stop::refused(
-            seen.number,
-            Sentence::about(
-                "% stands with a name that nothing defines",
-                Word::of(constant),
-            ),
-        ));
+        let why = "% stands with a name that nothing defines";
+        return Err(Stop::refused(seen.number, Sentence::about(why, Word::of(constant))));
     };
     match replacement(figure, constant, seen.card.value(28, 32), beside) {
         Ok(instead) => Ok(instead),
@@ -119,7 +113,7 @@ fn meaning(view: &View, seen: &Seen, columns: Columns, figure: Figure) -> Result
 
 /// The operand that decides what a figurative constant in columns stands for.
 fn other_operand(card: &Card, columns: Columns) -> &[u8] {
-    if columns == Columns::Factor1 {
+    if matches!(columns, Columns::Factor1) {
         return Columns::Factor2.value(card);
     }
     let field = Columns::Result.value(card);
@@ -146,7 +140,7 @@ fn beside(view: &View, other: &[u8]) -> Option<Beside> {
 /// A card with the operation that fits what stands for a figurative constant.
 fn with_operation(card: Card, instead: Instead) -> Card {
     match instead {
-        Instead::Number if Use::of(card.value(28, 32)) == Use::Move => {
+        Instead::Number if matches!(Use::of(card.value(28, 32)), Use::Move) => {
             card.with(28, 32, b"Z-ADD")
         }
         _ => card,
@@ -164,12 +158,11 @@ fn field(
     if let Some(name) = fields.of(figure) {
         return Ok(name);
     }
-    let view = editor.view(alloc)?;
     let stem = match figure {
         Figure::Blanks => b"BL$",
         Figure::Zeros => b"ZE$",
     };
-    let name = fresh_name(&view, stem, number)?;
+    let name = fresh_name(&editor.view(alloc)?, stem, number)?;
     let definition = definition(figure, name).unless(Indicator::ALWAYS);
     insert_at(
         alloc,

@@ -1,7 +1,6 @@
 //! Rules that rewrite calculations: figurative constants, MOVEA, whole arrays and the parts of the date.
 #![tactic(auto)]
 
-mod columns;
 mod date_rule;
 mod figure;
 mod figure_rule;

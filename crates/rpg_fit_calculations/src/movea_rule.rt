@@ -1,13 +1,12 @@
 //! MOVEA.
 
-use crate::columns::Columns;
 use crate::literal::{is_literal, literal_length};
 use crate::movea::{Entries, Moves, Side, moves_of};
 use crate::now::{Now, replace};
-use rpg_fit_deck::{Editor, Seen, Sentence, View, Word};
+use rpg_fit_deck::{Card, Editor, Seen, Sentence, View, Word};
 use rpg_fit_words::{
-    Array, Flagged, FreeIndicators, Group, NewCard, Operand, Stop, array_of, form_of, groups,
-    under_flag, unused_prefix, with_room,
+    Array, Columns, Flagged, FreeIndicators, Group, List, NewCard, Operand, Stop, array_of,
+    form_of, groups, under_flag, unused_prefix, with_room,
 };
 use std::alloc::Global;
 
@@ -83,22 +82,22 @@ fn side(now: &Now, text: &[u8]) -> Result<Option<Side>, Stop> {
         )),
         Some(form) => match array_of(now.arrays.as_slice(), operand.name) {
             None => Ok(Some(Side::Field(form.length))),
-            Some(array) => Ok(entries_from(array, operand.index).map(Side::Array)),
+            Some(array) => Ok(entries_side(array, operand.index)),
         },
     }
 }
 
 /// The entries of an array from an index on, or all where there is no index; none if it has no such entry.
-fn entries_from(array: Array, index: &[u8]) -> Option<Entries> {
+fn entries_side(array: Array, index: &[u8]) -> Option<Side> {
     let first = if index.is_empty() { 1 } else { number(index) };
     if first == 0 || first > array.entries {
         return None;
     }
-    Some(Entries {
+    Some(Side::Array(Entries {
         first,
         count: (array.entries - first).saturating_add(1),
         length: array.form.length,
-    })
+    }))
 }
 
 /// The number that digits are.
@@ -132,11 +131,14 @@ fn move_entries(
     let under = under_flag(alloc, &now.view, group, free, false)?;
     let plan = Plan::of(&now.seen, &under, work);
     let mut cards = under.before;
-    plan.push_moves(&mut cards, moves)?;
-    replace(editor, group, cards.as_slice());
-    editor.tell(
-        now.seen.number,
-        Sentence::about("MOVEA is % calculations", Word::of_number(cards.len())),
+    plan.push_moves(&mut cards, moves);
+    let cards = cards.checked()?;
+    let count = Word::of_number(cards.len());
+    replace(
+        editor,
+        group,
+        cards,
+        Sentence::about("MOVEA is % calculations", count),
     );
     Ok(())
 }
@@ -144,17 +146,19 @@ fn move_entries(
 /// Gives the arrays of a MOVEA names with room for an index, in the order of their names.
 fn make_rooms(alloc: Global, editor: &mut Editor, group: &Group) -> Result<(), Stop> {
     let now = Now::of(alloc, editor, group)?;
-    let from = Operand::of(Columns::Factor2.value(&now.seen.card)).name;
-    let to = Operand::of(Columns::Result.value(&now.seen.card)).name;
-    let order = if from <= to {
-        [Columns::Factor2, Columns::Result]
+    if is_factor_first(&now.seen.card) {
+        make_room(alloc, editor, group, Columns::Factor2)?;
+        make_room(alloc, editor, group, Columns::Result)
     } else {
-        [Columns::Result, Columns::Factor2]
-    };
-    for columns in order {
-        make_room(alloc, editor, group, columns)?;
+        make_room(alloc, editor, group, Columns::Result)?;
+        make_room(alloc, editor, group, Columns::Factor2)
     }
-    Ok(())
+}
+
+/// Whether the name in factor 2 of a MOVEA comes before that in its result.
+fn is_factor_first(card: &Card) -> bool {
+    let from = Operand::of(Columns::Factor2.value(card)).name;
+    from <= Operand::of(Columns::Result.value(card)).name
 }
 
 /// Gives the array in columns a name with room for the index of its last entry.
@@ -175,8 +179,8 @@ fn make_room(
 
 /// The first characters of work fields, with which no name begins.
 fn work_prefix(view: &View, number: usize) -> Result<Word, Stop> {
-    for stem in [b"MV", b"MW", b"MX", b"M#"] {
-        if let Some(prefix) = unused_prefix(view, stem, b"#$@VWXYZ") {
+    for stem in &[b"MV", b"MW", b"MX", b"M#"] {
+        if let Some(prefix) = unused_prefix(view, *stem, b"#$@VWXYZ") {
             return Ok(prefix);
         }
     }
@@ -206,12 +210,33 @@ impl Plan {
         }
     }
 
+    /// Puts the moves of all entries in the place of a MOVEA, after some cards.
+    fn put(
+        &self,
+        editor: &mut Editor,
+        group: &Group,
+        before: List<NewCard>,
+        moves: Moves,
+    ) -> Result<(), Stop> {
+        let mut cards = before;
+        self.push_moves(&mut cards, moves);
+        let cards = cards.checked()?;
+        let count = Word::of_number(cards.len());
+        replace(
+            editor,
+            group,
+            cards,
+            Sentence::about("MOVEA is % calculations", count),
+        );
+        Ok(())
+    }
+
     /// Appends the moves of all entries.
-    fn push_moves(&self, cards: &mut Vec<NewCard>, moves: Moves) -> Result<(), Stop> {
+    fn push_moves(&self, cards: &mut List<NewCard>, moves: Moves) {
         match moves {
-            Moves::Left => Ok(()),
+            Moves::Left => {}
             Moves::EntryToEntry { from, to, count } => {
-                self.push_entry_to_entry(cards, from, to, count)
+                self.push_entry_to_entry(cards, from, to, count);
             }
             Moves::Into { to, count, length } => self.push_into(cards, to, count, length),
             Moves::OutOf {
@@ -223,56 +248,36 @@ impl Plan {
     }
 
     /// Appends a MOVE for each entry.
-    fn push_entry_to_entry(
-        &self,
-        cards: &mut Vec<NewCard>,
-        from: usize,
-        to: usize,
-        count: usize,
-    ) -> Result<(), Stop> {
+    fn push_entry_to_entry(&self, cards: &mut List<NewCard>, from: usize, to: usize, count: usize) {
         for place in 0..count {
             cards.push(
                 self.base
                     .with(28, 32, b"MOVE")
                     .with(33, 42, entry(self.from, from.saturating_add(place)).text())
                     .with(43, 48, entry(self.to, to.saturating_add(place)).text()),
-            )?;
+            );
         }
-        Ok(())
     }
 
     /// Appends, for each entry, a MOVEL of all up to its end to a work field, and a MOVE of that to the entry.
-    fn push_into(
-        &self,
-        cards: &mut Vec<NewCard>,
-        to: usize,
-        count: usize,
-        length: usize,
-    ) -> Result<(), Stop> {
+    fn push_into(&self, cards: &mut List<NewCard>, to: usize, count: usize, length: usize) {
         for place in 0..count {
             let number = place.saturating_add(1);
             let work = self.work_field(number);
-            cards.push(self.to_work(b"MOVEL", work, number.saturating_mul(length)))?;
+            cards.push(self.to_work(b"MOVEL", work, number.saturating_mul(length)));
             cards.push(
                 self.base
                     .with(28, 32, b"MOVE")
                     .with(33, 42, work.text())
                     .with(43, 48, entry(self.to, to.saturating_add(place)).text())
                     .with(49, 52, b""),
-            )?;
+            );
         }
-        Ok(())
     }
 
     /// Appends, for each entry from the last one down, a MOVE of it to the end of a work field, and a MOVEL of that to the result. The
     /// first of them keeps the length that the card gives the result.
-    fn push_out_of(
-        &self,
-        cards: &mut Vec<NewCard>,
-        from: usize,
-        count: usize,
-        length: usize,
-    ) -> Result<(), Stop> {
+    fn push_out_of(&self, cards: &mut List<NewCard>, from: usize, count: usize, length: usize) {
         for place in 0..count {
             let number = count.saturating_sub(place);
             let work = self.work_field(number);
@@ -281,14 +286,13 @@ impl Plan {
             cards.push(
                 self.to_work(b"MOVE", work, number.saturating_mul(length))
                     .with(33, 42, last.text()),
-            )?;
+            );
             cards.push(if place == 0 {
                 out
             } else {
                 out.with(49, 52, b"")
-            })?;
+            });
         }
-        Ok(())
     }
 
     fn work_field(&self, number: usize) -> Word {

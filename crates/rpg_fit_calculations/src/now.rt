@@ -1,6 +1,6 @@
 //! A calculation as it is now, and cards in its place.
 
-use rpg_fit_deck::{Editor, Seen, View};
+use rpg_fit_deck::{Editor, Seen, Sentence, View};
 use rpg_fit_words::{Array, Group, NewCard, Stop, arrays, put_cards};
 use std::alloc::Global;
 
@@ -27,12 +27,13 @@ impl Now {
     }
 }
 
-/// Puts cards in the place of a calculation.
-pub(crate) fn replace(editor: &mut Editor, group: &Group, cards: &[NewCard]) {
+/// Puts cards in the place of a calculation, with a sentence about that.
+pub(crate) fn replace(editor: &mut Editor, group: &Group, cards: &[NewCard], told: Sentence) {
     let number = group.last.number;
     put_cards(editor, group.first().at, cards, number);
     for seen in group.leading.iter() {
         editor.remove(seen.at, number);
     }
     editor.remove(group.last.at, number);
+    editor.tell(number, told);
 }

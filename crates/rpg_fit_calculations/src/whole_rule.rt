@@ -1,11 +1,10 @@
 //! Calculations with whole arrays.
 
-use crate::columns::Columns;
 use crate::now::{Now, replace};
 use rpg_fit_deck::{Card, Editor, Sentence, Word};
 use rpg_fit_words::{
-    Array, Calculation, FreeIndicators, FreshNames, Group, Indicator, NewCard, Operand, Stop,
-    array_of, arrays, fresh_name, groups, under_flag, with_room,
+    Array, Calculation, Columns, Flagged, FreeIndicators, FreshNames, Group, Indicator, List,
+    NewCard, Operand, Stop, array_of, arrays, fresh_name, groups, under_flag, with_room,
 };
 use std::alloc::Global;
 
@@ -105,7 +104,7 @@ fn check_own_entry(card: &Card, array: &[u8], number: usize) -> Result<(), Stop>
 /// The least number of entries of the whole arrays of a calculation; none if it has no whole array.
 fn least_entries(arrays: &[Array], card: &Card) -> Option<usize> {
     let mut least = None;
-    for columns in Columns::ALL {
+    for columns in &Columns::ALL {
         if let Some(array) = array_of(arrays, columns.value(card)) {
             least = Some(array.entries.min(least.unwrap_or(array.entries)));
         }
@@ -132,8 +131,14 @@ fn rewrite_group(
 
 /// Gives the whole arrays of a calculation names with room for an index.
 fn make_rooms(alloc: Global, editor: &mut Editor, group: &Group, index: &Word) -> Result<(), Stop> {
-    for columns in Columns::ALL {
-        make_room(alloc, editor, group, columns, index.len().saturating_add(1))?;
+    for columns in &Columns::ALL {
+        make_room(
+            alloc,
+            editor,
+            group,
+            *columns,
+            index.len().saturating_add(1),
+        )?;
     }
     Ok(())
 }
@@ -157,7 +162,7 @@ fn make_room(
 /// A card with an index for each of its whole arrays.
 fn indexed(arrays: &[Array], card: Card, index: &Word) -> Card {
     let mut now = card;
-    for columns in Columns::ALL {
+    for columns in &Columns::ALL {
         let name = columns.value(&card);
         if is_whole(arrays, name) {
             let entry = Word::of(name).and(b",").and(index.text());
@@ -186,21 +191,40 @@ fn by_entry(
     make_rooms(alloc, editor, group, &Word::of_number(entries))?;
     let now = Now::of(alloc, editor, group)?;
     let under = under_flag(alloc, &now.view, group, free, false)?;
-    let base = NewCard::copy(&now.seen)
-        .with(7, 8, under.level.word().text())
-        .with(9, 17, under.conditions.text())
-        .with(49, 52, b"");
+    put_entries(editor, group, &now, under, entries)
+}
+
+/// Puts a calculation for each entry in the place of one.
+fn put_entries(
+    editor: &mut Editor,
+    group: &Group,
+    now: &Now,
+    under: Flagged,
+    entries: usize,
+) -> Result<(), Stop> {
+    let base = base_of(now, under.level).with(9, 17, under.conditions.text());
     let mut cards = under.before;
     for place in 0..entries {
         let index = Word::of_number(place.saturating_add(1));
-        cards.push(entry_card(&now, base, &index))?;
+        cards.push(entry_card(now, base, &index));
     }
-    replace(editor, group, cards.as_slice());
-    editor.tell(
-        now.seen.number,
-        Sentence::about("whole arrays: % calculations", Word::of_number(cards.len())),
+    let cards = cards.checked()?;
+    let count = Word::of_number(cards.len());
+    replace(
+        editor,
+        group,
+        cards,
+        Sentence::about("whole arrays: % calculations", count),
     );
     Ok(())
+}
+
+/// What the calculations of all entries have, without conditions.
+fn base_of(now: &Now, level: Indicator) -> NewCard {
+    NewCard::copy(&now.seen)
+        .with(7, 8, level.word().text())
+        .with(9, 17, b"")
+        .with(49, 52, b"")
 }
 
 /// Rewrites a calculation as a loop over the entries.
@@ -211,37 +235,46 @@ fn by_loop(
     group: &Group,
     entries: usize,
 ) -> Result<(), Stop> {
-    let number = group.last.number;
-    let index = FreshNames::of(b"X#", 2).take(&editor.view(alloc)?, number)?;
+    let index = FreshNames::of(b"X#", 2).take(&editor.view(alloc)?, group.last.number)?;
     make_rooms(alloc, editor, group, &index)?;
     let now = Now::of(alloc, editor, group)?;
     let under = under_flag(alloc, &now.view, group, free, true)?;
-    let Some(flag) = under.flag else {
-        return Ok(());
-    };
-    let frame = Loop {
-        level: under.level,
-        flag,
-        index,
-        again: fresh_name(&now.view, b"LOOP#", number)?,
-        done: fresh_name(&now.view, b"DONE#", number)?,
-        number,
-    };
-    let base = NewCard::copy(&now.seen)
-        .with(7, 8, under.level.word().text())
-        .with(9, 17, b"")
-        .with(49, 52, b"");
-    let mut cards = under.before;
-    cards.extend_from_slice(&frame.begin())?;
-    cards.push(entry_card(&now, base, &index))?;
-    cards.extend_from_slice(&frame.end(entries))?;
-    replace(editor, group, cards.as_slice());
-    editor.tell(
-        number,
-        Sentence::about(
-            "whole arrays: a loop of %; give --allowance more than 1000 where it is done often",
-            Word::of_number(entries),
-        ),
+    match under.flag {
+        Some(flag) => {
+            let frame = Loop::of(&now, under.level, flag, index)?;
+            put_loop(
+                editor,
+                group,
+                &frame,
+                entry_card(&now, frame.base, &index),
+                under.before,
+                entries,
+            )
+        }
+        None => Ok(()),
+    }
+}
+
+/// Puts a loop in the place of a calculation, after some cards.
+fn put_loop(
+    editor: &mut Editor,
+    group: &Group,
+    frame: &Loop,
+    entry: NewCard,
+    before: List<NewCard>,
+    entries: usize,
+) -> Result<(), Stop> {
+    let mut cards = before;
+    cards.push_all(&frame.begin());
+    cards.push(entry);
+    cards.push_all(&frame.end(entries));
+    let told = "whole arrays: a loop of %; give --allowance more than 1000 where it is done often";
+    let count = Word::of_number(entries);
+    replace(
+        editor,
+        group,
+        cards.checked()?,
+        Sentence::about(told, count),
     );
     Ok(())
 }
@@ -258,10 +291,25 @@ struct Loop {
     again: Word,
     /// The label after it.
     done: Word,
+    /// The calculation of an entry, but for its operands.
+    base: NewCard,
     number: usize,
 }
 
 impl Loop {
+    fn of(now: &Now, level: Indicator, flag: Indicator, index: Word) -> Result<Loop, Stop> {
+        let number = now.seen.number;
+        Ok(Loop {
+            level,
+            flag,
+            index,
+            again: fresh_name(&now.view, b"LOOP#", number)?,
+            done: fresh_name(&now.view, b"DONE#", number)?,
+            base: base_of(now, level),
+            number,
+        })
+    }
+
     fn card(&self, calculation: Calculation) -> NewCard {
         calculation.at(self.level).made_of(self.number)
     }

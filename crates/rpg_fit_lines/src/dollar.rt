@@ -1,11 +1,11 @@
 //! A dollar sign that floats in an edit word: the edit code that shows the same.
 
 use crate::constant::Constant;
-use crate::dollar_code::{NoCode, dollar_code};
+use crate::dollar_code::dollar_code;
 use crate::field::name_on;
-use crate::word_form::{Around, WordForm};
+use crate::word_form::WordForm;
 use rpg_fit_deck::{Editor, Seen, Sentence, View, Word};
-use rpg_fit_words::{Form, Line, Operand, Stop, form_of, lines};
+use rpg_fit_words::{Line, Operand, Stop, form_of, lines};
 use std::alloc::Global;
 
 /// Puts an edit code in place of each word in which a dollar sign floats.
@@ -39,31 +39,17 @@ pub(crate) fn has_word(field: &Seen) -> bool {
 fn code_field(editor: &mut Editor, view: &View, field: &Seen) -> Result<(), Stop> {
     let word = Constant::of(&field.card);
     let name = Operand::of(name_on(&field.card)).name;
-    match (
-        WordForm::of(word.text()).around_dollar(),
-        form_of(view, name),
-    ) {
+    let around = WordForm::of(word.text()).around_dollar();
+    match (around, form_of(view, name)) {
         (Some(around), Some(form)) if form.is_number() => {
-            let code = code_of(around, form, field.number)?;
-            put_code(editor, field, code);
-            Ok(())
+            match dollar_code(around, form.length, form.places()) {
+                Ok(code) => put_code(editor, field, code),
+                Err(why) => return Err(Stop::refused(field.number, Sentence::of(why))),
+            }
         }
-        _ => Ok(()),
+        _ => {}
     }
-}
-
-fn code_of(word: Around, form: Form, card: usize) -> Result<u8, Stop> {
-    match dollar_code(word, form.length, form.places()) {
-        Ok(code) => Ok(code),
-        Err(NoCode::Places) => Err(Stop::refused(
-            card,
-            Sentence::of("a $ that floats in a word which no edit code has"),
-        )),
-        Err(NoCode::Commas) => Err(Stop::refused(
-            card,
-            Sentence::of("a $ that floats in a word with other commas than an edit code's"),
-        )),
-    }
+    Ok(())
 }
 
 /// Edits a field by a code that fills with a dollar sign.

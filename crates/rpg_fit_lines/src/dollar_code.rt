@@ -11,33 +11,32 @@ struct Tail {
     ending: Ending,
 }
 
-/// Why a word has no edit code.
-#[derive(Clone, Copy, PartialEq, Eq)]
-pub(crate) enum NoCode {
-    /// Its places are those of no code.
-    Places,
-    /// Its commas are those of no code.
-    Commas,
-}
+/// Why a word whose places are those of no code has none.
+const NO_PLACES: &str = "a $ that floats in a word which no edit code has";
 
-/// The code of a number of so many digits and decimals, edited by a word with a floating dollar sign.
-pub(crate) fn dollar_code(word: Around, digits: usize, decimals: usize) -> Result<u8, NoCode> {
+/// Why a word whose commas are those of no code has none.
+const NO_COMMAS: &str = "a $ that floats in a word with other commas than an edit code's";
+
+/// The code of a number of so many digits and decimals, edited by a word with a floating dollar sign; or why there is none.
+pub(crate) fn dollar_code(
+    word: Around,
+    digits: usize,
+    decimals: usize,
+) -> Result<u8, &'static str> {
     let Some(tail) = parse_tail(word.stop) else {
-        return Err(NoCode::Places);
+        return Err(NO_PLACES);
     };
-    if tail.decimals != decimals || !has_blanks_and_commas(word.front) {
-        return Err(NoCode::Places);
-    }
     let whole = count_blanks(word.front).saturating_add(1);
-    if whole.saturating_add(decimals) != digits {
-        return Err(NoCode::Places);
+    let has_places = tail.decimals == decimals && whole.saturating_add(decimals) == digits;
+    if !has_places || !has_blanks_and_commas(word.front) {
+        return Err(NO_PLACES);
     }
     if word.front == whole_places(whole).text() {
-        Ok(code_with_commas(tail.ending))
+        Ok(code_of(tail.ending, true))
     } else if word.front.len().saturating_add(1) == whole {
-        Ok(code_without_commas(tail.ending))
+        Ok(code_of(tail.ending, false))
     } else {
-        Err(NoCode::Commas)
+        Err(NO_COMMAS)
     }
 }
 
@@ -45,10 +44,8 @@ pub(crate) fn dollar_code(word: Around, digits: usize, decimals: usize) -> Resul
 fn parse_tail(stop: &[u8]) -> Option<Tail> {
     match stop {
         [b'0', b'.', b' ', rest @ ..] => {
-            let blanks = rest
-                .iter()
-                .take_while(|character| **character == b' ')
-                .count();
+            // all of them stand in front, since no ending has one
+            let blanks = count_blanks(rest);
             Some(Tail {
                 decimals: blanks.saturating_add(1),
                 ending: ending(rest.get(blanks..)?)?,
@@ -88,20 +85,14 @@ fn whole_places(digits: usize) -> Constant {
     places
 }
 
-/// The code that shows commas, and zero.
-fn code_with_commas(ending: Ending) -> u8 {
-    match ending {
-        Ending::Unsigned => b'1',
-        Ending::Minus => b'J',
-        Ending::Credit => b'A',
-    }
-}
-
-/// The code that shows no commas, and zero.
-fn code_without_commas(ending: Ending) -> u8 {
-    match ending {
-        Ending::Unsigned => b'3',
-        Ending::Minus => b'L',
-        Ending::Credit => b'C',
+/// The code that shows zero, with commas or without.
+fn code_of(ending: Ending, has_commas: bool) -> u8 {
+    match (ending, has_commas) {
+        (Ending::Unsigned, true) => b'1',
+        (Ending::Unsigned, false) => b'3',
+        (Ending::Minus, true) => b'J',
+        (Ending::Minus, false) => b'L',
+        (Ending::Credit, true) => b'A',
+        (Ending::Credit, false) => b'C',
     }
 }

@@ -2,8 +2,8 @@
 
 use rpg_fit_deck::{Editor, Seen, Sentence, Word};
 use rpg_fit_words::{
-    Alternative, Condition, Indicator, Line, NewCard, Stop, Term, Time, lines, name_files,
-    printer_of, put_cards,
+    Alternative, Condition, Indicator, Line, List, NewCard, Stop, Term, Time, lines, lines_now,
+    name_files, printer_of, put_cards,
 };
 use std::alloc::Global;
 
@@ -17,12 +17,20 @@ const MOST_ALTERNATIVES: usize = 2000;
 /// The deck is rejected, or memory is refused.
 pub fn or_spaces(alloc: Global, editor: &mut Editor) -> Result<(), Stop> {
     let view = editor.view(alloc)?;
-    let lines = lines(alloc, &view)?;
     let overflow = match printer_of(&view) {
         Some(printer) => printer.overflow,
         None => Indicator::BLANK,
     };
-    for line in lines.iter() {
+    split_lines(alloc, editor, lines(alloc, &view)?.as_slice(), overflow)
+}
+
+fn split_lines(
+    alloc: Global,
+    editor: &mut Editor,
+    lines: &[Line],
+    overflow: Indicator,
+) -> Result<(), Stop> {
+    for line in lines {
         if let Some(card) = own_spaces(line) {
             let split = Split {
                 line,
@@ -59,41 +67,34 @@ fn spaces_of(line: &Line, alternative: &Alternative) -> Word {
     }
 }
 
+/// The spaces and skips of the alternative at a place.
+fn spaces_at(line: &Line, place: usize) -> Word {
+    match line.alternatives.get(place) {
+        Some(alternative) => spaces_of(line, alternative),
+        None => Word::empty(),
+    }
+}
+
 /// Alternatives next to one another with the same spaces and skips: from a place on, up to another one.
 #[derive(Clone, Copy)]
 struct Part {
-    spaces: Word,
     first: usize,
     end: usize,
 }
 
-/// Whether the last part has these spaces and skips.
-fn is_last(parts: &[Part], spaces: Word) -> bool {
-    match parts.last() {
-        Some(part) => part.spaces.text() == spaces.text(),
-        None => false,
-    }
-}
-
 /// The parts of a line, in their order.
-fn parts_of(alloc: Global, line: &Line) -> Result<Vec<Part>, Stop> {
-    let mut parts: Vec<Part> = Vec::new(alloc);
+fn parts_of(alloc: Global, line: &Line) -> List<Part> {
+    let mut parts = List::new(alloc);
+    let mut first = 0;
     for (place, alternative) in line.alternatives.iter().enumerate() {
-        let spaces = spaces_of(line, alternative);
-        let end = place.saturating_add(1);
-        if is_last(parts.as_slice(), spaces) {
-            if let Some(part) = parts.last_mut() {
-                part.end = end;
-            }
-        } else {
-            parts.push(Part {
-                spaces,
-                first: place,
-                end,
-            })?;
+        if spaces_of(line, alternative).text() != spaces_at(line, first).text() {
+            parts.push(Part { first, end: place });
+            first = place;
         }
     }
-    Ok(parts)
+    let end = line.alternatives.len();
+    parts.push(Part { first, end });
+    parts
 }
 
 /// A line whose alternatives have spaces or skips of their own.
@@ -108,76 +109,93 @@ struct Split<'a> {
 
 impl Split<'_> {
     fn rewrite(&self, alloc: Global, editor: &mut Editor) -> Result<(), Stop> {
-        let parts = parts_of(alloc, self.line)?;
+        let parts = parts_of(alloc, self.line);
+        let parts = parts.checked()?;
         if parts.len() == 1 {
             blank_spaces(editor, self.line);
             return Ok(());
         }
+        self.put_lines(alloc, editor, parts)
+    }
+
+    /// Puts a line for each part in the line's place.
+    fn put_lines(&self, alloc: Global, editor: &mut Editor, parts: &[Part]) -> Result<(), Stop> {
         editor.tell(
             self.card,
             Sentence::about("% lines in place of one", Word::of_number(parts.len())),
         );
-        let cards = self.cards(alloc, parts.as_slice())?;
         self.name_all(alloc, editor)?;
-        put_cards(editor, self.line.head.at, cards.as_slice(), self.card);
+        let mut cards = List::new(alloc);
+        self.push_lines(alloc, &mut cards, parts)?;
+        put_cards(editor, self.line.head.at, cards.checked()?, self.card);
         self.line.remove(editor, self.card);
         Ok(())
     }
 
     /// Puts the name of its file on each line, since this one goes.
     fn name_all(&self, alloc: Global, editor: &mut Editor) -> Result<(), Stop> {
-        let view = editor.view(alloc)?;
-        let lines = lines(alloc, &view)?;
+        let lines = lines_now(alloc, editor)?;
         name_files(editor, lines.as_slice(), self.card);
         Ok(())
     }
 
-    /// The cards of the lines for the parts.
-    fn cards(&self, alloc: Global, parts: &[Part]) -> Result<Vec<NewCard>, Stop> {
-        let mut cards = Vec::new(alloc);
+    /// Appends the cards of the lines for the parts.
+    fn push_lines(
+        &self,
+        alloc: Global,
+        cards: &mut List<NewCard>,
+        parts: &[Part],
+    ) -> Result<(), Stop> {
         for part in parts {
-            self.push_line(alloc, &mut cards, *part)?;
+            self.push_line(alloc, cards, part)?;
         }
-        Ok(cards)
+        Ok(())
     }
 
     /// Appends the cards of a part's line, unless it is never put out.
-    fn push_line(&self, alloc: Global, cards: &mut Vec<NewCard>, part: Part) -> Result<(), Stop> {
-        let alternatives = self.alternatives(alloc, part)?;
+    fn push_line(&self, alloc: Global, cards: &mut List<NewCard>, part: &Part) -> Result<(), Stop> {
+        let mut alternatives = List::new(alloc);
+        self.push_alternatives(alloc, &mut alternatives, part)?;
+        let alternatives = alternatives.checked()?;
         if alternatives.is_empty() {
             return Ok(());
         }
-        let mut line = self.line.with_alternatives(alloc, alternatives.as_slice())?;
-        line.head = line.head.with(17, 22, part.spaces.text());
-        line.push_to(cards)
+        let spaces = spaces_at(self.line, part.first);
+        let head = self.line.new_head().with(17, 22, spaces.text());
+        self.line.push_copy(cards, head, alternatives)
     }
 
-    /// The alternatives of a part, so that they hold where none of an earlier part does.
-    fn alternatives(&self, alloc: Global, part: Part) -> Result<Vec<Condition>, Stop> {
+    /// Appends the alternatives of a part, so that they hold where none of an earlier part does.
+    fn push_alternatives(
+        &self,
+        alloc: Global,
+        apart: &mut List<Condition>,
+        part: &Part,
+    ) -> Result<(), Stop> {
         let all = self.line.alternatives.as_slice();
         let earlier = all.get(..part.first).unwrap_or(&[]);
-        let mut apart = Vec::new(alloc);
         for alternative in all.get(part.first..part.end).unwrap_or(&[]) {
-            self.push_alternative(alloc, &mut apart, alternative.condition, earlier)?;
+            self.push_alternative(alloc, apart, &alternative.condition, earlier)?;
         }
-        Ok(apart)
+        Ok(())
     }
 
     fn push_alternative(
         &self,
         alloc: Global,
-        apart: &mut Vec<Condition>,
-        condition: Condition,
+        apart: &mut List<Condition>,
+        condition: &Condition,
         earlier: &[Alternative],
     ) -> Result<(), Stop> {
-        let mut left = Vec::new(alloc);
-        left.push(condition)?;
+        let mut left = List::new(alloc);
+        left.push(*condition);
         for other in earlier {
-            if self.is_overflow(&other.condition) == self.is_overflow(&condition) {
-                left = self.without(alloc, left.as_slice(), &other.condition)?;
+            if self.is_overflow(&other.condition) == self.is_overflow(condition) {
+                left = self.without(alloc, &left, &other.condition)?;
             }
         }
-        push_all(apart, left.as_slice())
+        apart.append(&left);
+        Ok(())
     }
 
     /// Whether a condition is one of overflow output.
@@ -191,13 +209,14 @@ impl Split<'_> {
     fn without(
         &self,
         alloc: Global,
-        conditions: &[Condition],
+        conditions: &List<Condition>,
         other: &Condition,
-    ) -> Result<Vec<Condition>, Stop> {
-        let mut left = Vec::new(alloc);
+    ) -> Result<List<Condition>, Stop> {
+        let conditions = conditions.checked()?;
+        let mut left = List::new(alloc);
         for condition in conditions {
             if condition.clashes_with(other) {
-                left.push(*condition)?;
+                left.push(*condition);
             } else {
                 self.push_without(&mut left, condition, other)?;
             }
@@ -209,15 +228,15 @@ impl Split<'_> {
     /// opposite.
     fn push_without(
         &self,
-        left: &mut Vec<Condition>,
+        left: &mut List<Condition>,
         condition: &Condition,
         other: &Condition,
     ) -> Result<(), Stop> {
         let mut met = *condition;
         for term in other.terms() {
             if !condition.has(*term) {
-                self.check(term.indicator, left.len())?;
-                left.push(met.and(term.opposite()))?;
+                self.check(term.indicator, left.as_slice().len())?;
+                left.push(met.and(term.opposite()));
                 met.push(*term);
             }
         }
@@ -227,10 +246,8 @@ impl Split<'_> {
     /// Rejects a further alternative: an earlier line may turn overflow on, and no deck has so many.
     fn check(&self, asked: Indicator, alternatives: usize) -> Result<(), Stop> {
         if !self.overflow.is_blank() && asked == self.overflow {
-            return Err(Stop::refused(
-                self.card,
-                Sentence::of("an earlier alternative asks for overflow"),
-            ));
+            let why = Sentence::of("an earlier alternative asks for overflow");
+            return Err(Stop::refused(self.card, why));
         }
         if alternatives >= MOST_ALTERNATIVES {
             return Err(Stop::refused(self.card, Sentence::of("more than 2000 alternatives")));
@@ -239,22 +256,13 @@ impl Split<'_> {
     }
 }
 
-fn push_all(conditions: &mut Vec<Condition>, more: &[Condition]) -> Result<(), Stop> {
-    for condition in more {
-        conditions.push(*condition)?;
-    }
-    Ok(())
-}
-
 /// Blanks the spaces and skips of a line's OR cards, which are the line's own.
 fn blank_spaces(editor: &mut Editor, line: &Line) {
     for seen in line.more.iter() {
         if has_spaces(seen) {
             editor.change(seen.at, seen.card.with(17, 22, &[]), seen.number);
-            editor.tell(
-                seen.number,
-                Sentence::of("17 to 22 blanked: they are the line's"),
-            );
+            let told = Sentence::of("17 to 22 blanked: they are the line's");
+            editor.tell(seen.number, told);
         }
     }
 }

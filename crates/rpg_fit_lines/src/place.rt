@@ -2,7 +2,7 @@
 
 use crate::field::{end_on, name_on};
 use rpg_fit_deck::{Editor, Seen, Sentence, Word};
-use rpg_fit_words::{Condition, Line, NewCard, Stop, lines};
+use rpg_fit_words::{Condition, Line, List, NewCard, Stop, lines_now};
 use std::alloc::Global;
 
 /// How many cards a deck has at most.
@@ -17,8 +17,7 @@ const MOST_TERMS: usize = 3;
 ///
 /// The deck is rejected, or memory is refused.
 pub fn places(alloc: Global, editor: &mut Editor) -> Result<(), Stop> {
-    let view = editor.view(alloc)?;
-    let lines = lines(alloc, &view)?;
+    let lines = lines_now(alloc, editor)?;
     for line in lines.iter() {
         place_fields(alloc, editor, line)?;
     }
@@ -27,39 +26,39 @@ pub fn places(alloc: Global, editor: &mut Editor) -> Result<(), Stop> {
 
 fn place_fields(alloc: Global, editor: &mut Editor, line: &Line) -> Result<(), Stop> {
     let mut before = Before {
-        fields: Vec::new(alloc),
+        fields: List::new(alloc),
         highest: 0,
     };
     for field in line.fields.iter() {
         if name_on(&field.card) == b"*PLACE".as_slice() {
             before.place(editor, field)?;
         } else {
-            before.push(field)?;
+            before.push(field);
         }
     }
+    before.fields.checked()?;
     Ok(())
 }
 
 /// The fields of a line before a card, copies among them.
 #[derive(Drop)]
 struct Before {
-    fields: Vec<NewCard>,
+    fields: List<NewCard>,
     /// The greatest end of a field, or where the last *PLACE ends.
     highest: usize,
 }
 
 impl Before {
-    fn push(&mut self, field: &Seen) -> Result<(), Stop> {
+    fn push(&mut self, field: &Seen) {
         self.highest = self.highest.max(end_on(&field.card));
-        self.fields.push(NewCard::copy(field))?;
-        Ok(())
+        self.fields.push(NewCard::copy(field));
     }
 
     /// Replaces *PLACE by copies of the fields before it. Where these alone are more than a deck may have, they stay as they are: the
     /// deck is too long.
     fn place(&mut self, editor: &mut Editor, place: &Seen) -> Result<(), Stop> {
         self.check(place)?;
-        let copies = self.fields.len();
+        let copies = self.fields.as_slice().len();
         if copies > MOST_CARDS {
             return Ok(());
         }
@@ -75,17 +74,13 @@ impl Before {
 
     /// Rejects *PLACE after PAGE, which would be counted twice, and where copies would come before the fields' ends.
     fn check(&self, place: &Seen) -> Result<(), Stop> {
-        if self.fields.iter().any(is_page) {
+        if has_page(self.fields.as_slice()) {
             return Err(Stop::refused(place.number, Sentence::of("PAGE stands before *PLACE")));
         }
         if end_on(&place.card) < self.highest.saturating_mul(2) {
-            return Err(Stop::refused(
-                place.number,
-                Sentence::about(
-                    "its end is less than twice %",
-                    Word::of_number(self.highest),
-                ),
-            ));
+            let highest = Word::of_number(self.highest);
+            let why = Sentence::about("its end is less than twice %", highest);
+            return Err(Stop::refused(place.number, why));
         }
         Ok(())
     }
@@ -94,18 +89,24 @@ impl Before {
     fn copy_all(&mut self, editor: &mut Editor, place: &Seen, fields: usize) -> Result<(), Stop> {
         let further = end_on(&place.card).saturating_sub(self.highest);
         for index in 0..fields {
-            if let Some(field) = self.fields.get(index).copied() {
+            if let Some(field) = self.fields.as_slice().get(index).copied() {
                 let copy = moved(field, place, further)?;
                 editor.insert_copy(place.at, copy.card, copy.number, place.number);
-                self.fields.push(copy)?;
+                self.fields.push(copy);
             }
         }
         Ok(())
     }
 }
 
-fn is_page(field: &NewCard) -> bool {
-    name_on(&field.card) == b"PAGE".as_slice()
+/// Whether PAGE is one of some fields.
+fn has_page(fields: &[NewCard]) -> bool {
+    for field in fields {
+        if name_on(&field.card) == b"PAGE".as_slice() {
+            return true;
+        }
+    }
+    false
 }
 
 /// A copy of a field so much further to the right, under the conditions of *PLACE and its own, without blank after.
@@ -113,10 +114,8 @@ fn moved(field: NewCard, place: &Seen, further: usize) -> Result<NewCard, Stop> 
     let own = Condition::at(&field.card, 23);
     let together = Condition::at(&place.card, 23).and_missing(&own);
     if together.len() > MOST_TERMS {
-        return Err(Stop::refused(
-            place.number,
-            Sentence::of("more than three conditions together"),
-        ));
+        let why = Sentence::of("more than three conditions together");
+        return Err(Stop::refused(place.number, why));
     }
     let end = Word::of_number(end_on(&field.card).saturating_add(further));
     Ok(NewCard {

@@ -5,7 +5,7 @@ use crate::row::{Row, Span};
 use crate::width::field_width;
 use rpg_fit_deck::{Editor, Seen, Sentence, View, Word};
 use rpg_fit_words::{
-    Array, Line, NewCard, Operand, Stop, array_of, arrays, form_of, lines, with_room,
+    Array, Line, List, NewCard, Operand, Stop, array_of, arrays, form_of, lines, with_room,
 };
 use std::alloc::Global;
 
@@ -22,15 +22,24 @@ const GAP: usize = 2;
 /// The deck is rejected, or memory is refused.
 pub fn whole_outputs(alloc: Global, editor: &mut Editor) -> Result<(), Stop> {
     let view = editor.view(alloc)?;
-    let lines = lines(alloc, &view)?;
+    spread_lines(alloc, editor, &view, lines(alloc, &view)?.as_slice())
+}
+
+fn spread_lines(
+    alloc: Global,
+    editor: &mut Editor,
+    view: &View,
+    lines: &[Line],
+) -> Result<(), Stop> {
     let mut deck = Arrays {
-        view: &view,
-        arrays: arrays(alloc, &view)?,
-        renamed: Vec::new(alloc),
+        view,
+        arrays: arrays(alloc, view)?,
+        renamed: List::new(alloc),
     };
-    for line in lines.iter() {
+    for line in lines {
         spread_fields(alloc, editor, &mut deck, line)?;
     }
+    deck.renamed.checked()?;
     Ok(())
 }
 
@@ -40,20 +49,32 @@ fn spread_fields(
     deck: &mut Arrays,
     line: &Line,
 ) -> Result<(), Stop> {
-    let mut before = Vec::new(alloc);
+    let mut before = List::new(alloc);
     for field in line.fields.iter() {
         match deck.array(field) {
-            Some(array) => {
-                let row = deck.row(field, array);
-                check(row, before.as_slice(), field.number)?;
-                before.push(row.span())?;
-                let name = deck.name_for(alloc, editor, field, array)?;
-                spread(editor, field, name, row);
-            }
+            Some(array) => spread_array(alloc, editor, deck, &mut before, field, array)?,
             None if name_on(&field.card) == b"*PLACE".as_slice() => {}
-            None => before.push(deck.span(field))?,
+            None => before.push(deck.span(field)),
         }
     }
+    before.checked()?;
+    Ok(())
+}
+
+/// Puts a field for each entry in place of a whole array, after other fields of its line.
+fn spread_array(
+    alloc: Global,
+    editor: &mut Editor,
+    deck: &mut Arrays,
+    before: &mut List<Span>,
+    field: &Seen,
+    array: Array,
+) -> Result<(), Stop> {
+    let row = deck.row(field, array);
+    check(row, before.as_slice(), field.number)?;
+    before.push(row.span());
+    let name = deck.name_for(alloc, editor, field, array)?;
+    spread(editor, field, name, row);
     Ok(())
 }
 
@@ -69,13 +90,9 @@ fn check(row: Row, before: &[Span], card: usize) -> Result<(), Stop> {
         }
     }
     if row.entries > MOST_FIELDS {
-        return Err(Stop::refused(
-            card,
-            Sentence::about(
-                "% entries, and a line has 200 fields",
-                Word::of_number(row.entries),
-            ),
-        ));
+        let entries = Word::of_number(row.entries);
+        let why = Sentence::about("% entries, and a line has 200 fields", entries);
+        return Err(Stop::refused(card, why));
     }
     Ok(())
 }
@@ -113,17 +130,15 @@ struct Renamed {
 struct Arrays<'a> {
     view: &'a View,
     arrays: Vec<Array>,
-    renamed: Vec<Renamed>,
+    renamed: List<Renamed>,
 }
 
 impl Arrays<'_> {
     /// The array that a field puts out as a whole.
     fn array(&self, field: &Seen) -> Option<Array> {
-        let array = array_of(self.arrays.as_slice(), name_on(&field.card))?;
-        if array.entries == 0 {
-            None
-        } else {
-            Some(array)
+        match array_of(self.arrays.as_slice(), name_on(&field.card)) {
+            Some(array) if array.entries > 0 => Some(array),
+            _ => None,
         }
     }
 
@@ -153,7 +168,7 @@ impl Arrays<'_> {
 
     /// The name that an array has now.
     fn name_now(&self, name: Word) -> Word {
-        for renamed in self.renamed.iter() {
+        for renamed in self.renamed.as_slice() {
             if renamed.old.text() == name.text() {
                 return renamed.new;
             }
@@ -178,7 +193,7 @@ impl Arrays<'_> {
             self.renamed.push(Renamed {
                 old: array.name,
                 new,
-            })?;
+            });
         }
         editor.tell(field.number, Sentence::of_two("%: % fields", name, entries));
         Ok(new)

@@ -3,7 +3,7 @@
 use crate::wide_word::ShortNumber;
 use rpg_fit_deck::{Editor, Word};
 use rpg_fit_words::{
-    Calculation, Group, Indicator, Place, Stop, Time, fresh_name, groups, insert_at,
+    Calculation, Group, Indicator, List, Place, Stop, Time, fresh_name, groups, insert_at,
 };
 use std::alloc::Global;
 
@@ -60,16 +60,23 @@ pub(crate) struct PutOut {
 /// The fields with more digits that a deck has got so far.
 #[derive(Drop)]
 pub(crate) struct WideFields {
-    fields: Vec<WideField>,
-    copies: Vec<CopyAt>,
+    fields: List<WideField>,
+    copies: List<CopyAt>,
 }
 
 impl WideFields {
     pub fn new(alloc: Global) -> WideFields {
         WideFields {
-            fields: Vec::new(alloc),
-            copies: Vec::new(alloc),
+            fields: List::new(alloc),
+            copies: List::new(alloc),
         }
+    }
+
+    /// Whether memory sufficed.
+    pub fn check(&self) -> Result<(), Stop> {
+        self.fields.checked()?;
+        self.copies.checked()?;
+        Ok(())
     }
 
     /// The field for a number in a line, to which it is copied before the line is put out.
@@ -84,9 +91,13 @@ impl WideFields {
             Some(name) => name,
             None => self.make(alloc, editor, number, when)?,
         };
-        for moment in MOMENTS {
+        for moment in &MOMENTS {
             if moment.is_before(when.time, when.has_overflow) {
-                self.copy(alloc, editor, number, CopyAt { name, moment })?;
+                let copy = CopyAt {
+                    name,
+                    moment: *moment,
+                };
+                self.copy(alloc, editor, number, copy)?;
             }
         }
         Ok(name)
@@ -94,7 +105,7 @@ impl WideFields {
 
     /// The field that there is for a number.
     fn find(&self, number: ShortNumber) -> Option<Word> {
-        for field in self.fields.iter() {
+        for field in self.fields.as_slice() {
             if field.number.text() == number.name.text() && field.places == number.places {
                 return Some(field.name);
             }
@@ -110,10 +121,8 @@ impl WideFields {
         number: ShortNumber,
         when: PutOut,
     ) -> Result<Word, Stop> {
-        let view = editor.view(alloc)?;
-        let name = fresh_name(&view, b"W#", number.field.number)?;
-        let groups = groups(alloc, &view)?;
-        if when.time == Time::Exception && !groups.iter().any(is_exception) {
+        let name = fresh_name(&editor.view(alloc)?, b"W#", number.field.number)?;
+        if when.time == Time::Exception && !has_exception(alloc, editor)? {
             let never = copied(b"0", name, number).unless(Indicator::ALWAYS);
             put(alloc, editor, Place::DetailFront, never, number)?;
         }
@@ -121,13 +130,13 @@ impl WideFields {
             number: number.name,
             places: number.places,
             name,
-        })?;
+        });
         Ok(name)
     }
 
     /// Whether a field gets its copy at a moment already.
     fn has_copy(&self, copy: CopyAt) -> bool {
-        for done in self.copies.iter() {
+        for done in self.copies.as_slice() {
             if done.moment == copy.moment && done.name.text() == copy.name.text() {
                 return true;
             }
@@ -146,7 +155,7 @@ impl WideFields {
         if self.has_copy(copy) {
             return Ok(());
         }
-        self.copies.push(copy)?;
+        self.copies.push(copy);
         let calculation = copied(number.name.text(), copy.name, number);
         match copy.moment {
             Moment::BeforeExceptions => put_before_exceptions(alloc, editor, calculation, number),
@@ -160,6 +169,18 @@ impl WideFields {
             ),
         }
     }
+}
+
+/// Whether a deck has an EXCPT.
+fn has_exception(alloc: Global, editor: &Editor) -> Result<bool, Stop> {
+    let view = editor.view(alloc)?;
+    let groups = groups(alloc, &view)?;
+    for group in groups.iter() {
+        if is_exception(group) {
+            return Ok(true);
+        }
+    }
+    Ok(false)
 }
 
 fn is_exception(group: &Group) -> bool {

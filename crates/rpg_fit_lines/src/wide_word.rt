@@ -7,8 +7,8 @@ use crate::wide_field::{PutOut, WideFields};
 use crate::word_form::WordForm;
 use rpg_fit_deck::{Editor, Seen, Sentence, View, Word};
 use rpg_fit_words::{
-    Form, Line, NewCard, Operand, Printer, Stop, Time, form_of, is_card, is_field_put_first,
-    is_total_skipped_late, lines, printer_of, record_types,
+    Form, Line, NewCard, Operand, Printer, Stop, Time, form_of, is_card, is_date_part,
+    is_field_put_first, is_total_skipped_late, lines, printer_of,
 };
 use std::alloc::Global;
 
@@ -23,21 +23,18 @@ const MOST_DIGITS: usize = 15;
 /// The deck is rejected, or memory is refused.
 pub fn words(alloc: Global, editor: &mut Editor) -> Result<(), Stop> {
     let view = editor.view(alloc)?;
-    let lines = lines(alloc, &view)?;
-    let types = record_types(alloc, &view)?;
-    let printer = printer_of(&view);
+    widen_all(alloc, editor, &view, lines(alloc, &view)?.as_slice())
+}
+
+fn widen_all(alloc: Global, editor: &mut Editor, view: &View, lines: &[Line]) -> Result<(), Stop> {
+    let printer = printer_of(view);
     let deck = Deck {
-        view: &view,
-        lines: lines.as_slice(),
+        view,
+        lines,
         printer,
-        is_total_skipped: is_total_skipped_late(printer, lines.as_slice(), types.as_slice()),
+        is_total_skipped: is_total_skipped_late(alloc, view, printer, lines)?,
     };
-    let mut wide = WideFields::new(alloc);
-    for (place, line) in lines.iter().enumerate() {
-        let at = LineAt { line, place };
-        deck.widen_fields(alloc, editor, &mut wide, at)?;
-    }
-    Ok(())
+    deck.widen_lines(alloc, editor)
 }
 
 /// A line, and its place among the lines.
@@ -58,6 +55,15 @@ struct Deck<'a> {
 }
 
 impl Deck<'_> {
+    fn widen_lines(&self, alloc: Global, editor: &mut Editor) -> Result<(), Stop> {
+        let mut wide = WideFields::new(alloc);
+        for (place, line) in self.lines.iter().enumerate() {
+            let at = LineAt { line, place };
+            self.widen_fields(alloc, editor, &mut wide, at)?;
+        }
+        wide.check()
+    }
+
     fn widen_fields(
         &self,
         alloc: Global,
@@ -97,23 +103,18 @@ impl Deck<'_> {
     /// Rejects a number whose copy might not have its value where the line is put out.
     fn check(&self, at: LineAt, field: &Seen, number: ShortNumber) -> Result<(), Stop> {
         if number.places > MOST_DIGITS {
-            return Err(Stop::refused(
-                field.number,
-                Sentence::about("a word with % places", Word::of_number(number.places)),
-            ));
+            let why = Sentence::about("a word with % places", Word::of_number(number.places));
+            return Err(Stop::refused(field.number, why));
         }
         let name = Operand::of(name_on(&field.card));
         if name.has_index_field() {
-            return Err(Stop::refused(
-                field.number,
-                Sentence::of("a word with more places than digits beside an index field"),
-            ));
+            return refused(
+                field,
+                "a word with more places than digits beside an index field",
+            );
         }
         if name.name == b"PAGE".as_slice() {
-            return Err(Stop::refused(
-                field.number,
-                Sentence::of("a word with more places than digits beside PAGE"),
-            ));
+            return refused(field, "a word with more places than digits beside PAGE");
         }
         self.check_value(at, field, name.name)
     }
@@ -121,21 +122,14 @@ impl Deck<'_> {
     /// Rejects a number that has a value before any calculation or that a line before it blanks.
     fn check_value(&self, at: LineAt, field: &Seen, name: &[u8]) -> Result<(), Stop> {
         if self.begins_with_value(name) && self.may_come_early(at.line, field) {
-            return Err(Stop::refused(
-                field.number,
-                Sentence::of(
-                    "a word with more places than digits, and the line may be put out before any calculation",
-                ),
-            ));
+            return refused(
+                field,
+                "a word with more places than digits, and the line may be put out before any calculation",
+            );
         }
         if self.may_be_blanked(at, name) {
-            return Err(Stop::refused(
-                field.number,
-                Sentence::about(
-                    "a word with more places than digits, and a line before it blanks %",
-                    Word::of(name),
-                ),
-            ));
+            let why = "a word with more places than digits, and a line before it blanks %";
+            return Err(Stop::refused(field.number, Sentence::about(why, Word::of(name))));
         }
         Ok(())
     }
@@ -203,7 +197,12 @@ impl Deck<'_> {
         }
         let card = field.card.with(39, 39, &[]).with(32, 37, name.text());
         editor.change(field.at, card, field.number);
-        editor.tell(field.number, number.told(name));
+        let told = "% with % digits is %, for the places of its word";
+        let places = Word::of_number(number.places);
+        editor.tell(
+            field.number,
+            Sentence::of_three(told, number.name, places, name),
+        );
         Ok(())
     }
 }
@@ -218,27 +217,14 @@ pub(crate) struct ShortNumber {
     pub places: usize,
 }
 
-impl ShortNumber {
-    fn told(&self, name: Word) -> Sentence {
-        Sentence::of_three(
-            "% with % digits is %, for the places of its word",
-            self.name,
-            Word::of_number(self.places),
-            name,
-        )
-    }
+/// The deck is refused for a field.
+fn refused(field: &Seen, why: &'static str) -> Result<(), Stop> {
+    Err(Stop::refused(field.number, Sentence::of(why)))
 }
 
-/// The date and its parts.
-const DATES: [&[u8]; 4] = [b"UDATE", b"UDAY", b"UMONTH", b"UYEAR"];
-
+/// Whether a name is the date or a part of it.
 fn is_date(name: &[u8]) -> bool {
-    for date in &DATES {
-        if *date == name {
-            return true;
-        }
-    }
-    false
+    name == b"UDATE".as_slice() || is_date_part(name)
 }
 
 /// Whether a card defines a table or an array of a name, with data in the deck.

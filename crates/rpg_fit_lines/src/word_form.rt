@@ -13,10 +13,7 @@ impl<'a> WordForm<'a> {
     pub fn of(text: &'a [u8]) -> WordForm<'a> {
         WordForm {
             text,
-            stop: text
-                .iter()
-                .take_while(|character| !is_stop(**character))
-                .count(),
+            stop: stop_in(text),
         }
     }
 
@@ -28,15 +25,12 @@ impl<'a> WordForm<'a> {
     /// What is in front of a dollar sign that floats, and what stands from the stop on; nothing if no dollar sign
     /// floats.
     pub fn around_dollar(&self) -> Option<Around<'a>> {
-        let before = self.stop.checked_sub(1)?;
-        let stop = self.text.get(self.stop..)?;
-        if stop.is_empty() || self.text.get(before) != Some(&b'$') {
-            return None;
+        match (self.text.get(..self.stop), self.text.get(self.stop..)) {
+            (Some([front @ .., b'$']), Some(stop)) if !stop.is_empty() => {
+                Some(Around { front, stop })
+            }
+            _ => None,
         }
-        Some(Around {
-            front: self.text.get(..before)?,
-            stop,
-        })
     }
 }
 
@@ -48,10 +42,22 @@ pub(crate) struct Around<'a> {
     pub stop: &'a [u8],
 }
 
-fn is_stop(character: u8) -> bool {
-    character == b'0' || character == b'*'
+/// Where a text's first `0` or `*` is; its length if it has none.
+fn stop_in(text: &[u8]) -> usize {
+    for (place, character) in text.iter().enumerate() {
+        if *character == b'0' || *character == b'*' {
+            return place;
+        }
+    }
+    text.len()
 }
 
 pub(crate) fn count_blanks(text: &[u8]) -> usize {
-    text.iter().filter(|character| **character == b' ').count()
+    let mut count: usize = 0;
+    for character in text {
+        if *character == b' ' {
+            count = count.saturating_add(1);
+        }
+    }
+    count
 }

@@ -1,16 +1,16 @@
 //! How lines become lines that EXCPT puts out, and overflow output where they fetch it.
 
-use crate::overflow::{Kind, Overflow};
+use crate::overflow::Overflow;
 use crate::page_reset::fetches;
 use rpg_fit_deck::{Address, Editor, Sentence, View, Word};
 use rpg_fit_words::{
-    Calculation, Condition, FreeIndicators, Indicator, Line, NewCard, Place, Stop, Term, Time,
-    conditioned, insert_at, is_card, name_files, put_cards,
+    Calculation, Condition, FreeIndicators, Indicator, Line, List, NewCard, Place, Stop, Term,
+    Time, insert_at, is_card, name_files, push_conditioned, put_cards,
 };
 use std::alloc::Global;
 
 /// A time of the cycle at which lines are put out.
-#[derive(Clone, Copy, PartialEq, Eq)]
+#[derive(Clone, Copy)]
 enum Part {
     Total,
     /// Heading and detail lines.
@@ -61,7 +61,7 @@ struct Made {
     /// The indicator under which overflow lines are put out.
     at_overflow: Indicator,
     /// The lines that EXCPT puts out.
-    tail: Vec<NewCard>,
+    tail: List<NewCard>,
     /// How many of them are no overflow lines.
     moved: usize,
 }
@@ -70,7 +70,7 @@ struct Made {
 #[derive(Drop)]
 struct Steps {
     part: Part,
-    cards: Vec<NewCard>,
+    cards: List<NewCard>,
     /// The indicator under which the lines since the last fetch are put out.
     flag: Option<Indicator>,
 }
@@ -79,28 +79,31 @@ impl Moves<'_> {
     /// Makes the lines and the calculations.
     pub fn make(&self, alloc: Global, editor: &mut Editor) -> Result<(), Stop> {
         name_files(editor, self.lines, self.card);
+        let mut made = self.begin(alloc)?;
+        let copied = self.make_all(alloc, editor, &mut made)?;
+        self.put_tail(alloc, editor, &made)?;
+        editor.tell(self.card, told(made.moved, copied));
+        Ok(())
+    }
+
+    fn begin(&self, alloc: Global) -> Result<Made, Stop> {
         let mut free = FreeIndicators::new();
         let at_overflow = free.take(self.view, self.card)?;
-        let mut made = Made {
+        Ok(Made {
             free,
             at_overflow,
-            tail: Vec::new(alloc),
+            tail: List::new(alloc),
             moved: 0,
-        };
-        let totals = self.copy_overflow(alloc, &mut made, Part::Total)?;
-        let details = self.copy_overflow(alloc, &mut made, Part::Detail)?;
-        self.move_part(alloc, editor, &mut made, Part::Total)?;
-        self.move_part(alloc, editor, &mut made, Part::Detail)?;
-        self.put_tail(alloc, editor, made.tail.as_slice())?;
-        editor.tell(
-            self.card,
-            Sentence::of_two(
-                "fetch: % lines are put out by EXCPT, and % lines of overflow before those that fetch",
-                Word::of_number(made.moved),
-                Word::of_number(totals.saturating_add(details)),
-            ),
-        );
-        Ok(())
+        })
+    }
+
+    /// Makes the lines of both times, and returns how many of them are copies of overflow lines.
+    fn make_all(&self, alloc: Global, editor: &mut Editor, made: &mut Made) -> Result<usize, Stop> {
+        let totals = self.copy_overflow(alloc, made, Part::Total)?;
+        let details = self.copy_overflow(alloc, made, Part::Detail)?;
+        self.move_part(alloc, editor, made, Part::Total)?;
+        self.move_part(alloc, editor, made, Part::Detail)?;
+        Ok(totals.saturating_add(details))
     }
 
     /// Appends copies of the overflow lines of a time, and returns how many there are.
@@ -108,13 +111,29 @@ impl Moves<'_> {
         let mut lines: usize = 0;
         for line in self.lines {
             if part.has(line.time) && self.overflow.has(line) {
-                let conditions = self.overflow.alternatives(alloc, line, Kind::AtOverflow)?;
-                let flag = made.at_overflow;
-                push_exception(alloc, &mut made.tail, line, flag, conditions.as_slice())?;
+                self.copy_line(alloc, made, line)?;
                 lines = lines.saturating_add(1);
             }
         }
         Ok(lines)
+    }
+
+    /// Appends a copy of an overflow line.
+    fn copy_line(&self, alloc: Global, made: &mut Made, line: &Line) -> Result<(), Stop> {
+        let mut conditions = List::new(alloc);
+        self.overflow.push_conditions(&mut conditions, line);
+        let flag = made.at_overflow;
+        push_exception(alloc, &mut made.tail, line, flag, conditions.checked()?)
+    }
+
+    /// Whether a line of a time fetches overflow output.
+    fn fetches_at(&self, part: Part) -> bool {
+        for line in self.lines {
+            if part.has(line.time) && fetches(line) {
+                return true;
+            }
+        }
+        false
     }
 
     /// Moves the lines of a time, if some of them fetch overflow output.
@@ -125,57 +144,88 @@ impl Moves<'_> {
         made: &mut Made,
         part: Part,
     ) -> Result<(), Stop> {
-        if !self
-            .lines
-            .iter()
-            .any(|line| part.has(line.time) && fetches(line))
-        {
+        if !self.fetches_at(part) {
             return Ok(());
         }
         let mut steps = Steps {
             part,
-            cards: Vec::new(alloc),
+            cards: List::new(alloc),
             flag: None,
         };
-        if part == Part::Detail {
-            self.push_done(&mut steps)?;
+        if matches!(part, Part::Detail) {
+            self.push_done(&mut steps);
         }
-        for line in self.lines {
-            if part.has(line.time) {
-                self.move_line(alloc, editor, made, &mut steps, line)?;
-            }
-        }
-        steps.put_out(self.card)?;
-        insert_at(alloc, editor, part.end(), steps.cards.as_slice(), self.card)
+        self.move_lines(alloc, editor, made, &mut steps)?;
+        steps.put_out(self.card);
+        insert_at(alloc, editor, part.end(), steps.cards.checked()?, self.card)
     }
 
     /// Turns the overflow indicator off: at the end of detail it is on only if overflow output has been done.
-    fn push_done(&self, steps: &mut Steps) -> Result<(), Stop> {
-        steps.push(Calculation::of(b"SETOF").high(self.indicator), self.card)
+    fn push_done(&self, steps: &mut Steps) {
+        steps.push(Calculation::of(b"SETOF").high(self.indicator), self.card);
     }
 
-    /// Moves a line: at the first output and at overflow it stays.
-    fn move_line(
+    fn move_lines(
         &self,
         alloc: Global,
         editor: &mut Editor,
         made: &mut Made,
         steps: &mut Steps,
+    ) -> Result<(), Stop> {
+        for line in self.lines {
+            if steps.part.has(line.time) {
+                self.move_line(alloc, made, steps, line)?;
+                self.keep(alloc, editor, line, steps.part)?;
+            }
+        }
+        Ok(())
+    }
+
+    /// Moves a line, other than at the first output and at overflow.
+    fn move_line(
+        &self,
+        alloc: Global,
+        made: &mut Made,
+        steps: &mut Steps,
         line: &Line,
     ) -> Result<(), Stop> {
-        let normal = self.overflow.alternatives(alloc, line, Kind::Normal)?;
-        let later = later(alloc, normal.as_slice())?;
-        if !later.is_empty() {
-            if fetches(line) {
-                steps.put_out(self.card)?;
-                self.push_fetch(alloc, steps, made.at_overflow, later.as_slice())?;
+        let later = self.later(alloc, line);
+        self.move_later(alloc, made, steps, line, later.checked()?)
+    }
+
+    /// The conditions under which a line may be put out after the first output, at which alone 1P is on, and other than at overflow.
+    fn later(&self, alloc: Global, line: &Line) -> List<Condition> {
+        let mut found = List::new(alloc);
+        for alternative in line.alternatives.iter() {
+            let condition = &alternative.condition;
+            let is_first = condition.has(Term::on(Indicator::FIRST_PAGE));
+            if !is_first && !self.overflow.is_output(line, condition) {
+                found.push(*condition);
             }
-            let flag = self.flag(made, steps, line)?;
-            push_exception(alloc, &mut made.tail, line, flag, later.as_slice())?;
-            made.moved = made.moved.saturating_add(1);
         }
-        let kept = self.kept(alloc, line, steps.part, normal.as_slice())?;
-        self.keep(alloc, editor, line, kept.as_slice())
+        found
+    }
+
+    /// Moves a line that may be put out under these conditions.
+    fn move_later(
+        &self,
+        alloc: Global,
+        made: &mut Made,
+        steps: &mut Steps,
+        line: &Line,
+        later: &[Condition],
+    ) -> Result<(), Stop> {
+        if later.is_empty() {
+            return Ok(());
+        }
+        if fetches(line) {
+            steps.put_out(self.card);
+            self.push_fetch(alloc, steps, made.at_overflow, later)?;
+        }
+        let flag = self.flag(made, steps, line)?;
+        push_exception(alloc, &mut made.tail, line, flag, later)?;
+        made.moved = made.moved.saturating_add(1);
+        Ok(())
     }
 
     /// The indicator under which a line is put out.
@@ -200,66 +250,88 @@ impl Moves<'_> {
     ) -> Result<(), Stop> {
         let level = steps.part.level();
         let on = Calculation::of(b"SETON").high(flag).made_of(self.card);
-        let asked = with_term(alloc, conditions, Term::on(self.indicator))?;
-        let turned_on = conditioned(alloc, level, asked.as_slice(), on)?;
-        steps.push(Calculation::of(b"SETOF").high(flag), self.card)?;
-        for new in turned_on.iter() {
-            steps.cards.push(*new)?;
-        }
-        steps.push(Calculation::of(b"EXCPT").when(flag), self.card)?;
+        let asked = with_term(alloc, conditions, Term::on(self.indicator));
+        steps.push(Calculation::of(b"SETOF").high(flag), self.card);
+        push_conditioned(&mut steps.cards, level, asked.checked()?, on)?;
+        steps.push(Calculation::of(b"EXCPT").when(flag), self.card);
         steps.push(
             Calculation::of(b"SETOF")
                 .when(flag)
                 .high(self.indicator)
                 .low(flag),
             self.card,
-        )
+        );
+        Ok(())
     }
 
     /// The alternatives with which a line stays: those that hold at the first output, there alone, and those of overflow.
-    fn kept(
-        &self,
-        alloc: Global,
-        line: &Line,
-        part: Part,
-        normal: &[Condition],
-    ) -> Result<Vec<Condition>, Stop> {
-        let mut kept = Vec::new(alloc);
-        if part == Part::Detail {
-            push_first(&mut kept, normal)?;
+    fn kept(&self, alloc: Global, line: &Line, part: Part) -> List<Condition> {
+        let mut kept = List::new(alloc);
+        if matches!(part, Part::Detail) {
+            self.push_first(&mut kept, line);
         }
-        let at_overflow = self.overflow.alternatives(alloc, line, Kind::AtOverflow)?;
-        for condition in at_overflow.iter() {
-            kept.push(*condition)?;
-        }
-        Ok(kept)
+        self.overflow.push_conditions(&mut kept, line);
+        kept
     }
 
-    /// Leaves a line with some alternatives; without any it goes.
+    /// Appends the conditions of a line that hold at the first output, each with 1P, so that they hold there alone.
+    fn push_first(&self, kept: &mut List<Condition>, line: &Line) {
+        let first = Condition::on(Indicator::FIRST_PAGE);
+        for alternative in line.alternatives.iter() {
+            let condition = &alternative.condition;
+            if condition.holds_first() && !self.overflow.is_output(line, condition) {
+                kept.push(condition.and_missing(&first));
+            }
+        }
+    }
+
+    /// Leaves a line with the alternatives with which it stays; without any it goes.
     fn keep(
         &self,
         alloc: Global,
         editor: &mut Editor,
         line: &Line,
-        kept: &[Condition],
+        part: Part,
     ) -> Result<(), Stop> {
+        let kept = self.kept(alloc, line, part);
+        let kept = kept.checked()?;
         if !kept.is_empty() {
-            let mut cards = Vec::new(alloc);
-            let mut new = line.with_alternatives(alloc, kept)?;
-            new.head = new.head.with(16, 16, &[]);
-            new.push_to(&mut cards)?;
-            put_cards(editor, line.head.at, cards.as_slice(), self.card);
+            self.put_copy(alloc, editor, line, kept)?;
         }
         line.remove(editor, self.card);
         Ok(())
     }
 
-    /// Puts the lines that EXCPT puts out after all others.
-    fn put_tail(&self, alloc: Global, editor: &mut Editor, tail: &[NewCard]) -> Result<(), Stop> {
-        let view = editor.view(alloc)?;
-        put_cards(editor, behind_output(&view), tail, self.card);
+    /// Puts a copy of a line, which fetches nothing, with some alternatives in its place.
+    fn put_copy(
+        &self,
+        alloc: Global,
+        editor: &mut Editor,
+        line: &Line,
+        alternatives: &[Condition],
+    ) -> Result<(), Stop> {
+        let mut cards = List::new(alloc);
+        line.push_copy(&mut cards, line.new_head().with(16, 16, &[]), alternatives)?;
+        put_cards(editor, line.head.at, cards.checked()?, self.card);
         Ok(())
     }
+
+    /// Puts the lines that EXCPT puts out after all others.
+    fn put_tail(&self, alloc: Global, editor: &mut Editor, made: &Made) -> Result<(), Stop> {
+        let tail = made.tail.checked()?;
+        let behind = behind_output(&editor.view(alloc)?);
+        put_cards(editor, behind, tail, self.card);
+        Ok(())
+    }
+}
+
+/// The sentence about lines that were moved and copied.
+fn told(moved: usize, copied: usize) -> Sentence {
+    Sentence::of_two(
+        "fetch: % lines are put out by EXCPT, and % lines of overflow before those that fetch",
+        Word::of_number(moved),
+        Word::of_number(copied),
+    )
 }
 
 /// Where the card after the last output card is; the end of the cards if there is none.
@@ -277,68 +349,46 @@ fn behind_output(view: &View) -> Address {
 
 impl Steps {
     /// Appends a calculation that is done at the lines' time.
-    fn push(&mut self, calculation: Calculation, card: usize) -> Result<(), Stop> {
+    fn push(&mut self, calculation: Calculation, card: usize) {
         let at = calculation.at(self.part.level());
-        self.cards.push(at.made_of(card))?;
-        Ok(())
+        self.cards.push(at.made_of(card));
     }
 
     /// Puts out the lines since the last fetch.
-    fn put_out(&mut self, card: usize) -> Result<(), Stop> {
+    fn put_out(&mut self, card: usize) {
         if let Some(flag) = self.flag {
-            self.push(Calculation::of(b"SETON").high(flag), card)?;
-            self.push(Calculation::of(b"EXCPT"), card)?;
-            self.push(Calculation::of(b"SETOF").high(flag), card)?;
+            self.push(Calculation::of(b"SETON").high(flag), card);
+            self.push(Calculation::of(b"EXCPT"), card);
+            self.push(Calculation::of(b"SETOF").high(flag), card);
         }
         self.flag = None;
-        Ok(())
     }
 }
 
 /// Appends a copy of a line that EXCPT puts out where a flag is on and one of the conditions holds.
 fn push_exception(
     alloc: Global,
-    cards: &mut Vec<NewCard>,
+    cards: &mut List<NewCard>,
     line: &Line,
     flag: Indicator,
     conditions: &[Condition],
 ) -> Result<(), Stop> {
-    let mut flagged = Vec::new(alloc);
+    let mut flagged = List::new(alloc);
     for condition in conditions {
-        flagged.push(Condition::on(flag).and_all(condition))?;
+        flagged.push(Condition::on(flag).and_all(condition));
     }
-    let mut new = line.with_alternatives(alloc, flagged.as_slice())?;
-    new.head = new.head.with(15, 16, b"E");
-    new.push_to(cards)
-}
-
-/// The conditions that may hold after the first output, at which alone 1P is on.
-fn later(alloc: Global, conditions: &[Condition]) -> Result<Vec<Condition>, Stop> {
-    let mut found = Vec::new(alloc);
-    for condition in conditions {
-        if !condition.has(Term::on(Indicator::FIRST_PAGE)) {
-            found.push(*condition)?;
-        }
-    }
-    Ok(found)
-}
-
-/// Appends the conditions that hold at the first output, each with 1P, so that they hold there alone.
-fn push_first(kept: &mut Vec<Condition>, conditions: &[Condition]) -> Result<(), Stop> {
-    let first = Condition::on(Indicator::FIRST_PAGE);
-    for condition in conditions {
-        if condition.holds_first() {
-            kept.push(condition.and_missing(&first))?;
-        }
-    }
-    Ok(())
+    line.push_copy(
+        cards,
+        line.new_head().with(15, 16, b"E"),
+        flagged.checked()?,
+    )
 }
 
 /// Conditions with one more term.
-fn with_term(alloc: Global, conditions: &[Condition], term: Term) -> Result<Vec<Condition>, Stop> {
-    let mut found = Vec::new(alloc);
+fn with_term(alloc: Global, conditions: &[Condition], term: Term) -> List<Condition> {
+    let mut found = List::new(alloc);
     for condition in conditions {
-        found.push(condition.and(term))?;
+        found.push(condition.and(term));
     }
-    Ok(found)
+    found
 }

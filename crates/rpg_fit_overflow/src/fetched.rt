@@ -18,13 +18,16 @@ pub fn fetch(alloc: Global, editor: &mut Editor) {
 
 fn fetch_lines(alloc: Global, editor: &mut Editor) -> Result<(), Stop> {
     let view = editor.view(alloc)?;
-    let lines = lines(alloc, &view)?;
-    match first_fetching(lines.as_slice()) {
+    rewrite(alloc, editor, &view, lines(alloc, &view)?.as_slice())
+}
+
+fn rewrite(alloc: Global, editor: &mut Editor, view: &View, lines: &[Line]) -> Result<(), Stop> {
+    match first_fetching(lines) {
         Some(card) => {
             let deck = Deck {
-                view: &view,
-                lines: lines.as_slice(),
-                overflow: Overflow::of(&view),
+                view,
+                lines,
+                overflow: Overflow::of(view),
                 card,
             };
             deck.rewrite(alloc, editor)
@@ -96,11 +99,7 @@ impl Deck<'_> {
 
     /// Refuses heading and detail lines that fetch overflow where the first output may reach it.
     fn check_first(&self) -> Result<(), Stop> {
-        let fetches_detail = self
-            .lines
-            .iter()
-            .any(|line| line.time.is_detail() && fetches(line));
-        if fetches_detail && reaches_overflow(self.overflow.printer, self.lines) {
+        if fetches_detail(self.lines) && reaches_overflow(self.overflow.printer, self.lines) {
             return Err(self.refused(
                 "fetch on a detail line, and the first output may reach overflow",
             ));
@@ -132,6 +131,16 @@ impl Deck<'_> {
             None => false,
         }
     }
+}
+
+/// Whether a heading or detail line fetches overflow output.
+fn fetches_detail(lines: &[Line]) -> bool {
+    for line in lines {
+        if line.time.is_detail() && fetches(line) {
+            return true;
+        }
+    }
+    false
 }
 
 /// The card of a line's alternatives that is at an address.

@@ -1,8 +1,7 @@
 //! Overflow output.
 
 use rpg_fit_deck::View;
-use rpg_fit_words::{Condition, Indicator, Line, Printer, Stop, Term, printer_of};
-use std::alloc::Global;
+use rpg_fit_words::{Condition, Indicator, Line, List, Printer, Term, printer_of};
 
 /// What a deck does at overflow.
 #[derive(Clone, Copy)]
@@ -12,7 +11,7 @@ pub(crate) struct Overflow {
 }
 
 /// Which alternatives of a line.
-#[derive(Clone, Copy, PartialEq, Eq)]
+#[derive(Clone, Copy)]
 pub(crate) enum Kind {
     /// Those of overflow output.
     AtOverflow,
@@ -36,43 +35,46 @@ impl Overflow {
     }
 
     /// Whether a line is put out at overflow under a condition.
-    fn is_output(&self, line: &Line, condition: &Condition) -> bool {
+    pub fn is_output(&self, line: &Line, condition: &Condition) -> bool {
         match self.printer {
             Some(printer) => printer.is_overflow(line, condition),
             None => false,
         }
     }
 
-    /// Whether a line has an alternative of overflow.
-    pub fn has(&self, line: &Line) -> bool {
-        line.alternatives
-            .iter()
-            .any(|alternative| self.is_output(line, &alternative.condition))
+    /// Whether a line's condition is one of a kind of its alternatives.
+    pub fn is_of(&self, kind: Kind, line: &Line, condition: &Condition) -> bool {
+        self.is_output(line, condition) == matches!(kind, Kind::AtOverflow)
     }
 
-    /// The alternatives of a line that are of a kind, in their order.
-    pub fn alternatives(
-        &self,
-        alloc: Global,
-        line: &Line,
-        kind: Kind,
-    ) -> Result<Vec<Condition>, Stop> {
-        let mut found = Vec::new(alloc);
+    /// Whether a line has an alternative of overflow.
+    pub fn has(&self, line: &Line) -> bool {
         for alternative in line.alternatives.iter() {
-            let at_overflow = self.is_output(line, &alternative.condition);
-            if at_overflow == (kind == Kind::AtOverflow) {
-                found.push(alternative.condition)?;
+            if self.is_output(line, &alternative.condition) {
+                return true;
             }
         }
-        Ok(found)
+        false
+    }
+
+    /// Appends the conditions under which a line is put out at overflow, in their order.
+    pub fn push_conditions(&self, found: &mut List<Condition>, line: &Line) {
+        for alternative in line.alternatives.iter() {
+            if self.is_output(line, &alternative.condition) {
+                found.push(alternative.condition);
+            }
+        }
     }
 
     /// Whether a line may be put out at another time than at overflow and at the first output.
     pub fn is_put_later(&self, line: &Line) -> bool {
-        line.alternatives.iter().any(|alternative| {
-            !self.is_output(line, &alternative.condition)
-                && !alternative.condition.has(Term::on(Indicator::FIRST_PAGE))
-        })
+        for alternative in line.alternatives.iter() {
+            let condition = &alternative.condition;
+            if !self.is_output(line, condition) && !condition.has(Term::on(Indicator::FIRST_PAGE)) {
+                return true;
+            }
+        }
+        false
     }
 
     /// Whether a condition asks for the overflow indicator.

@@ -2,7 +2,7 @@
 
 use crate::overflow::{Kind, Overflow};
 use rpg_fit_deck::Seen;
-use rpg_fit_words::{Condition, Indicator, Line, Stop, Term, Time};
+use rpg_fit_words::{Condition, Indicator, Line, List, Term, Time};
 use std::alloc::Global;
 
 /// A field that prints PAGE, and its line.
@@ -41,22 +41,17 @@ impl PageField<'_> {
 
     /// When PAGE is set back for the alternatives of a kind: where one of them and its own conditions hold. The overflow indicator isn't
     /// asked for.
-    pub fn resets(
-        &self,
-        alloc: Global,
-        overflow: Overflow,
-        kind: Kind,
-    ) -> Result<Vec<Condition>, Stop> {
+    pub fn resets(&self, alloc: Global, overflow: Overflow, kind: Kind) -> List<Condition> {
         let own = self.own();
-        let alternatives = overflow.alternatives(alloc, self.line, kind)?;
-        let mut found = Vec::new(alloc);
-        for alternative in alternatives.iter() {
-            if is_live(alternative, &own) {
-                let together = without_overflow(overflow, kind, alternative).and_missing(&own);
-                push_new(&mut found, together)?;
+        let mut found = List::new(alloc);
+        for alternative in self.line.alternatives.iter() {
+            let condition = &alternative.condition;
+            if overflow.is_of(kind, self.line, condition) && is_live(condition, &own) {
+                let together = without_overflow(overflow, kind, condition).and_missing(&own);
+                push_new(&mut found, together);
             }
         }
-        Ok(found)
+        found
     }
 
     /// Whether a line is put out at the same time of the cycle.
@@ -72,15 +67,26 @@ impl PageField<'_> {
 /// A condition without the overflow indicator, where it is one of overflow output.
 fn without_overflow(overflow: Overflow, kind: Kind, condition: &Condition) -> Condition {
     match overflow.indicator() {
-        Some(indicator) if kind == Kind::AtOverflow => condition.without(Term::on(indicator)),
+        Some(indicator) if matches!(kind, Kind::AtOverflow) => {
+            condition.without(Term::on(indicator))
+        }
         _ => *condition,
     }
 }
 
-/// Appends a condition unless it is there.
-fn push_new(found: &mut Vec<Condition>, condition: Condition) -> Result<(), Stop> {
-    if !found.iter().any(|other| other.is_same(&condition)) {
-        found.push(condition)?;
+/// Whether a condition is one of some.
+fn is_among(conditions: &[Condition], condition: &Condition) -> bool {
+    for other in conditions {
+        if other.is_same(condition) {
+            return true;
+        }
     }
-    Ok(())
+    false
+}
+
+/// Appends a condition unless it is there.
+fn push_new(found: &mut List<Condition>, condition: Condition) {
+    if !is_among(found.as_slice(), &condition) {
+        found.push(condition);
+    }
 }

@@ -3,10 +3,10 @@
 use crate::overflow::{Kind, Overflow};
 use crate::page_field::{PageField, is_page, page_card};
 use crate::page_steps::{Marks, reset, reset_at_overflow};
-use rpg_fit_deck::{Card, Editor, Seen, Sentence, View, Word};
+use rpg_fit_deck::{Card, Editor, Sentence, View, Word};
 use rpg_fit_words::{
-    Condition, Indicator, Line, Stop, Term, Time, is_card, is_field_put_first, is_put_first,
-    is_total_skipped_late, lines, record_types, settle,
+    Condition, Indicator, Line, List, Stop, Term, Time, is_card, is_field_put_first, is_put_first,
+    is_total_skipped_late, lines, settle,
 };
 use std::alloc::Global;
 
@@ -18,19 +18,22 @@ pub fn pages(alloc: Global, editor: &mut Editor) {
 
 fn reset_pages(alloc: Global, editor: &mut Editor) -> Result<(), Stop> {
     let view = editor.view(alloc)?;
-    let lines = lines(alloc, &view)?;
-    let types = record_types(alloc, &view)?;
-    let overflow = Overflow::of(&view);
+    reset_lines(alloc, editor, &view, lines(alloc, &view)?.as_slice())
+}
+
+fn reset_lines(
+    alloc: Global,
+    editor: &mut Editor,
+    view: &View,
+    lines: &[Line],
+) -> Result<(), Stop> {
+    let overflow = Overflow::of(view);
     let deck = Deck {
-        view: &view,
+        view,
         overflow,
-        lines: lines.as_slice(),
-        fetches: lines.iter().any(fetches),
-        is_total_skipped: is_total_skipped_late(
-            overflow.printer,
-            lines.as_slice(),
-            types.as_slice(),
-        ),
+        lines,
+        fetches: has_fetching(lines),
+        is_total_skipped: is_total_skipped_late(alloc, view, overflow.printer, lines)?,
     };
     deck.reset_lines(alloc, editor)
 }
@@ -38,6 +41,16 @@ fn reset_pages(alloc: Global, editor: &mut Editor) -> Result<(), Stop> {
 /// Whether a line fetches overflow output.
 pub(crate) fn fetches(line: &Line) -> bool {
     line.head.card.column(16) == b'F'
+}
+
+/// Whether one of some lines fetches overflow output.
+fn has_fetching(lines: &[Line]) -> bool {
+    for line in lines {
+        if fetches(line) {
+            return true;
+        }
+    }
+    false
 }
 
 /// A deck before any PAGE is set back.
@@ -56,9 +69,9 @@ struct Deck<'a> {
 #[derive(Drop)]
 struct Resets {
     /// Before the lines of the field's time.
-    normal: Vec<Condition>,
+    normal: List<Condition>,
     /// Before overflow output.
-    at_overflow: Vec<Condition>,
+    at_overflow: List<Condition>,
 }
 
 impl Deck<'_> {
@@ -82,30 +95,46 @@ impl Deck<'_> {
         for field in line.fields.iter() {
             let page = PageField { line, field };
             if is_page(field) && !page.own().is_empty() {
-                let resets = self.checked(alloc, page, earlier)?;
-                self.rewrite(alloc, editor, marks, page, &resets)?;
+                self.reset_field(alloc, editor, marks, page, earlier)?;
             }
         }
         Ok(())
     }
 
-    /// When PAGE is set back for a field, where it can be.
-    fn checked(&self, alloc: Global, page: PageField, earlier: &[Line]) -> Result<Resets, Stop> {
-        self.check_field(page)?;
-        self.check_overflow(alloc, page)?;
+    fn reset_field(
+        &self,
+        alloc: Global,
+        editor: &mut Editor,
+        marks: &mut Marks,
+        page: PageField,
+        earlier: &[Line],
+    ) -> Result<(), Stop> {
         let resets = Resets {
-            normal: page.resets(alloc, self.overflow, Kind::Normal)?,
-            at_overflow: page.resets(alloc, self.overflow, Kind::AtOverflow)?,
+            normal: page.resets(alloc, self.overflow, Kind::Normal),
+            at_overflow: page.resets(alloc, self.overflow, Kind::AtOverflow),
         };
-        let is_reset = !resets.normal.is_empty();
+        self.check(page, earlier, &resets)?;
+        self.rewrite(alloc, editor, marks, page, &resets)
+    }
+
+    /// Refuses a field for which PAGE can't be set back.
+    fn check(&self, page: PageField, earlier: &[Line], resets: &Resets) -> Result<(), Stop> {
+        self.check_field(page)?;
+        self.check_overflow(page)?;
+        self.check_normal(page, earlier, !resets.normal.checked()?.is_empty())?;
+        if resets.at_overflow.checked()?.is_empty() {
+            return Ok(());
+        }
+        self.check_at_overflow(page)
+    }
+
+    /// Refuses PAGE that can't be set back before the lines of its time.
+    fn check_normal(&self, page: PageField, earlier: &[Line], is_reset: bool) -> Result<(), Stop> {
         self.check_earlier(page, earlier, is_reset)?;
         if is_reset {
-            self.check_fetched(page)?;
+            return self.check_fetched(page);
         }
-        if !resets.at_overflow.is_empty() {
-            self.check_at_overflow(page)?;
-        }
-        Ok(resets)
+        Ok(())
     }
 
     /// Refuses PAGE in a line that EXCPT puts out, twice in a line, and on an I card.
@@ -113,32 +142,32 @@ impl Deck<'_> {
         if page.line.time == Time::Exception {
             return refused(page, "PAGE under conditions on a line of time E");
         }
-        if page
-            .line
-            .fields
-            .iter()
-            .filter(|field| is_page(field))
-            .count()
-            > 1
-        {
+        if pages_in(page.line) > 1 {
             return refused(page, "PAGE twice in a line");
         }
-        if self.view.cards.iter().any(is_page_read) {
+        if is_page_read(self.view) {
             return refused(page, "PAGE under conditions, and on an I card");
         }
         Ok(())
     }
 
     /// Refuses PAGE where its line, other than at overflow, or its own conditions ask for overflow.
-    fn check_overflow(&self, alloc: Global, page: PageField) -> Result<(), Stop> {
-        let normal = self.overflow.alternatives(alloc, page.line, Kind::Normal)?;
-        let is_asked = normal
-            .iter()
-            .any(|condition| self.overflow.is_asked(condition));
-        if is_asked || self.overflow.is_asked(&page.own()) {
+    fn check_overflow(&self, page: PageField) -> Result<(), Stop> {
+        if self.asks_normally(page.line) || self.overflow.is_asked(&page.own()) {
             return refused(page, "overflow is asked for beside PAGE under conditions");
         }
         Ok(())
+    }
+
+    /// Whether an alternative of a line, other than of overflow, asks for overflow.
+    fn asks_normally(&self, line: &Line) -> bool {
+        for alternative in line.alternatives.iter() {
+            let condition = &alternative.condition;
+            if !self.overflow.is_output(line, condition) && self.overflow.is_asked(condition) {
+                return true;
+            }
+        }
+        false
     }
 
     /// Refuses PAGE where an earlier line prints it at the same time: it would be set back before that line.
@@ -233,13 +262,8 @@ impl Deck<'_> {
     ) -> Result<(), Stop> {
         let card = page.field.number;
         if !resets.normal.is_empty() {
-            reset(
-                alloc,
-                editor,
-                page.line.time,
-                resets.normal.as_slice(),
-                card,
-            )?;
+            let conditions = resets.normal.as_slice();
+            reset(alloc, editor, page.line.time, conditions, card)?;
         }
         if !resets.at_overflow.is_empty() {
             let conditions = resets.at_overflow.as_slice();
@@ -257,9 +281,25 @@ impl Deck<'_> {
     }
 }
 
+/// How many fields of a line print PAGE.
+fn pages_in(line: &Line) -> usize {
+    let mut count: usize = 0;
+    for field in line.fields.iter() {
+        if is_page(field) {
+            count = count.saturating_add(1);
+        }
+    }
+    count
+}
+
 /// Whether an I card reads PAGE.
-fn is_page_read(seen: &Seen) -> bool {
-    is_card(seen, b'I') && seen.card.value(53, 58) == b"PAGE".as_slice()
+fn is_page_read(view: &View) -> bool {
+    for seen in view.cards.iter() {
+        if is_card(seen, b'I') && seen.card.value(53, 58) == b"PAGE".as_slice() {
+            return true;
+        }
+    }
+    false
 }
 
 /// The conditions of a field, without the blanks around them.

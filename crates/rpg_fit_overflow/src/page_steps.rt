@@ -1,9 +1,9 @@
 //! The calculations that set PAGE back.
 
-use rpg_fit_deck::{Editor, View};
+use rpg_fit_deck::{Editor, View, Word};
 use rpg_fit_words::{
-    Calculation, Condition, FreeIndicators, FreshNames, Indicator, NewCard, Place, Stop, Term,
-    Time, conditioned, insert_at,
+    Calculation, Condition, FreeIndicators, FreshNames, Indicator, List, NewCard, Place, Stop,
+    Term, Time, insert_at, push_conditioned,
 };
 use std::alloc::Global;
 
@@ -48,8 +48,36 @@ pub(crate) fn reset(
     } else {
         Place::DetailEnd
     };
-    let cards = conditioned(alloc, level, conditions, to_zero().made_of(card))?;
-    insert_at(alloc, editor, place, cards.as_slice(), card)
+    let mut cards = List::new(alloc);
+    push_conditioned(&mut cards, level, conditions, to_zero().made_of(card))?;
+    insert_at(alloc, editor, place, cards.checked()?, card)
+}
+
+/// How PAGE is set back before overflow output.
+#[derive(Clone, Copy)]
+struct Saving {
+    /// On where it is set back.
+    flag: Indicator,
+    /// On where it is still 0 after overflow output.
+    at_zero: Indicator,
+    /// The field that keeps its value.
+    saved: Word,
+    /// The card that the calculations are made for.
+    card: usize,
+}
+
+impl Marks {
+    fn saving(&mut self, view: &View, card: usize) -> Result<Saving, Stop> {
+        let flag = self.indicators.take(view, card)?;
+        let saved = self.names.take(view, card)?;
+        let at_zero = self.indicators.take(view, card)?;
+        Ok(Saving {
+            flag,
+            at_zero,
+            saved,
+            card,
+        })
+    }
 }
 
 /// Sets PAGE back before overflow output, where one of the conditions holds, and gives it its value again if nothing has printed it.
@@ -61,58 +89,63 @@ pub(crate) fn reset_at_overflow(
     conditions: &[Condition],
     card: usize,
 ) -> Result<(), Stop> {
-    let flag = marks.indicators.take(view, card)?;
-    let saved = marks.names.take(view, card)?;
-    let at_zero = marks.indicators.take(view, card)?;
-    let before = before_overflow(alloc, conditions, flag, saved.text(), card)?;
-    insert_at(alloc, editor, Place::TotalEnd, before.as_slice(), card)?;
-    let after = after_overflow(flag, at_zero, saved.text(), card);
-    insert_at(alloc, editor, Place::DetailFront, &after, card)
+    let saving = marks.saving(view, card)?;
+    saving.put_before(alloc, editor, conditions)?;
+    insert_at(alloc, editor, Place::DetailFront, &saving.after(), card)
 }
 
-/// Turns the flag on where one of the conditions holds, and then saves PAGE and sets it back.
-fn before_overflow(
-    alloc: Global,
-    conditions: &[Condition],
-    flag: Indicator,
-    saved: &[u8],
-    card: usize,
-) -> Result<Vec<NewCard>, Stop> {
-    let level = Indicator::ALWAYS;
-    let on = Calculation::of(b"SETON").high(flag).made_of(card);
-    let turned_on = conditioned(alloc, level, conditions, on)?;
-    let mut cards = Vec::new(alloc);
-    cards.push(Calculation::of(b"SETOF").at(level).high(flag).made_of(card))?;
-    for new in turned_on.iter() {
-        cards.push(*new)?;
+impl Saving {
+    /// Puts the calculations before overflow output.
+    fn put_before(
+        &self,
+        alloc: Global,
+        editor: &mut Editor,
+        conditions: &[Condition],
+    ) -> Result<(), Stop> {
+        let mut cards = List::new(alloc);
+        self.push_before(&mut cards, conditions)?;
+        insert_at(alloc, editor, Place::TotalEnd, cards.checked()?, self.card)
     }
-    let save = Calculation::of(b"Z-ADD")
-        .factor2(b"PAGE")
-        .result(saved)
-        .of_length(4, b'0');
-    cards.push(save.at(level).when(flag).made_of(card))?;
-    cards.push(to_zero().at(level).when(flag).made_of(card))?;
-    Ok(cards)
-}
 
-/// Gives PAGE its value again where the flag is on and PAGE is still 0. Both indicators go off.
-fn after_overflow(flag: Indicator, at_zero: Indicator, saved: &[u8], card: usize) -> [NewCard; 3] {
-    let both = Condition::on(flag).and(Term::on(at_zero));
-    [
-        Calculation::of(b"COMP")
-            .when(flag)
-            .factor1(b"PAGE")
-            .factor2(b"0")
-            .equal(at_zero)
-            .made_of(card),
-        Calculation::of(b"Z-ADD")
-            .under(&both)
-            .factor2(saved)
-            .result(b"PAGE")
-            .made_of(card),
-        Calculation::of(b"SETOF")
-            .high(flag)
-            .low(at_zero)
-            .made_of(card),
-    ]
+    /// Turns the flag on where one of the conditions holds, and then saves PAGE and sets it back.
+    fn push_before(&self, cards: &mut List<NewCard>, conditions: &[Condition]) -> Result<(), Stop> {
+        let level = Indicator::ALWAYS;
+        let on = Calculation::of(b"SETON").high(self.flag);
+        cards.push(self.total(Calculation::of(b"SETOF").high(self.flag)));
+        push_conditioned(cards, level, conditions, on.made_of(self.card))?;
+        let save = Calculation::of(b"Z-ADD")
+            .factor2(b"PAGE")
+            .result(self.saved.text())
+            .of_length(4, b'0');
+        cards.push(self.total(save.when(self.flag)));
+        cards.push(self.total(to_zero().when(self.flag)));
+        Ok(())
+    }
+
+    /// A total calculation.
+    fn total(&self, calculation: Calculation) -> NewCard {
+        calculation.at(Indicator::ALWAYS).made_of(self.card)
+    }
+
+    /// Gives PAGE its value again where the flag is on and PAGE is still 0. Both indicators go off.
+    fn after(&self) -> [NewCard; 3] {
+        let both = Condition::on(self.flag).and(Term::on(self.at_zero));
+        [
+            Calculation::of(b"COMP")
+                .when(self.flag)
+                .factor1(b"PAGE")
+                .factor2(b"0")
+                .equal(self.at_zero)
+                .made_of(self.card),
+            Calculation::of(b"Z-ADD")
+                .under(&both)
+                .factor2(self.saved.text())
+                .result(b"PAGE")
+                .made_of(self.card),
+            Calculation::of(b"SETOF")
+                .high(self.flag)
+                .low(self.at_zero)
+                .made_of(self.card),
+        ]
+    }
 }

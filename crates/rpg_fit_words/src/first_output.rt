@@ -2,9 +2,10 @@
 
 use crate::line::Line;
 use crate::printer::Printer;
-use crate::record_type::RecordType;
-use rpg_fit_deck::{Card, Seen};
-use rpg_fit_terms::Condition;
+use crate::record_type::{RecordType, record_types};
+use rpg_fit_deck::{Card, Seen, View};
+use rpg_fit_terms::{Condition, Stop};
+use std::alloc::Global;
 
 /// The line of a page from which on there is overflow.
 const OVERFLOW_LINE: usize = 60;
@@ -92,10 +93,16 @@ fn have_levels_or_not(types: &[RecordType]) -> bool {
 
 /// Whether an overflow output may come before any total calculation: the first output reaches the overflow line, or only some types have
 /// control fields.
+///
+/// # Errors
+///
+/// Memory is refused.
 pub fn is_total_skipped_late(
+    alloc: Global,
+    view: &View,
     printer: Option<Printer>,
     lines: &[Line],
-    types: &[RecordType],
-) -> bool {
-    have_levels_or_not(types) || reaches_overflow(printer, lines)
+) -> Result<bool, Stop> {
+    let types = record_types(alloc, view)?;
+    Ok(have_levels_or_not(types.as_slice()) || reaches_overflow(printer, lines))
 }

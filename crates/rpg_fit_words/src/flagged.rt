@@ -2,6 +2,7 @@
 
 use crate::calculation::Calculation;
 use crate::group::{Group, Section};
+use crate::list::List;
 use rpg_fit_deck::{View, Word};
 use rpg_fit_terms::{Condition, FreeIndicators, Indicator, NewCard, Stop};
 use std::alloc::Global;
@@ -10,7 +11,7 @@ use std::alloc::Global;
 #[derive(Drop)]
 pub struct Flagged {
     /// Calculations that turn the flag on where the conditions hold; they come first.
-    pub before: Vec<NewCard>,
+    pub before: List<NewCard>,
     /// Columns 7 to 8 of each calculation.
     pub level: Indicator,
     /// Columns 9 to 17 of each calculation.
@@ -20,31 +21,25 @@ pub struct Flagged {
 }
 
 /// The cards that turn a flag on where a calculation is done.
-fn flag_cards(
-    alloc: Global,
-    group: &Group,
-    level: Indicator,
-    flag: Indicator,
-) -> Result<Vec<NewCard>, Stop> {
+fn flag_cards(alloc: Global, group: &Group, level: Indicator, flag: Indicator) -> List<NewCard> {
     let number = group.last.number;
-    let mut cards = Vec::new(alloc);
+    let mut cards = List::new(alloc);
     cards.push(
         Calculation::of(b"SETOF")
             .at(level)
             .high(flag)
             .made_of(number),
-    )?;
+    );
     for seen in group.leading.iter() {
-        cards.push(NewCard::copy(seen))?;
+        cards.push(NewCard::copy(seen));
     }
-    let conditions = group.last.card.columns(7, 17);
     cards.push(
         Calculation::of(b"SETON")
             .high(flag)
             .made_of(number)
-            .with(7, 17, conditions),
-    )?;
-    Ok(cards)
+            .with_columns(7, 17, &group.last.card),
+    );
+    cards
 }
 
 /// What calculations in place of a calculation stand under: its own conditions where one card has them, else, or `always`, a free
@@ -52,7 +47,7 @@ fn flag_cards(
 ///
 /// # Errors
 ///
-/// No indicator is free, or memory is refused.
+/// No indicator is free.
 pub fn under_flag(
     alloc: Global,
     view: &View,
@@ -62,70 +57,70 @@ pub fn under_flag(
 ) -> Result<Flagged, Stop> {
     if group.leading.is_empty() && !always {
         return Ok(Flagged {
-            before: Vec::new(alloc),
+            before: List::new(alloc),
             level: Indicator::at(&group.last.card, 7),
             conditions: Word::of(group.last.card.columns(9, 17)),
             flag: None,
         });
     }
+    let flag = free.take(view, group.last.number)?;
     let level = match group.section() {
         Section::Total => Indicator::ALWAYS,
         _ => Indicator::at(&group.first().card, 7),
     };
-    let flag = free.take(view, group.last.number)?;
-    let before = flag_cards(alloc, group, level, flag)?;
     Ok(Flagged {
-        before,
+        before: flag_cards(alloc, group, level, flag),
         level,
         conditions: Condition::on(flag).columns(0),
         flag: Some(flag),
     })
 }
 
-/// Appends the cards of an alternative: AN from its second card on.
+/// Appends the cards of an alternative: AN from its second card on. The last of them is `end`, and the others have nothing else.
 fn push_alternative(
-    cards: &mut Vec<NewCard>,
-    level: Word,
+    cards: &mut List<NewCard>,
+    lead: Word,
     condition: &Condition,
-    number: usize,
+    end: NewCard,
 ) -> Result<(), Stop> {
-    condition.check(number)?;
+    condition.check(end.number)?;
+    let last = condition.cards().saturating_sub(1);
     for part in 0..condition.cards() {
-        let level = if part == 0 { level } else { Word::of(b"AN") };
+        let level = if part == 0 { lead } else { Word::of(b"AN") };
+        let card = if part == last { end } else { blank(end.number) };
         cards.push(
-            Calculation::of(b"")
-                .made_of(number)
-                .with(7, 8, level.text())
+            card.with(7, 8, level.text())
                 .with(9, 17, condition.columns(part).text()),
-        )?;
+        );
     }
     Ok(())
 }
 
-/// A calculation that is done where one of the alternatives holds; its cards. Columns 7 to 17 of `last` are blank.
+/// A calculation's card with nothing on it.
+fn blank(number: usize) -> NewCard {
+    Calculation::of(b"").made_of(number)
+}
+
+/// Appends the cards of a calculation that is done where one of the alternatives holds. Columns 7 to 17 of `last` are blank.
 ///
 /// # Errors
 ///
-/// An alternative has more than 60 conditions, or memory is refused.
-pub fn conditioned(
-    alloc: Global,
+/// An alternative has more than 60 conditions.
+pub fn push_conditioned(
+    cards: &mut List<NewCard>,
     level: Indicator,
     alternatives: &[Condition],
     last: NewCard,
-) -> Result<Vec<NewCard>, Stop> {
-    let lead = level.word();
-    let mut cards: Vec<NewCard> = Vec::new(alloc);
-    for condition in alternatives {
-        let level = if cards.is_empty() {
-            lead
+) -> Result<(), Stop> {
+    let mut lead = level.word();
+    for (place, condition) in alternatives.iter().enumerate() {
+        let end = if place.saturating_add(1) == alternatives.len() {
+            last
         } else {
-            Word::of(b"OR")
+            blank(last.number)
         };
-        push_alternative(&mut cards, level, condition, last.number)?;
+        push_alternative(cards, lead, condition, end)?;
+        lead = Word::of(b"OR");
     }
-    if let Some(end) = cards.last_mut() {
-        let columns = end.card;
-        *end = last.with_columns(7, 17, &columns);
-    }
-    Ok(cards)
+    Ok(())
 }

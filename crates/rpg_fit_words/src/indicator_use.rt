@@ -7,7 +7,7 @@ use rpg_fit_terms::{Condition, Indicator, Stop, is_card};
 use std::alloc::Global;
 
 /// What a card does with an indicator.
-#[derive(Clone, Copy, PartialEq, Eq)]
+#[derive(Clone, Copy)]
 pub enum UseKind {
     /// It is that of a record type, or of overflow.
     Type,
@@ -106,6 +106,15 @@ fn is_in_detail(groups: &[Group], at: Address) -> bool {
     false
 }
 
+/// Whether an indicator is turned on or off by an input field, or outside detail calculations.
+fn is_set_elsewhere(groups: &[Group], one: &IndicatorUse) -> bool {
+    match one.kind {
+        UseKind::Field => true,
+        UseKind::Result => !is_in_detail(groups, one.at),
+        UseKind::Type | UseKind::Asked => false,
+    }
+}
+
 /// Refuses, for a card, where an indicator that a rule asks at the front of detail may have been turned on or off since by anything but
 /// its record types: by an input field, or outside detail calculations. Those leave it for the next record, before which it goes off.
 ///
@@ -121,12 +130,7 @@ pub fn check_only_type(
 ) -> Result<(), Stop> {
     let uses = indicator_uses(alloc, view)?;
     for one in uses.iter() {
-        let sets = match one.kind {
-            UseKind::Field => true,
-            UseKind::Result => !is_in_detail(groups, one.at),
-            UseKind::Type | UseKind::Asked => false,
-        };
-        if sets && one.indicator == indicator {
+        if one.indicator == indicator && is_set_elsewhere(groups, one) {
             return Err(Stop::refused(
                 card,
                 Sentence::of_two(

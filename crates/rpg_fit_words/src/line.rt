@@ -1,5 +1,6 @@
 //! Output lines.
 
+use crate::list::List;
 use rpg_fit_deck::{Card, Editor, Seen, View, Word};
 use rpg_fit_terms::{Condition, NewCard, Stop, is_card};
 use std::alloc::Global;
@@ -41,6 +42,14 @@ pub struct Alternative {
     pub condition: Condition,
 }
 
+impl Alternative {
+    /// Appends the conditions of an AND card.
+    fn push_card(&mut self, seen: &Seen) -> Result<(), Stop> {
+        self.condition = self.condition.and_all(&Condition::at(&seen.card, 23));
+        self.condition.check(seen.number)
+    }
+}
+
 /// An output line.
 #[derive(Drop)]
 pub struct Line {
@@ -51,15 +60,6 @@ pub struct Line {
     pub alternatives: Vec<Alternative>,
     pub file: Word,
     pub time: Time,
-}
-
-/// A line that a rule makes.
-#[derive(Drop)]
-pub struct NewLine {
-    pub head: NewCard,
-    /// Its AND and OR cards.
-    pub more: Vec<NewCard>,
-    pub fields: Vec<NewCard>,
 }
 
 /// Whether a card continues the conditions of a line: AND or OR in 14 to 16.
@@ -97,14 +97,14 @@ impl Line {
     /// Appends an AND or OR card.
     fn push_more(&mut self, seen: &Seen) -> Result<(), Stop> {
         self.more.push(*seen)?;
-        let more = alternative_at(seen);
         if is_or(&seen.card) {
-            self.alternatives.push(more)?;
-        } else if let Some(last) = self.alternatives.last_mut() {
-            last.condition = last.condition.and_all(&more.condition);
-            last.condition.check(seen.number)?;
+            self.alternatives.push(alternative_at(seen))?;
+            return Ok(());
         }
-        Ok(())
+        match self.alternatives.last_mut() {
+            Some(last) => last.push_card(seen),
+            None => Ok(()),
+        }
     }
 
     /// Takes all cards of the line out, as part of the change of the card `with`.
@@ -114,85 +114,59 @@ impl Line {
         remove_cards(editor, self.fields.as_slice(), with);
     }
 
-    /// A copy of this line with other alternatives, of which there is one at least, and its file's name on it.
+    /// A copy of its record card, with its file's name on it.
+    pub fn new_head(&self) -> NewCard {
+        NewCard::copy(&self.head).with(7, 14, self.file.text())
+    }
+
+    /// Appends a copy of this line with another record card and other alternatives, of which there is one at least.
     ///
     /// # Errors
     ///
-    /// An alternative has more than 60 conditions, or memory is refused.
-    pub fn with_alternatives(
+    /// An alternative has more than 60 conditions.
+    pub fn push_copy(
         &self,
-        alloc: Global,
+        cards: &mut List<NewCard>,
+        head: NewCard,
         alternatives: &[Condition],
-    ) -> Result<NewLine, Stop> {
-        let mut head = NewCard::copy(&self.head).with(7, 14, self.file.text());
-        let mut more: Vec<NewCard> = Vec::new(alloc);
-        for (place, condition) in alternatives.iter().enumerate() {
-            condition.check(self.head.number)?;
-            if place == 0 {
-                head = head.with(23, 31, condition.columns(0).text());
-            } else {
-                more.push(condition_card(b"OR", condition, 0, self.head.number))?;
-            }
-            push_and_cards(&mut more, condition, self.head.number)?;
+    ) -> Result<(), Stop> {
+        let number = self.head.number;
+        let mut first = head;
+        for condition in alternatives {
+            condition.check(number)?;
+            cards.push(first.with(23, 31, condition.columns(0).text()));
+            push_and_cards(cards, condition, number);
+            first = condition_card(b"OR", number);
         }
-        let mut fields = Vec::new(alloc);
-        push_copies(&mut fields, self.fields.as_slice())?;
-        Ok(NewLine { head, more, fields })
+        push_copies(cards, self.fields.as_slice());
+        Ok(())
     }
 }
 
-/// An AND or OR card with some terms of a condition.
-fn condition_card(word: &[u8], condition: &Condition, part: usize, number: usize) -> NewCard {
+/// An AND or OR card without conditions.
+fn condition_card(word: &[u8], number: usize) -> NewCard {
     NewCard {
-        card: Card::of_form(b'O')
-            .with(14, 16, word)
-            .with(23, 31, condition.columns(part).text()),
+        card: Card::of_form(b'O').with(14, 16, word),
         number,
     }
 }
 
 /// Appends the AND cards that an alternative needs after its first card.
-fn push_and_cards(
-    more: &mut Vec<NewCard>,
-    condition: &Condition,
-    number: usize,
-) -> Result<(), Stop> {
+fn push_and_cards(cards: &mut List<NewCard>, condition: &Condition, number: usize) {
     for part in 1..condition.cards() {
-        more.push(condition_card(b"AND", condition, part, number))?;
+        cards.push(condition_card(b"AND", number).with(23, 31, condition.columns(part).text()));
     }
-    Ok(())
 }
 
-fn push_copies(copies: &mut Vec<NewCard>, cards: &[Seen]) -> Result<(), Stop> {
+fn push_copies(copies: &mut List<NewCard>, cards: &[Seen]) {
     for seen in cards {
-        copies.push(NewCard::copy(seen))?;
+        copies.push(NewCard::copy(seen));
     }
-    Ok(())
-}
-
-fn push_cards(cards: &mut Vec<NewCard>, more: &[NewCard]) -> Result<(), Stop> {
-    for card in more {
-        cards.push(*card)?;
-    }
-    Ok(())
 }
 
 fn remove_cards(editor: &mut Editor, cards: &[Seen], with: usize) {
     for seen in cards {
         editor.remove(seen.at, with);
-    }
-}
-
-impl NewLine {
-    /// Appends its cards, in their order.
-    ///
-    /// # Errors
-    ///
-    /// Memory is refused.
-    pub fn push_to(&self, cards: &mut Vec<NewCard>) -> Result<(), Stop> {
-        cards.push(self.head)?;
-        push_cards(cards, self.more.as_slice())?;
-        push_cards(cards, self.fields.as_slice())
     }
 }
 
@@ -208,6 +182,24 @@ fn push_to_last(found: &mut Vec<Line>, seen: &Seen) -> Result<(), Stop> {
     }
 }
 
+/// Appends a card to the line that it belongs to, or the line that it begins. `file`: that of the line before.
+fn push_card(
+    alloc: Global,
+    found: &mut Vec<Line>,
+    file: &mut Word,
+    seen: &Seen,
+) -> Result<(), Stop> {
+    if continues(&seen.card) || seen.card.is_blank(7, 16) {
+        return push_to_last(found, seen);
+    }
+    if !seen.card.is_blank(7, 14) {
+        *file = Word::of(seen.card.value(7, 14));
+    }
+    let line = Line::begin(alloc, seen, *file)?;
+    found.push(line)?;
+    Ok(())
+}
+
 /// The lines of a deck, in their order, each with the name of its file.
 ///
 /// # Errors
@@ -218,17 +210,20 @@ pub fn lines(alloc: Global, view: &View) -> Result<Vec<Line>, Stop> {
     let mut file = Word::empty();
     for seen in view.cards.iter() {
         if is_card(seen, b'O') {
-            if continues(&seen.card) || seen.card.is_blank(7, 16) {
-                push_to_last(&mut found, seen)?;
-            } else {
-                if !seen.card.is_blank(7, 14) {
-                    file = Word::of(seen.card.value(7, 14));
-                }
-                found.push(Line::begin(alloc, seen, file)?)?;
-            }
+            push_card(alloc, &mut found, &mut file, seen)?;
         }
     }
     Ok(found)
+}
+
+/// The lines of a deck as it is now.
+///
+/// # Errors
+///
+/// An alternative has more than 60 conditions, or memory is refused.
+pub fn lines_now(alloc: Global, editor: &Editor) -> Result<Vec<Line>, Stop> {
+    let view = editor.view(alloc)?;
+    lines(alloc, &view)
 }
 
 /// Puts the name of its file on each line's card, so that lines may be moved, as part of the change of the card `with`.

@@ -26,6 +26,19 @@ impl<T: Copy> List<T> {
         }
     }
 
+    /// Appends values.
+    pub fn push_all(&mut self, values: &[T]) {
+        for value in values {
+            self.push(*value);
+        }
+    }
+
+    /// Appends the values of another list, and that memory ran out for one of them.
+    pub fn append(&mut self, more: &List<T>) {
+        self.ran_out = self.ran_out || more.ran_out;
+        self.push_all(more.as_slice());
+    }
+
     /// The values so far.
     pub fn as_slice(&self) -> &[T] {
         self.values.as_slice()

@@ -6,7 +6,7 @@ use rpg_fit_terms::{NewCard, Stop, address_after, is_card, put_cards};
 use std::alloc::Global;
 
 /// A place for calculations in the cycle.
-#[derive(Clone, Copy, PartialEq, Eq)]
+#[derive(Clone, Copy)]
 pub enum Place {
     /// After the moves of the input fields.
     DetailFront,

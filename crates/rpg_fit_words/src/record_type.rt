@@ -32,6 +32,28 @@ fn push_to_last(found: &mut Vec<RecordType>, seen: &Seen) -> Result<(), Stop> {
     Ok(())
 }
 
+/// Appends a card to the type that it belongs to, or the type that it begins. `file`: that of the type before.
+fn push_card(
+    alloc: Global,
+    found: &mut Vec<RecordType>,
+    file: &mut Word,
+    seen: &Seen,
+) -> Result<(), Stop> {
+    if continues(&seen.card) || seen.card.is_blank(7, 16) {
+        return push_to_last(found, seen);
+    }
+    if !seen.card.is_blank(7, 14) {
+        *file = Word::of(seen.card.value(7, 14));
+    }
+    found.push(RecordType {
+        head: *seen,
+        more: Vec::new(alloc),
+        fields: Vec::new(alloc),
+        file: *file,
+    })?;
+    Ok(())
+}
+
 /// The record types of a deck, in their order, each with the name of its file.
 ///
 /// # Errors
@@ -42,19 +64,7 @@ pub fn record_types(alloc: Global, view: &View) -> Result<Vec<RecordType>, Stop>
     let mut file = Word::empty();
     for seen in view.cards.iter() {
         if is_card(seen, b'I') {
-            if continues(&seen.card) || seen.card.is_blank(7, 16) {
-                push_to_last(&mut found, seen)?;
-            } else {
-                if !seen.card.is_blank(7, 14) {
-                    file = Word::of(seen.card.value(7, 14));
-                }
-                found.push(RecordType {
-                    head: *seen,
-                    more: Vec::new(alloc),
-                    fields: Vec::new(alloc),
-                    file,
-                })?;
-            }
+            push_card(alloc, &mut found, &mut file, seen)?;
         }
     }
     Ok(found)

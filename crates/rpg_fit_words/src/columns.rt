@@ -3,8 +3,8 @@
 use rpg_fit_deck::Card;
 
 /// The columns of an operand of a calculation.
-#[derive(Clone, Copy, PartialEq, Eq)]
-pub(crate) enum Columns {
+#[derive(Clone, Copy)]
+pub enum Columns {
     Factor1,
     Factor2,
     Result,
@@ -12,7 +12,7 @@ pub(crate) enum Columns {
 
 impl Columns {
     /// Those of all three operands, in their order.
-    pub(crate) const ALL: [Columns; 3] = [Columns::Factor1, Columns::Factor2, Columns::Result];
+    pub const ALL: [Columns; 3] = [Columns::Factor1, Columns::Factor2, Columns::Result];
 
     /// The first column.
     fn first(self) -> usize {
@@ -33,12 +33,12 @@ impl Columns {
     }
 
     /// What stands in them, without blanks.
-    pub(crate) fn value(self, card: &Card) -> &[u8] {
+    pub fn value(self, card: &Card) -> &[u8] {
         card.value(self.first(), self.last())
     }
 
     /// A card with a text in them.
-    pub(crate) fn put(self, card: Card, text: &[u8]) -> Card {
+    pub fn put(self, card: Card, text: &[u8]) -> Card {
         card.with(self.first(), self.last(), text)
     }
 }
