@@ -11,14 +11,18 @@ use std::alloc::AllocError;
 use std::io::BufReader;
 use std::rt::Files;
 
-/// A regular file that is read once more. Standard input can't be.
-fn opened_again<R: Files + AllocGlobal>(rt: &R, path: Option<&str>) -> Option<BufReader<R::File>> {
-    let path = path?;
+/// A regular file. Standard input can't be read once more.
+fn regular_file<R: Files>(rt: &R, path: &str) -> Option<R::File> {
     if is_standard(path) {
         return None;
     }
     identity_at(rt, path)?;
-    let file = input_file(rt, path).ok()?;
+    input_file(rt, path).ok()
+}
+
+/// A regular file that is read once more.
+fn opened_again<R: Files + AllocGlobal>(rt: &R, path: Option<&str>) -> Option<BufReader<R::File>> {
+    let file = regular_file(rt, path?)?;
     BufReader::new(rt.alloc(), file).ok()
 }
 

@@ -183,6 +183,17 @@ fn written_file<'a, R: Files + AllocGlobal>(
     }
 }
 
+/// The files that a run reads: the object, its source and both inputs.
+fn read_files<R: Files>(rt: &R, words: &RunWords, files: &RunFiles<R::File>) -> [NamedFile; 4] {
+    let stream = "/dev/stdin";
+    [
+        NamedFile::at(rt, words.program, system_path(words.object)),
+        NamedFile::named(rt, FileWord::OwnSource, words.source),
+        NamedFile::opened(rt, FileWord::Input, &files.input, stream),
+        NamedFile::opened(rt, FileWord::Secondary, &files.secondary, stream),
+    ]
+}
+
 /// Refuses to empty or to replace a file that another word names too.
 fn refuse_shared<R: Files + AllocGlobal>(
     rt: &R,
@@ -190,16 +201,14 @@ fn refuse_shared<R: Files + AllocGlobal>(
     files: &RunFiles<R::File>,
     kept: &Kept<'_>,
 ) -> Result<(), Stop> {
-    let (input, output) = ("/dev/stdin", "/dev/stdout");
-    let object = NamedFile::at(rt, words.program, system_path(words.object));
-    let source = NamedFile::named(rt, FileWord::OwnSource, words.source);
-    let primary = NamedFile::opened(rt, FileWord::Input, &files.input, input);
-    let secondary = NamedFile::opened(rt, FileWord::Secondary, &files.secondary, input);
-    let print = NamedFile::written(rt, FileWord::Print, &files.print, &kept.print, output);
-    let disk = NamedFile::written(rt, FileWord::Disk, &files.disk, &kept.disk, output);
-    refuse_same_file(print, &[object, source, primary, secondary])?;
-    refuse_same_file(disk, &[object, source, primary, secondary, print])?;
-    kept.refuse_shared(rt, &[object, source, primary, secondary, print, disk])
+    let stream = "/dev/stdout";
+    let [object, source, primary, secondary] = read_files(rt, words, files);
+    let print = NamedFile::written(rt, FileWord::Print, &files.print, &kept.print, stream);
+    let disk = NamedFile::written(rt, FileWord::Disk, &files.disk, &kept.disk, stream);
+    let all = [object, source, primary, secondary, print, disk];
+    refuse_same_file(print, &all[..4])?;
+    refuse_same_file(disk, &all[..5])?;
+    kept.refuse_shared(rt, &all)
 }
 
 /// Empties the files that are written, unless another word names one of them.

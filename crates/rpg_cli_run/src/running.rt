@@ -1,6 +1,7 @@
 //! A run over any reader and writers.
 
 ghost use Rattle.std.specs.Prelude.{◌≡◌, ◌-◌, ◌^◌, ◌<◌, IfErr, IfOk, None};
+ghost use Rattle.rpg_cli_run.specs.Flushing.{Flushes};
 ghost use Rattle.rpg_cli_run.specs.Running.{TellsFaults, TellsRun};
 ghost use Rattle.rpg_engine.specs.Devices.{EndsWellOn, ReportsOn, SendsPartsOn};
 ghost use Rattle.rpg_engine.specs.Faults.{device_counts};
@@ -10,7 +11,7 @@ ghost use Rattle.rpg_faults.specs.Source.{cards_in};
 ghost use Rattle.rpg_files.specs.Counting.{device_of, faults_of};
 ghost use Rattle.rpg_source_run.specs.Running.{HasNoSecondary, IsFaultless, PrintsOn, StopsOn};
 
-use rpg_cli_answers::{Answer, named};
+use rpg_cli_answers::Answer;
 use rpg_cli_files::flush_device;
 use rpg_cli_words::FileWord;
 use rpg_engine::{Report, Verified, Watcher, watch_program};
@@ -18,6 +19,31 @@ use rpg_files::Counted;
 use rpg_source_run::{CompiledSource, run_source};
 use std::alloc::Global;
 use std::io::{Read, Write};
+
+/// Writes out what the writers still hold after a run that gave a report, the printer first.
+fn flushed<P: Write, D: Write>(
+    report: Report,
+    print: &mut Counted<P>,
+    disk: &mut Counted<D>,
+) -> Result<Report, Answer>
+    requires print { faults_of print.old < 2 ^ 64 - 1 }
+    requires disk { faults_of disk.old < 2 ^ 64 - 1 }
+    ensures { Flushes P.contents D.contents report result print.old print.new disk.old disk.new }
+{
+    if let Err(fault) = flush_device(print) {
+        return Err(Answer::File {
+            word: FileWord::Print,
+            fault,
+        });
+    }
+    if let Err(fault) = flush_device(disk) {
+        return Err(Answer::File {
+            word: FileWord::Disk,
+            fault,
+        });
+    }
+    Ok(report)
+}
 
 /// Runs an accepted program over its inputs, and writes out what the writers still hold. A watcher looks at the job between its cycles.
 pub(crate) fn run_over<I: Read, S: Read, P: Write, D: Write, W: Watcher>(
@@ -54,10 +80,12 @@ pub(crate) fn run_over<I: Read, S: Read, P: Write, D: Write, W: Watcher>(
         (S.remaining (device_of secondary.old)) (S.remaining (device_of secondary.new))
         (device_counts input.old secondary.old print.old disk.old) (device_counts input.new secondary.new print.new disk.new) }
 {
-    let report = watch_program(alloc, program, date, input, secondary, print, disk, watcher)?;
-    named(FileWord::Print, flush_device(print))?;
-    named(FileWord::Disk, flush_device(disk))?;
-    Ok(report)
+    let ran = watch_program(alloc, program, date, input, secondary, print, disk, watcher);
+    let report = match ran {
+        Ok(report) => report,
+        Err(fault) => return Err(Answer::Run(fault)),
+    };
+    flushed(report, print, disk)
 }
 
 /// Runs a compiled source over its inputs, and writes out what the writers still hold. A watcher looks at the job between its cycles.
@@ -97,8 +125,10 @@ pub(crate) fn run_source_over<I: Read, S: Read, P: Write, D: Write, W: Watcher>(
     ensures report { TellsRun (λ ran. IfOk ran (ReportsOn I.remaining S.remaining P.contents D.contents source.now.program date.now input secondary print disk)) result }
     ensures early { TellsRun (λ ran. IfErr ran (SendsPartsOn I.remaining S.remaining P.contents D.contents source.now.program date.now input secondary print disk)) result }
 {
-    let report = run_source(alloc, source, date, input, secondary, print, disk, watcher)?;
-    named(FileWord::Print, flush_device(print))?;
-    named(FileWord::Disk, flush_device(disk))?;
-    Ok(report)
+    let ran = run_source(alloc, source, date, input, secondary, print, disk, watcher);
+    let report = match ran {
+        Ok(report) => report,
+        Err(fault) => return Err(Answer::Run(fault)),
+    };
+    flushed(report, print, disk)
 }
