@@ -1,6 +1,6 @@
 //! F18: the data of tables.
 
-use crate::counted::noun;
+use crate::forms::noun;
 use crate::spot::Spot;
 use rpg_causes::{DataCause, EntryCause, EntryFault, Need};
 use rpg_cli_text::TextWriter;
@@ -32,15 +32,6 @@ fn write_other_cards(out: &mut TextWriter, need: Need, there: usize) {
 
 const TOO_WIDE: &str = ": {} entries a card of {} columns take {}, and a card has 80";
 
-/// The entries of a card that are wider than it.
-fn write_too_wide(out: &mut TextWriter, per_card: u16, width: u32) {
-    let columns = u64::from(per_card).saturating_mul(u64::from(width));
-    out.fill(
-        TOO_WIDE,
-        &[per_card.into(), u64::from(width).into(), columns.into()],
-    );
-}
-
 const ENTRY: &str = ": entry {} of {}, on card {}, is \"{}\", which ";
 
 /// Which entry of a table is wrong, and why.
@@ -66,14 +57,7 @@ fn write_entry(out: &mut TextWriter, spot: Spot<'_>, cause: &EntryCause) {
     }
 }
 
-/// The `**` card that no E card needs.
-fn write_spare(out: &mut TextWriter, deck: usize, wanted: usize) {
-    let of_cards = noun(wanted, "E card needs data", "E cards need data");
-    out.fill(
-        ": it is ** card {}, and {} {}",
-        &[deck.into(), wanted.into(), of_cards.into()],
-    );
-}
+const SPARE: &str = ": it is ** card {}, and {} {}";
 
 /// F18: what is wrong with the data of a table.
 pub(crate) fn write_data(out: &mut TextWriter, spot: Spot<'_>, cause: &DataCause) {
@@ -86,9 +70,19 @@ pub(crate) fn write_data(out: &mut TextWriter, spot: Spot<'_>, cause: &DataCause
             out.write_str("no ** card is left for them");
         }
         DataCause::NonePerCard => out.write_str(": 33-35 have 0 entries a card"),
-        DataCause::TooWide { per_card, width } => write_too_wide(out, *per_card, *width),
+        DataCause::TooWide { per_card, width } => {
+            let width = u64::from(*width);
+            let columns = u64::from(*per_card).saturating_mul(width);
+            out.fill(
+                TOO_WIDE,
+                &[(*per_card).into(), width.into(), columns.into()],
+            );
+        }
         DataCause::OtherCards { need, there } => write_other_cards(out, *need, *there),
         DataCause::Entry(entry) => write_entry(out, spot, entry),
-        DataCause::Spare { deck, wanted } => write_spare(out, *deck, *wanted),
+        DataCause::Spare { deck, wanted } => {
+            let of_cards = noun(*wanted, "E card needs data", "E cards need data");
+            out.fill(SPARE, &[(*deck).into(), (*wanted).into(), of_cards.into()]);
+        }
     }
 }

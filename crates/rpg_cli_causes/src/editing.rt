@@ -1,6 +1,6 @@
 //! F17: by how much an edit code or an edit word misses its number.
 
-use crate::counted::noun;
+use crate::forms::noun;
 use rpg_causes::{EditingCause, Misfit};
 use rpg_cli_text::TextWriter;
 use rpg_faults::FaultCode;

@@ -51,14 +51,11 @@ fn write_second(out: &mut TextWriter, spot: Spot<'_>, name: &[u8], first: &FileO
     }
 }
 
-/// The length that no line, and the one that no record has.
-const fn length_sentence(serves_as: FileUse) -> &'static str {
-    match serves_as {
-        FileUse::Printer =>
-            "a printed line of {} places: a line has 1 to 132 (docs/OLD_PROGRAMS.md)",
-        _ => "a record length of {}: a record has 1 to 9,999 columns",
-    }
-}
+/// The length that no line has.
+const LINE_LENGTH: &str = "a printed line of {} places: a line has 1 to 132 (docs/OLD_PROGRAMS.md)";
+
+/// The length that no record has.
+const RECORD_LENGTH: &str = "a record length of {}: a record has 1 to 9,999 columns";
 
 /// A file name that is near one which no F card has.
 fn write_near_file(out: &mut TextWriter, cards: &[SpecCard], name: &[u8]) {
@@ -93,7 +90,11 @@ pub(crate) fn write_file(out: &mut TextWriter, spot: Spot<'_>, cause: &FileCause
             out.write_str("one of the two input files has E in 17: both have it, or neither");
         }
         FileCause::Length { serves_as, length } => {
-            out.fill(length_sentence(*serves_as), &[(*length).into()]);
+            let sentence = match serves_as {
+                FileUse::Printer => LINE_LENGTH,
+                _ => RECORD_LENGTH,
+            };
+            out.fill(sentence, &[(*length).into()]);
         }
         FileCause::Unnamed(user) => {
             let (of_whom, _) = user_names(*user);
@@ -106,22 +107,16 @@ pub(crate) fn write_file(out: &mut TextWriter, spot: Spot<'_>, cause: &FileCause
             out.fill("no F card has {}", &[name.as_slice().into()]);
             write_near_file(out, spot.source.cards.as_slice(), name.as_slice());
         }
-        FileCause::WrongUse { user, file } => write_wrong_use(out, *user, file),
+        FileCause::WrongUse { user, file } => {
+            let (of_whom, other_use) = user_names(*user);
+            let name = file.name.as_slice();
+            let card = file.card;
+            out.fill(
+                "{} (card {}) is an {} file, and has no {}",
+                &[name.into(), card.into(), other_use.into(), of_whom.into()],
+            );
+        }
     }
-}
-
-fn write_wrong_use(out: &mut TextWriter, user: FileUser, file: &FileOnCard) {
-    let (of_whom, other_use) = user_names(user);
-    let name = file.name.as_slice();
-    out.fill(
-        "{} (card {}) is an {} file, and has no {}",
-        &[
-            name.into(),
-            file.card.into(),
-            other_use.into(),
-            of_whom.into(),
-        ],
-    );
 }
 
 /// F9 of a line: its file, which is no printer.

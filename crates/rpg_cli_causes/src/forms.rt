@@ -1,8 +1,12 @@
-//! Fields and cards within sentences.
+//! Fields, cards and counts within sentences.
 
-use crate::counted::noun;
 use rpg_cli_text::TextWriter;
 use rpg_effect::form::{Class, FieldForm, Kind};
+
+/// The name of what is counted: that of one, or of more.
+pub(crate) fn noun(count: usize, one: &'static str, more: &'static str) -> &'static str {
+    if count == 1 { one } else { more }
+}
 
 /// The card that is meant, in brackets; nothing where there is none.
 pub(crate) fn write_card(out: &mut TextWriter, card: Option<u16>) {

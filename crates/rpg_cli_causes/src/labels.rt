@@ -11,10 +11,6 @@ fn given_on(card: &SpecCard) -> Option<Named> {
     gives(card.calculation()?)
 }
 
-const fn kind(is_subroutine: bool) -> &'static str {
-    if is_subroutine { "subroutine" } else { "label" }
-}
-
 /// A label, or a subroutine, that is near a name which none has.
 fn write_near_label(out: &mut TextWriter, cards: &[SpecCard], name: &[u8], is_subroutine: bool) {
     for card in cards {
@@ -57,7 +53,11 @@ pub(crate) fn write_nowhere(out: &mut TextWriter, spot: Spot<'_>, cause: &Nowher
 pub(crate) fn write_twice(out: &mut TextWriter, cause: &TwiceCause) {
     match cause {
         TwiceCause::Given { name, giver } => {
-            let kind = kind(giver.is_subroutine);
+            let kind = if giver.is_subroutine {
+                "subroutine"
+            } else {
+                "label"
+            };
             out.fill(
                 "{} is a {} on card {} already",
                 &[name.as_slice().into(), kind.into(), giver.card.into()],

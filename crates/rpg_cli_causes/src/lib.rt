@@ -2,7 +2,6 @@
 #![tactic(auto)]
 
 mod cause;
-mod counted;
 mod data;
 mod editing;
 mod files;

@@ -47,12 +47,6 @@ struct Near {
     definitions: usize,
 }
 
-/// Writes a name, after others.
-fn write_one(out: &mut TextWriter, told: usize, name: &[u8]) {
-    out.write_str(if told == 0 { " (" } else { ", " });
-    out.write_shown(name);
-}
-
 /// Writes the names that a card defines first and that are near.
 fn write_defined(
     out: &mut TextWriter,
@@ -67,7 +61,8 @@ fn write_defined(
         let other = definition.name.as_slice();
         let is_first = source.is_new_name(near.definitions, &definition.name);
         if near.told < MOST && is_first && is_near(name, other) {
-            write_one(out, near.told, other);
+            out.write_str(if near.told == 0 { " (" } else { ", " });
+            out.write_shown(other);
             near.told = near.told.saturating_add(1);
         }
         near.definitions = near.definitions.saturating_add(1);

@@ -1,7 +1,6 @@
 //! F4 and F5: operands of the wrong kind, and entries whose index is wrong.
 
-use crate::counted::noun;
-use crate::forms::{write_card, write_form};
+use crate::forms::{noun, write_card, write_form};
 use crate::spot::Spot;
 use rpg_cards::Content;
 use rpg_causes::{IndexCause, OperandCause, TextField};
@@ -30,14 +29,6 @@ fn write_remedy(out: &mut TextWriter, spot: Spot<'_>, text: &TextField) {
     }
 }
 
-const fn class_sentence(wanted: Content) -> &'static str {
-    match wanted {
-        Content::WholeArray => "{} isn't an array, and {} adds up the entries of one",
-        Content::Searched => "{} is neither a table nor an array, and {} searches one",
-        _ => "{} isn't a table, and what is found by {} becomes current in one",
-    }
-}
-
 /// A text, with the card that defines it.
 fn write_text(out: &mut TextWriter, name: &[u8], text: &TextField) {
     out.fill("{} is a text", &[name.into()]);
@@ -49,8 +40,12 @@ pub(crate) fn write_operand(out: &mut TextWriter, spot: Spot<'_>, cause: &Operan
     let operation = spot.operation();
     match cause {
         OperandCause::WrongClass { at, wanted } => {
-            let pieces = [spot.text_in(*at).into(), operation.into()];
-            out.fill(class_sentence(*wanted), &pieces);
+            let sentence = match wanted {
+                Content::WholeArray => "{} isn't an array, and {} adds up the entries of one",
+                Content::Searched => "{} is neither a table nor an array, and {} searches one",
+                _ => "{} isn't a table, and what is found by {} becomes current in one",
+            };
+            out.fill(sentence, &[spot.text_in(*at).into(), operation.into()]);
         }
         OperandCause::TextOperand { at, text } => {
             write_text(out, spot.text_in(*at), text);

@@ -66,12 +66,8 @@ fn write_joined(out: &mut TextWriter, sentence: &'static str, card: Option<u16>)
 /// F12 of an I or O card: what it needs before it.
 pub(crate) fn write_stray(out: &mut TextWriter, cause: StrayCause) {
     match cause {
-        StrayCause::NoType => {
-            out.write_str("a field needs a record type before it");
-        }
-        StrayCause::NoLine => {
-            out.write_str("a field needs a line before it");
-        }
+        StrayCause::NoType => out.write_str("a field needs a record type before it"),
+        StrayCause::NoLine => out.write_str("a field needs a line before it"),
         StrayCause::OtherThanType(card) => {
             write_joined(out, "AND continues the record type right before it", card);
         }

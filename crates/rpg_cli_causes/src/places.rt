@@ -1,6 +1,6 @@
 //! F16: columns of records and of lines, control fields and match fields.
 
-use crate::counted::noun;
+use crate::forms::noun;
 use crate::spot::{Spot, text_at};
 use rpg_causes::{FileOnCard, JoinCause, PlaceCause};
 use rpg_cli_text::{Piece, TextWriter};

@@ -29,11 +29,9 @@ fn padded(name: &[u8]) -> [u8; 6] {
 /// The card that makes an entry a text.
 fn text_of(spot: Spot<'_>, entry: Option<&Entry>) -> Option<Root> {
     let name = &entry?.name;
-    let form = spot.form(name)?;
-    let card = spot.definer(name.as_slice())?;
-    match form.kind {
-        Kind::Text => Some(Root::Text(card.number)),
-        Kind::Number => None,
+    match (spot.form(name), spot.definer(name.as_slice())) {
+        (Some(form), Some(card)) if form.kind == Kind::Text => Some(Root::Text(card.number)),
+        _ => None,
     }
 }
 
@@ -46,14 +44,16 @@ fn text_root(spot: Spot<'_>) -> Option<Root> {
     }
 }
 
-/// The slip of an operand of the wrong kind, if that is that it is a text.
-fn operand_root(spot: Spot<'_>, cause: Cause) -> Option<Root> {
+/// The slip that a cause of F1, F4 or F12 comes of: an operand of the wrong kind, if that is that it is a text.
+fn root_in(spot: Spot<'_>, cause: &Cause) -> Option<Root> {
     match cause {
+        Cause::UndefinedName(name) => Some(Root::Unknown(padded(name.as_slice()))),
         Cause::Operand(
             OperandCause::TextOperand { .. }
             | OperandCause::EditedText(_)
             | OperandCause::Unlike { .. },
         ) => text_root(spot),
+        Cause::Order(OrderCause::Early { card, .. }) => Some(Root::Later(*card)),
         _ => None,
     }
 }
@@ -66,15 +66,9 @@ pub fn root_of(source: SourceCards<'_>, line: &[u8], fault: CardFault) -> Option
     };
     let spot = Spot::of(source, line, fault.card, fault.columns)?;
     match code {
-        FaultCode::F1 => match source.cause(fault.card, code)? {
-            Cause::UndefinedName(name) => Some(Root::Unknown(padded(name.as_slice()))),
-            _ => None,
-        },
-        FaultCode::F4 => operand_root(spot, source.cause(fault.card, code)?),
-        FaultCode::F12 => match source.cause(fault.card, code)? {
-            Cause::Order(OrderCause::Early { card, .. }) => Some(Root::Later(card)),
-            _ => None,
-        },
+        FaultCode::F1 | FaultCode::F4 | FaultCode::F12 => {
+            root_in(spot, &source.cause(fault.card, code)?)
+        }
         FaultCode::F17 => text_root(spot),
         _ => None,
     }

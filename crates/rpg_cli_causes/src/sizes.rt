@@ -1,6 +1,6 @@
 //! F3 and F6: lengths, decimals, and how many there may be.
 
-use crate::counted::noun;
+use crate::forms::noun;
 use rpg_causes::{Limit, LimitCause, SizeCause};
 use rpg_cli_text::TextWriter;
 

@@ -140,8 +140,8 @@ impl<'a> Spot<'a> {
             return self.card.output_field()?.operand.as_ref();
         };
         match self.column() {
-            18 => factor_entry(calculation.factor_1.as_ref()?),
-            33 => factor_entry(calculation.factor_2.as_ref()?),
+            18 => factor_entry(&calculation.factor_1),
+            33 => factor_entry(&calculation.factor_2),
             43 => calculation.result_field.as_ref(),
             _ => None,
         }
@@ -149,7 +149,7 @@ impl<'a> Spot<'a> {
 
     /// The field that stands in factor 1 of a calculation.
     pub fn first_factor(self) -> Option<&'a Entry> {
-        factor_entry(self.card.calculation()?.factor_1.as_ref()?)
+        factor_entry(&self.card.calculation()?.factor_1)
     }
 
     /// The form of a name.
@@ -191,9 +191,9 @@ fn defines(card: &SpecCard, name: &[u8]) -> bool {
     false
 }
 
-fn factor_entry(factor: &Factor) -> Option<&Entry> {
+fn factor_entry(factor: &Option<Factor>) -> Option<&Entry> {
     match factor {
-        Factor::Entry(entry) => Some(entry),
-        Factor::Literal(_) => None,
+        Some(Factor::Entry(entry)) => Some(entry),
+        Some(Factor::Literal(_)) | None => None,
     }
 }

@@ -93,7 +93,12 @@ fn write_column_numbers(out: &mut TextWriter, columns: ColumnFault) {
 fn has_small_letter(line: &[u8], columns: ColumnFault) -> bool {
     let first = usize::from(columns.column.saturating_sub(1));
     let text = line.get(first..usize::from(columns.last)).unwrap_or(&[]);
-    text.iter().any(|byte| byte.is_ascii_lowercase())
+    for byte in text {
+        if byte.is_ascii_lowercase() {
+            return true;
+        }
+    }
+    false
 }
 
 /// What may stand there.

@@ -48,9 +48,9 @@ impl Walk<'_> {
         }
     }
 
-    /// A number of two bytes in the row that begins here.
-    fn ahead(&self, place: usize) -> usize {
-        self.number(self.at.saturating_add(place))
+    /// A number of two bytes in a row, by where the row begins.
+    fn number_in(&self, row: usize, place: usize) -> usize {
+        self.number(row.saturating_add(place))
     }
 
     /// The version that the bytes say; 1 where they say another.
@@ -144,15 +144,15 @@ impl Walk<'_> {
                 break;
             }
             let row = row_of("record type", number);
-            let head = *self;
+            let begin = self.at;
             let (parts, matches) = match self.version() {
                 Version::One => (TYPE, 0),
-                Version::Two => (TYPE_2, head.ahead(8)),
+                Version::Two => (TYPE_2, self.number_in(begin, 8)),
             };
             self.pass_parts(parts, row);
-            self.pass_all(head.ahead(2), RECORD_CODE, row);
-            self.pass_all(head.ahead(4), CONTROL_FIELD, row);
-            self.pass_all(head.ahead(6), INPUT_FIELD, row);
+            self.pass_all(self.number_in(begin, 2), RECORD_CODE, row);
+            self.pass_all(self.number_in(begin, 4), CONTROL_FIELD, row);
+            self.pass_all(self.number_in(begin, 6), INPUT_FIELD, row);
             self.pass_all(matches, MATCH_FIELD, row);
         }
     }
@@ -162,7 +162,7 @@ impl Walk<'_> {
             if self.found.is_some() {
                 break;
             }
-            let conditions = self.ahead(0);
+            let conditions = self.number_in(self.at, 0);
             self.pass_parts(ALTERNATIVE, row);
             self.pass_all(conditions, CONDITION, row);
         }
@@ -174,10 +174,10 @@ impl Walk<'_> {
                 break;
             }
             let row = row_of("line", number);
-            let head = *self;
+            let begin = self.at;
             self.pass_parts(LINE, row);
-            self.pass_alternatives(head.ahead(6), row);
-            self.pass_all(head.ahead(8), LINE_FIELD, row);
+            self.pass_alternatives(self.number_in(begin, 6), row);
+            self.pass_all(self.number_in(begin, 8), LINE_FIELD, row);
         }
     }
 
@@ -200,7 +200,7 @@ impl Walk<'_> {
             if self.found.is_some() {
                 break;
             }
-            let count = self.ahead(2);
+            let count = self.number_in(self.at, 2);
             self.pass_parts(SUBROUTINE, row_of("subroutine", number));
             first = self.pass_code(count, first);
         }

@@ -8,7 +8,7 @@ use rpg_effect::input::ControlField;
 use rpg_object::encode;
 use rpg_object_program::Program;
 use rpg_object_program::row::Rows;
-use rpg_verify::{BrokenRule, Verified, verify};
+use rpg_verify::{Verified, VerifyFault, verify};
 use std::alloc::{AllocError, Global};
 
 /// The most bytes that a step puts out.
@@ -108,8 +108,9 @@ fn accepted_overview(alloc: Global, verified: &Verified) -> Result<String, Alloc
 fn refused_overview(
     alloc: Global,
     program: &Program,
-    broken: BrokenRule,
+    fault: VerifyFault,
 ) -> Result<String, AllocError> {
+    let broken = broken_by(fault)?;
     let mut out = overview(alloc, program)?;
     write_refusal(&mut out, broken);
     out.finish()
@@ -120,6 +121,6 @@ fn refused_overview(
 pub fn program_overview(alloc: Global, program: Program) -> Result<String, AllocError> {
     match verify(alloc, program) {
         Ok(verified) => accepted_overview(alloc, &verified),
-        Err((program, fault)) => refused_overview(alloc, &program, broken_by(fault)?),
+        Err((program, fault)) => refused_overview(alloc, &program, fault),
     }
 }

@@ -12,7 +12,7 @@ use rpg_cli_show_fields::SourceRows;
 use rpg_cli_text::TextWriter;
 use rpg_object::encode;
 use rpg_object_program::Program;
-use rpg_verify::{BrokenRule, Verified, verify};
+use rpg_verify::{Verified, VerifyFault, verify};
 use std::alloc::{AllocError, Global};
 
 /// The bytes of a program before its fields.
@@ -72,8 +72,9 @@ fn refused_text(
     program: &Program,
     source: &SourceRows,
     is_named: bool,
-    broken: BrokenRule,
+    fault: VerifyFault,
 ) -> Result<String, AllocError> {
+    let broken = broken_by(fault)?;
     let shown = Shown {
         rows: program.rows(),
         source,
@@ -93,9 +94,7 @@ fn text_of(
 ) -> Result<String, AllocError> {
     match verify(alloc, program) {
         Ok(verified) => accepted_text(alloc, &verified, source, is_named),
-        Err((program, fault)) => {
-            refused_text(alloc, &program, source, is_named, broken_by(fault)?)
-        }
+        Err((program, fault)) => refused_text(alloc, &program, source, is_named, fault),
     }
 }
 

@@ -559,10 +559,10 @@ fn fault_of_program(given: &ArgMatches) -> Option<&'static str> {
 /// What is wrong with the values of a command that clap takes.
 fn bad_value(matches: &ArgMatches) -> Option<&'static str> {
     let (command, given) = matches.subcommand()?;
-    match fault_of_program(given) {
-        None if command == "records" => fault_of(given),
-        None if command == "fit" => fitting::fault_of(given),
-        fault => fault,
+    match (fault_of_program(given), command) {
+        (None, "records") => fault_of(given),
+        (None, "fit") => fitting::fault_of(given),
+        (fault, _) => fault,
     }
 }
 
@@ -594,19 +594,6 @@ fn command_request<'a>(
     }
 }
 
-/// The request of words that clap takes, if they have a command and good values.
-fn request_in<'a>(
-    alloc: Global,
-    matches: &ArgMatches<'a>,
-) -> Result<Option<Request<'a>>, AllocError> {
-    match matches.subcommand() {
-        Some((name, given)) if bad_value(matches).is_none() => {
-            Ok(Some(command_request(alloc, name, given)?))
-        }
-        _ => Ok(None),
-    }
-}
-
 /// The program's name, as the first word ends in it.
 fn program_name(words: &[String]) -> &str {
     let Some(path) = words.first() else {
@@ -633,9 +620,11 @@ fn read<'a>(
     words: &[String],
     matches: &ArgMatches<'a>,
 ) -> Result<Request<'a>, Refusal> {
-    match request_in(alloc, matches)? {
-        Some(request) => Ok(request),
-        None => Err(Refusal::of(unread(alloc, words, matches))),
+    match matches.subcommand() {
+        Some((name, given)) if bad_value(matches).is_none() => {
+            Ok(command_request(alloc, name, given)?)
+        }
+        _ => Err(Refusal::of(unread(alloc, words, matches))),
     }
 }
 
