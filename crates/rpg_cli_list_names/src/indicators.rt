@@ -35,7 +35,7 @@ pub fn overflow_of(file: &FileSpec) -> Option<u8> {
 }
 
 /// A card that asks for an indicator.
-#[derive(Clone, Copy, PartialEq, Eq)]
+#[derive(Clone, Copy)]
 struct Asking {
     card: u16,
     is_negated: bool,
@@ -86,12 +86,14 @@ impl Indicators {
     }
 
     fn asked(&mut self, number: u8, asking: Asking) -> Result<(), AllocError> {
-        if let Some(uses) = self.uses.get_mut(usize::from(number)) {
-            if uses.asked.last().copied() != Some(asking) {
-                uses.asked.push(asking)?;
-            }
+        let Some(uses) = self.uses.get_mut(usize::from(number)) else {
+            return Ok(());
+        };
+        let Asking { card, is_negated } = asking;
+        match uses.asked.last() {
+            Some(last) if last.card == card && last.is_negated == is_negated => Ok(()),
+            _ => Ok(uses.asked.push(asking)?),
         }
-        Ok(())
     }
 
     fn note_card(&mut self, card: &SpecCard) -> Result<(), AllocError> {
@@ -119,19 +121,22 @@ impl Indicators {
         card: u16,
     ) -> Result<(), AllocError> {
         let [first, second, third] = sentences;
-        for (indicator, sentence) in [
-            (indicators.first, first),
-            (indicators.second, second),
-            (indicators.third, third),
-        ] {
-            let turning = Turning {
-                sentence,
-                piece,
-                card,
-            };
-            self.turned(number_of(indicator), turning)?;
-        }
-        Ok(())
+        let turning = Turning {
+            sentence: first,
+            piece,
+            card,
+        };
+        self.turned(number_of(indicators.first), turning)?;
+        let turning = Turning {
+            sentence: second,
+            ..turning
+        };
+        self.turned(number_of(indicators.second), turning)?;
+        let turning = Turning {
+            sentence: third,
+            ..turning
+        };
+        self.turned(number_of(indicators.third), turning)
     }
 
     fn note_field(&mut self, card: u16, field: &InputField) -> Result<(), AllocError> {
@@ -173,13 +178,21 @@ impl Indicators {
         card: u16,
         conditions: Three<Option<Condition>>,
     ) -> Result<(), AllocError> {
-        for condition in [conditions.first, conditions.second, conditions.third] {
-            if let Some(condition) = condition {
-                let is_negated = condition.negated;
-                self.asked(condition.indicator.number(), Asking { card, is_negated })?;
-            }
-        }
-        Ok(())
+        self.note_condition(card, conditions.first)?;
+        self.note_condition(card, conditions.second)?;
+        self.note_condition(card, conditions.third)
+    }
+
+    fn note_condition(
+        &mut self,
+        card: u16,
+        condition: Option<Condition>,
+    ) -> Result<(), AllocError> {
+        let Some(condition) = condition else {
+            return Ok(());
+        };
+        let is_negated = condition.negated;
+        self.asked(condition.indicator.number(), Asking { card, is_negated })
     }
 
     /// Writes rows for each indicator that a card names.

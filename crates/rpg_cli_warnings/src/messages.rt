@@ -6,61 +6,54 @@ use rpg_cli_show_fields::Indicator;
 use rpg_cli_text::TextWriter;
 use std::alloc::{AllocError, Global};
 
-/// The places of a line, from a first one to a last.
-fn write_places(out: &mut TextWriter, first: usize, last: usize) {
-    if first == last {
-        write!(out, "place {first}");
+const PAGE_CONDITIONS: &str =
+    "PAGE has conditions: they decide whether it is printed, and don't set it back to 1 (docs/OLD_PROGRAMS.md)";
+
+const SETS_HALT: &str =
+    "SETON turns on {}: a halt indicator ends the job, and no operator can answer it (docs/OLD_PROGRAMS.md)";
+
+const SHORTER: &str =
+    "the result has {} digit{} before its point, and a factor {}: those on the left can be lost";
+
+/// The places of a field that has some of another card's.
+fn write_overlap(out: &mut TextWriter, first: usize, last: usize, card: u16) {
+    let sentence = if first == last {
+        "the field takes place {}"
     } else {
-        write!(out, "places {first}-{last}");
-    }
+        "the field takes places {}-{}"
+    };
+    out.fill(sentence, &[first.into(), last.into()]);
+    out.fill(" of the line, and overlaps that of card {}", &[card.into()]);
 }
 
 fn write_sentence(out: &mut TextWriter, kind: WarningKind) {
-    match kind {
-        WarningKind::NeverOn { indicator } => {
-            let indicator = Indicator(indicator);
-            write!(
-                out,
-                "indicator {indicator} is tested, and nothing turns it on"
-            );
-        }
-        WarningKind::NeverAsked { indicator } => {
-            let indicator = Indicator(indicator);
-            write!(
-                out,
-                "indicator {indicator} is turned on, and no card tests it"
-            );
-        }
-        WarningKind::Overlap { first, last, card } => {
-            out.write_str("the field takes ");
-            write_places(out, first, last);
-            write!(out, " of the line, and overlaps that of card {card}");
-        }
-        WarningKind::NoLevel { indicator } => {
-            let indicator = Indicator(indicator);
-            write!(
-                out,
-                "{indicator} is tested, and no field has control level {indicator}"
-            );
-        }
-        WarningKind::PageConditions => out.write_str(
-            "PAGE has conditions: they decide whether it is printed, and don't set it back to 1 (docs/OLD_PROGRAMS.md)",
+    let (sentence, indicator) = match kind {
+        WarningKind::NeverOn { indicator } => (
+            "indicator {} is tested, and nothing turns it on",
+            indicator,
         ),
-        WarningKind::SetsHalt { indicator } => {
-            let indicator = Indicator(indicator);
-            write!(
-                out,
-                "SETON turns on {indicator}: a halt indicator ends the job, and no operator can answer it (docs/OLD_PROGRAMS.md)"
-            );
+        WarningKind::NeverAsked { indicator } => (
+            "indicator {} is turned on, and no card tests it",
+            indicator,
+        ),
+        WarningKind::NoLevel { indicator } => (
+            "{} is tested, and no field has control level {}",
+            indicator,
+        ),
+        WarningKind::SetsHalt { indicator } => (SETS_HALT, indicator),
+        WarningKind::PageConditions => (PAGE_CONDITIONS, 0),
+        WarningKind::Overlap { first, last, card } => {
+            write_overlap(out, first, last, card);
+            return;
         }
         WarningKind::Shorter { result, factor } => {
             let of_digits = if result == 1 { "" } else { "s" };
-            write!(
-                out,
-                "the result has {result} digit{of_digits} before its point, and a factor {factor}: those on the left can be lost"
-            );
+            out.fill(SHORTER, &[result.into(), of_digits.into(), factor.into()]);
+            return;
         }
-    }
+    };
+    let name = Indicator(indicator).name();
+    out.fill(sentence, &[name.into(), name.into()]);
 }
 
 fn write_warning(out: &mut TextWriter, path: &str, line: &[u8], warning: Warning) {
@@ -78,8 +71,10 @@ fn write_warning(out: &mut TextWriter, path: &str, line: &[u8], warning: Warning
 /// How many warnings there are, and how many of them are shown.
 fn write_count(out: &mut TextWriter, path: &str, count: usize, most: u16) {
     let of_warnings = if count == 1 { "" } else { "s" };
-    out.write_shown(path.as_bytes());
-    write!(out, ": {count} warning{of_warnings}");
+    out.fill(
+        "{}: {} warning{}",
+        &[path.as_bytes().into(), count.into(), of_warnings.into()],
+    );
     if count > usize::from(most) {
         write_told(out, most);
     }
