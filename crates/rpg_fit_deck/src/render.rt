@@ -15,7 +15,7 @@ use std::alloc::{AllocError, Global};
 pub(crate) const MOST_CARDS: usize = 2000;
 
 /// Why there is no NEW.
-#[derive(Clone, Copy, PartialEq, Eq)]
+#[derive(Clone, Copy)]
 pub(crate) enum RenderError {
     /// The source has more than 2,000 cards, or NEW would have.
     TooMany,

@@ -113,7 +113,12 @@ impl Slot {
 fn place_of(cards: &[Made], id: usize) -> Option<usize>
     ensures { IfSome result (λ place. place < length cards.now) }
 {
-    cards.iter().position(|made| made.id == id)
+    for (place, made) in cards.iter().enumerate() {
+        if made.id == id {
+            return Some(place);
+        }
+    }
+    None
 }
 
 /// Puts something else in the place of a made card.

@@ -4,7 +4,7 @@ ghost use Rattle.std.specs.Prelude.{◌≡◌};
 ghost use Rattle.rpg_records.specs.Columns.{row_of};
 
 /// What stands in a column of a record, which settles the character of its byte.
-#[derive(Clone, Copy, PartialEq, Eq)]
+#[derive(Clone, Copy)]
 pub enum Column {
     /// A character.
     Text,

@@ -11,7 +11,7 @@ use crate::packed::{read_packed, write_packed};
 use rpg_decimal::{read_zoned, write_zoned};
 
 /// Why bytes have no digits, or digits no bytes.
-#[derive(Clone, Copy, PartialEq, Eq)]
+#[derive(Clone, Copy)]
 pub enum NumberFault {
     /// The bytes are no packed number.
     NotPacked,

@@ -6,7 +6,7 @@ ghost use Rattle.rpg_records.specs.Fields.{digit_count, is_field_size};
 use crate::column::Column;
 
 /// How the bytes of a number stand.
-#[derive(Clone, Copy, PartialEq, Eq)]
+#[derive(Clone, Copy)]
 pub enum NumberForm {
     Packed,
     Binary,

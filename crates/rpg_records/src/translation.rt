@@ -10,7 +10,7 @@ use crate::page::{byte_of, character_of, last_place_of};
 use rpg_text::is_character;
 
 /// In which code the characters of records are.
-#[derive(Clone, Copy, PartialEq, Eq)]
+#[derive(Clone, Copy)]
 pub enum Page {
     /// Code page 037.
     Ebcdic,
