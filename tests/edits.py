@@ -32,7 +32,7 @@ from dataclasses import dataclass
 from enum import Enum
 from pathlib import Path
 
-from functions import function_at, plain_functions
+from functions import function_at, plain_functions, without_body
 
 KIT = Path(os.path.realpath(shutil.which("rt") or sys.exit("there is no rt"))).parent.parent
 HOLE = """use Rattle.{crate}.proofs.{path}.Statement.{{statement}}
@@ -165,12 +165,14 @@ def spoil(edits, room):
 
 
 def with_holes(crate, edits, room):
-    """Puts a hole in the place of the proof of each function that no edit turns, but for those whose theorems have parameters of types."""
+    """Leaves of each function that no edit turns only the contract: its body is gone, and a hole stands in the place of its proof. Functions whose
+    theorems have parameters of types are left as they are."""
     turned = {it for edit in edits for it in edit.functions}
     sources = {str(it.relative_to(room)): it.read_text(encoding="utf-8") for it in sorted(room.glob("src/**/*.rt"))}
-    for path in plain_functions(sources):
-        if any(path == it or path.endswith(f"::{it}") for it in turned):
-            continue
+    others = [it for it in plain_functions(sources) if not any(it[2] == one or it[2].endswith(f"::{one}") for one in turned)]
+    for place, function, _ in sorted(others, key=lambda it: it[1].start, reverse=True):
+        (room / place).write_text(without_body((room / place).read_text(encoding="utf-8"), function), encoding="utf-8")
+    for _, _, path in others:
         folder = room / "proofs" / path.replace("::", "/")
         folder.mkdir(parents=True, exist_ok=True)
         for file in ("Answers.antt", "Invariants.antt"):

@@ -111,7 +111,7 @@ def takes_types(around, text):
 
 
 def plain_functions(sources):
-    """The paths of a crate's functions without parameters of types. `sources` has the texts by their paths in the crate's folder."""
+    """A crate's functions without parameters of types, by source and path. `sources` has the texts by their paths in the crate's folder."""
     homes = {it[1]: modules_of(place) for place, text in sources.items() for it in re.finditer(r"\b(?:struct|enum)\s+(\w+)", code_of(text))}
     for place, text in sources.items():
         found = list(items(text))
@@ -121,4 +121,11 @@ def plain_functions(sources):
                 continue
             path = function_at(place, text, function.body + 1)
             home = homes.get(path.split("::")[0], []) if is_of_another_file(around, text) else []
-            yield "::".join([*home, path])
+            yield place, function, "::".join([*home, path])
+
+
+def without_body(text, function):
+    """The source without what a function does: its body says that control never comes there. A `const fn` is left, since constants call it."""
+    if re.search(r"\bconst\s+(?:unsafe\s+)?fn\b", text[function.start : function.body]):
+        return text
+    return f"{text[: function.body]}{{ unreachable!() }}{text[function.end :]}"
