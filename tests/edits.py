@@ -164,13 +164,13 @@ def spoil(edits, room):
         (room / cut.file).write_text(text[: cut.start] + cut.new + text[cut.end :], encoding="utf-8")
 
 
-def with_holes(crate, edits, room):
-    """Leaves of each function that no edit turns only the contract: its body is gone, and a hole stands in the place of its proof. Functions whose
-    theorems have parameters of types are left as they are."""
+def with_holes(crate, edits, room, keeps_bodies):
+    """Leaves of each function that no edit turns only the contract: its body is gone, unless bodies are kept, and a hole stands in the place of its
+    proof. Functions whose theorems have parameters of types are left as they are."""
     turned = {it for edit in edits for it in edit.functions}
     sources = {str(it.relative_to(room)): it.read_text(encoding="utf-8") for it in sorted(room.glob("src/**/*.rt"))}
     others = [it for it in plain_functions(sources) if not any(it[2] == one or it[2].endswith(f"::{one}") for one in turned)]
-    for place, function, _ in sorted(others, key=lambda it: it[1].start, reverse=True):
+    for place, function, _ in [] if keeps_bodies else sorted(others, key=lambda it: it[1].start, reverse=True):
         (room / place).write_text(without_body((room / place).read_text(encoding="utf-8"), function), encoding="utf-8")
     for _, _, path in others:
         folder = room / "proofs" / path.replace("::", "/")
@@ -196,19 +196,22 @@ def words_of(crate, edits):
     return words
 
 
-def check(crate, edits, controls):
+def check(crate, edits, controls, log, keeps_bodies=False):
     """What rattle prints for the crate with these edits, or for their functions as they are."""
     with tempfile.TemporaryDirectory(prefix="edits-") as name:
         room = Path(name)
         copied(crate, room)
         if not controls:
             spoil(edits, room)
-        with_holes(crate, edits, room)
+        with_holes(crate, edits, room, keeps_bodies)
         words = words_of(crate, edits)
         how = {"stdin": subprocess.DEVNULL, "stdout": subprocess.PIPE, "stderr": subprocess.STDOUT}
         printed = subprocess.run([KIT / "bin/rattle", "check", *words], cwd=room, text=True, errors="replace", check=False, **how).stdout
     if re.search(r"module .Rattle-\w+-.*Run the lower steps again", printed):
         sys.exit(f"{crate.name}: a library below it was built by other means: run rt ci first")
+    if log:
+        with log.open("a", encoding="utf-8") as file:
+            file.write(f"===== {crate.name}, {len(edits)} edits\n{printed}\n")
     return printed
 
 
@@ -271,16 +274,16 @@ def tried(crate, files, log, controls=False):
     found = []
     while rounds:
         taken, left = rounds.pop(0), []
-        printed = check(crate, taken, controls)
-        if log:
-            with log.open("a", encoding="utf-8") as file:
-                file.write(f"===== {crate.name}, {len(taken)} edits\n{printed}\n")
+        printed = check(crate, taken, controls, log)
         for edit in taken:
             word = verdict(crate, edit, printed)
             if word is None and len(taken) > 1:
                 left.append(edit)
                 continue
-            word = word or Verdict.UNKNOWN
+            if word is None:
+                # where the crate doesn't compile without bodies, it is tried with them
+                printed = check(crate, taken, controls, log, keeps_bodies=True)
+                word = verdict(crate, edit, printed) or Verdict.UNKNOWN
             found.append(word)
             reason = f": {printed.strip()[-300:]}" if word is Verdict.UNKNOWN else ""
             print(f"{edit.path} ({', '.join(edit.functions)}): {word.value}{reason}", flush=True)
