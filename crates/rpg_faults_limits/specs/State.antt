@@ -1,5 +1,5 @@
 -- What is known of the cards before a card.
-use Rattle.std.specs.Prelude.{◌≡◌, ℕ, ◌*◌, ◌≤◌, Bool, false, List, length, Option, is_some}
+use Rattle.std.specs.Prelude.{◌≡◌, ℕ, ◌*◌, ◌≤◌, ⊤, Bool, false, List, [], ◌∷◌, ◌++◌, length, Option, is_some}
 use Rattle.std.specs.Option.{option_map_or}
 use Rattle.rpg_cards.specs.Calculations as calculations
 use Rattle.rpg_cards.specs.Calculations.{calculations_before}
@@ -79,11 +79,17 @@ pub record IsStorage (cards before : List SpecCard) (s : Storage) : Type 0 where
   pub constants : HasConstants (constants_in before) s.constants
   pub all_names : HasNames (definitions cards) s.all_names
 
+-- the counts with the first of the rest, if there is one
+abbrev pub IsStorageWithNext : List SpecCard → List SpecCard → List SpecCard → Storage → Type 0
+IsStorageWithNext cards before [] s = ⊤
+IsStorageWithNext cards before (c ∷ after) s = IsStorage cards (before ++ c ∷ []) s
+
 -- ---- all that is known before a card, which is the first of the rest
 
 -- all counts before a card are right
 pub record AreLimits (cards before rest : List SpecCard) (l : Limits) : Type 0 where
   pub storage : IsStorage cards before l.storage
+  pub storage_with_next : IsStorageWithNext cards before rest l.storage_with_next
   pub calculations : AreCalculations before rest l.calculations
   pub open_type : IsOpenType (open_group input_role before) l.open_type
   pub open_line : IsOpenLine (open_group output_role before) l.open_line

@@ -7,13 +7,11 @@ ghost use Rattle.rpg_cards.specs.Sheets.{AreSheets};
 ghost use Rattle.rpg_faults_limits.specs.Causes as causes;
 ghost use Rattle.rpg_faults_limits.specs.Limits as rules;
 ghost use Rattle.rpg_faults_limits.specs.State.{AreCalculations, AreLimits, HasFewOnLine, HasFewOnType, IsOpenLine, IsOpenType, IsStorage};
-ghost use Rattle.rpg_faults_limits.specs.Totals.{BeginsWith};
 
 use crate::calculations::Calculations;
 use crate::lines::OpenLine;
 use crate::measures::{Limit, LimitCause, counted, first_past};
 use crate::state::Limits;
-use crate::storage::Storage;
 use crate::types::OpenType;
 use rpg_cards::{IndexedCards, Sheets, SpecCard};
 
@@ -85,7 +83,7 @@ fn passed(
     if calculations.is_some() {
         return calculations;
     }
-    on_storage(source, limits.storage, before, card)
+    on_storage(source, limits, before, card)
 }
 
 /// Entries out of range.
@@ -193,16 +191,16 @@ fn on_calculations(
 /// Names and constants, and their bytes.
 fn on_storage(
     source: &IndexedCards,
-    storage: Storage,
+    limits: &Limits,
     before: &[SpecCard],
     card: &SpecCard,
 ) -> Option<LimitCause>
-    requires few { length source.now ≤ 2000 }
-    requires begins { BeginsWith source.now (before.now ++ card.now ∷ []) }
-    requires storage { IsStorage source.now before.now storage }
+    requires storage { IsStorage source.now before.now limits.now.storage }
+    requires with_card { IsStorage source.now (before.now ++ card.now ∷ []) limits.now.storage_with_next }
     ensures { result ≡ causes.on_storage source.now before.now card.now }
 {
-    let with = storage.with(source, before, card);
+    let storage = &limits.storage;
+    let with = &limits.storage_with_next;
     let names = storage.names;
     let all = storage.all_names;
     let bytes = all.bytes + storage.constants.bytes;

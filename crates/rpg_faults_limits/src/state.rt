@@ -13,6 +13,8 @@ use rpg_cards::{IndexedCards, SpecCard};
 #[derive(Clone, Copy)]
 pub struct Limits {
     pub(crate) storage: Storage,
+    /// With the next card.
+    pub(crate) storage_with_next: Storage,
     pub(crate) calculations: Calculations,
     pub(crate) open_type: OpenType,
     pub(crate) open_line: OpenLine,
@@ -24,8 +26,10 @@ impl Limits {
         requires { length source.now ≤ 2000 }
         ensures { AreLimits source.now [] source.now result }
     {
+        let storage = Storage::nothing(source);
         Limits {
-            storage: Storage::nothing(source),
+            storage,
+            storage_with_next: storage.with_next(source, source.as_slice()),
             calculations: Calculations::NONE,
             open_type: OpenType::NONE,
             open_line: OpenLine::NONE,
@@ -46,7 +50,8 @@ impl Limits {
         ensures { AreLimits source.now (before.now ++ card.now ∷ []) after.now result }
     {
         Limits {
-            storage: self.storage.with(source, before, card),
+            storage: self.storage_with_next,
+            storage_with_next: self.storage_with_next.with_next(source, after),
             calculations: self.calculations.with(before, card, after),
             open_type: self.open_type.with(before, card),
             open_line: self.open_line.with(before, card),

@@ -1,7 +1,8 @@
 //! The names and constants of cards, which take storage.
 
-ghost use Rattle.std.specs.Prelude.{[], ◌∷◌, ◌++◌, ◌≤◌, length};
-ghost use Rattle.rpg_faults_limits.specs.State.{IsStorage};
+ghost use Rattle.std.specs.Prelude.{◌≡◌, List, [], ◌∷◌, ◌++◌, ◌≤◌, length};
+ghost use Rattle.rpg_cards.specs.declared.spec_card.SpecCard.{SpecCard};
+ghost use Rattle.rpg_faults_limits.specs.State.{IsStorage, IsStorageWithNext};
 ghost use Rattle.rpg_faults_limits.specs.Totals.{BeginsWith};
 
 use crate::totals::{Totals, constants_with, names_of, names_with};
@@ -28,12 +29,23 @@ impl Storage {
         }
     }
 
-    /// The same with one more card.
-    pub(crate) fn with(self, source: &IndexedCards, before: &[SpecCard], card: &SpecCard) -> Self
+    /// The same with the first of the rest, if there is one.
+    pub(crate) fn with_next(&self, source: &IndexedCards, rest: &[SpecCard]) -> Self
         requires few { length source.now ≤ 2000 }
-        requires begins { BeginsWith source.now (before.now ++ card.now ∷ []) }
-        requires storage { IsStorage source.now before.now self }
-        ensures { IsStorage source.now (before.now ++ card.now ∷ []) result }
+        requires storage { (before : List SpecCard) × (source.now ≡ before ++ rest.now) × IsStorage source.now before self.now }
+        ensures { (before : List SpecCard) → source.now ≡ before ++ rest.now → IsStorage source.now before self.now → IsStorageWithNext source.now before rest.now result }
+    {
+        match rest.split_first() {
+            None => *self,
+            Some((next, _)) => self.with(source, next),
+        }
+    }
+
+    /// The same with one more card.
+    fn with(&self, source: &IndexedCards, card: &SpecCard) -> Self
+        requires few { length source.now ≤ 2000 }
+        requires storage { (before : List SpecCard) × BeginsWith source.now (before ++ card.now ∷ []) × IsStorage source.now before self.now }
+        ensures { (before : List SpecCard) → BeginsWith source.now (before ++ card.now ∷ []) → IsStorage source.now before self.now → IsStorage source.now (before ++ card.now ∷ []) result }
     {
         Storage {
             names: names_with(self.names, source, card),
