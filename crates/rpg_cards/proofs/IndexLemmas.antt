@@ -211,11 +211,3 @@ index_more names names_more constants constants_more cards i c n m ds xs lt is i
       (noted_constants x ∙ ap (λ k. option_or (lookup (is_same x) constants) (first_at (is_same x) place_of_constant k xs)) at_constant)
       ∙ ap (first_at (is_same x) place_of_constant 0) (ap (λ l. constants_in (take i cards) ++ l) has ∙ sym (constants_in-take cards i c lt is));
 }
-
-or_none : {Y : Type 0} (o : Option Y) → o ≡ option_or o None
-or_none None = refl
-or_none (Some y) = refl
-
--- a card without items leaves what is found as it was
-pub nothing_noted : {X Y : Type 0} (test : X → Bool) (made : ℕ → X → Y) (i : ℕ) (xs : List X) (o : Option Y) → xs ≡ [] → o ≡ option_or o (first_at test made i xs)
-nothing_noted test made i xs o none = or_none o ∙ sym (ap (λ (l : List _). option_or o (first_at test made i l)) none)

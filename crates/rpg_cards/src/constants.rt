@@ -178,6 +178,9 @@ impl SpecCard {
     pub fn constants(&self) -> ArrayVec<Constant, 2>
         ensures { result.items ≡ constants.constants_on self.now.spec }
     {
+        if !self.may_have_constants() {
+            return ArrayVec::new();
+        }
         match &self.spec {
             Spec::Calculation(calculation) => of_factors(calculation),
             Spec::Output(OutputSpec::Field(field)) => one(of_field(field)),
@@ -186,7 +189,7 @@ impl SpecCard {
     }
 
     /// Whether the card may have a constant. Most cards have none, and this costs less than the list of their constants.
-    pub(crate) fn may_have_constants(&self) -> bool
+    fn may_have_constants(&self) -> bool
         ensures { OnFalse result (constants.constants_on self.now.spec ≡ []) }
     {
         match &self.spec {

@@ -5,11 +5,10 @@ ghost use Rattle.std.specs.Cmp.Lexicographic.{pointwise};
 ghost use Rattle.std.specs.List.{list_any};
 ghost use Rattle.std.specs.Map.{lookup};
 ghost use Rattle.std.specs.Option.{option_or};
-ghost use Rattle.arrayvec.specs.ArrayVec.{array_vec_len};
 ghost use Rattle.rpg_cards.specs.Constants as constants;
 ghost use Rattle.rpg_cards.specs.Constants.{constants_on, is_same};
 ghost use Rattle.rpg_cards.specs.Files as files;
-ghost use Rattle.rpg_cards.specs.Index.{defined_first, first_at, place_of_constant, placed_definition, HasSameFiles};
+ghost use Rattle.rpg_cards.specs.Index.{defined_first, first_at, placed_definition, HasSameFiles, NotesConstants, NotesNames};
 ghost use Rattle.rpg_cards.specs.Levels as levels;
 ghost use Rattle.rpg_cards.specs.Names as names;
 ghost use Rattle.rpg_cards.specs.Names.{definitions_on, is_of};
@@ -20,7 +19,6 @@ use crate::files::{FileUse, file_for, file_named};
 use crate::levels::has_match_field;
 use crate::names::{Defined, Definition, given_form};
 use crate::spec_card::SpecCard;
-use arrayvec::ArrayVec;
 use rpg_effect::form::FieldForm;
 use rpg_sheet_specs::{Factor, FileSpec, Word};
 use rpg_symbols::Name;
@@ -72,12 +70,12 @@ impl<'a> IndexedCards<'a> {
             return Err(AllocError);
         }
         let mut names = HashMap::with_capacity(alloc, cards.len())?;
-        let mut constants = HashMap::with_capacity(alloc, cards.len())?;
+        let mut constants = HashMap::with_capacity(alloc, 2 * cards.len())?;
         let mut name_place = 0;
         let mut constant_place = 0;
         for card in cards {
-            name_place = note_names_of(&mut names, name_place, card)?;
-            constant_place = note_constants_of(&mut constants, constant_place, card)?;
+            name_place = note_names(&mut names, name_place, card)?;
+            constant_place = note_constants(&mut constants, constant_place, card)?;
         }
         Ok(IndexedCards {
             cards,
@@ -222,50 +220,18 @@ fn defined_first(first: Option<FirstDefinition>) -> Defined
     }
 }
 
-/// Notes the definitions of a card, if it may have any.
-fn note_names_of(
+/// Notes the definitions of a card, whose places are counted on from this one, where their names have none before. Returns the place after them.
+fn note_names(
     names: &mut HashMap<Name, FirstDefinition>,
     start: usize,
     card: &SpecCard,
 ) -> Result<usize, AllocError>
     requires { start + length (definitions_on card.now.spec) < 2 ^ 64 }
     ensures place { IfOk result (λ place. place ≡ start + length (definitions_on card.now.spec)) }
-    ensures noted { OnOk result ((name : List ℕ) → lookup (pointwise nat_eq name) names.new.entries ≡ option_or (lookup (pointwise nat_eq name) names.old.entries) (first_at (is_of name) placed_definition start (definitions_on card.now.spec))) }
-{
-    if !card.may_define() {
-        return Ok(start);
-    }
-    note_names(names, start, card.definitions())
-}
-
-/// Notes the constants of a card, if it may have any.
-fn note_constants_of(
-    constants: &mut HashMap<Constant, usize>,
-    start: usize,
-    card: &SpecCard,
-) -> Result<usize, AllocError>
-    requires { start + length (constants_on card.now.spec) < 2 ^ 64 }
-    ensures place { IfOk result (λ place. place ≡ start + length (constants_on card.now.spec)) }
-    ensures noted { OnOk result ((x : Constant) → lookup (is_same x) constants.new.entries ≡ option_or (lookup (is_same x) constants.old.entries) (first_at (is_same x) place_of_constant start (constants_on card.now.spec))) }
-{
-    if !card.may_have_constants() {
-        return Ok(start);
-    }
-    note_constants(constants, start, card.constants())
-}
-
-/// Notes definitions, whose places are counted on from this one, where their names have none before. Returns the place after them.
-fn note_names(
-    names: &mut HashMap<Name, FirstDefinition>,
-    start: usize,
-    definitions: ArrayVec<Definition, 2>,
-) -> Result<usize, AllocError>
-    requires { start + array_vec_len definitions < 2 ^ 64 }
-    ensures place { IfOk result (λ place. place ≡ start + array_vec_len definitions) }
-    ensures noted { OnOk result ((name : List ℕ) → lookup (pointwise nat_eq name) names.new.entries ≡ option_or (lookup (pointwise nat_eq name) names.old.entries) (first_at (is_of name) placed_definition start definitions.items)) }
+    ensures noted { OnOk result (NotesNames start (definitions_on card.now.spec) names.old.entries names.new.entries) }
 {
     let mut place = start;
-    for definition in definitions {
+    for definition in card.definitions() {
         let Definition { name, form } = definition;
         note(names, name, FirstDefinition { place, form })?;
         place += 1;
@@ -273,18 +239,18 @@ fn note_names(
     Ok(place)
 }
 
-/// Notes constants, whose places are counted on from this one, where they have none before. Returns the place after them.
+/// Notes the constants of a card, whose places are counted on from this one, where they have none before. Returns the place after them.
 fn note_constants(
     constants: &mut HashMap<Constant, usize>,
     start: usize,
-    items: ArrayVec<Constant, 2>,
+    card: &SpecCard,
 ) -> Result<usize, AllocError>
-    requires { start + array_vec_len items < 2 ^ 64 }
-    ensures place { IfOk result (λ place. place ≡ start + array_vec_len items) }
-    ensures noted { OnOk result ((x : Constant) → lookup (is_same x) constants.new.entries ≡ option_or (lookup (is_same x) constants.old.entries) (first_at (is_same x) place_of_constant start items.items)) }
+    requires { start + length (constants_on card.now.spec) < 2 ^ 64 }
+    ensures place { IfOk result (λ place. place ≡ start + length (constants_on card.now.spec)) }
+    ensures noted { OnOk result (NotesConstants start (constants_on card.now.spec) constants.old.entries constants.new.entries) }
 {
     let mut place = start;
-    for constant in items {
+    for constant in card.constants() {
         note(constants, constant, place)?;
         place += 1;
     }

@@ -118,6 +118,9 @@ impl SpecCard {
     pub fn definitions(&self) -> ArrayVec<Definition, 2>
         ensures { result.items ≡ names.definitions_on self.now.spec }
     {
+        if !self.may_define() {
+            return ArrayVec::new();
+        }
         match &self.spec {
             Spec::Extension(extension) => of_tables(extension),
             Spec::Input(InputSpec::Field(field)) => one(Some(of_field(field))),
@@ -127,7 +130,7 @@ impl SpecCard {
     }
 
     /// Whether the card may define a name. Most cards don't, and this costs less than the list of their definitions.
-    pub(crate) fn may_define(&self) -> bool
+    fn may_define(&self) -> bool
         ensures { OnFalse result (names.definitions_on self.now.spec ≡ []) }
     {
         match &self.spec {

@@ -6,16 +6,16 @@ use Rattle.rpg_cards.specs.Constants.{constants_in, constants_on}
 use Rattle.rpg_cards.specs.Names.{definitions, definitions_on}
 use Rattle.rpg_cards.proofs.index.IndexedCards.new.Goals as goal
 
-pub note_names_of-requires : goal.note_names_of-requires
-note_names_of-requires c =
+pub note_names-requires : goal.note_names-requires
+note_names-requires c =
     let front = take c.loop-card.card-index c.args.cards.now in
     let few = few_definitions front in
     let here = few_definitions_on c.card-item.result.spec in
     let all = length-take-le c.loop-card.card-index c.args.cards.now (omega arith) in
     omega arith
 
-pub note_constants_of-requires : goal.note_constants_of-requires
-note_constants_of-requires c =
+pub note_constants-requires : goal.note_constants-requires
+note_constants-requires c =
     let front = take c.loop-card.card-index c.args.cards.now in
     let few = few_constants front in
     let here = few_constants_on c.card-item.result.spec in
