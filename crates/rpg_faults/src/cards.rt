@@ -22,7 +22,7 @@ fn numbered(alloc: Global, specs: Vec<Option<Spec>>) -> Result<Vec<SpecCard>, Al
     requires { vec_len specs ≤ 2000 }
     ensures { IfOk result (λ v. v.items ≡ specs_of.numbered_cards 1 specs.items) }
 {
-    let mut known = Vec::new(alloc);
+    let mut known = Vec::with_capacity(alloc, specs.len())?;
     let mut number = 1;
     let mut rest = specs.into_iter();
     while let Some(spec) = rest.next() {

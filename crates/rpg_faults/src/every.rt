@@ -72,7 +72,7 @@ fn put_faults(
     let mut rest = source.as_slice();
     while let Some((card, after)) = rest.split_first() {
         put_faults_on(faults, source, labels, &seen, card, after)?;
-        seen = seen.behind(source, card, after);
+        seen.pass(source, card, after);
         rest = after;
     }
     Ok(())

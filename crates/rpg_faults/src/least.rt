@@ -57,7 +57,7 @@ fn first_on_cards(source: &IndexedCards, labels: &Labels) -> Option<Fault>
                 code,
             });
         }
-        seen = seen.behind(source, card, after);
+        seen.pass(source, card, after);
         rest = after;
     }
     None

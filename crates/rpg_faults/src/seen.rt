@@ -36,20 +36,18 @@ impl<'a> Seen<'a> {
         }
     }
 
-    /// Before the next card. It is large, so it is made where it is kept.
-    #[inline(always)]
-    pub fn behind(&self, source: &IndexedCards<'a>, card: &SpecCard, after: &[SpecCard]) -> Self
-        requires { AreCardsSeen source.now (card.now ∷ after.now) self.now }
-        ensures before { result.before.now ≡ self.now.before.now ++ card.now ∷ [] }
-        ensures seen { AreCardsSeen source.now after.now result }
+    /// On to the next card. It is large, so it is changed where it is kept.
+    pub fn pass(&mut self, source: &IndexedCards<'a>, card: &SpecCard, after: &[SpecCard])
+        requires { AreCardsSeen source.now (card.now ∷ after.now) self.old }
+        ensures before { self.new.before.now ≡ self.old.before.now ++ card.now ∷ [] }
+        ensures seen { AreCardsSeen source.now after.now self.new }
     {
-        Seen {
-            before: with_card(source, self.before, card, after),
-            sheets: self.sheets.with(source, self.before, card),
-            limits: self.limits.with(source, self.before, card, after),
-            flow: self.flow.with(self.before, card, after),
-            places: self.places.with(source, self.before, card, after),
-        }
+        let before = self.before;
+        self.sheets = self.sheets.with(source, before, card);
+        self.limits = self.limits.with(source, before, card, after);
+        self.flow = self.flow.with(before, card, after);
+        self.places.pass(source, before, card, after);
+        self.before = with_card(source, before, card, after);
     }
 }
 

@@ -28,23 +28,24 @@ impl<'a> Places<'a> {
         }
     }
 
-    /// With the card after those before.
-    pub fn with(
-        self,
+    /// On to the next card. Only an I card changes what is known of control fields and match fields.
+    pub fn pass(
+        &mut self,
         source: &IndexedCards,
         before: &[SpecCard],
         card: &SpecCard,
         after: &[SpecCard],
-    ) -> Self
+    )
         requires split { source.now ≡ before.now ++ card.now ∷ after.now }
         requires few { length source.now ≤ 2000 }
-        requires places { IsPlaces source.now before.now self }
-        ensures { IsPlaces source.now (before.now ++ card.now ∷ []) result }
+        requires places { IsPlaces source.now before.now self.old }
+        ensures { IsPlaces source.now (before.now ++ card.now ∷ []) self.new }
     {
-        Places {
-            decks: self.decks.with(card),
-            lengths: self.lengths.with(card, after),
-            matches: self.matches.with(card, after),
-        }
+        self.decks = self.decks.with(card);
+        let Some(_) = card.input() else {
+            return;
+        };
+        self.lengths = self.lengths.with(card, after);
+        self.matches = self.matches.with(card, after);
     }
 }

@@ -2,19 +2,18 @@ use Rattle.std.proofs.Common.{◌++◌, ◌∷◌, [], ◌∙◌, sym, ap, subst
 use Rattle.rpg_cards.specs.Sheets.{AreSheets}
 use Rattle.rpg_faults_flow.specs.Seen.{IsFlow}
 use Rattle.rpg_faults_limits.specs.State.{AreLimits}
-use Rattle.rpg_faults.specs.State.{IsPlaces}
-use Rattle.rpg_faults.proofs.seen.Seen.behind.Goals as goal
+use Rattle.rpg_faults.proofs.seen.Seen.pass.Goals as goal
 
 pub returns-clause-seen : goal.returns-clause-seen
 returns-clause-seen c =
     let cards = c.args.source.now in
     let after = c.args.after.now in
-    let same = sym c.with_card.ensures in
+    let same = sym c.with_card-self.ensures in
     record {
       split = c.requires.split ∙ sym (append_assoc c.args.self.now.before.now (c.args.card.now ∷ []) after) ∙ ap (λ b. b ++ after) same;
       few = c.requires.few;
-      sheets = subst (λ b. AreSheets cards b c.with.result) same c.with.ensures;
-      limits = subst (λ b. AreLimits cards b after c.with-2.result) same c.with-2.ensures;
-      flow = subst (λ b. IsFlow b after c.with-3.result) same c.with-3.ensures;
-      places = subst (λ b. IsPlaces cards b c.with-4.result) same c.with-4.ensures;
+      sheets = subst (λ b. AreSheets cards b c.with-self.result) same c.with-self.ensures;
+      limits = subst (λ b. AreLimits cards b after c.with-self-2.result) same c.with-self-2.ensures;
+      flow = subst (λ b. IsFlow b after c.with-self-3.result) same c.with-self-3.ensures;
+      places = rw c.with_card-self.ensures c.pass.ensures;
     }
