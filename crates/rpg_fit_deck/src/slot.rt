@@ -64,7 +64,7 @@ impl Slot {
     /// Whether a rule has a sentence about the card.
     fn is_told_by(&self, rule: Rule) -> bool {
         for told in &self.told {
-            if told.rule == rule {
+            if told.rule.number() == rule.number() {
                 return true;
             }
         }
