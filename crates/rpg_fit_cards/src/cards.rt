@@ -24,7 +24,12 @@ pub(crate) fn first_condition(form: u8) -> usize {
     if form == b'C' { 9 } else { 23 }
 }
 
+/// Whether an F card is that of a file on a device.
+pub(crate) fn is_device(card: &Card, device: &[u8]) -> bool {
+    card.value(40, 46) == device
+}
+
 /// Whether an F card is that of the printer.
 pub(crate) fn is_printer(card: &Card) -> bool {
-    card.value(40, 46) == b"PRINTER".as_slice()
+    is_device(card, b"PRINTER")
 }

@@ -1,50 +1,9 @@
 //! Columns that stand for nothing are blanked.
 
-use crate::cards::is_printer;
+use crate::cards::{is_device, is_printer};
 use crate::draft::Draft;
 use rpg_fit_deck::{Card, Editor, Seen, Sentence, Word};
 use std::alloc::{AllocError, Global};
-
-/// Columns of a form that stand for nothing.
-struct Spare {
-    form: u8,
-    first: usize,
-    last: usize,
-    sentence: &'static str,
-}
-
-const SPARES: [Spare; 5] = [
-    Spare {
-        form: b'F',
-        first: 47,
-        last: 52,
-        sentence: "the symbolic device (47 to 52) blanked",
-    },
-    Spare {
-        form: b'F',
-        first: 53,
-        last: 53,
-        sentence: "labels (53 to 53) blanked",
-    },
-    Spare {
-        form: b'F',
-        first: 70,
-        last: 70,
-        sentence: "the unit (70 to 70) blanked",
-    },
-    Spare {
-        form: b'H',
-        first: 15,
-        last: 15,
-        sentence: "debug (15) blanked",
-    },
-    Spare {
-        form: b'H',
-        first: 41,
-        last: 41,
-        sentence: "forms alignment (41) blanked",
-    },
-];
 
 /// The columns of a card, of which all that follow are cut.
 const COLUMNS: usize = 80;
@@ -78,19 +37,27 @@ fn cut(editor: &mut Editor, seen: &Seen, draft: &mut Draft) {
 }
 
 fn blank_spares(editor: &mut Editor, draft: &mut Draft) {
-    for spare in &SPARES {
-        let is_filled = !draft.card.is_blank(spare.first, spare.last);
-        if draft.card.form() == spare.form && is_filled {
-            let sentence = Sentence::of(spare.sentence);
-            draft.change(editor, spare.first, spare.last, &[], sentence);
+    match draft.card.form() {
+        b'F' => {
+            draft.blank(editor, 47, 52, "the symbolic device (47 to 52) blanked");
+            draft.blank(editor, 53, 53, "labels (53 to 53) blanked");
+            draft.blank(editor, 70, 70, "the unit (70 to 70) blanked");
         }
+        b'H' => {
+            draft.blank(editor, 15, 15, "debug (15) blanked");
+            draft.blank(editor, 41, 41, "forms alignment (41) blanked");
+        }
+        _ => {}
     }
 }
 
 /// Whether a file's record is its block, by its device.
 fn has_one_record(card: &Card) -> bool {
-    let device = card.value(40, 46);
-    is_printer(card) || matches!(device, b"MFCU1" | b"MFCU2" | b"READ40" | b"READER")
+    is_printer(card)
+        || is_device(card, b"MFCU1")
+        || is_device(card, b"MFCU2")
+        || is_device(card, b"READ40")
+        || is_device(card, b"READER")
 }
 
 fn put_record_length(editor: &mut Editor, draft: &mut Draft) {
@@ -106,11 +73,9 @@ fn blank_stackers(editor: &mut Editor, draft: &mut Draft) {
     let card = draft.card;
     let is_type = card.form() == b'I' && !card.is_blank(7, 16);
     if is_type && card.column(42).is_ascii_digit() {
-        let sentence = Sentence::of("the stacker (42) blanked");
-        draft.change(editor, 42, 42, &[], sentence);
+        draft.blank(editor, 42, 42, "the stacker (42) blanked");
     }
     if card.form() == b'O' && card.column(16).is_ascii_digit() {
-        let sentence = Sentence::of("the stacker (16) blanked");
-        draft.change(editor, 16, 16, &[], sentence);
+        draft.blank(editor, 16, 16, "the stacker (16) blanked");
     }
 }

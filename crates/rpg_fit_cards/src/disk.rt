@@ -3,7 +3,8 @@
 use crate::cards::{is_of_form, is_printer};
 use crate::draft::Draft;
 use crate::outputs::{OutputCard, OutputRole, output_cards};
-use rpg_fit_deck::{Address, Card, Editor, Seen, Sentence, View, Word};
+use rpg_fit_deck::{Card, Editor, Seen, Sentence, View, Word};
+use rpg_fit_terms::address_after;
 use std::alloc::{AllocError, Global};
 
 /// How many disk files can become one: each has a letter.
@@ -53,7 +54,7 @@ fn move_outputs(
 ) {
     for (place, output) in outputs.iter().enumerate() {
         move_output(editor, disks, first, output);
-        if ends_conditions(outputs, place) {
+        if ends_conditions(output, outputs.get(place.saturating_add(1))) {
             put_letter(editor, view, disks, output);
         }
     }
@@ -142,25 +143,13 @@ fn move_field(editor: &mut Editor, draft: &mut Draft, with: usize) {
     }
 }
 
-/// Whether the card at a place is the last one of a line before its fields.
-fn ends_conditions(outputs: &[OutputCard], place: usize) -> bool {
-    let is_condition = match outputs.get(place) {
-        Some(output) => output.role != OutputRole::Field,
-        None => false,
-    };
-    let goes_on = match outputs.get(place.saturating_add(1)) {
+/// Whether a card is the last one of a line before its fields. `next`: the output card after it.
+fn ends_conditions(output: &OutputCard, next: Option<&OutputCard>) -> bool {
+    let goes_on = match next {
         Some(next) => matches!(next.role, OutputRole::And | OutputRole::Or),
         None => false,
     };
-    is_condition && !goes_on
-}
-
-/// Where the card after another one is.
-fn address_after(view: &View, place: usize) -> Address {
-    match view.cards.get(place.saturating_add(1)) {
-        Some(next) => next.at,
-        None => view.cards_end,
-    }
+    output.role != OutputRole::Field && !goes_on
 }
 
 /// Puts the letter of its file into a line.
@@ -169,7 +158,7 @@ fn put_letter(editor: &mut Editor, view: &View, disks: &[Disk], output: &OutputC
         let card = Card::of_form(b'O')
             .with_right(40, 43, b"1")
             .with(45, 47, &[b'\'', disk.letter, b'\'']);
-        let at = address_after(view, output.place);
+        let at = address_after(view, output.seen.at);
         let _ = editor.insert_copy(at, card, output.line, disk.seen.number);
     }
 }

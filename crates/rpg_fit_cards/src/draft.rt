@@ -32,6 +32,19 @@ impl Draft {
         self.follow(editor, first, last, text, self.number);
     }
 
+    /// Blanks columns, and reports it; columns that are blank stay.
+    pub fn blank(
+        &mut self,
+        editor: &mut Editor,
+        first: usize,
+        last: usize,
+        sentence: &'static str,
+    ) {
+        if !self.card.is_blank(first, last) {
+            self.change(editor, first, last, &[], Sentence::of(sentence));
+        }
+    }
+
     /// Puts a text in columns, along with the change that is reported for the card `with`.
     pub fn follow(
         &mut self,

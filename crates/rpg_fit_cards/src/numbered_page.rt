@@ -24,20 +24,22 @@ pub fn numbered_pages(alloc: Global, editor: &mut Editor) -> Result<(), AllocErr
         }
     }
     match used.as_slice() {
-        [first, second, ..] if *first == b"PAGE".as_slice() => {
-            reject_second(editor, &view, *second, *first);
-        }
+        [first, second, ..] if is_page(*first) => reject_second(editor, &view, *second, *first),
         [first, second, ..] => reject_second(editor, &view, *first, *second),
-        [counter] if *counter != b"PAGE".as_slice() => become_page(editor, &view, *counter),
+        [counter] if !is_page(*counter) => become_page(editor, &view, *counter),
         _ => {}
     }
     Ok(())
 }
 
+/// Whether a counter is PAGE itself.
+fn is_page(counter: &[u8]) -> bool {
+    counter == b"PAGE".as_slice()
+}
+
 /// Whether a counter is used, and no calculation gives it a length of its own.
 fn counts(view: &View, counter: &[u8]) -> bool {
-    (counter == b"PAGE".as_slice() || !is_defined(view, counter))
-        && first_with(view, counter).is_some()
+    (is_page(counter) || !is_defined(view, counter)) && first_with(view, counter).is_some()
 }
 
 /// Whether a calculation gives a name its length.

@@ -18,8 +18,6 @@ pub(crate) enum OutputRole {
 #[derive(Clone, Copy)]
 pub(crate) struct OutputCard {
     pub seen: Seen,
-    /// Its place among the cards of the deck.
-    pub place: usize,
     pub role: OutputRole,
     /// The number of the card that begins its line.
     pub line: usize,
@@ -30,9 +28,9 @@ pub(crate) struct OutputCard {
 /// What an output card is, by its columns.
 pub(crate) fn output_role(card: &Card) -> OutputRole {
     let is_condition = card.is_blank(7, 13);
-    if is_condition && card.columns(14, 16) == b"AND".as_slice() {
+    if is_condition && matches!(card.columns(14, 16), b"AND") {
         OutputRole::And
-    } else if is_condition && card.columns(14, 15) == b"OR".as_slice() {
+    } else if is_condition && matches!(card.columns(14, 15), b"OR") {
         OutputRole::Or
     } else if card.is_blank(7, 16) {
         OutputRole::Field
@@ -46,7 +44,7 @@ pub(crate) fn output_cards(alloc: Global, view: &View) -> Result<Vec<OutputCard>
     let mut cards = Vec::new(alloc);
     let mut line = 0;
     let mut file = Word::empty();
-    for (place, seen) in view.cards.iter().enumerate() {
+    for seen in &view.cards {
         if !is_of_form(&seen.card, b'O') {
             continue;
         }
@@ -59,7 +57,6 @@ pub(crate) fn output_cards(alloc: Global, view: &View) -> Result<Vec<OutputCard>
         }
         cards.push(OutputCard {
             seen: *seen,
-            place,
             role,
             line,
             file,

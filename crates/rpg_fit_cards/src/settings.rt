@@ -15,17 +15,14 @@ impl Switches {
 
     /// The switches of eight digits 0 and 1.
     pub fn of(text: &[u8]) -> Option<Switches> {
-        let [first, second, third, fourth, fifth, sixth, seventh, eighth] = text else {
-            return None;
-        };
-        let digits = [
-            *first, *second, *third, *fourth, *fifth, *sixth, *seventh, *eighth,
-        ];
-        if digits.iter().all(|digit| matches!(*digit, b'0' | b'1')) {
-            Some(Switches { digits })
-        } else {
-            None
+        let mut switches = Switches::OFF;
+        for (place, digit) in text.iter().enumerate() {
+            match switches.digits.get_mut(place) {
+                Some(there) if matches!(*digit, b'0' | b'1') => *there = *digit,
+                _ => return None,
+            }
         }
+        (text.len() == switches.digits.len()).then_some(switches)
     }
 
     /// Whether a switch, which is counted from 1, is on.

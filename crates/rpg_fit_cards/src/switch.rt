@@ -163,7 +163,7 @@ fn reject_input(editor: &mut Editor, number: usize, condition: &[u8]) {
 /// Whether a card is a field that changes what other lines print.
 fn has_effect(output: &OutputCard) -> bool {
     let card = &output.seen.card;
-    let counts = card.value(32, 37).starts_with(b"PAGE");
+    let counts = matches!(card.value(32, 37), [b'P', b'A', b'G', b'E', ..]);
     output.role == OutputRole::Field && (card.column(39) == b'B' || counts)
 }
 

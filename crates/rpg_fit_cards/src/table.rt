@@ -39,7 +39,7 @@ fn has_file(card: &Card) -> bool {
 
 /// Whether a line begins the data of a table.
 fn begins_data(seen: &Seen) -> bool {
-    seen.card.columns(1, 3) == b"** ".as_slice()
+    matches!(seen.card.columns(1, 3), b"** ")
 }
 
 /// The first lines of a deck's data, and where the card after them is.
@@ -201,7 +201,7 @@ fn drop_files(editor: &mut Editor, view: &View, with: usize) {
 
 /// Takes out the F card of a table file, and blanks the letter on others that asks for E cards.
 fn drop_file(editor: &mut Editor, file: &Seen, with: usize) {
-    if file.card.columns(15, 16) == b"IT".as_slice() {
+    if matches!(file.card.columns(15, 16), b"IT") {
         editor.tell(file.number, Sentence::of("a table file, taken out"));
         editor.remove(file.at, file.number);
     } else if file.card.column(39) == b'E' {

@@ -32,6 +32,7 @@ impl Fitted {
             None => &[],
         }
     }
+
     /// How many changes of cards have a sentence.
     pub fn changes(&self) -> usize {
         let mut count: usize = 0;
@@ -53,16 +54,10 @@ impl Fitted {
     pub fn source_card(&self, card: usize) -> Option<usize> {
         let mut before = card.checked_sub(1)?;
         for (place, slot) in self.slots.iter().enumerate() {
-            if let Some(made) = slot.before.get(before) {
-                return Some(made.from);
+            if before < slot.cards() {
+                return Some(slot.source_card(before, place.saturating_add(1)));
             }
-            before = before.saturating_sub(slot.before.len());
-            if !slot.is_gone() {
-                if before == 0 {
-                    return Some(place.saturating_add(1));
-                }
-                before -= 1;
-            }
+            before = before.saturating_sub(slot.cards());
         }
         Some(self.end.get(before)?.from)
     }

@@ -3,7 +3,7 @@
 use crate::word::Word;
 
 /// The rules, in their order. A rule's number is its code: A1 to A21.
-#[derive(Clone, Copy, PartialEq, Eq)]
+#[derive(Clone, Copy)]
 pub enum Rule {
     Comments,
     Columns,

@@ -56,15 +56,24 @@ impl Slot {
         changes
     }
 
-    /// Whether nothing stands in the card's place.
-    pub fn is_gone(&self) -> bool {
-        matches!(self.here, Here::Gone)
+    /// How many cards the new deck has here.
+    pub fn cards(&self) -> usize {
+        let here = usize::from(!matches!(self.here, Here::Gone));
+        self.before.len().saturating_add(here)
+    }
+
+    /// The card of the source that the card at a place here comes from. `own`: that whose place this is.
+    pub fn source_card(&self, place: usize, own: usize) -> usize {
+        match self.before.get(place) {
+            Some(made) => made.from,
+            None => own,
+        }
     }
 
     /// Whether a rule has a sentence about the card.
     fn is_told_by(&self, rule: Rule) -> bool {
         for told in &self.told {
-            if told.rule == rule {
+            if told.rule.number() == rule.number() {
                 return true;
             }
         }

@@ -87,9 +87,4 @@ impl Indicator {
     pub fn word(self) -> Word {
         Word::of(&[self.first, self.second])
     }
-
-    /// A card with it in a column and the next one.
-    pub fn on(self, card: Card, column: usize) -> Card {
-        card.with(column, column.saturating_add(1), self.word().text())
-    }
 }

@@ -1,6 +1,7 @@
 //! The names that cards have.
 
-ghost use Rattle.std.specs.Prelude.{◌≡◌};
+ghost use Rattle.std.specs.Prelude.{◌≡◌, nat_eq};
+ghost use Rattle.std.specs.List.{starts_with};
 ghost use Rattle.rpg_fit_terms.specs.Names.{has_operand, has_operand_in, is_date_part, is_name_in, is_name_used, is_prefix_in, is_prefix_used, is_reserved, name_columns};
 
 use crate::operand::Operand;
@@ -96,12 +97,19 @@ pub fn is_name_used(view: &View, name: &[u8]) -> bool
     view.cards.iter().any(|seen| is_name_on(&seen.card, name))
 }
 
+/// Whether a text begins with another one.
+fn begins_with(text: &[u8], prefix: &[u8]) -> bool
+    ensures { result ≡ starts_with nat_eq text.now prefix.now }
+{
+    text.starts_with(prefix)
+}
+
 /// Whether the name or the index of an operand begins with a text.
 fn is_prefix_in(operand: &[u8], prefix: &[u8]) -> bool
     ensures { result ≡ is_prefix_in prefix.now operand.now }
 {
     let found = Operand::of(operand);
-    found.name.starts_with(prefix) || found.index.starts_with(prefix)
+    begins_with(found.name, prefix) || begins_with(found.index, prefix)
 }
 
 /// Whether some of a card's columns have a name that begins with a text.
