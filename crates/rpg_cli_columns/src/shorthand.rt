@@ -19,8 +19,31 @@ const COLUMNS: usize = 80;
 /// The place of the form type, the first being 0.
 const FORM_TYPE: usize = 5;
 
-/// Writes a card as a line of shorthand. A blank ends an item, but for one in a text between apostrophes or in a comment, unless what follows it
+/// Whether an item is open, and whether it goes on behind blanks, as a text between apostrophes and a comment do.
+#[derive(Clone, Copy)]
+struct Item {
+    is_open: bool,
+    has_blanks: bool,
+}
+
+/// Whether a character belongs to no item: the form type, and a blank that ends one or comes before one. A blank ends any item if what follows
 /// would be taken for an item.
+fn is_between(text: &[u8], place: usize, character: u8, item: Item) -> bool {
+    let after = text.get(place.saturating_add(1)..).unwrap_or(&[]);
+    let is_inside = item.is_open && item.has_blanks && column_at(after).is_none();
+    place == FORM_TYPE || (character == b' ' && !is_inside)
+}
+
+/// Writes a character of an item, and where one begins its column.
+fn write_character(out: &mut TextWriter, text: &[u8], place: usize, character: u8, item: Item) {
+    let column = place.saturating_add(1);
+    if !item.is_open || (!item.has_blanks && begins_range(text, column)) {
+        out.fill(" {}=", &[column.into()]);
+    }
+    out.write_char(char::from(character));
+}
+
+/// Writes a card as a line of shorthand.
 fn write_shorthand(out: &mut TextWriter, line: &[u8]) {
     let text = trimmed(line);
     if text.is_empty() {
@@ -29,22 +52,20 @@ fn write_shorthand(out: &mut TextWriter, line: &[u8]) {
     let form = text.get(FORM_TYPE).copied().unwrap_or(b' ');
     out.write_char(char::from(form));
     let is_comment = text.get(FORM_TYPE.saturating_add(1)) == Some(&b'*');
-    let mut in_item = false;
-    let mut in_text = is_comment;
+    let mut item = Item {
+        is_open: false,
+        has_blanks: is_comment,
+    };
     for (place, character) in text.iter().enumerate() {
-        let column = place.saturating_add(1);
-        let after = text.get(column..).unwrap_or(&[]);
-        let is_between = *character == b' ' && (!in_item || !in_text || column_at(after).is_some());
-        if place == FORM_TYPE || is_between {
-            in_item = false;
-            continue;
+        if is_between(text, place, *character, item) {
+            item.is_open = false;
+        } else {
+            write_character(out, text, place, *character, item);
+            item = Item {
+                is_open: true,
+                has_blanks: is_comment || item.has_blanks != (*character == b'\''),
+            };
         }
-        if !in_item || (!in_text && begins_range(text, column)) {
-            out.fill(" {}=", &[column.into()]);
-        }
-        out.write_char(char::from(*character));
-        in_item = true;
-        in_text = is_comment || in_text != (*character == b'\'');
     }
 }
 
