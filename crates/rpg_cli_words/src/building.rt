@@ -2,7 +2,7 @@
 //!
 //! A word is made in a few functions, each of which goes on where the last one ends: the proof of a chain of calls grows with its length.
 
-use crate::commands::{COMMANDS, CommandRow, Word};
+use crate::commands::{COMMANDS, CommandRow, Word, line_of};
 use clap::error::ErrorKind;
 use clap::{Arg, ArgMatches, Command, Error};
 use std::alloc::{AllocError, Global};
@@ -80,15 +80,10 @@ fn commands<'a>(alloc: Global, lines: &'static str) -> Result<Vec<Command<'a>>, 
 /// The line of the command that comes first after the program's name, or those of all, as where clap is asked for help: clap reads no other
 /// command, and each costs it some ten allocations.
 fn lines_of(words: &[String]) -> &'static str {
-    let all = COMMANDS;
-    if let Some(first) = words.get(1) {
-        for line in all.lines() {
-            if CommandRow::of(line).name == first.as_str() {
-                return line;
-            }
-        }
+    match words.get(1) {
+        Some(first) => line_of(first).unwrap_or(COMMANDS),
+        None => COMMANDS,
     }
-    all
 }
 
 /// What each exit status means, below the commands.

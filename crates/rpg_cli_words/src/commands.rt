@@ -113,6 +113,16 @@ impl CommandRow {
     }
 }
 
+/// The line of a command.
+pub(crate) fn line_of(name: &str) -> Option<&'static str> {
+    for line in COMMANDS.lines() {
+        if CommandRow::of(line).name == name {
+            return Some(line);
+        }
+    }
+    None
+}
+
 /// A word of a command, as its line has it.
 #[derive(Clone, Copy)]
 pub(crate) struct Word {

@@ -7,7 +7,7 @@ use crate::commands::cut;
 use crate::dates::DateWord;
 use crate::fitting::{self, FitWords, fit_words};
 use crate::format::{Format, format_of};
-use crate::given::needed;
+use crate::given::{is_whole, needed};
 use crate::going::{GoWords, go_words};
 use crate::listing::{CardsWords, ListWords, cards_words, list_words};
 use crate::looks::{LookWords, look_words};
@@ -566,7 +566,7 @@ fn bad_value(matches: &ArgMatches) -> Option<&'static str> {
     }
 }
 
-/// The request of a command whose words need no memory. Clap knows no other command, so that one which isn't named here is `go`.
+/// The request of a command whose words need no memory. The one that isn't named here is `go`.
 fn plain_request<'a>(name: &str, given: &ArgMatches<'a>) -> Request<'a> {
     match name {
         "compile" => compile_words(given),
@@ -621,7 +621,7 @@ fn read<'a>(
     matches: &ArgMatches<'a>,
 ) -> Result<Request<'a>, Refusal> {
     match matches.subcommand() {
-        Some((name, given)) if bad_value(matches).is_none() => {
+        Some((name, given)) if is_whole(name, given) && bad_value(matches).is_none() => {
             Ok(command_request(alloc, name, given)?)
         }
         _ => Err(Refusal::of(unread(alloc, words, matches))),
