@@ -13,6 +13,7 @@ ghost use Rattle.rpg_sheet_specs.specs.declared.literal.Factor.TheVariants as fa
 use rpg_cards::{
     Column, Content, Shown, SpecCard, columns, depends, goes_on, group_end, joins, plain_name,
 };
+use rpg_faults_flow::{further_range, has_more, may_depend};
 use rpg_sheet_specs::{CalculationSpec, ColumnRange, Entry, Factor, Indicator, Operation, Three};
 
 /// Why columns of a calculation are missing or not allowed.
@@ -112,16 +113,6 @@ fn of_conditions(
     }
 }
 
-/// Whether the group of this last card may have conditions.
-fn may_depend(last: &CalculationSpec) -> bool
-    ensures { result ≡ rules.may_depend last.now }
-{
-    match last.operation {
-        None => true,
-        Some(operation) => columns(operation).may_depend,
-    }
-}
-
 fn of_end(goes_on: bool, calculation: &CalculationSpec) -> Option<ColumnCause>
     ensures cause { result ≡ causes.of_end goes_on calculation.now }
     ensures rule { is_some result ≡ rules.bad_by_end goes_on calculation.now }
@@ -136,49 +127,6 @@ fn of_end(goes_on: bool, calculation: &CalculationSpec) -> Option<ColumnCause>
         return Some(ColumnCause::LastCardAlone(further_range(calculation)));
     }
     None
-}
-
-/// Whether a card has more than conditions.
-fn has_more(calculation: &CalculationSpec) -> bool
-    ensures { result ≡ rules.has_more calculation.now }
-{
-    calculation.operation.is_some()
-        || calculation.factor_1.is_some()
-        || calculation.factor_2.is_some()
-        || calculation.result_field.is_some()
-        || calculation.length.is_some()
-        || calculation.resulting_indicators.filled() > 0
-}
-
-/// What a card before the last has besides its conditions.
-fn further_range(calculation: &CalculationSpec) -> ColumnRange
-    ensures { result ≡ marks.further_range calculation.now }
-{
-    if calculation.factor_1.is_some() {
-        ColumnRange::FirstFactor
-    } else if calculation.operation.is_some() {
-        ColumnRange::Operation
-    } else if calculation.factor_2.is_some() {
-        ColumnRange::SecondFactor
-    } else if calculation.result_field.is_some() {
-        ColumnRange::ResultName
-    } else {
-        shown_range(calculation.resulting_indicators)
-    }
-}
-
-fn shown_range(indicators: Three<Option<Indicator>>) -> ColumnRange
-    ensures { result ≡ marks.shown_range indicators }
-{
-    if indicators.first.is_some() {
-        ColumnRange::ResultPlus
-    } else if indicators.second.is_some() {
-        ColumnRange::ResultMinus
-    } else if indicators.third.is_some() {
-        ColumnRange::ResultZero
-    } else {
-        ColumnRange::ResultingIndicators
-    }
 }
 
 fn of_operation(calculation: &CalculationSpec, operation: Operation) -> Option<ColumnCause>

@@ -7,9 +7,9 @@ ghost use Rattle.rpg_causes_operands.specs.Fields as causes;
 ghost use Rattle.rpg_faults_operands.specs.Columns as operands;
 
 use crate::names::definer;
-use crate::operands::factor_form;
 use rpg_cards::{IndexedCards, OperationColumns, Shown, SpecCard, columns, last_card};
 use rpg_effect::form::{FieldForm, is_array, is_table};
+use rpg_faults_operands::factor_form;
 use rpg_sheet_specs::{CalculationSpec, Factor, OutputField, Word};
 use rpg_symbols::Name;
 

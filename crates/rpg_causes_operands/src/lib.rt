@@ -6,7 +6,6 @@ mod indexes;
 mod indicators;
 mod kinds;
 mod names;
-mod operands;
 mod sizes;
 
 pub use fields::{FieldCause, field_cause};

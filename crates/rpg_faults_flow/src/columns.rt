@@ -50,7 +50,7 @@ fn bad_conditions(
 }
 
 /// Whether the group of this last card may have conditions.
-fn may_depend(last: &CalculationSpec) -> bool
+pub fn may_depend(last: &CalculationSpec) -> bool
     ensures { result ≡ spec.may_depend last.now }
 {
     match last.operation {
@@ -73,7 +73,7 @@ pub(crate) fn bad_by_end(goes_on: bool, calculation: &CalculationSpec) -> bool
 }
 
 /// Whether a card has more than conditions.
-fn has_more(calculation: &CalculationSpec) -> bool
+pub fn has_more(calculation: &CalculationSpec) -> bool
     ensures { result ≡ spec.has_more calculation.now }
 {
     calculation.operation.is_some()

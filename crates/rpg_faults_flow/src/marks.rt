@@ -49,7 +49,7 @@ fn end_range(goes_on: bool, calculation: &CalculationSpec) -> ColumnRange
 }
 
 /// What a card before the last has besides its conditions.
-fn further_range(calculation: &CalculationSpec) -> ColumnRange
+pub fn further_range(calculation: &CalculationSpec) -> ColumnRange
     ensures { result ≡ marks.further_range calculation.now }
 {
     if calculation.factor_1.is_some() {

@@ -21,3 +21,7 @@ pub use indicators::bad_indicator;
 pub use kinds::wrong_operand;
 pub use marks::{editing_columns, missing_columns, unknown_name, wrong_columns, wrong_index};
 pub use names::lacks_name;
+pub use operands::{
+    Operand, entry_form, factor_form, field_content, form_in, operands_ending, output_operand,
+    result_form,
+};

@@ -24,7 +24,7 @@ fn is_field(content: Content) -> bool
 }
 
 /// What a column takes, where it is for a field.
-pub(crate) fn field_content(column: Column) -> Option<Content>
+pub fn field_content(column: Column) -> Option<Content>
     ensures { result ≡ operands.field_content column }
 {
     match column {
@@ -43,9 +43,11 @@ pub(crate) fn field_content(column: Column) -> Option<Content>
 
 /// A field that is named, and what its column takes.
 #[derive(Drop)]
-pub(crate) struct Operand<'a> {
-    pub(crate) content: Content,
-    pub(crate) field: &'a Entry,
+pub struct Operand<'a> {
+    /// What the column takes.
+    pub content: Content,
+    /// The name with its index.
+    pub field: &'a Entry,
 }
 
 impl<'a> Model for Operand<'a> {
@@ -110,11 +112,8 @@ pub(crate) fn operands_of(calculation: &CalculationSpec) -> Three<Option<Operand
     }
 }
 
-/// Those of the last card of a group, which has the operation.
-pub(crate) fn operands_ending<'a>(
-    card: &'a SpecCard,
-    after: &[SpecCard],
-) -> Three<Option<Operand<'a>>>
+/// The fields that the operation of a group names, which its last card has.
+pub fn operands_ending<'a>(card: &'a SpecCard, after: &[SpecCard]) -> Three<Option<Operand<'a>>>
     ensures { result ≡ operands.operands_ending card.now after.now }
 {
     match last_card(card, after) {
@@ -123,7 +122,8 @@ pub(crate) fn operands_ending<'a>(
     }
 }
 
-pub(crate) fn output_operand(card: &SpecCard) -> Option<Operand<'_>>
+/// The field that an output card names.
+pub fn output_operand(card: &SpecCard) -> Option<Operand<'_>>
     ensures { result ≡ operands.output_operand_on card.now }
 {
     let output = card.output_field()?;
@@ -137,7 +137,7 @@ pub(crate) fn output_operand(card: &SpecCard) -> Option<Operand<'_>>
 // ---- forms
 
 /// None for a name without a form.
-pub(crate) fn form_in(defined: Defined) -> Option<FieldForm>
+pub fn form_in(defined: Defined) -> Option<FieldForm>
     ensures { result ≡ names.form_in defined }
 {
     match defined {
@@ -146,8 +146,9 @@ pub(crate) fn form_in(defined: Defined) -> Option<FieldForm>
     }
 }
 
+/// The form of the field that is named.
 #[tactic(auto, using(crate::proofs::SizeLemmas::sized_name))]
-pub(crate) fn entry_form(source: &IndexedCards, entry: &Entry) -> Option<FieldForm>
+pub fn entry_form(source: &IndexedCards, entry: &Entry) -> Option<FieldForm>
     ensures form { result ≡ operands.card_entry_form source.now entry.now }
     ensures sized { IfSome result IsSized }
 {
@@ -155,7 +156,7 @@ pub(crate) fn entry_form(source: &IndexedCards, entry: &Entry) -> Option<FieldFo
 }
 
 /// The form of the contents of a column for a field.
-pub(crate) fn factor_form(
+pub fn factor_form(
     source: &IndexedCards,
     column: Column,
     factor: &Option<Factor>,
@@ -166,7 +167,8 @@ pub(crate) fn factor_form(
     form_in(source.form_of_factor(factor.as_ref()?))
 }
 
-pub(crate) fn result_form(
+/// The form of the result field, where the column is for a field.
+pub fn result_form(
     source: &IndexedCards,
     column: Column,
     field: &Option<Entry>,
