@@ -12,9 +12,9 @@ use Rattle.rpg_cards.specs.declared.constants.Constant.TheVariants.{Number, Text
 use Rattle.rpg_cards.specs.declared.names.Defined.{Defined}
 use Rattle.rpg_cards.specs.declared.names.Defined.TheVariants.{Good}
 use Rattle.rpg_cards.specs.declared.spec_card.SpecCard.{SpecCard}
-use Rattle.rpg_effect.specs.declared.form.Class.TheVariants as class
-use Rattle.rpg_effect.specs.declared.form.FieldForm.{FieldForm}
-use Rattle.rpg_effect.specs.declared.form.Kind.TheVariants as kind
+use Rattle.rpg_program.specs.declared.form.Class.TheVariants as class
+use Rattle.rpg_program.specs.declared.form.FieldForm.{FieldForm}
+use Rattle.rpg_program.specs.declared.form.Kind.TheVariants as kind
 use Rattle.rpg_sheet_specs.specs.declared.literal.Factor.{Factor}
 use Rattle.rpg_sheet_specs.specs.declared.literal.Factor.TheVariants as factor
 use Rattle.rpg_sheet_specs.specs.declared.literal.Literal.{Literal}

@@ -7,9 +7,9 @@ use Rattle.std.specs.declared.cmp.Ordering.{Ordering}
 use Rattle.rpg_cards.specs.Constants.{constant_of}
 use Rattle.rpg_cards.specs.declared.constants.Constant.{Constant}
 use Rattle.rpg_cards.specs.declared.constants.Constant.TheVariants as constant
-use Rattle.rpg_effect.specs.declared.operation.Index.{Index}
-use Rattle.rpg_effect.specs.declared.operation.Index.TheVariants as index
-use Rattle.rpg_effect.specs.declared.operation.Operand.{Operand}
+use Rattle.rpg_program.specs.declared.operation.Index.{Index}
+use Rattle.rpg_program.specs.declared.operation.Index.TheVariants as index
+use Rattle.rpg_program.specs.declared.operation.Operand.{Operand}
 use Rattle.rpg_sheet_specs.specs.declared.entry.Entry.{Entry}
 use Rattle.rpg_sheet_specs.specs.declared.entry.EntryIndex.{EntryIndex}
 use Rattle.rpg_sheet_specs.specs.declared.entry.EntryIndex.TheVariants as entry

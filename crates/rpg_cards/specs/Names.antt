@@ -10,11 +10,11 @@ use Rattle.rpg_cards.specs.declared.names.Defined.{Defined}
 use Rattle.rpg_cards.specs.declared.names.Defined.TheVariants.{Missing, Bad, Good}
 use Rattle.rpg_cards.specs.declared.names.Definition.{Definition}
 use Rattle.rpg_cards.specs.declared.spec_card.SpecCard.{SpecCard}
-use Rattle.rpg_effect.specs.declared.form.Class.{Class}
-use Rattle.rpg_effect.specs.declared.form.Class.TheVariants as class
-use Rattle.rpg_effect.specs.declared.form.FieldForm.{FieldForm}
-use Rattle.rpg_effect.specs.declared.form.Kind.{Kind}
-use Rattle.rpg_effect.specs.declared.form.Kind.TheVariants as kind
+use Rattle.rpg_program.specs.declared.form.Class.{Class}
+use Rattle.rpg_program.specs.declared.form.Class.TheVariants as class
+use Rattle.rpg_program.specs.declared.form.FieldForm.{FieldForm}
+use Rattle.rpg_program.specs.declared.form.Kind.{Kind}
+use Rattle.rpg_program.specs.declared.form.Kind.TheVariants as kind
 use Rattle.rpg_sheet_specs.specs.declared.calculation.CalculationSpec.{CalculationSpec}
 use Rattle.rpg_sheet_specs.specs.declared.extension.ExtensionSpec.{ExtensionSpec}
 use Rattle.rpg_sheet_specs.specs.declared.extension.TableSpec.{TableSpec}

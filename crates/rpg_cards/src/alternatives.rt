@@ -3,9 +3,9 @@
 ghost use Rattle.std.specs.Prelude.{◌≡◌, IfSome};
 ghost use Rattle.std.specs.Option.{ForSome, option_to_list};
 ghost use Rattle.rpg_cards.specs.Calculations as calculations;
-ghost use Rattle.rpg_object_program.specs.Kept.{AreConditions, IsConditionRow, IsIndicator};
+ghost use Rattle.rpg_program.specs.Kept.{AreConditions, IsConditionRow, IsIndicator};
 
-use rpg_effect::condition::{Condition, Conditions, has_conditions};
+use rpg_program::condition::{Condition, Conditions, has_conditions};
 use rpg_sheet_specs::{CalculationSpec, ControlLevel, Three};
 
 /// The level indicator that a calculation waits for, 101 to 110 (L1 to L9 and LR). L0 is always on.

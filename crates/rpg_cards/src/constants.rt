@@ -13,7 +13,7 @@ ghost use Rattle.rpg_cards.specs.declared.constants.Constant.TheVariants.{Text};
 use crate::names::one;
 use crate::spec_card::SpecCard;
 use arrayvec::ArrayVec;
-use rpg_effect::form::{Class, FieldForm, Kind};
+use rpg_program::form::{Class, FieldForm, Kind};
 use rpg_sheet_specs::{
     CalculationSpec, Factor, Literal, NumericLiteral, OutputField, OutputSpec, Spec, TextLiteral,
     Word,

@@ -19,7 +19,7 @@ use crate::files::{FileUse, file_for, file_named};
 use crate::levels::has_match_field;
 use crate::names::{Defined, Definition, given_form};
 use crate::spec_card::SpecCard;
-use rpg_effect::form::FieldForm;
+use rpg_program::form::FieldForm;
 use rpg_sheet_specs::{Factor, FileSpec, Word};
 use rpg_symbols::Name;
 use std::alloc::{AllocError, Global};

@@ -3,9 +3,9 @@
 ghost use Rattle.std.specs.Prelude.{◌≡◌};
 ghost use Rattle.std.specs.Option.{ForSome};
 ghost use Rattle.rpg_cards.specs.Deeds as deeds;
-ghost use Rattle.rpg_object_program.specs.Kept.{AreIndicators, IsIndicator};
+ghost use Rattle.rpg_program.specs.Kept.{AreIndicators, IsIndicator};
 
-use rpg_effect::operation::Shows;
+use rpg_program::operation::Shows;
 use rpg_sheet_specs::{Indicator, Three};
 
 /// The number of an indicator that may be missing.

@@ -8,7 +8,7 @@ ghost use Rattle.rpg_symbols.specs.Fields as fields;
 
 use crate::spec_card::SpecCard;
 use arrayvec::ArrayVec;
-use rpg_effect::form::{Class, FieldForm, Kind};
+use rpg_program::form::{Class, FieldForm, Kind};
 use rpg_sheet_specs::{CalculationSpec, ExtensionSpec, InputField, InputSpec, Spec, TableSpec};
 use rpg_symbols::{Name, number_form};
 

@@ -3,7 +3,7 @@
 ghost use Rattle.std.specs.Prelude.{◌≡◌};
 ghost use Rattle.rpg_cards.specs.Times as times;
 
-use rpg_effect::line::Time;
+use rpg_program::line::Time;
 use rpg_sheet_specs::{Condition, LineTime, OutputSpec, Three};
 
 /// When a line of a card is put out.

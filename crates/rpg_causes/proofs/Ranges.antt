@@ -5,7 +5,7 @@ use Rattle.std.specs.Option.{option_or}
 use Rattle.rpg_cards.specs.declared.spec_card.SpecCard.{SpecCard}
 use Rattle.rpg_causes.specs.Editing.{first_fitting}
 use Rattle.rpg_causes.specs.Joins.{first_cause, of_level}
-use Rattle.rpg_effect.specs.LineFaults.{fits_word}
+use Rattle.rpg_program.specs.LineFaults.{fits_word}
 
 pub fitting_from : (word : List ℕ) (digits : ℕ) → digits < 25
     → first_fitting word (range_with_len digits (25 - digits)) ≡ cond (fits_word digits word) (Some digits) (first_fitting word (range_with_len (digits + 1) (25 - (digits + 1))))

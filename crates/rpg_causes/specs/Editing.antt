@@ -10,10 +10,10 @@ use Rattle.rpg_causes.specs.declared.editing.Misfit.{Misfit}
 use Rattle.rpg_causes.specs.declared.editing.Misfit.TheVariants.{Date, Fill, Text, Word}
 use Rattle.rpg_edit_marks.specs.declared.code.EditCode.{EditCode}
 use Rattle.rpg_edit_marks.specs.declared.code.EditCode.TheVariants.{Combination, X, Y, Z}
-use Rattle.rpg_effect.specs.LineFaults.{fits_word}
-use Rattle.rpg_effect.specs.declared.form.FieldForm.{FieldForm}
-use Rattle.rpg_effect.specs.declared.form.Kind.{Kind}
-use Rattle.rpg_effect.specs.declared.form.Kind.TheVariants as kind
+use Rattle.rpg_program.specs.LineFaults.{fits_word}
+use Rattle.rpg_program.specs.declared.form.FieldForm.{FieldForm}
+use Rattle.rpg_program.specs.declared.form.Kind.{Kind}
+use Rattle.rpg_program.specs.declared.form.Kind.TheVariants as kind
 use Rattle.rpg_faults_operands.specs.Editing.{bad_editing}
 use Rattle.rpg_sheet_specs.specs.declared.entry.Entry.{Entry}
 use Rattle.rpg_sheet_specs.specs.declared.output.OutputField.{OutputField}

@@ -3,14 +3,14 @@
 ghost use Rattle.std.specs.Prelude.{◌≡◌, is_some};
 ghost use Rattle.rpg_cards.specs.Names.{form_in, form_of_name};
 ghost use Rattle.rpg_causes.specs.Editing as causes;
-ghost use Rattle.rpg_effect.specs.LineFaults.{fits_word};
+ghost use Rattle.rpg_program.specs.LineFaults.{fits_word};
 ghost use Rattle.rpg_faults_operands.specs.Editing as rules;
 
 use rpg_cards::{Defined, IndexedCards, SpecCard};
 use rpg_edit_marks::EditCode;
 use rpg_edit_widths::EditWord;
-use rpg_effect::form::{FieldForm, Kind};
 use rpg_faults_operands::bad_editing;
+use rpg_program::form::{FieldForm, Kind};
 use rpg_sheet_specs::{Entry, OutputField, Word};
 
 /// Why a code or a word doesn't fit a field.

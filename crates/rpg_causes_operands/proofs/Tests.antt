@@ -5,7 +5,7 @@ use Rattle.std.specs.Prelude.{is_some}
 use Rattle.rpg_cards.specs.declared.operations.Kinds.{Kinds}
 use Rattle.rpg_cards.specs.declared.operations.Kinds.TheVariants.{Numbers, Alike, Any}
 use Rattle.rpg_causes_operands.specs.Operands.{of_pair}
-use Rattle.rpg_effect.specs.declared.form.FieldForm.{FieldForm}
+use Rattle.rpg_program.specs.declared.form.FieldForm.{FieldForm}
 use Rattle.rpg_faults_operands.specs.Kinds.{has_text, kinds_differ, wrong_kinds}
 
 -- three tests, each with one more, or the three and then the others

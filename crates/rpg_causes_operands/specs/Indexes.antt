@@ -7,8 +7,8 @@ use Rattle.rpg_cards.specs.declared.spec_card.SpecCard.{SpecCard}
 use Rattle.rpg_causes_operands.specs.Names.{definer, first_some}
 use Rattle.rpg_causes_operands.specs.declared.indexes.IndexCause.{IndexCause}
 use Rattle.rpg_causes_operands.specs.declared.indexes.IndexCause.TheVariants.{Missing, NoArray, NoIndex, OutOfRange, TooShort, Whole}
-use Rattle.rpg_effect.specs.Forms.{is_array}
-use Rattle.rpg_effect.specs.declared.form.FieldForm.{FieldForm}
+use Rattle.rpg_program.specs.Forms.{is_array}
+use Rattle.rpg_program.specs.declared.form.FieldForm.{FieldForm}
 use Rattle.rpg_faults_operands.specs.Indexes.{can_index, index_form, is_too_short, needs_index, takes_index}
 use Rattle.rpg_faults_operands.specs.Names.{index_name}
 use Rattle.rpg_faults_operands.specs.Operands.{Operand, card_entry_form, operands_on}

@@ -6,7 +6,7 @@ use Rattle.rpg_cards.specs.Names.{definitions, definitions_on, form_by, form_in,
 use Rattle.rpg_cards.specs.declared.names.Definition.{Definition}
 use Rattle.rpg_cards.specs.declared.spec_card.SpecCard.{SpecCard}
 use Rattle.rpg_causes_operands.specs.declared.names.Redefined.{Redefined}
-use Rattle.rpg_effect.specs.declared.form.FieldForm.{FieldForm}
+use Rattle.rpg_program.specs.declared.form.FieldForm.{FieldForm}
 use Rattle.rpg_faults_operands.specs.Names.{index_name, is_undefined}
 use Rattle.rpg_faults_operands.specs.Operands.{Operand, operands_on}
 use Rattle.rpg_symbols.specs.Fields.{same_form}

@@ -16,7 +16,7 @@ use Rattle.rpg_causes_operands.specs.declared.kinds.Held.{Held}
 use Rattle.rpg_causes_operands.specs.declared.kinds.OperandCause.{OperandCause}
 use Rattle.rpg_causes_operands.specs.declared.kinds.OperandCause.TheVariants.{BlankedDate, EditedText, TextOperand, TooFew, Unlike, Unwritable, WrongClass}
 use Rattle.rpg_causes_operands.specs.declared.kinds.TextField.{TextField}
-use Rattle.rpg_effect.specs.declared.form.FieldForm.{FieldForm}
+use Rattle.rpg_program.specs.declared.form.FieldForm.{FieldForm}
 use Rattle.rpg_faults_operands.specs.Kinds.{has_too_few, has_wrong_class, is_text, is_unwritable, is_wrong_class, kinds_differ, wrong_kinds, wrong_result}
 use Rattle.rpg_faults_operands.specs.Operands.{card_entry_form, factor_entry, factor_form, field_content, result_form}
 use Rattle.rpg_sheet_specs.specs.declared.calculation.CalculationSpec.{CalculationSpec}

@@ -12,8 +12,8 @@ use crate::names::definer;
 use rpg_cards::{
     Column, Content, IndexedCards, Kinds, OperationColumns, SpecCard, columns, last_card,
 };
-use rpg_effect::form::{FieldForm, Kind, is_array, is_table, is_writable, same_kind};
 use rpg_faults_operands::{entry_form, factor_form, field_content, result_form};
+use rpg_program::form::{FieldForm, Kind, is_array, is_table, is_writable, same_kind};
 use rpg_sheet_specs::{CalculationSpec, ColumnRange, Entry, Factor, OutputField, Word};
 use rpg_symbols::Name;
 

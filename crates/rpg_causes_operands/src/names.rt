@@ -10,8 +10,8 @@ ghost use Rattle.rpg_faults_limits.specs.Names as redefinitions;
 ghost use Rattle.rpg_faults_operands.specs.Names as rules;
 
 use rpg_cards::{Defined, Definition, IndexedCards, SpecCard};
-use rpg_effect::form::FieldForm;
 use rpg_faults_operands::{Operand, operands_ending, output_operand};
+use rpg_program::form::FieldForm;
 use rpg_sheet_specs::{Entry, EntryIndex, Word};
 use rpg_symbols::{Name, is_same_form};
 

@@ -1,7 +1,7 @@
 //! Fields, cards and counts within sentences.
 
 use rpg_cli_text::TextWriter;
-use rpg_effect::form::{Class, FieldForm, Kind};
+use rpg_program::form::{Class, FieldForm, Kind};
 
 /// The name of what is counted: that of one, or of more.
 pub(crate) fn noun(count: usize, one: &'static str, more: &'static str) -> &'static str {

@@ -5,7 +5,7 @@ use crate::near::write_near_names;
 use crate::spot::Spot;
 use rpg_causes::Redefined;
 use rpg_cli_text::TextWriter;
-use rpg_effect::form::{is_array, is_table};
+use rpg_program::form::{is_array, is_table};
 
 const DATE: &str =
     ": take it from UDATE, by MOVEL, MOVE, or DIV and MVR (rpg2 fit rewrites it: A20)";

@@ -5,7 +5,7 @@ use crate::spot::Spot;
 use rpg_cards::Content;
 use rpg_causes::{IndexCause, OperandCause, TextField};
 use rpg_cli_text::TextWriter;
-use rpg_effect::form::{Class, FieldForm};
+use rpg_program::form::{Class, FieldForm};
 use rpg_sheet::{ColumnRange, Word};
 
 /// The most digits of a number.

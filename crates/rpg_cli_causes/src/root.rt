@@ -2,8 +2,8 @@
 
 use crate::spot::{SourceCards, Spot};
 use rpg_causes::{Cause, OperandCause, OrderCause};
-use rpg_effect::form::Kind;
 use rpg_faults::{CardFault, FaultCode, SourceCode};
+use rpg_program::form::Kind;
 use rpg_sheet::Entry;
 
 /// A slip that other faults follow from.

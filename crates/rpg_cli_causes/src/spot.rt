@@ -4,9 +4,9 @@ ghost use Rattle.std.specs.Prelude.{◌≡◌, ◌≤◌, IfOk, length};
 
 use rpg_cards::{Defined, IndexedCards, SpecCard};
 use rpg_causes::{Cause, fault_cause};
-use rpg_effect::form::FieldForm;
 use rpg_faults::FaultCode;
 use rpg_faults_flow::Labels;
+use rpg_program::form::FieldForm;
 use rpg_sheet::{ColumnFault, ColumnRange, DataSpec, Entry, Factor, Word};
 use rpg_text::{first_line, trimmed};
 use std::alloc::{AllocError, Global};

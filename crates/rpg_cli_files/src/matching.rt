@@ -5,7 +5,7 @@ ghost use Rattle.std.specs.Bool.{MatchBool};
 ghost use Rattle.rpg_object.specs.Program.{spelling};
 
 use rpg_object::encode;
-use rpg_object_program::Program;
+use rpg_program::Program;
 use std::alloc::{AllocError, Global};
 
 /// Whether a program is written as these very bytes.

@@ -1,7 +1,7 @@
 //! The record that a job halted at, found in its input files, which are read once more.
 
 use rpg_cycle_records::{KeptFile, MatchValue, fill, identify, is_good};
-use rpg_effect::input::{ControlField, InputFile};
+use rpg_program::input::{ControlField, InputFile};
 use rpg_text::first_line;
 use rpg_verify::Verified;
 use std::alloc::{AllocError, Global};

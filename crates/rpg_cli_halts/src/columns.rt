@@ -2,10 +2,10 @@
 
 use crate::again::HaltedRecord;
 use rpg_decimal::read_zoned;
-use rpg_effect::form::Kind;
-use rpg_effect::input::InputField;
-use rpg_object_program::forms::{form_at, kind_of};
-use rpg_object_program::row::Rows;
+use rpg_program::form::Kind;
+use rpg_program::forms::{form_at, kind_of};
+use rpg_program::input::InputField;
+use rpg_program::rows::Rows;
 
 /// An input field whose columns spell no number, by its record type and its place there, both counted from 0.
 #[derive(Clone, Copy)]

@@ -8,9 +8,9 @@ use crate::source::{HaltedSource, write_source};
 use rpg_cli_messages::write_byte_cause;
 use rpg_cli_refusals::write_instruction_at;
 use rpg_cli_text::TextWriter;
-use rpg_effect::halt::Halt;
-use rpg_effect::input::InputFile;
-use rpg_object_program::section::{Place, Section};
+use rpg_program::halt::Halt;
+use rpg_program::input::InputFile;
+use rpg_program::section::{Place, Section};
 use rpg_verify::Verified;
 use std::alloc::{AllocError, Global};
 

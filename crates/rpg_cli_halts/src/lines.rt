@@ -1,8 +1,8 @@
 //! The fields of output lines that can halt a job: those whose entry is named by the number in another field.
 
 use rpg_cli_text::TextWriter;
-use rpg_effect::operation::Index;
-use rpg_object_program::row::{Line, Rows};
+use rpg_program::operation::Index;
+use rpg_program::rows::{Line, Rows};
 
 /// Writes the indexed fields of a line, and returns whether none was written yet.
 fn write_line(out: &mut TextWriter, line: &Line, number: usize, is_first: bool) -> bool {

@@ -10,8 +10,8 @@ use rpg_cli_show_fields::{
 use rpg_cli_text::TextWriter;
 use rpg_deck::{Card, Tree};
 use rpg_edit_marks::Fill;
-use rpg_effect::line::Spacing;
 use rpg_faults_operands::fill_in;
+use rpg_program::line::Spacing;
 use rpg_sheet_specs::{
     Entry, EntryIndex, FileSpec, Movement, OutputField, OutputRecord, OutputSpec, Within,
 };

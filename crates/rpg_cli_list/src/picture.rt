@@ -4,8 +4,8 @@ use rpg_cards::{Defined, IndexedCards};
 use rpg_decimal::fit;
 use rpg_edit::edit_at_end;
 use rpg_edit_widths::{EditWord, How, width};
-use rpg_effect::form::{FieldForm, Kind};
 use rpg_faults_operands::fill_in;
+use rpg_program::form::{FieldForm, Kind};
 use rpg_sheet_specs::OutputField;
 
 /// The most characters that a field prints.

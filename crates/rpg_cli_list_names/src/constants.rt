@@ -5,7 +5,7 @@ use indexmap::IndexMap;
 use rpg_cards::{Constant, SpecCard};
 use rpg_cli_show_fields::{write_form, write_quoted, write_value};
 use rpg_cli_text::TextWriter;
-use rpg_effect::value::Value;
+use rpg_program::value::Value;
 use std::alloc::{AllocError, Global};
 
 /// How wide the column of forms is.

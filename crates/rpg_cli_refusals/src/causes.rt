@@ -3,11 +3,11 @@
 use crate::fields::{write_field, write_indicator, write_indicators, write_operand};
 use crate::rows::write_subroutine;
 use rpg_cli_text::TextWriter;
-use rpg_effect::condition::{Condition, Conditions};
-use rpg_effect::line::{Editing, Spacing};
-use rpg_effect::operation::{Operand, Shows};
-use rpg_effect::row::{Marks, Use};
-use rpg_object_program::row::Rows;
+use rpg_program::condition::{Condition, Conditions};
+use rpg_program::line::{Editing, Spacing};
+use rpg_program::operation::{Operand, Shows};
+use rpg_program::row::{Marks, Use};
+use rpg_program::rows::Rows;
 use rpg_refusal_causes::{Column, RefusalCause as Cause};
 
 /// The sentence of a record type, or how it begins.

@@ -1,10 +1,10 @@
 //! Fields and indicators in words.
 
 use rpg_cli_text::{TextWriter, indicator_name};
-use rpg_effect::form::{Class, FieldForm, Kind, is_array};
-use rpg_effect::operation::{Index, Operand};
-use rpg_object_program::forms::form_at;
-use rpg_object_program::row::Rows;
+use rpg_program::form::{Class, FieldForm, Kind, is_array};
+use rpg_program::forms::form_at;
+use rpg_program::operation::{Index, Operand};
+use rpg_program::rows::Rows;
 
 /// What is counted, by the name of one or of more.
 pub(crate) fn counted(count: usize, one: &'static str, more: &'static str) -> &'static str {

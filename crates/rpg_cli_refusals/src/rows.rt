@@ -2,11 +2,11 @@
 
 use crate::fields::counted;
 use rpg_cli_text::TextWriter;
-use rpg_effect::line::{File, Time};
-use rpg_effect::operation::Instruction;
-use rpg_object_program::Program;
-use rpg_object_program::row::Rows;
-use rpg_object_program::section::Section;
+use rpg_program::Program;
+use rpg_program::line::{File, Time};
+use rpg_program::operation::Instruction;
+use rpg_program::rows::Rows;
+use rpg_program::section::Section;
 use rpg_refusal_causes::placed_at;
 use rpg_verify_rules::{BrokenRule, Rule};
 

@@ -4,7 +4,7 @@ use crate::parts::{
     ALTERNATIVE, CONDITION, CONTROL_FIELD, FIELD, HEADER, HEADER_END, HEADER_END_2, INPUT_FIELD,
     INSTRUCTION, LINE, LINE_FIELD, MATCH_FIELD, RECORD_CODE, SUBROUTINE, TYPE, TYPE_2,
 };
-use rpg_object_program::row::Version;
+use rpg_program::rows::Version;
 
 /// A row of a table; the header has no number.
 #[derive(Clone, Copy)]

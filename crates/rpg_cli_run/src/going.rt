@@ -8,7 +8,7 @@ use crate::warned::deny_warnings;
 use rpg_cli_answers::{Answer, Listener, Stop, named};
 use rpg_cli_words::{FileWord, GoWords};
 use rpg_engine::Report;
-use rpg_source_run::CompiledSource;
+use rpg_meaning::CompiledSource;
 use std::alloc::Global;
 use std::rt::Files;
 

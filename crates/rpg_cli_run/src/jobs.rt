@@ -27,7 +27,7 @@ use rpg_engine::{
     has_disk_file, has_secondary_file,
 };
 use rpg_files::Counted;
-use rpg_source_run::CompiledSource;
+use rpg_meaning::CompiledSource;
 use std::alloc::Global;
 use std::fs::OpenFile;
 use std::io::{Printer, Read, Write};

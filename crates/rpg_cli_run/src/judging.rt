@@ -8,8 +8,8 @@ ghost use Rattle.rpg_engine.specs.Objects.{IsAcceptedWith};
 use rpg_cli_answers::Answer;
 use rpg_cli_files::{CompiledObject, SourceFault, compile_to_object, is_written_as};
 use rpg_engine::{Program, decode_object, verify_bytes};
+use rpg_meaning::CompiledSource;
 use rpg_object::laws::a_spelling_is_read_again;
-use rpg_source_run::CompiledSource;
 use std::alloc::Global;
 
 /// The object program that a source is compiled to.

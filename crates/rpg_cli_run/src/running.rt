@@ -9,14 +9,14 @@ ghost use Rattle.rpg_engine.specs.Refusing.{IsToldOfDate};
 ghost use Rattle.rpg_engine.specs.Starting.{date_in};
 ghost use Rattle.rpg_faults.specs.Source.{cards_in};
 ghost use Rattle.rpg_files.specs.Counting.{device_of, faults_of};
-ghost use Rattle.rpg_source_run.specs.Running.{HasNoSecondary, IsFaultless, PrintsOn, StopsOn};
+ghost use Rattle.rpg_meaning.specs.Sources.Running.{HasNoSecondary, IsFaultless, PrintsOn, StopsOn};
 
 use rpg_cli_answers::Answer;
 use rpg_cli_files::flush_device;
 use rpg_cli_words::FileWord;
 use rpg_engine::{Report, Verified, Watcher, watch_program};
 use rpg_files::Counted;
-use rpg_source_run::{CompiledSource, run_source};
+use rpg_meaning::{CompiledSource, run_source};
 use std::alloc::Global;
 use std::io::{Read, Write};
 

@@ -8,7 +8,7 @@ use rpg_cli_messages::source_messages;
 use rpg_cli_show_fields::SourceRows;
 use rpg_cli_words::FileWord;
 use rpg_faults::{faultless_cards, source_faults};
-use rpg_source_run::CompiledSource;
+use rpg_meaning::CompiledSource;
 use std::alloc::Global;
 use std::rt::Files;
 

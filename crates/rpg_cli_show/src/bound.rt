@@ -1,15 +1,15 @@
 //! The bound of an accepted program, and the path costs that it is made of.
 
 ghost use Rattle.std.specs.Prelude.{◌≡◌, ◌+◌, ◌≤◌, length};
-ghost use Rattle.rpg_object_program.specs.Kept.{IsProgram};
-ghost use Rattle.rpg_object_program.specs.Object.{seen};
-ghost use Rattle.rpg_object_program.specs.Sections.{first_place, place_behind};
+ghost use Rattle.rpg_program.specs.Kept.{IsProgram};
+ghost use Rattle.rpg_program.specs.Object.{seen};
+ghost use Rattle.rpg_program.specs.Sections.{first_place, place_behind};
 
 use rpg_cli_text::TextWriter;
-use rpg_effect::line::Time;
-use rpg_effect::operation::Instruction;
-use rpg_object_program::row::{Rows, Version};
-use rpg_object_program::section::{Place, Section};
+use rpg_program::line::Time;
+use rpg_program::operation::Instruction;
+use rpg_program::rows::{Rows, Version};
+use rpg_program::section::{Place, Section};
 use rpg_verify::Verified;
 use std::alloc::{AllocError, Global};
 
@@ -55,7 +55,7 @@ fn push_subroutines(
 }
 
 /// The path costs of the places of an accepted program.
-#[tactic(auto, unfolding(rpg_object_program::specs::Sections::first_place, rpg_object_program::specs::Sections::place_behind))]
+#[tactic(auto, unfolding(rpg_program::specs::Sections::first_place, rpg_program::specs::Sections::place_behind))]
 pub(crate) fn path_costs(alloc: Global, verified: &Verified) -> Result<Vec<u64>, AllocError> {
     let rows = verified.program().rows();
     let detail = rows.detail.len();

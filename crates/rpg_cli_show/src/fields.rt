@@ -4,8 +4,8 @@ use crate::shown::{Shown, write_offset};
 use crate::uses::Uses;
 use rpg_cli_show_fields::{is_empty, name_text, write_form, write_value};
 use rpg_cli_text::TextWriter;
-use rpg_effect::form::{Class, FieldForm};
-use rpg_effect::value::Value;
+use rpg_program::form::{Class, FieldForm};
+use rpg_program::value::Value;
 
 /// The bytes of a field's row.
 const FIELD: usize = 8;

@@ -3,7 +3,7 @@
 use crate::shown::{Shown, Table};
 use rpg_cli_show_fields::write_named;
 use rpg_cli_text::TextWriter;
-use rpg_object_program::row::Rows;
+use rpg_program::rows::Rows;
 
 const TABLES: &str =
     "  tables   fields {}, record types {}, lines {}, subroutines {},\n           instructions {} at detail time, {} at total time\n";

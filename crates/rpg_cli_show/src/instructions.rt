@@ -3,9 +3,9 @@
 use crate::shown::{Shown, Table, write_offset};
 use rpg_cli_show_fields::{write_shows, write_when};
 use rpg_cli_text::TextWriter;
-use rpg_effect::operation::{Action, Instruction, Operand};
-use rpg_effect::row::{Marks, Use};
-use rpg_object_program::columns::row_of;
+use rpg_program::columns::row_of;
+use rpg_program::operation::{Action, Instruction, Operand};
+use rpg_program::row::{Marks, Use};
 
 /// The bytes of an instruction.
 const INSTRUCTION: usize = 20;

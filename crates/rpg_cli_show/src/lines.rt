@@ -5,9 +5,9 @@ use rpg_cli_show_fields::{
     time_word, write_card, write_code, write_condition, write_spacing, write_when,
 };
 use rpg_cli_text::TextWriter;
-use rpg_effect::condition::Condition;
-use rpg_effect::line::{Editing, File, LineField, Source};
-use rpg_effect::operation::{Index, Operand};
+use rpg_program::condition::Condition;
+use rpg_program::line::{Editing, File, LineField, Source};
+use rpg_program::operation::{Index, Operand};
 
 /// Writes conditions that must all hold.
 fn write_alternative(out: &mut TextWriter, conditions: &[Condition]) {

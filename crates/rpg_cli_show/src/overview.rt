@@ -4,10 +4,10 @@ use crate::header::{write_length, write_version};
 use crate::shown::{broken_by, write_refusal};
 use rpg_cli_show_fields::{uses_date, write_named};
 use rpg_cli_text::TextWriter;
-use rpg_effect::input::ControlField;
 use rpg_object::encode;
-use rpg_object_program::Program;
-use rpg_object_program::row::Rows;
+use rpg_program::Program;
+use rpg_program::input::ControlField;
+use rpg_program::rows::Rows;
 use rpg_verify::{Verified, VerifyFault, verify};
 use std::alloc::{AllocError, Global};
 

@@ -11,7 +11,7 @@ use crate::uses::Uses;
 use rpg_cli_show_fields::SourceRows;
 use rpg_cli_text::TextWriter;
 use rpg_object::encode;
-use rpg_object_program::Program;
+use rpg_program::Program;
 use rpg_verify::{Verified, VerifyFault, verify};
 use std::alloc::{AllocError, Global};
 

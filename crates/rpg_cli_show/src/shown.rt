@@ -2,8 +2,8 @@
 
 use rpg_cli_show_fields::{SourceRows, constant_of, name_text, write_card_operand, write_value};
 use rpg_cli_text::TextWriter;
-use rpg_effect::operation::{Index, Operand};
-use rpg_object_program::row::Rows;
+use rpg_program::operation::{Index, Operand};
+use rpg_program::rows::Rows;
 use rpg_verify::{BrokenRule, Rule, VerifyFault};
 use std::alloc::AllocError;
 

@@ -3,8 +3,8 @@
 use crate::shown::{Shown, Table, write_offset};
 use rpg_cli_show_fields::{write_card, write_named, write_quoted, write_shows};
 use rpg_cli_text::TextWriter;
-use rpg_effect::input::{ControlField, InputField, InputFile, RecordCode};
-use rpg_object_program::row::{RecordType, Version};
+use rpg_program::input::{ControlField, InputField, InputFile, RecordCode};
+use rpg_program::rows::{RecordType, Version};
 
 /// Which records are of the type, and what it turns on.
 fn write_head(out: &mut TextWriter, number: usize, record_type: &RecordType) {

@@ -1,12 +1,12 @@
 //! Where each field is used.
 
 use rpg_cli_text::TextWriter;
-use rpg_effect::line::Editing;
-use rpg_effect::operation::{Index, Instruction, Operand};
-use rpg_effect::row::Use;
-use rpg_object_program::Program;
-use rpg_object_program::columns::columns_of;
-use rpg_object_program::row::{Line, RecordType, Rows};
+use rpg_program::Program;
+use rpg_program::columns::columns_of;
+use rpg_program::line::Editing;
+use rpg_program::operation::{Index, Instruction, Operand};
+use rpg_program::row::Use;
+use rpg_program::rows::{Line, RecordType, Rows};
 use rpg_refusal_causes::placed_at;
 use std::alloc::{AllocError, Global};
 

@@ -1,17 +1,17 @@
 -- Whether an object program uses the date of its job.
 use Rattle.std.specs.Prelude.{ℕ, Bool, false, ◌||◌, List, Option, None, Some}
 use Rattle.std.specs.List.{list_any}
-use Rattle.rpg_effect.specs.Forms.{form_at, is_date}
-use Rattle.rpg_effect.specs.Instructions.{columns_of}
-use Rattle.rpg_effect.specs.declared.form.FieldForm.{FieldForm}
-use Rattle.rpg_effect.specs.declared.line.LineField.{LineField}
-use Rattle.rpg_effect.specs.declared.operation.Index.{Index}
-use Rattle.rpg_effect.specs.declared.operation.Index.TheVariants as indexes
-use Rattle.rpg_effect.specs.declared.operation.Instruction.{Instruction}
-use Rattle.rpg_effect.specs.declared.operation.Operand.{Operand}
-use Rattle.rpg_effect.specs.declared.row.Row.{Row}
-use Rattle.rpg_effect.specs.declared.row.Use.{Use}
-use Rattle.rpg_object_program.specs.Object.{Object, LineRow, SubroutineRow}
+use Rattle.rpg_program.specs.Forms.{form_at, is_date}
+use Rattle.rpg_program.specs.Instructions.{columns_of}
+use Rattle.rpg_program.specs.declared.form.FieldForm.{FieldForm}
+use Rattle.rpg_program.specs.declared.line.LineField.{LineField}
+use Rattle.rpg_program.specs.declared.operation.Index.{Index}
+use Rattle.rpg_program.specs.declared.operation.Index.TheVariants as indexes
+use Rattle.rpg_program.specs.declared.operation.Instruction.{Instruction}
+use Rattle.rpg_program.specs.declared.operation.Operand.{Operand}
+use Rattle.rpg_program.specs.declared.row.Row.{Row}
+use Rattle.rpg_program.specs.declared.row.Use.{Use}
+use Rattle.rpg_program.specs.Object.{Object, LineRow, SubroutineRow}
 
 -- the form is the date's
 abbrev pub is_date_form : Option FieldForm → Bool

@@ -2,15 +2,15 @@
 
 ghost use Rattle.std.specs.Prelude.{◌≡◌};
 ghost use Rattle.rpg_cli_show_fields.specs.DateUse as words;
-ghost use Rattle.rpg_effect.specs.Forms as forms;
+ghost use Rattle.rpg_program.specs.Forms as forms;
 
-use rpg_effect::form::Class;
-use rpg_effect::line::LineField;
-use rpg_effect::operation::{Index, Instruction, Operand};
-use rpg_effect::row::Use;
-use rpg_object_program::columns::columns_of;
-use rpg_object_program::forms::form_at;
-use rpg_object_program::row::Rows;
+use rpg_program::columns::columns_of;
+use rpg_program::form::Class;
+use rpg_program::forms::form_at;
+use rpg_program::line::LineField;
+use rpg_program::operation::{Index, Instruction, Operand};
+use rpg_program::row::Use;
+use rpg_program::rows::Rows;
 
 fn is_date(class: Class) -> bool
     ensures { result ≡ forms.is_date class }

@@ -2,14 +2,14 @@
 
 ghost use Rattle.std.specs.Prelude.{◌≡◌, map};
 ghost use Rattle.std.specs.List.{list_any};
-ghost use Rattle.rpg_object_program.specs.Object.{line_row, subroutine_row};
+ghost use Rattle.rpg_program.specs.Object.{line_row, subroutine_row};
 ghost use Rattle.rpg_cli_show_fields.specs.DateUse as words;
 
 use crate::date_operands::{field_uses, instruction_uses};
-use rpg_effect::line::LineField;
-use rpg_effect::operation::Instruction;
-use rpg_object_program::program::Program;
-use rpg_object_program::row::{Line, Rows, Subroutine};
+use rpg_program::line::LineField;
+use rpg_program::operation::Instruction;
+use rpg_program::program::Program;
+use rpg_program::rows::{Line, Rows, Subroutine};
 
 fn any_instruction(rows: &Rows, instructions: &[Instruction<u16>]) -> bool
     ensures { result ≡ list_any (words.instruction_uses rows.now.fields.items) instructions.now }

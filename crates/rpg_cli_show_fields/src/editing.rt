@@ -2,7 +2,7 @@
 
 use rpg_cli_text::TextWriter;
 use rpg_edit_marks::{EditCode, Ending, Fill};
-use rpg_effect::line::{Spacing, Time};
+use rpg_program::line::{Spacing, Time};
 
 /// The character of an edit code: the table of codes has a row of four for each ending.
 fn code_letter(code: EditCode) -> u8 {

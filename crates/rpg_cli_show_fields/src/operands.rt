@@ -4,11 +4,11 @@ use crate::source_rows::SourceRows;
 use crate::values::write_value;
 use crate::words::name_text;
 use rpg_cli_text::TextWriter;
-use rpg_effect::form::is_constant;
-use rpg_effect::operation::{Index, Operand};
-use rpg_effect::value::Value;
-use rpg_object_program::forms::form_at;
-use rpg_object_program::row::Rows;
+use rpg_program::form::is_constant;
+use rpg_program::forms::form_at;
+use rpg_program::operation::{Index, Operand};
+use rpg_program::rows::Rows;
+use rpg_program::value::Value;
 
 /// The value of a constant, and its decimals.
 pub fn constant_of(rows: &Rows, field: u16) -> Option<(&Value, u8)> {

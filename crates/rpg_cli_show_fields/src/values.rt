@@ -1,8 +1,8 @@
 //! Values and forms of fields.
 
 use rpg_cli_text::TextWriter;
-use rpg_effect::form::{Class, FieldForm, Kind};
-use rpg_effect::value::Value;
+use rpg_program::form::{Class, FieldForm, Kind};
+use rpg_program::value::Value;
 use rpg_text::{shown, trimmed};
 
 /// Writes a text between apostrophes, each apostrophe in it twice, as on a card.

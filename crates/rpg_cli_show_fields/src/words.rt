@@ -1,8 +1,8 @@
 //! Names, indicators and conditions as they are written on cards.
 
 use rpg_cli_text::{TextWriter, indicator_name};
-use rpg_effect::condition::{Condition, Conditions, has_conditions};
-use rpg_effect::operation::Shows;
+use rpg_program::condition::{Condition, Conditions, has_conditions};
+use rpg_program::operation::Shows;
 
 /// A name of a card as a text. Its characters are letters, digits, `$`, `#` and `@`.
 pub fn name_text(name: &[u8]) -> &str {

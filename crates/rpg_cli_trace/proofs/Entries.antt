@@ -1,11 +1,11 @@
 -- Entries that are there.
 use Rattle.std.proofs.Common.{◌≡◌, ◌∙◌, ℕ, ◌≤◌, Option, Some, sym, ap}
-use Rattle.rpg_effect.specs.Forms.{form_at}
-use Rattle.rpg_effect.specs.declared.form.FieldForm.{FieldForm}
-use Rattle.rpg_effect.specs.declared.form.Kind.{Kind}
+use Rattle.rpg_program.specs.Forms.{form_at}
+use Rattle.rpg_program.specs.declared.form.FieldForm.{FieldForm}
+use Rattle.rpg_program.specs.declared.form.Kind.{Kind}
 use Rattle.rpg_memory.specs.Fields.{IsValue}
-use Rattle.rpg_object_program.specs.Object.{Object, seen}
-use Rattle.rpg_object_program.specs.declared.row.Rows.{Rows}
+use Rattle.rpg_program.specs.Object.{Object, seen}
+use Rattle.rpg_program.specs.declared.rows.Rows.{Rows}
 
 -- an entry of a field of a program whose rows these are
 pub value_in : (rows : Rows) (p : Object) (k : Kind) (field n : ℕ) (found : Option FieldForm) (d : FieldForm)

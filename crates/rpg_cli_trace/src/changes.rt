@@ -4,9 +4,9 @@ use crate::names::JobNames;
 use crate::values::{number_at, text_at, values_of};
 use rpg_cli_show_fields::{write_quoted, write_value};
 use rpg_cli_text::TextWriter;
-use rpg_effect::form::FieldForm;
-use rpg_effect::value::Value;
 use rpg_memory::memory::Memory;
+use rpg_program::form::FieldForm;
+use rpg_program::value::Value;
 use rpg_store::Store;
 use std::alloc::{AllocError, Global};
 

@@ -6,9 +6,9 @@ use crate::lines::{lines_in, records_in};
 use crate::names::JobNames;
 use crate::tracing::Cycle;
 use rpg_cli_text::TextWriter;
-use rpg_effect::line::File;
 use rpg_engine::{Job, JobEnd};
-use rpg_object_program::row::Rows;
+use rpg_program::line::File;
+use rpg_program::rows::Rows;
 use rpg_store::Store;
 use std::alloc::{AllocError, Global};
 

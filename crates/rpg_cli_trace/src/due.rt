@@ -1,10 +1,10 @@
 //! The lines that detail output puts out, by the indicators that are on before it.
 
-use rpg_effect::condition::Condition;
-use rpg_effect::line::Time;
 use rpg_memory::condition::all_hold;
 use rpg_memory::indicators::Indicators;
-use rpg_object_program::row::{Line, Rows};
+use rpg_program::condition::Condition;
+use rpg_program::line::Time;
+use rpg_program::rows::{Line, Rows};
 
 /// How many heading lines and detail lines are due.
 #[derive(Clone, Copy)]

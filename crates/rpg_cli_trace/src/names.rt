@@ -3,8 +3,8 @@
 use crate::records::Selected;
 use rpg_cli_show_fields::{SourceRows, name_text, write_card};
 use rpg_cli_text::TextWriter;
-use rpg_effect::form::{Class, FieldForm};
-use rpg_effect::input::InputFile;
+use rpg_program::form::{Class, FieldForm};
+use rpg_program::input::InputFile;
 use rpg_verify::Verified;
 
 /// A program that runs, the names of its input files, and what the cards of its source say, if that is known.

@@ -1,9 +1,9 @@
 //! Which record a cycle selected, as its files show it between cycles.
 
 use rpg_cycle_records::{Kept, KeptFile, identify, input_length};
-use rpg_effect::input::InputFile;
 use rpg_engine::JobEnd;
 use rpg_memory::indicators::Indicators;
+use rpg_program::input::InputFile;
 use rpg_verify::Verified;
 
 const LAST_RECORD: u8 = 110;

@@ -1,9 +1,9 @@
 //! The values of fields in the memory of a job.
 
-use rpg_effect::form::Kind;
-use rpg_effect::value::Value;
 use rpg_memory::memory::Memory;
-use rpg_object_program::forms::form_at;
+use rpg_program::form::Kind;
+use rpg_program::forms::form_at;
+use rpg_program::value::Value;
 use rpg_store::Store;
 use std::alloc::{AllocError, Global};
 

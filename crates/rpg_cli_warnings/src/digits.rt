@@ -6,7 +6,7 @@ ghost use Rattle.rpg_cli_warnings.specs.Digits as digits;
 
 use crate::warning::{Warning, WarningKind};
 use rpg_cards::{Defined, IndexedCards, SpecCard};
-use rpg_effect::form::{FieldForm, Kind};
+use rpg_program::form::{FieldForm, Kind};
 use rpg_sheet_specs::{CalculationSpec, ColumnFault, Entry, Factor, Operation};
 use std::alloc::AllocError;
 

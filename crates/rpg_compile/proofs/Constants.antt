@@ -13,7 +13,7 @@ use Rattle.rpg_cards.specs.declared.constants.Constant.{Constant}
 use Rattle.rpg_cards.specs.declared.constants.Constant.TheVariants as constant
 use Rattle.rpg_cards.specs.declared.spec_card.SpecCard.{SpecCard}
 use Rattle.rpg_compile_program.proofs.Each.{each_append, each_map}
-use Rattle.rpg_object_program.specs.Kept.{AreEntriesOf, AreValuesOf, IsCharacter, IsValueOf}
+use Rattle.rpg_program.specs.Kept.{AreEntriesOf, AreValuesOf, IsCharacter, IsValueOf}
 use Rattle.rpg_sheet_specs.specs.declared.literal.Factor.{Factor}
 use Rattle.rpg_sheet_specs.specs.declared.literal.Factor.TheVariants as factor
 use Rattle.rpg_sheet_specs.specs.declared.output.OutputSpec.{OutputSpec}

@@ -9,14 +9,14 @@ use Rattle.std.specs.Option.{option_map}
 use Rattle.std.specs.Prelude.{unwrap_or}
 use Rattle.rpg_cards.specs.Plain.{Each}
 use Rattle.rpg_cards.specs.Names.{form_with, sized, table_class, table_form}
-use Rattle.rpg_effect.specs.Input.{value_read}
-use Rattle.rpg_effect.specs.Values.{Number}
-use Rattle.rpg_effect.specs.declared.form.FieldForm.{FieldForm}
-use Rattle.rpg_effect.specs.declared.form.Kind.{Kind}
-use Rattle.rpg_effect.specs.declared.form.Kind.TheVariants as kind
+use Rattle.rpg_program.specs.Input.{value_read}
+use Rattle.rpg_program.specs.Values.{Number}
+use Rattle.rpg_program.specs.declared.form.FieldForm.{FieldForm}
+use Rattle.rpg_program.specs.declared.form.Kind.{Kind}
+use Rattle.rpg_program.specs.declared.form.Kind.TheVariants as kind
 use Rattle.rpg_decimal_words.specs.Zoned.{number_in}
 use Rattle.rpg_faults_data.specs.Data.{data_entries, entries_on, entry_on}
-use Rattle.rpg_object_program.specs.Kept.{AreEntriesOf, IsCharacter, IsValueOf}
+use Rattle.rpg_program.specs.Kept.{AreEntriesOf, IsCharacter, IsValueOf}
 use Rattle.rpg_sheet_specs.specs.declared.extension.TableSpec.{TableSpec}
 use Rattle.rpg_text.specs.Texts.{is_between}
 use Rattle.rpg_compile_program.specs.Data.{entry_value, first_of_kind, kind_by}

@@ -7,7 +7,7 @@ use Rattle.rpg_cards.specs.Cards.{file_on}
 use Rattle.rpg_cards.specs.Files.{file_for, file_use, files, same_use}
 use Rattle.rpg_cards.specs.declared.files.FileUse.TheVariants.{Printer}
 use Rattle.rpg_cards.specs.declared.spec_card.SpecCard.{SpecCard}
-use Rattle.rpg_object_program.specs.Kept.{IsOverflowIndicator}
+use Rattle.rpg_program.specs.Kept.{IsOverflowIndicator}
 use Rattle.rpg_sheet_specs.specs.declared.file.FileSpec.{FileSpec}
 use Rattle.rpg_sheet_specs.specs.declared.spec.Spec.{Spec}
 use Rattle.rpg_sheet_specs.specs.declared.spec.Spec.TheVariants as spec

@@ -7,7 +7,7 @@ use Rattle.rpg_cards.specs.Deeds.{deed_of, has_instruction, tests}
 use Rattle.rpg_cards.specs.Cards.{calculation_on, calculation_specs_in}
 use Rattle.rpg_cards.specs.declared.spec_card.SpecCard.{SpecCard}
 use Rattle.rpg_compile_program.specs.Code.{size, waits}
-use Rattle.rpg_effect.specs.declared.condition.Conditions.{Conditions}
+use Rattle.rpg_program.specs.declared.condition.Conditions.{Conditions}
 use Rattle.rpg_compile.specs.Tests.{alternatives_from, alternatives_in, begins_alternative, tests_at, tests_in}
 use Rattle.rpg_compile.specs.Walk.{first_calculation, group_of, size_with}
 use Rattle.rpg_sheet_specs.specs.declared.calculation.CalculationSpec.{CalculationSpec}

@@ -9,15 +9,15 @@ use Rattle.rpg_cards.specs.declared.operations.Content.TheVariants.{Value}
 use Rattle.rpg_cards.specs.Cards.{output_field_in, output_field_on}
 use Rattle.rpg_cards.specs.Groups.{Follower, output_role}
 use Rattle.rpg_cards.specs.declared.spec_card.SpecCard.{SpecCard}
-use Rattle.rpg_effect.specs.Forms.{has_field, is_array}
-use Rattle.rpg_effect.specs.declared.form.FieldForm.{FieldForm}
-use Rattle.rpg_effect.specs.declared.operation.Index.TheVariants as index
+use Rattle.rpg_program.specs.Forms.{has_field, is_array}
+use Rattle.rpg_program.specs.declared.form.FieldForm.{FieldForm}
+use Rattle.rpg_program.specs.declared.operation.Index.TheVariants as index
 use Rattle.rpg_compile_layouts.specs.Rows.{field_row}
 use Rattle.rpg_compile_layouts.specs.Within.{HasIndexRow}
 use Rattle.rpg_faults_operands.specs.Indexes.{bad_index_field, bad_index_of, index_form, misindexed}
 use Rattle.rpg_faults_operands.specs.Names.{index_name, is_undefined, names_nothing}
 use Rattle.rpg_faults_operands.specs.Operands.{card_entry_form, operand_with, operands_ending, operands_listed, output_operand, output_operand_on}
-use Rattle.rpg_object_program.specs.Kept.{IsIndexRow}
+use Rattle.rpg_program.specs.Kept.{IsIndexRow}
 use Rattle.rpg_compile.proofs.Fields.{named_kept}
 use Rattle.rpg_compile.proofs.Totals.{names_within, number_within}
 use Rattle.rpg_effect_renaming.specs.Naming.{renamed_index}

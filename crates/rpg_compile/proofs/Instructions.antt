@@ -3,25 +3,25 @@ use Rattle.std.proofs.Common.{◌≡◌, ℕ, zero, suc, ◌+◌, ◌-◌, ◌�
 use Rattle.std.proofs.lemmas.Bool.{and_parts, leb-true, not-false}
 use Rattle.std.proofs.lemmas.Option.{slice_get-get_or, slice_get_within, get_or_from_slice_get}
 use Rattle.std.specs.Prelude.{All, nat_le}
-use Rattle.rpg_effect.specs.Forms.{form_at, has_field, is_array}
-use Rattle.rpg_effect.specs.Instructions.{columns_of}
-use Rattle.rpg_effect.specs.Rows.{all_of, all_used, form_of, has_entry, has_index, has_operand, has_shape, is_good_operand, is_shaped, row_of, table_use}
-use Rattle.rpg_effect.specs.declared.form.FieldForm.{FieldForm}
-use Rattle.rpg_effect.specs.declared.operation.Action.{Action}
-use Rattle.rpg_effect.specs.declared.operation.Action.TheVariants.{Assign, Compare, Compute, CrossFoot, Divide, LookUp, Move, SetIndicators, TakeRemainder}
-use Rattle.rpg_effect.specs.declared.operation.Index.{Index}
-use Rattle.rpg_effect.specs.declared.operation.Index.TheVariants.{Blank, Literal, Field}
-use Rattle.rpg_effect.specs.declared.operation.Instruction.{Instruction}
-use Rattle.rpg_effect.specs.declared.operation.Instruction.TheVariants.{Act, Branch, Call, Except, Return}
-use Rattle.rpg_effect.specs.declared.operation.Operand.{Operand}
-use Rattle.rpg_effect.specs.declared.row.Shape.{Shape}
-use Rattle.rpg_effect.specs.declared.row.Shape.TheVariants as shape
+use Rattle.rpg_program.specs.Forms.{form_at, has_field, is_array}
+use Rattle.rpg_program.specs.Instructions.{columns_of}
+use Rattle.rpg_program.specs.Rows.{all_of, all_used, form_of, has_entry, has_index, has_operand, has_shape, is_good_operand, is_shaped, row_of, table_use}
+use Rattle.rpg_program.specs.declared.form.FieldForm.{FieldForm}
+use Rattle.rpg_program.specs.declared.operation.Action.{Action}
+use Rattle.rpg_program.specs.declared.operation.Action.TheVariants.{Assign, Compare, Compute, CrossFoot, Divide, LookUp, Move, SetIndicators, TakeRemainder}
+use Rattle.rpg_program.specs.declared.operation.Index.{Index}
+use Rattle.rpg_program.specs.declared.operation.Index.TheVariants.{Blank, Literal, Field}
+use Rattle.rpg_program.specs.declared.operation.Instruction.{Instruction}
+use Rattle.rpg_program.specs.declared.operation.Instruction.TheVariants.{Act, Branch, Call, Except, Return}
+use Rattle.rpg_program.specs.declared.operation.Operand.{Operand}
+use Rattle.rpg_program.specs.declared.row.Shape.{Shape}
+use Rattle.rpg_program.specs.declared.row.Shape.TheVariants as shape
 use Rattle.rpg_compile.specs.Marked.{IsMarked, IsMarkedAction, IsMarkedRow}
-use Rattle.rpg_object_program.specs.Kept.{IsActionRow, IsAnOperand, IsFieldRow, IsIndexRow, IsInstructionRow, IsOperandRow, IsOptionalRow, IsSubroutineRow}
-use Rattle.rpg_object_program.specs.Object.{Object, SubroutineRow}
-use Rattle.rpg_object_program.specs.Sections.{body_of, first_place, instruction_at, section_instructions}
-use Rattle.rpg_object_program.specs.declared.section.Section.{Section}
-use Rattle.rpg_object_program.specs.declared.section.Section.TheVariants as section
+use Rattle.rpg_program.specs.Kept.{IsActionRow, IsAnOperand, IsFieldRow, IsIndexRow, IsInstructionRow, IsOperandRow, IsOptionalRow, IsSubroutineRow}
+use Rattle.rpg_program.specs.Object.{Object, SubroutineRow}
+use Rattle.rpg_program.specs.Sections.{body_of, first_place, instruction_at, section_instructions}
+use Rattle.rpg_program.specs.declared.section.Section.{Section}
+use Rattle.rpg_program.specs.declared.section.Section.TheVariants as section
 use Rattle.rpg_verify_rules.proofs.Kept.{place_kept}
 use Rattle.rpg_verify_rules.specs.Accepted.{IsAccepted}
 use Rattle.rpg_verify_rules.specs.PlaceRules.{place_breaks}

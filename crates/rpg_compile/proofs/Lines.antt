@@ -10,8 +10,8 @@ use Rattle.rpg_cards.proofs.GroupLemmas.{open_group-push}
 use Rattle.rpg_cards.specs.Groups.{Apart, Follower, Group, Heading, Role, group_count, groups, open_group, output_role, with_card, with_followers}
 use Rattle.rpg_cards.specs.declared.spec_card.SpecCard.{SpecCard}
 use Rattle.rpg_compile_program.proofs.Each.{each_row}
-use Rattle.rpg_effect.specs.Lines.{Line}
-use Rattle.rpg_effect.specs.declared.condition.Condition.{Condition}
+use Rattle.rpg_program.specs.Lines.{Line}
+use Rattle.rpg_program.specs.declared.condition.Condition.{Condition}
 use Rattle.rpg_compile_layouts.specs.Rows.{row_in_table, rows_of}
 use Rattle.rpg_compile_layouts.specs.Within.{AreFew, HasIndexRow, IsLineWithin}
 use Rattle.rpg_faults_limits.specs.Limits.{alternative_count, condition_count, conditions_with, is_or_line, is_output_field, of_line, output_field_count}

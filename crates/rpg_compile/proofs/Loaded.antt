@@ -15,10 +15,10 @@ use Rattle.rpg_cards.specs.declared.names.Defined.TheVariants.{Good}
 use Rattle.rpg_cards.specs.declared.names.Definition.{Definition}
 use Rattle.rpg_cards.specs.declared.spec_card.SpecCard.{SpecCard}
 use Rattle.rpg_compile_program.proofs.Each.{each_append}
-use Rattle.rpg_effect.specs.declared.form.FieldForm.{FieldForm}
+use Rattle.rpg_program.specs.declared.form.FieldForm.{FieldForm}
 use Rattle.rpg_faults_data.proofs.DeckLemmas.{no_more, one_more}
 use Rattle.rpg_faults_data.specs.Data.{bad_data, bad_deck, bad_tables, breaks_data, cards_for, data_columns, data_entries, deck_at, has_forms, wanted, wants_data}
-use Rattle.rpg_object_program.specs.Kept.{AreEntriesOf}
+use Rattle.rpg_program.specs.Kept.{AreEntriesOf}
 use Rattle.rpg_sheet_specs.specs.declared.data.DataSpec.{DataSpec}
 use Rattle.rpg_sheet_specs.specs.declared.data.DataSpec.TheVariants as deck
 use Rattle.rpg_sheet_specs.specs.declared.extension.ExtensionSpec.{ExtensionSpec}

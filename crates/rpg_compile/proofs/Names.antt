@@ -12,9 +12,9 @@ use Rattle.rpg_cards.specs.Names.{definitions, form_in}
 use Rattle.rpg_cards.specs.declared.names.Definition.{Definition}
 use Rattle.rpg_cards.specs.declared.spec_card.SpecCard.{SpecCard}
 use Rattle.rpg_compile_program.proofs.Each.{each_append, each_map}
-use Rattle.rpg_effect.specs.Values.{Value}
-use Rattle.rpg_effect.specs.declared.form.FieldForm.{FieldForm}
-use Rattle.rpg_object_program.specs.Kept.{AreEntriesOf, AreValuesOf}
+use Rattle.rpg_program.specs.Values.{Value}
+use Rattle.rpg_program.specs.declared.form.FieldForm.{FieldForm}
+use Rattle.rpg_program.specs.Kept.{AreEntriesOf, AreValuesOf}
 use Rattle.rpg_symbols.specs.Fields.{NamedForms, defined_form, given}
 use Rattle.rpg_compile_program.proofs.Known.{name_known}
 use Rattle.rpg_compile_program.proofs.Redefined.{card_defines, card_has_forms}

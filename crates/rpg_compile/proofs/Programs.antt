@@ -11,16 +11,16 @@ use Rattle.rpg_cards.specs.declared.spec_card.SpecCard.{SpecCard}
 use Rattle.rpg_compile_program.specs.Code.{sizes, subroutines_code}
 use Rattle.rpg_compile_program.specs.Levels.{subroutine_level}
 use Rattle.rpg_compile_program.specs.Whole.{called_number, detail_code, subroutine_rows, total_code}
-use Rattle.rpg_effect.specs.Input.{TypeRow}
-use Rattle.rpg_effect.specs.Values.{Value}
-use Rattle.rpg_effect.specs.declared.input.InputFile.TheVariants.{Primary}
-use Rattle.rpg_effect.specs.declared.form.FieldForm.{FieldForm}
-use Rattle.rpg_effect.specs.declared.operation.Instruction.{Instruction}
+use Rattle.rpg_program.specs.Input.{TypeRow}
+use Rattle.rpg_program.specs.Values.{Value}
+use Rattle.rpg_program.specs.declared.input.InputFile.TheVariants.{Primary}
+use Rattle.rpg_program.specs.declared.form.FieldForm.{FieldForm}
+use Rattle.rpg_program.specs.declared.operation.Instruction.{Instruction}
 use Rattle.rpg_compile.specs.Marked.{IsMarked, IsMarkedRow}
-use Rattle.rpg_object_program.specs.Kept.{AreValuesOf, IsLineRow, IsProgram, IsTypeRow}
-use Rattle.rpg_object_program.specs.Object.{LineRow, Object, SubroutineRow}
-use Rattle.rpg_object_program.specs.declared.row.Version.{Version}
-use Rattle.rpg_object_program.specs.declared.section.Section.TheVariants as section
+use Rattle.rpg_program.specs.Kept.{AreValuesOf, IsLineRow, IsProgram, IsTypeRow}
+use Rattle.rpg_program.specs.Object.{LineRow, Object, SubroutineRow}
+use Rattle.rpg_program.specs.declared.rows.Version.{Version}
+use Rattle.rpg_program.specs.declared.section.Section.TheVariants as section
 use Rattle.rpg_compile.specs.Limits.{KeepsLimits}
 use Rattle.rpg_verify_rules.specs.Accepted.{IsAccepted}
 use Rattle.rpg_compile_program.specs.Data.{values_of}

@@ -10,7 +10,7 @@ use Rattle.rpg_compile_program.specs.Levels.{subroutine_level}
 use Rattle.rpg_compile_program.specs.Whole.{called_number}
 use Rattle.rpg_compile.proofs.Sizes.{all_sizes}
 use Rattle.rpg_compile.specs.Numbers.{body_sizes}
-use Rattle.rpg_object_program.specs.Sections.{instructions_in, places_of}
+use Rattle.rpg_program.specs.Sections.{instructions_in, places_of}
 use Rattle.rpg_compile_program.proofs.Flow.{plain}
 use Rattle.rpg_compile_program.specs.Program.{key_numbers, program_of, sections}
 use Rattle.rpg_compile_program.specs.Rules.{KeepsCardRules}

@@ -11,8 +11,8 @@ use Rattle.rpg_cards.specs.Cards.{calculation_on}
 use Rattle.rpg_cards.specs.Groups.{joins}
 use Rattle.rpg_cards.specs.declared.spec_card.SpecCard.{SpecCard}
 use Rattle.rpg_compile_program.specs.Code.{size, sizes, waits}
-use Rattle.rpg_effect.specs.Control.{has_conditions}
-use Rattle.rpg_effect.specs.declared.condition.Conditions.{Conditions}
+use Rattle.rpg_program.specs.Control.{has_conditions}
+use Rattle.rpg_program.specs.declared.condition.Conditions.{Conditions}
 use Rattle.rpg_compile.proofs.Walk.{behind_group, closed, opened}
 use Rattle.rpg_compile.specs.Numbers.{body_sizes}
 use Rattle.rpg_compile.specs.Walk.{section_in, subroutines_in}

@@ -6,11 +6,11 @@ use Rattle.rpg_cards.specs.Deeds.{Acts, Begins, Calculation, Deed, Ends, Execute
 use Rattle.rpg_cards.specs.Keys.{Key, Name}
 use Rattle.rpg_cards.specs.declared.spec_card.SpecCard.{SpecCard}
 use Rattle.rpg_compile_program.specs.Code.{code_from, group_code, level_code, size, step_code, tests_code, waits}
-use Rattle.rpg_effect.specs.declared.operation.Action.{Action}
-use Rattle.rpg_effect.specs.declared.operation.Instruction.TheVariants as made
-use Rattle.rpg_effect.specs.declared.operation.Operand.{Operand}
-use Rattle.rpg_effect.specs.declared.condition.Conditions.{Conditions}
-use Rattle.rpg_effect.specs.declared.operation.Instruction.{Instruction}
+use Rattle.rpg_program.specs.declared.operation.Action.{Action}
+use Rattle.rpg_program.specs.declared.operation.Instruction.TheVariants as made
+use Rattle.rpg_program.specs.declared.operation.Operand.{Operand}
+use Rattle.rpg_program.specs.declared.condition.Conditions.{Conditions}
+use Rattle.rpg_program.specs.declared.operation.Instruction.{Instruction}
 use Rattle.rpg_compile.proofs.Groups.{group_alternatives, group_tests, size_of_instruction}
 use Rattle.rpg_compile.specs.Steps.{action_in, code_of_group}
 use Rattle.rpg_compile.specs.Tests.{alternatives_in, tests_in}

@@ -17,10 +17,10 @@ use Rattle.rpg_cards.specs.Names.{defined_field, definitions, names, same_name}
 use Rattle.rpg_cards.specs.declared.constants.Constant.{Constant}
 use Rattle.rpg_cards.specs.declared.names.Definition.{Definition}
 use Rattle.rpg_cards.specs.declared.spec_card.SpecCard.{SpecCard}
-use Rattle.rpg_effect.specs.Forms.{size_of}
-use Rattle.rpg_effect.specs.declared.form.FieldForm.{FieldForm}
+use Rattle.rpg_program.specs.Forms.{size_of}
+use Rattle.rpg_program.specs.declared.form.FieldForm.{FieldForm}
 use Rattle.rpg_faults_limits.specs.Limits.{bytes_up_to, constant_bytes, constant_size, definition_bytes, fields_up_to, name_bytes, name_count}
-use Rattle.rpg_object_program.specs.Kept.{storage_of}
+use Rattle.rpg_program.specs.Kept.{storage_of}
 use Rattle.rpg_compile.proofs.Walks.{unpassed}
 use Rattle.rpg_symbols.specs.Fields.{NamedForms, defined_form, given, storage}
 use Rattle.rpg_compile_program.proofs.Definitions.{HasForm, IsForm}

@@ -4,8 +4,8 @@ use Rattle.std.proofs.lemmas.List.{map-append}
 use Rattle.rpg_cards.specs.Keys.{Key, Name}
 use Rattle.rpg_cards.specs.Sections.{Subroutine}
 use Rattle.rpg_compile_program.specs.Code.{section_code, sizes, subroutines_code}
-use Rattle.rpg_object_program.specs.Object.{SubroutineRow, subroutine_row}
-use Rattle.rpg_object_program.specs.declared.row.Subroutine as row
+use Rattle.rpg_program.specs.Object.{SubroutineRow, subroutine_row}
+use Rattle.rpg_program.specs.declared.rows.Subroutine as row
 
 module _ (number : Key → ℕ) (called : Option Name → ℕ) (level : ℕ → ℕ) where
   abbrev pub row_of : ℕ → ℕ → Subroutine Key → SubroutineRow

@@ -3,9 +3,9 @@ use Rattle.std.specs.Prelude.{ℕ, ◌<◌, List, length}
 use Rattle.rpg_cards.specs.Plain.{calls_of}
 use Rattle.rpg_cards.specs.declared.spec_card.SpecCard.{SpecCard}
 use Rattle.rpg_compile_program.specs.Program.{sections}
-use Rattle.rpg_object_program.specs.Object.{Object}
-use Rattle.rpg_object_program.specs.Sections.{level_of}
-use Rattle.rpg_object_program.specs.declared.section.Section.TheVariants as section
+use Rattle.rpg_program.specs.Object.{Object}
+use Rattle.rpg_program.specs.Sections.{level_of}
+use Rattle.rpg_program.specs.declared.section.Section.TheVariants as section
 use Rattle.rpg_symbols.specs.Levels.{IsCallLevel}
 
 -- that of each is the number of subroutines on the longest chain of calls that ends in it

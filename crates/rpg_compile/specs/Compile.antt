@@ -1,7 +1,7 @@
 -- What a source is compiled to.
 use Rattle.std.specs.Prelude.{◌≡◌, ℕ, List, None}
 use Rattle.rpg_faults.specs.Faults.{Faultless}
-use Rattle.rpg_object_program.specs.Object.{Object}
+use Rattle.rpg_program.specs.Object.{Object}
 use Rattle.rpg_verify_rules.specs.Accepted.{IsAccepted}
 use Rattle.rpg_sheet.specs.Sheet.{first_sheet_fault, source}
 use Rattle.rpg_faults.specs.Source.{cards_in}

@@ -10,8 +10,8 @@ use Rattle.rpg_cards.specs.declared.files.FileUse.TheVariants as uses
 use Rattle.rpg_cards.specs.declared.spec_card.SpecCard.{SpecCard}
 use Rattle.rpg_compile_layouts.specs.Rows.{rows_of}
 use Rattle.rpg_compile_layouts.specs.Within.{IsLineWithin, IsTypeWithin}
-use Rattle.rpg_object_program.specs.Kept.{IsFieldRow, IsOverflowIndicator, storage_of}
-use Rattle.rpg_object_program.specs.Sections.{places_of}
+use Rattle.rpg_program.specs.Kept.{IsFieldRow, IsOverflowIndicator, storage_of}
+use Rattle.rpg_program.specs.Sections.{places_of}
 use Rattle.rpg_symbols.specs.Fields as symbols
 use Rattle.rpg_compile_program.specs.Lines.{lines_on, record_length_of}
 use Rattle.rpg_compile_program.specs.Program.{program_of, sections}

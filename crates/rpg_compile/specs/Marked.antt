@@ -1,12 +1,12 @@
 -- What instructions keep whatever is on the cards: numbers of two bytes, and indicators from 1 to 129.
 use Rattle.std.specs.Prelude.{ℕ, All}
-use Rattle.rpg_effect.specs.declared.operation.Action.{Action}
-use Rattle.rpg_effect.specs.declared.operation.Action.TheVariants.{Compute, Divide, Assign, TakeRemainder, CrossFoot, Compare, LookUp, Move, SetIndicators}
-use Rattle.rpg_effect.specs.declared.operation.Instruction.{Instruction}
-use Rattle.rpg_effect.specs.declared.operation.Instruction.TheVariants.{Act, Except, Branch, Call, Return}
-use Rattle.rpg_effect.specs.declared.operation.Operand.{Operand}
-use Rattle.rpg_object_program.specs.Kept.{AreConditions, AreIndicators, IsTwoBytes}
-use Rattle.rpg_object_program.specs.Object.{SubroutineRow}
+use Rattle.rpg_program.specs.declared.operation.Action.{Action}
+use Rattle.rpg_program.specs.declared.operation.Action.TheVariants.{Compute, Divide, Assign, TakeRemainder, CrossFoot, Compare, LookUp, Move, SetIndicators}
+use Rattle.rpg_program.specs.declared.operation.Instruction.{Instruction}
+use Rattle.rpg_program.specs.declared.operation.Instruction.TheVariants.{Act, Except, Branch, Call, Return}
+use Rattle.rpg_program.specs.declared.operation.Operand.{Operand}
+use Rattle.rpg_program.specs.Kept.{AreConditions, AreIndicators, IsTwoBytes}
+use Rattle.rpg_program.specs.Object.{SubroutineRow}
 
 -- an operation whose indicators are in range
 abbrev pub IsMarkedAction : Action (Operand ℕ) → Type 0

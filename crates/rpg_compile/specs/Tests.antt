@@ -5,7 +5,7 @@ use Rattle.std.specs.Option.{option_map_or}
 use Rattle.rpg_cards.specs.Calculations.{is_or, tests_on}
 use Rattle.rpg_cards.specs.Cards.{calculation_on}
 use Rattle.rpg_cards.specs.declared.spec_card.SpecCard.{SpecCard}
-use Rattle.rpg_effect.specs.declared.condition.Conditions.{Conditions}
+use Rattle.rpg_program.specs.declared.condition.Conditions.{Conditions}
 
 -- the test of a card, where it has one
 abbrev pub tests_at : SpecCard → List Conditions

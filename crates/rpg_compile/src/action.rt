@@ -4,7 +4,7 @@ ghost use Rattle.std.specs.Prelude.{◌≡◌, IfSome, unwrap_or};
 ghost use Rattle.std.specs.Option.{option_map};
 ghost use Rattle.rpg_cards.specs.Deeds as deeds;
 ghost use Rattle.rpg_cards.specs.Keys as keys;
-ghost use Rattle.rpg_effect.specs.declared.operation.Action.TheVariants as actions;
+ghost use Rattle.rpg_program.specs.declared.operation.Action.TheVariants as actions;
 ghost use Rattle.rpg_compile.specs.Marked.{IsMarkedAction};
 ghost use Rattle.rpg_compile.specs.Steps.{action_in};
 ghost use Rattle.rpg_effect_renaming.specs.Naming.{renamed_action, renamed_operand};
@@ -12,7 +12,7 @@ ghost use Rattle.rpg_compile_program.specs.Table.{key_number};
 
 use rpg_cards::shows_of;
 use rpg_compile_layouts::FieldTable;
-use rpg_effect::operation::{Action, Index, Operand, Operator, Side};
+use rpg_program::operation::{Action, Index, Operand, Operator, Side};
 use rpg_sheet_specs::{CalculationSpec, Entry, Factor, Operation};
 
 /// What an operation does to fields: nothing where it only transfers control.

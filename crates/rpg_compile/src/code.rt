@@ -3,7 +3,7 @@
 ghost use Rattle.std.specs.Prelude.{◌≡◌, ◌++◌, ◌∷◌, [], All, OnOk};
 ghost use Rattle.rpg_compile.specs.Marked.{IsMarked};
 
-use rpg_effect::operation::Instruction;
+use rpg_program::operation::Instruction;
 use std::alloc::{AllocError, Global};
 use std::marker::Model;
 
@@ -15,7 +15,7 @@ pub struct Code {
 
 impl Model for Code {
     ghost use Rattle.std.specs.Prelude.{ℕ, List, All};
-    ghost use Rattle.rpg_effect.specs.declared.operation.Instruction.{Instruction};
+    ghost use Rattle.rpg_program.specs.declared.operation.Instruction.{Instruction};
     ghost use Rattle.rpg_compile.specs.Marked.{IsMarked};
 
     ghost Value = { List (Instruction ℕ) };

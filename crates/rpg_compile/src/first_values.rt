@@ -1,7 +1,7 @@
 //! Laws of the definitions. The functions do nothing: they are called only for their contracts.
 
 ghost use Rattle.rpg_faults.specs.Faults.{Faultless};
-ghost use Rattle.rpg_object_program.specs.Kept.{AreValuesOf};
+ghost use Rattle.rpg_program.specs.Kept.{AreValuesOf};
 ghost use Rattle.rpg_compile_program.specs.Data.{values_of};
 ghost use Rattle.rpg_compile_program.specs.Table.{forms, table_of};
 

@@ -12,8 +12,8 @@ use crate::action::action_of;
 use crate::numbers::NameNumbers;
 use crate::part::wanted_name;
 use rpg_compile_layouts::FieldTable;
-use rpg_effect::condition::Conditions;
-use rpg_effect::operation::Instruction;
+use rpg_program::condition::Conditions;
+use rpg_program::operation::Instruction;
 use rpg_sheet_specs::{CalculationSpec, Operation};
 
 /// What the names on the cards of a section stand for.

@@ -5,7 +5,7 @@ ghost use Rattle.std.specs.Option.{option_and_then};
 ghost use Rattle.rpg_faults.specs.Faults.{Faultless};
 ghost use Rattle.rpg_faults_flow.specs.Kept.{KeepsRule};
 ghost use Rattle.rpg_faults_limits.specs.Names.{bad_size};
-ghost use Rattle.rpg_object_program.specs.Kept.{AreValuesOf};
+ghost use Rattle.rpg_program.specs.Kept.{AreValuesOf};
 ghost use Rattle.rpg_compile.specs.Limits.{KeepsLimits};
 ghost use Rattle.rpg_verify_rules.specs.Accepted.{IsAccepted};
 ghost use Rattle.rpg_compile_program.specs.Data.{values_of};
@@ -20,8 +20,8 @@ use crate::{
 };
 use rpg_cards::{FileUse, SpecCard, file_for, has_match_field};
 use rpg_compile_layouts::{Fields, fields_of, lines_of, types_of};
-use rpg_object_program::Program;
-use rpg_object_program::row::{Rows, Version};
+use rpg_program::Program;
+use rpg_program::rows::{Rows, Version};
 use rpg_sheet_specs::FileSpec;
 use std::alloc::{AllocError, Global};
 

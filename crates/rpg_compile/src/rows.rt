@@ -11,7 +11,7 @@ ghost use Rattle.rpg_compile.specs.Called.{level_at};
 ghost use Rattle.rpg_compile.specs.Marked.{IsMarked, IsMarkedRow};
 ghost use Rattle.rpg_compile.specs.Numbers.{body_sizes, number_by};
 ghost use Rattle.rpg_compile.specs.Walk.{section_in, subroutines_in};
-ghost use Rattle.rpg_object_program.specs.Object.{subroutine_row};
+ghost use Rattle.rpg_program.specs.Object.{subroutine_row};
 ghost use Rattle.rpg_compile_program.specs.Table.{key_number};
 
 use crate::calls::levels_of;
@@ -22,8 +22,8 @@ use crate::part::{Part, next_subroutine};
 use crate::section::push_section;
 use rpg_cards::SpecCard;
 use rpg_compile_layouts::FieldTable;
-use rpg_effect::operation::Instruction;
-use rpg_object_program::row::Subroutine;
+use rpg_program::operation::Instruction;
+use rpg_program::rows::Subroutine;
 use std::alloc::{AllocError, Global};
 
 /// The instructions of detail calculations, of total calculations and of each subroutine.

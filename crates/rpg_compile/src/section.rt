@@ -8,7 +8,7 @@ ghost use Rattle.rpg_compile.specs.Marked.{IsMarked};
 ghost use Rattle.rpg_compile.specs.Numbers.{number_by};
 ghost use Rattle.rpg_compile.specs.Steps as steps;
 ghost use Rattle.rpg_compile.specs.Walk as walk;
-ghost use Rattle.rpg_object_program.specs.Kept.{IsIndicator};
+ghost use Rattle.rpg_program.specs.Kept.{IsIndicator};
 ghost use Rattle.rpg_compile_program.specs.Table.{key_number};
 
 use crate::code::Code;
@@ -17,8 +17,8 @@ use crate::instruction::Section;
 use crate::part::{Part, next_in};
 use crate::tests::{count_tests, push_tests};
 use rpg_cards::{SpecCard, level};
-use rpg_effect::condition::{Condition, Conditions};
-use rpg_effect::operation::Instruction;
+use rpg_program::condition::{Condition, Conditions};
+use rpg_program::operation::Instruction;
 use rpg_sheet_specs::CalculationSpec;
 use std::alloc::AllocError;
 

@@ -7,7 +7,7 @@ ghost use Rattle.rpg_faults.specs.Source.{AreFaultless, IsSourceRefusal};
 use crate::program::translate;
 use rpg_cards::SpecCard;
 use rpg_faults::{SourceFault, faultless_cards};
-use rpg_object_program::Program;
+use rpg_program::Program;
 use std::alloc::Global;
 
 /// A source without a fault: its cards, and the program that they are compiled to.

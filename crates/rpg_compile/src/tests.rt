@@ -4,12 +4,12 @@ ghost use Rattle.std.specs.Prelude.{◌≡◌, ◌+◌, ◌++◌, ◌<◌, ◌�
 ghost use Rattle.std.specs.Option.{option_to_list};
 ghost use Rattle.rpg_compile_program.specs.Code as code_of;
 ghost use Rattle.rpg_compile.specs.Tests as tests;
-ghost use Rattle.rpg_object_program.specs.Kept.{AreConditions};
+ghost use Rattle.rpg_program.specs.Kept.{AreConditions};
 
 use crate::code::Code;
 use rpg_cards::{SpecCard, is_or, test};
-use rpg_effect::condition::Conditions;
-use rpg_effect::operation::Instruction;
+use rpg_program::condition::Conditions;
+use rpg_program::operation::Instruction;
 use std::alloc::AllocError;
 
 /// The conditions of a card, if it has any.

@@ -7,8 +7,8 @@ use Rattle.rpg_cards.specs.Names.{definitions, definitions_on}
 use Rattle.rpg_cards.specs.declared.names.Definition.{Definition}
 use Rattle.rpg_cards.specs.declared.spec_card.SpecCard.{SpecCard}
 use Rattle.rpg_compile_program.specs.Table.{with_definition, with_definitions, with_form}
-use Rattle.rpg_effect.specs.Forms.{size_of}
-use Rattle.rpg_effect.specs.declared.form.FieldForm.{FieldForm}
+use Rattle.rpg_program.specs.Forms.{size_of}
+use Rattle.rpg_program.specs.declared.form.FieldForm.{FieldForm}
 use Rattle.rpg_symbols.specs.Fields.{NamedForms, defined_form, storage}
 
 module _ (measure : NamedForms → ℕ) (more : (fields : NamedForms) (name : List ℕ) (form : FieldForm) → measure fields ≤ measure (fields ++ (name, form) ∷ [])) where

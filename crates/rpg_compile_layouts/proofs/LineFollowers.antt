@@ -8,15 +8,15 @@ use Rattle.rpg_cards.specs.Cards.{output_on, output_record_in, output_record_on}
 use Rattle.rpg_cards.specs.Files.{file_by}
 use Rattle.rpg_cards.specs.Groups.{followers, following, groups_from, opening, output_card_role, output_role, role_on}
 use Rattle.rpg_cards.specs.declared.spec_card.SpecCard.{SpecCard}
-use Rattle.rpg_object_program.specs.Object.{LineRow}
-use Rattle.rpg_effect.specs.declared.condition.Condition.{Condition}
-use Rattle.rpg_effect.specs.declared.line.File.{File}
-use Rattle.rpg_effect.specs.declared.line.LineField.{LineField}
-use Rattle.rpg_effect.specs.declared.line.Spacing.{Spacing}
-use Rattle.rpg_effect.specs.declared.line.Time.{Time}
+use Rattle.rpg_program.specs.Object.{LineRow}
+use Rattle.rpg_program.specs.declared.condition.Condition.{Condition}
+use Rattle.rpg_program.specs.declared.line.File.{File}
+use Rattle.rpg_program.specs.declared.line.LineField.{LineField}
+use Rattle.rpg_program.specs.declared.line.Spacing.{Spacing}
+use Rattle.rpg_program.specs.declared.line.Time.{Time}
 use Rattle.rpg_compile_layouts.specs.Rows.{alternatives_behind, field_row, output_rows_behind, row_behind, row_in_table, rows_from}
 use Rattle.rpg_compile_layouts.specs.Within.{AreFew, IsLineWithin}
-use Rattle.rpg_object_program.specs.Kept.{IsConditionRow, IsLineFieldRow, IsLineRow, IsSpacingRow}
+use Rattle.rpg_program.specs.Kept.{IsConditionRow, IsLineFieldRow, IsLineRow, IsSpacingRow}
 use Rattle.rpg_effect_renaming.specs.Naming.{renamed_field}
 use Rattle.rpg_sheet_specs.specs.declared.indicator.Condition as card
 use Rattle.rpg_sheet_specs.specs.declared.indicator.Three.{Three}

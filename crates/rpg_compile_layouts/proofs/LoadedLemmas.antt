@@ -12,8 +12,8 @@ use Rattle.rpg_cards.proofs.IndexLemmas.{known_stays}
 use Rattle.rpg_cards.specs.Cards.{calculation_on, extension_on, input_field_on}
 use Rattle.rpg_cards.specs.Groups.{data_role, followers}
 use Rattle.rpg_cards.specs.declared.spec_card.SpecCard.{SpecCard}
-use Rattle.rpg_effect.specs.Values.{Value}
-use Rattle.rpg_effect.specs.declared.form.FieldForm.{FieldForm}
+use Rattle.rpg_program.specs.Values.{Value}
+use Rattle.rpg_program.specs.declared.form.FieldForm.{FieldForm}
 use Rattle.rpg_compile_layouts.specs.Loaded.{HasSameData, TakesDeck, loaded_values, tables_behind}
 use Rattle.rpg_compile_layouts.specs.Tables.{values_on}
 use Rattle.rpg_compile_layouts.specs.declared.tables.TableData.{TableData}

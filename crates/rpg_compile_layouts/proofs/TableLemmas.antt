@@ -6,7 +6,7 @@ use Rattle.std.specs.List.{range_with_len}
 use Rattle.rpg_cards.specs.Cards.{data_on}
 use Rattle.rpg_cards.specs.Groups.{data_card, data_role, followers, following, role_on}
 use Rattle.rpg_cards.specs.declared.spec_card.SpecCard.{SpecCard}
-use Rattle.rpg_effect.specs.Values.{Value}
+use Rattle.rpg_program.specs.Values.{Value}
 use Rattle.rpg_compile_layouts.specs.Tables.{values_on_card}
 use Rattle.rpg_compile_layouts.specs.declared.tables.TableData.{TableData}
 use Rattle.rpg_faults_data.proofs.EntryLemmas.{entries-card, entries-none}

@@ -5,7 +5,7 @@ use Rattle.std.specs.Prelude.{◌≡◌, ℕ, ◌∷◌, ◌++◌, List, Option,
 use Rattle.rpg_cards.specs.Groups.{data_role, followers}
 use Rattle.rpg_cards.specs.Names.{tables_on}
 use Rattle.rpg_cards.specs.declared.spec_card.SpecCard.{SpecCard}
-use Rattle.rpg_effect.specs.Values.{Value}
+use Rattle.rpg_program.specs.Values.{Value}
 use Rattle.rpg_sheet_specs.specs.declared.extension.ExtensionSpec.{ExtensionSpec}
 use Rattle.rpg_compile_program.specs.Data.{Loaded, all_loaded, decks, tables_loaded}
 

@@ -3,11 +3,11 @@ use Rattle.std.specs.Prelude.{ℕ, List, map, Option, None}
 use Rattle.rpg_cards.specs.Keys.{Key}
 use Rattle.rpg_cards.specs.Groups.{followers, groups_from, output_role}
 use Rattle.rpg_cards.specs.declared.spec_card.SpecCard.{SpecCard}
-use Rattle.rpg_effect.specs.Lines.{Line}
-use Rattle.rpg_effect.specs.declared.condition.Condition.{Condition}
-use Rattle.rpg_effect.specs.declared.line.File.{File}
-use Rattle.rpg_effect.specs.declared.line.LineField.{LineField}
-use Rattle.rpg_object_program.specs.Object.{LineRow}
+use Rattle.rpg_program.specs.Lines.{Line}
+use Rattle.rpg_program.specs.declared.condition.Condition.{Condition}
+use Rattle.rpg_program.specs.declared.line.File.{File}
+use Rattle.rpg_program.specs.declared.line.LineField.{LineField}
+use Rattle.rpg_program.specs.Object.{LineRow}
 use Rattle.rpg_effect_renaming.specs.Naming.{renamed_field, renamed_line}
 use Rattle.rpg_sheet_specs.specs.declared.output.OutputField.{OutputField}
 use Rattle.rpg_sheet_specs.specs.declared.output.OutputRecord.{OutputRecord}

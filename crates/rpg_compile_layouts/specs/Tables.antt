@@ -2,7 +2,7 @@
 use Rattle.std.specs.List.{range_with_len}
 use Rattle.std.specs.Prelude.{ℕ, List, map}
 use Rattle.rpg_cards.specs.Groups.{data_role, followers}
-use Rattle.rpg_effect.specs.Values.{Value}
+use Rattle.rpg_program.specs.Values.{Value}
 use Rattle.rpg_compile_layouts.specs.declared.tables.TableData.{TableData}
 use Rattle.rpg_faults_data.specs.Data.{data_entries, entry_on}
 use Rattle.rpg_compile_program.specs.Data.{entry_value}

@@ -1,11 +1,11 @@
 -- Types and lines that keep the limits of an object program.
 use Rattle.std.specs.Prelude.{ℕ, ◌≤◌, List, All, length}
 use Rattle.rpg_cards.specs.Keys.{Key}
-use Rattle.rpg_effect.specs.Input.{TypeRow}
-use Rattle.rpg_effect.specs.declared.condition.Condition.{Condition}
-use Rattle.rpg_effect.specs.declared.line.LineField.{LineField}
-use Rattle.rpg_object_program.specs.Kept.{IsIndexRow}
-use Rattle.rpg_object_program.specs.Object.{LineRow}
+use Rattle.rpg_program.specs.Input.{TypeRow}
+use Rattle.rpg_program.specs.declared.condition.Condition.{Condition}
+use Rattle.rpg_program.specs.declared.line.LineField.{LineField}
+use Rattle.rpg_program.specs.Kept.{IsIndexRow}
+use Rattle.rpg_program.specs.Object.{LineRow}
 
 -- a record type within the limits of an object
 pub record IsTypeWithin (t : TypeRow Key) : Type 0 where

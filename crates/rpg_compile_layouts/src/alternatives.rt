@@ -4,10 +4,10 @@ ghost use Rattle.std.specs.Prelude.{◌≡◌, ◌++◌, All, map, IfOk, OnOk};
 ghost use Rattle.std.specs.Option.{option_map, option_to_list};
 ghost use Rattle.rpg_cards.specs.Calculations as calculations;
 ghost use Rattle.rpg_compile_layouts.specs.Rows.{alternatives_behind};
-ghost use Rattle.rpg_object_program.specs.Kept.{IsConditionRow};
+ghost use Rattle.rpg_program.specs.Kept.{IsConditionRow};
 
 use rpg_cards::{SpecCard, condition_of};
-use rpg_effect::condition::Condition;
+use rpg_program::condition::Condition;
 use rpg_sheet_specs::{OutputSpec, Three};
 use std::alloc::{AllocError, Global};
 

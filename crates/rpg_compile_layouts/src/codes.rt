@@ -3,11 +3,11 @@
 ghost use Rattle.std.specs.Prelude.{◌≡◌, ◌++◌, [], ◌∷◌, All, IfOk, OnOk};
 ghost use Rattle.std.specs.Option.{option_map, option_to_list};
 ghost use Rattle.rpg_compile_layouts.specs.Parts.{codes_behind};
-ghost use Rattle.rpg_object_program.specs.Kept.{IsCodeRow};
+ghost use Rattle.rpg_program.specs.Kept.{IsCodeRow};
 ghost use Rattle.rpg_compile_program.specs.Types as types;
 
 use rpg_cards::SpecCard;
-use rpg_effect::input::RecordCode;
+use rpg_program::input::RecordCode;
 use rpg_sheet_specs::{InputSpec, Three};
 use std::alloc::{AllocError, Global};
 

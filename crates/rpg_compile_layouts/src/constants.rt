@@ -3,14 +3,14 @@
 ghost use Rattle.std.specs.Prelude.{◌≡◌, ◌++◌, All, map, IfOk, OnOk};
 ghost use Rattle.rpg_cards.specs.Insertions.{insert_all};
 ghost use Rattle.rpg_cards.specs.Constants as known;
-ghost use Rattle.rpg_effect.specs.Values.{held};
+ghost use Rattle.rpg_program.specs.Values.{held};
 ghost use Rattle.rpg_compile_program.specs.Data.{constant_value, constant_values};
 
 use arrayvec::ArrayVec;
 use indexmap::IndexSet;
 use rpg_cards::{Constant, SpecCard};
-use rpg_effect::form::FieldForm;
-use rpg_effect::value::Value;
+use rpg_program::form::FieldForm;
+use rpg_program::value::Value;
 use std::alloc::{AllocError, Global};
 
 /// The constants of cards, equal ones once, in the order in which they come first.

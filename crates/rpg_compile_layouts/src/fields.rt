@@ -2,7 +2,7 @@
 
 ghost use Rattle.std.specs.Prelude.{◌≡◌, ◌+◌, ◌≤◌, All, length, map, IfOk};
 ghost use Rattle.rpg_cards.specs.Constants.{IsConstant, constants};
-ghost use Rattle.rpg_effect.specs.Values.{held};
+ghost use Rattle.rpg_program.specs.Values.{held};
 ghost use Rattle.rpg_faults_flow.specs.Kept.{KeepsRule};
 ghost use Rattle.rpg_faults_limits.specs.Names.{bad_size};
 ghost use Rattle.rpg_symbols.specs.Fields.{storage};
@@ -14,8 +14,8 @@ use crate::loaded::Loaded;
 use crate::names::NameTable;
 use crate::table::FieldTable;
 use rpg_cards::SpecCard;
-use rpg_effect::form::FieldForm;
-use rpg_effect::value::Value;
+use rpg_program::form::FieldForm;
+use rpg_program::value::Value;
 use std::alloc::{AllocError, Global};
 
 /// The fields of a program in the order of their numbers: names, and constants after them.

@@ -7,8 +7,8 @@ ghost use Rattle.rpg_compile_program.specs.Lines as lines;
 ghost use Rattle.rpg_compile_program.specs.Types as types;
 
 use rpg_cards::{FileUse, SpecCard, file_named, use_of};
-use rpg_effect::input::InputFile;
-use rpg_effect::line::File;
+use rpg_program::input::InputFile;
+use rpg_program::line::File;
 use rpg_sheet_specs::Word;
 
 /// The file that the first card of a group names, else the one before.

@@ -4,11 +4,11 @@ ghost use Rattle.std.specs.Prelude.{◌≡◌, ◌++◌, All, IfOk, IfSome, OnOk
 ghost use Rattle.std.specs.Option.{option_to_list};
 ghost use Rattle.rpg_cards.specs.Levels.{control_level, match_level};
 ghost use Rattle.rpg_compile_layouts.specs.Parts.{levels_behind};
-ghost use Rattle.rpg_object_program.specs.Kept.{IsControlRow};
+ghost use Rattle.rpg_program.specs.Kept.{IsControlRow};
 ghost use Rattle.rpg_compile_program.specs.Types as types;
 
 use rpg_cards::SpecCard;
-use rpg_effect::input::ControlField;
+use rpg_program::input::ControlField;
 use rpg_sheet_specs::{InputField, InputSpec, Within};
 use std::alloc::{AllocError, Global};
 

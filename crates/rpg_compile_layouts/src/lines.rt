@@ -3,8 +3,8 @@
 ghost use Rattle.std.specs.Prelude.{◌≡◌, All, map, IfOk};
 ghost use Rattle.rpg_compile_layouts.specs.Rows.{row_behind, rows_of};
 ghost use Rattle.rpg_compile_layouts.specs.Within.{IsLineWithin};
-ghost use Rattle.rpg_object_program.specs.Kept.{IsLineRow};
-ghost use Rattle.rpg_object_program.specs.Object.{line_row};
+ghost use Rattle.rpg_program.specs.Kept.{IsLineRow};
+ghost use Rattle.rpg_program.specs.Object.{line_row};
 
 use crate::FieldTable;
 use crate::alternatives::alternatives_of;
@@ -12,8 +12,8 @@ use crate::files::{own_or, put_on};
 use crate::output_fields::fields_of;
 use crate::spacing::spacing_of;
 use rpg_cards::{SpecCard, time_of};
-use rpg_effect::line::File;
-use rpg_object_program::row::Line;
+use rpg_program::line::File;
+use rpg_program::rows::Line;
 use rpg_sheet_specs::OutputRecord;
 use std::alloc::{AllocError, Global};
 

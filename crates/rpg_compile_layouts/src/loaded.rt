@@ -1,7 +1,7 @@
 //! The data of arrays and tables, by their names.
 
 ghost use Rattle.std.specs.Prelude.{◌≡◌, [], ◌∷◌, ◌++◌, map, false, IfOk, OnOk, MatchOption};
-ghost use Rattle.rpg_effect.specs.Values.{held};
+ghost use Rattle.rpg_program.specs.Values.{held};
 ghost use Rattle.rpg_compile_layouts.specs.Loaded.{HasSameData, TakesDeck, tables_behind};
 ghost use Rattle.rpg_compile_layouts.specs.Tables.{values_on};
 ghost use Rattle.rpg_faults_flow.specs.Kept.{KeepsRule};
@@ -12,9 +12,9 @@ use crate::tables::TableData;
 use crate::values::empty_values;
 use indexmap::IndexMap;
 use rpg_cards::SpecCard;
-use rpg_effect::form::FieldForm;
-use rpg_effect::value::Value;
 use rpg_faults_data::{behind_next, data_columns};
+use rpg_program::form::FieldForm;
+use rpg_program::value::Value;
 use rpg_sheet_specs::ExtensionSpec;
 use rpg_symbols::Name;
 use std::alloc::{AllocError, Global};

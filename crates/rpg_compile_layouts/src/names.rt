@@ -2,15 +2,15 @@
 
 ghost use Rattle.std.specs.Prelude.{◌≡◌, ◌≤◌, [], ◌∷◌, codes, length, map, IfOk, OnOk};
 ghost use Rattle.rpg_cards.specs.Names.{definitions_on};
-ghost use Rattle.rpg_effect.specs.Values.{held};
+ghost use Rattle.rpg_program.specs.Values.{held};
 ghost use Rattle.rpg_compile_program.specs.Data.{field_values};
 ghost use Rattle.rpg_compile_program.specs.Table as fields;
 ghost use Rattle.rpg_symbols.specs.Fields.{given, storage};
 
 use crate::loaded::Loaded;
 use rpg_cards::{Definition, SpecCard};
-use rpg_effect::form::FieldForm;
-use rpg_effect::value::Value;
+use rpg_program::form::FieldForm;
+use rpg_program::value::Value;
 use rpg_symbols::{DefineFault, Name, Symbols};
 use std::alloc::{AllocError, Global};
 

@@ -3,12 +3,12 @@
 ghost use Rattle.std.specs.Prelude.{◌≡◌, false, All, None, IfOk};
 ghost use Rattle.rpg_cards.specs.Keys.{Fixed};
 ghost use Rattle.rpg_cards.specs.declared.constants.Constant.TheVariants.{Text};
-ghost use Rattle.rpg_effect.specs.declared.line.Editing.TheVariants as editings;
-ghost use Rattle.rpg_effect.specs.declared.line.Source.TheVariants as sources;
+ghost use Rattle.rpg_program.specs.declared.line.Editing.TheVariants as editings;
+ghost use Rattle.rpg_program.specs.declared.line.Source.TheVariants as sources;
 ghost use Rattle.rpg_compile_layouts.specs.Rows.{field_row, output_rows_behind};
 ghost use Rattle.rpg_compile_layouts.specs.Within.{HasIndexRow};
 ghost use Rattle.rpg_edit_marks.specs.declared.code.Fill.TheVariants as fills;
-ghost use Rattle.rpg_object_program.specs.Kept.{AreConditions, IsEditingRow, IsIndexRow, IsLineFieldRow};
+ghost use Rattle.rpg_program.specs.Kept.{AreConditions, IsEditingRow, IsIndexRow, IsLineFieldRow};
 ghost use Rattle.rpg_effect_renaming.specs.Naming.{renamed_editing, renamed_operand};
 ghost use Rattle.rpg_compile_program.specs.Lines as lines;
 ghost use Rattle.rpg_compile_program.specs.Table.{key_number};
@@ -16,9 +16,9 @@ ghost use Rattle.rpg_compile_program.specs.Table.{key_number};
 use crate::FieldTable;
 use rpg_cards::{Constant, SpecCard, in_places};
 use rpg_edit_marks::Fill;
-use rpg_effect::condition::Conditions;
-use rpg_effect::line::{Editing, LineField, Source};
-use rpg_effect::operation::{Index, Operand};
+use rpg_program::condition::Conditions;
+use rpg_program::line::{Editing, LineField, Source};
+use rpg_program::operation::{Index, Operand};
 use rpg_sheet_specs::{EditCode, Entry, OutputField, OutputSpec, TextLiteral};
 use std::alloc::{AllocError, Global};
 

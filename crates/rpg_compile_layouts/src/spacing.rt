@@ -1,10 +1,10 @@
 //! How the form moves.
 
 ghost use Rattle.std.specs.Prelude.{◌≡◌, unwrap_or};
-ghost use Rattle.rpg_object_program.specs.Kept.{IsSpacingRow};
+ghost use Rattle.rpg_program.specs.Kept.{IsSpacingRow};
 ghost use Rattle.rpg_compile_program.specs.Lines as lines;
 
-use rpg_effect::line::{File, Spacing};
+use rpg_program::line::{File, Spacing};
 use rpg_sheet_specs::{Movement, Within};
 
 /// The movements that stand; the printer spaces one after where none does.

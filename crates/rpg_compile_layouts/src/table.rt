@@ -7,7 +7,7 @@ ghost use Rattle.rpg_compile_program.specs.Table as table;
 
 use indexmap::IndexSet;
 use rpg_cards::{Constant, factor_constant};
-use rpg_effect::operation::{Index, Operand};
+use rpg_program::operation::{Index, Operand};
 use rpg_sheet_specs::{Entry, EntryIndex, Factor};
 use rpg_symbols::{Name, Symbols};
 use std::marker::Model;

@@ -1,7 +1,7 @@
 //! The values of a table, from the cards of its deck.
 
 ghost use Rattle.std.specs.Prelude.{◌≡◌, ◌++◌, ◌+◌, ◌≤◌, ◌<◌, ◌^◌, false, pos, length, map, unwrap_or, slice_range, IfOk, OnOk};
-ghost use Rattle.rpg_effect.specs.Values.{held};
+ghost use Rattle.rpg_program.specs.Values.{held};
 ghost use Rattle.rpg_faults_limits.specs.Names.{bad_size_of_table};
 ghost use Rattle.rpg_decimal_words.specs.Zoned.{number_in};
 ghost use Rattle.rpg_faults_data.specs.Data.{entry_on};
@@ -10,7 +10,7 @@ ghost use Rattle.rpg_compile_program.specs.Data.{entry_value};
 use crate::values::text_value;
 use rpg_cards::SpecCard;
 use rpg_decimal::read_zoned;
-use rpg_effect::value::Value;
+use rpg_program::value::Value;
 use rpg_sheet_specs::{DataSpec, TableSpec};
 use std::alloc::{AllocError, Global};
 

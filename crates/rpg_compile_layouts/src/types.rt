@@ -3,8 +3,8 @@
 ghost use Rattle.std.specs.Prelude.{◌≡◌, All, map, IfOk};
 ghost use Rattle.rpg_compile_layouts.specs.Parts.{inputs_behind, type_behind};
 ghost use Rattle.rpg_compile_layouts.specs.Within.{IsTypeWithin};
-ghost use Rattle.rpg_object_program.specs.Kept.{AreIndicators, IsInputRow, IsTypeRow};
-ghost use Rattle.rpg_object_program.specs.Object.{type_row};
+ghost use Rattle.rpg_program.specs.Kept.{AreIndicators, IsInputRow, IsTypeRow};
+ghost use Rattle.rpg_program.specs.Object.{type_row};
 ghost use Rattle.rpg_effect_renaming.specs.Naming.{renamed_input, renamed_type};
 ghost use Rattle.rpg_compile_program.specs.Table.{key_number};
 ghost use Rattle.rpg_compile_program.specs.Types as types;
@@ -14,9 +14,9 @@ use crate::codes::codes_of;
 use crate::files::{own_or, read_from};
 use crate::levels::{levels_of, matches_of};
 use rpg_cards::{SpecCard, number_of, shows_of};
-use rpg_effect::input::{InputField, InputFile};
-use rpg_effect::operation::Shows;
-use rpg_object_program::row::RecordType;
+use rpg_program::input::{InputField, InputFile};
+use rpg_program::operation::Shows;
+use rpg_program::rows::RecordType;
 use rpg_sheet_specs::InputSpec;
 use std::alloc::{AllocError, Global};
 

@@ -1,11 +1,11 @@
 //! Zeros and blanks, and copies of texts.
 
 ghost use Rattle.std.specs.Prelude.{◌≡◌, map, replicate, IfOk};
-ghost use Rattle.rpg_effect.specs.Values.{Text, held};
+ghost use Rattle.rpg_program.specs.Values.{Text, held};
 ghost use Rattle.rpg_compile_program.specs.Data.{first_of_kind};
 
-use rpg_effect::form::{FieldForm, Kind};
-use rpg_effect::value::Value;
+use rpg_program::form::{FieldForm, Kind};
+use rpg_program::value::Value;
 use std::alloc::{AllocError, Global};
 
 /// Zeros or blanks, one for each entry of a field.

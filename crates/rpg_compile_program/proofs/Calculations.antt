@@ -15,8 +15,8 @@ use Rattle.rpg_cards.specs.declared.constants.Constant.{Constant}
 use Rattle.rpg_cards.specs.declared.spec_card.SpecCard.{SpecCard}
 use Rattle.rpg_compile_program.proofs.Each.{each_append, each_at}
 use Rattle.rpg_compile_program.specs.Levels.{subroutine_level}
-use Rattle.rpg_effect.specs.Forms.{has_field}
-use Rattle.rpg_effect.specs.declared.form.FieldForm.{FieldForm}
+use Rattle.rpg_program.specs.Forms.{has_field}
+use Rattle.rpg_program.specs.declared.form.FieldForm.{FieldForm}
 use Rattle.rpg_faults_flow.proofs.Facts.{ending, last_with}
 use Rattle.rpg_faults_flow.proofs.Joined.{each_body, each_control, each_split}
 use Rattle.rpg_faults_flow.proofs.Walk.{Walk, each_calculation}

@@ -12,12 +12,12 @@ use Rattle.rpg_cards.specs.Plain.{Each}
 use Rattle.rpg_cards.specs.declared.files.FileUse.TheVariants.{Secondary}
 use Rattle.rpg_cards.specs.declared.spec_card.SpecCard.{SpecCard}
 use Rattle.rpg_compile_program.proofs.Each.{each_append}
-use Rattle.rpg_effect.specs.Control.{has_conditions}
-use Rattle.rpg_effect.specs.declared.condition.Conditions.{Conditions}
+use Rattle.rpg_program.specs.Control.{has_conditions}
+use Rattle.rpg_program.specs.declared.condition.Conditions.{Conditions}
 use Rattle.rpg_faults_operands.specs.Indicators.{any_of, bad_in_calculation, cannot_be_set, is_barred_mr}
-use Rattle.rpg_object_program.specs.Kept.{IsIndicator}
-use Rattle.rpg_object_program.specs.declared.row.Version.{Version}
-use Rattle.rpg_object_program.specs.declared.row.Version.TheVariants as versions
+use Rattle.rpg_program.specs.Kept.{IsIndicator}
+use Rattle.rpg_program.specs.declared.rows.Version.{Version}
+use Rattle.rpg_program.specs.declared.rows.Version.TheVariants as versions
 use Rattle.rpg_text.specs.Texts.{is_between}
 use Rattle.rpg_verify_rules.specs.Indicators.{all_asked, are_settable, if_any, is_settable, most_asked}
 use Rattle.rpg_sheet_specs.specs.declared.calculation.CalculationSpec.{CalculationSpec}

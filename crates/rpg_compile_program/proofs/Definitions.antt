@@ -11,10 +11,10 @@ use Rattle.rpg_cards.specs.Names.{definition_by, definition_in, definition_of, d
 use Rattle.rpg_cards.specs.declared.names.Definition.{Definition}
 use Rattle.rpg_cards.specs.declared.spec_card.SpecCard.{SpecCard}
 use Rattle.rpg_compile_program.proofs.Each.{each_append}
-use Rattle.rpg_effect.specs.declared.form.Class.TheVariants as class
-use Rattle.rpg_effect.specs.declared.form.FieldForm.{FieldForm}
-use Rattle.rpg_effect.specs.declared.form.Kind.{Kind}
-use Rattle.rpg_effect.specs.declared.form.Kind.TheVariants as kind
+use Rattle.rpg_program.specs.declared.form.Class.TheVariants as class
+use Rattle.rpg_program.specs.declared.form.FieldForm.{FieldForm}
+use Rattle.rpg_program.specs.declared.form.Kind.{Kind}
+use Rattle.rpg_program.specs.declared.form.Kind.TheVariants as kind
 use Rattle.rpg_faults_limits.specs.Limits.{bad_entries_of}
 use Rattle.rpg_faults_limits.specs.Names.{bad_size, bad_size_by, bad_size_of_field, bad_size_of_result, bad_size_of_table, bad_size_of_tables}
 use Rattle.rpg_sheet_specs.specs.declared.calculation.CalculationSpec.{CalculationSpec}

@@ -13,18 +13,18 @@ use Rattle.rpg_cards.specs.Names.{form_in, form_of_name}
 use Rattle.rpg_cards.specs.declared.constants.Constant.{Constant}
 use Rattle.rpg_cards.specs.declared.constants.Constant.TheVariants as constant
 use Rattle.rpg_cards.specs.declared.spec_card.SpecCard.{SpecCard}
-use Rattle.rpg_effect.specs.Forms.{has_field, is_array, is_index_form, is_table, kind_of, length_of, may_write, same_kind}
-use Rattle.rpg_effect.specs.Rows.{can_hold, has_form, has_index, has_operand, has_shape, is_blank_index, is_one}
-use Rattle.rpg_effect.specs.declared.form.Class.TheVariants as class
-use Rattle.rpg_effect.specs.declared.form.FieldForm.{FieldForm}
-use Rattle.rpg_effect.specs.declared.form.Kind.{Kind}
-use Rattle.rpg_effect.specs.declared.form.Kind.TheVariants as kind
-use Rattle.rpg_effect.specs.declared.operation.Index.{Index}
-use Rattle.rpg_effect.specs.declared.operation.Index.TheVariants as index
-use Rattle.rpg_effect.specs.declared.operation.Operand.{Operand}
-use Rattle.rpg_effect.specs.declared.row.Shape.{Shape}
-use Rattle.rpg_effect.specs.declared.row.Shape.TheVariants as shape
-use Rattle.rpg_effect.specs.declared.row.Use.{Use}
+use Rattle.rpg_program.specs.Forms.{has_field, is_array, is_index_form, is_table, kind_of, length_of, may_write, same_kind}
+use Rattle.rpg_program.specs.Rows.{can_hold, has_form, has_index, has_operand, has_shape, is_blank_index, is_one}
+use Rattle.rpg_program.specs.declared.form.Class.TheVariants as class
+use Rattle.rpg_program.specs.declared.form.FieldForm.{FieldForm}
+use Rattle.rpg_program.specs.declared.form.Kind.{Kind}
+use Rattle.rpg_program.specs.declared.form.Kind.TheVariants as kind
+use Rattle.rpg_program.specs.declared.operation.Index.{Index}
+use Rattle.rpg_program.specs.declared.operation.Index.TheVariants as index
+use Rattle.rpg_program.specs.declared.operation.Operand.{Operand}
+use Rattle.rpg_program.specs.declared.row.Shape.{Shape}
+use Rattle.rpg_program.specs.declared.row.Shape.TheVariants as shape
+use Rattle.rpg_program.specs.declared.row.Use.{Use}
 use Rattle.rpg_faults_flow.specs.Columns.{misses}
 use Rattle.rpg_faults_operands.specs.Indexes.{bad_index_field, bad_index_of, can_index, is_too_short, misindexed, needs_index, takes_index}
 use Rattle.rpg_faults_operands.specs.Kinds.{has_text, is_unwritable, is_wrong_class, kinds_differ}

@@ -12,17 +12,17 @@ use Rattle.rpg_cards.specs.Files.{file_by, is_input, is_output}
 use Rattle.rpg_cards.specs.Groups.{Follower, Group, Heading, groups, input_role, open_file, open_group, output_role}
 use Rattle.rpg_cards.specs.Names.{definition_of, definitions_on, field_form, form_with, sized_form}
 use Rattle.rpg_cards.specs.declared.spec_card.SpecCard.{SpecCard}
-use Rattle.rpg_effect.specs.Forms.{is_plain}
-use Rattle.rpg_effect.specs.Input.{fits_shows}
-use Rattle.rpg_effect.specs.declared.form.Class.TheVariants as class
-use Rattle.rpg_effect.specs.declared.form.FieldForm.{FieldForm}
-use Rattle.rpg_effect.specs.declared.form.Kind.{Kind}
-use Rattle.rpg_effect.specs.declared.form.Kind.TheVariants as kind
-use Rattle.rpg_effect.specs.declared.input.RecordCode as row_code
+use Rattle.rpg_program.specs.Forms.{is_plain}
+use Rattle.rpg_program.specs.Input.{fits_shows}
+use Rattle.rpg_program.specs.declared.form.Class.TheVariants as class
+use Rattle.rpg_program.specs.declared.form.FieldForm.{FieldForm}
+use Rattle.rpg_program.specs.declared.form.Kind.{Kind}
+use Rattle.rpg_program.specs.declared.form.Kind.TheVariants as kind
+use Rattle.rpg_program.specs.declared.input.RecordCode as row_code
 use Rattle.rpg_faults_limits.specs.Files.{bad_file, lacks_file}
 use Rattle.rpg_faults_operands.specs.Indicators.{bad_on, bad_on_field, bad_on_input, cannot_mark_type}
 use Rattle.rpg_faults.specs.Places.{bad_codes, is_code_outside, is_past, outside_on_input, outside_record, own_file, joins_badly}
-use Rattle.rpg_object_program.specs.Kept.{IsIndicator}
+use Rattle.rpg_program.specs.Kept.{IsIndicator}
 use Rattle.rpg_verify_rules.specs.Indicators.{if_any, is_of_type}
 use Rattle.rpg_verify_rules.specs.TypeRules.{is_code_in}
 use Rattle.rpg_sheet_specs.specs.declared.file.FileSpec.{FileSpec}

@@ -10,25 +10,25 @@ use Rattle.rpg_cards.specs.Sections.{Sections, Subroutine}
 use Rattle.rpg_compile_program.proofs.Each.{each_append, each_map, none_broken, none_in_both}
 use Rattle.rpg_compile_program.specs.Code.{alternative_code, code_from, group_code, label_place, level_code, on_level, section_code, size, sizes, skip_code, step_code, subroutines_code, tests_code, waits}
 use Rattle.rpg_compile_program.specs.Whole.{IsCodeOf, called_number}
-use Rattle.rpg_effect.specs.Control.{has_conditions}
-use Rattle.rpg_effect.specs.Forms.{form_at}
-use Rattle.rpg_effect.specs.Right.{KeepsRules}
-use Rattle.rpg_effect.specs.Rows.{all_used, form_of, holds_positions, is_two_sided, is_writable_use, row_of}
-use Rattle.rpg_effect.specs.declared.condition.Conditions.{Conditions}
-use Rattle.rpg_effect.specs.declared.form.FieldForm.{FieldForm}
-use Rattle.rpg_effect.specs.declared.operation.Action.{Action}
-use Rattle.rpg_effect.specs.declared.operation.Action.TheVariants.{Assign, Compare, Compute, CrossFoot, Divide, LookUp, Move, SetIndicators, TakeRemainder}
-use Rattle.rpg_effect.specs.declared.operation.Instruction.{Instruction}
-use Rattle.rpg_effect.specs.declared.operation.Instruction.TheVariants as made
-use Rattle.rpg_effect.specs.declared.operation.Operand.{Operand}
-use Rattle.rpg_effect.specs.declared.row.Use.{Use}
-use Rattle.rpg_object_program.specs.Instructions.{columns}
-use Rattle.rpg_object_program.specs.Object.{Object}
-use Rattle.rpg_object_program.specs.declared.section.Section.{Section}
-use Rattle.rpg_object_program.specs.declared.section.Section.TheVariants as section
+use Rattle.rpg_program.specs.Control.{has_conditions}
+use Rattle.rpg_program.specs.Forms.{form_at}
+use Rattle.rpg_program.specs.Right.{KeepsRules}
+use Rattle.rpg_program.specs.Rows.{all_used, form_of, holds_positions, is_two_sided, is_writable_use, row_of}
+use Rattle.rpg_program.specs.declared.condition.Conditions.{Conditions}
+use Rattle.rpg_program.specs.declared.form.FieldForm.{FieldForm}
+use Rattle.rpg_program.specs.declared.operation.Action.{Action}
+use Rattle.rpg_program.specs.declared.operation.Action.TheVariants.{Assign, Compare, Compute, CrossFoot, Divide, LookUp, Move, SetIndicators, TakeRemainder}
+use Rattle.rpg_program.specs.declared.operation.Instruction.{Instruction}
+use Rattle.rpg_program.specs.declared.operation.Instruction.TheVariants as made
+use Rattle.rpg_program.specs.declared.operation.Operand.{Operand}
+use Rattle.rpg_program.specs.declared.row.Use.{Use}
+use Rattle.rpg_program.specs.ObjectInstructions.{columns}
+use Rattle.rpg_program.specs.Object.{Object}
+use Rattle.rpg_program.specs.declared.section.Section.{Section}
+use Rattle.rpg_program.specs.declared.section.Section.TheVariants as section
 use Rattle.rpg_effect_renaming.proofs.Rows.{right_same}
 use Rattle.rpg_effect_renaming.specs.Naming.{IsRenaming, renamed_action}
-use Rattle.rpg_object_program.specs.declared.row.Version.{Version}
+use Rattle.rpg_program.specs.declared.rows.Version.{Version}
 use Rattle.rpg_verify_rules.proofs.Columns.{columns_same, kinds_same, written_same}
 use Rattle.rpg_verify_rules.proofs.Kept.{NoneTrue}
 use Rattle.rpg_verify_rules.specs.Indicators.{all_asked}

@@ -10,8 +10,8 @@ use Rattle.rpg_cards.specs.Plain.{Each}
 use Rattle.rpg_cards.specs.Groups.{Group}
 use Rattle.rpg_cards.specs.Levels.{control_level, is_at}
 use Rattle.rpg_cards.specs.declared.spec_card.SpecCard.{SpecCard}
-use Rattle.rpg_effect.specs.Input.{TypeRow}
-use Rattle.rpg_effect.specs.declared.input.ControlField.{ControlField}
+use Rattle.rpg_program.specs.Input.{TypeRow}
+use Rattle.rpg_program.specs.declared.input.ControlField.{ControlField}
 use Rattle.rpg_faults.specs.Places.{first_length, good_length, has_bad, input_columns, joined_length, lengths_differ, level_length, levels}
 use Rattle.rpg_effect_renaming.specs.Naming.{renamed_type}
 use Rattle.rpg_verify_rules.specs.TypeRules.{all_measured, is_measured, measure, measures}

@@ -8,7 +8,7 @@ use Rattle.rpg_cards.specs.Files.{file_by}
 use Rattle.rpg_cards.specs.Groups.{open_file, output_role}
 use Rattle.rpg_cards.specs.Names.{form_in, form_of_name}
 use Rattle.rpg_cards.specs.declared.spec_card.SpecCard.{SpecCard}
-use Rattle.rpg_effect.specs.Forms.{has_field}
+use Rattle.rpg_program.specs.Forms.{has_field}
 use Rattle.rpg_faults_limits.specs.Limits.{bad_entries, bad_entries_of, passes_on_calculations, passes_on_lines, passes_on_types, passes_storage}
 use Rattle.rpg_faults_operands.specs.Names.{is_undefined}
 use Rattle.rpg_faults.specs.Places.{joins_badly, outside_line, outside_on_input, own_file}

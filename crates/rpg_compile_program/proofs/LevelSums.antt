@@ -5,7 +5,7 @@ use Rattle.std.proofs.lemmas.List.Sums.{sum_by-cons}
 use Rattle.std.specs.List.{list_any, range_with_len, sum}
 use Rattle.std.specs.Prelude.{◌==◌}
 use Rattle.rpg_cards.specs.Plain.{Each}
-use Rattle.rpg_effect.specs.declared.input.ControlField.{ControlField}
+use Rattle.rpg_program.specs.declared.input.ControlField.{ControlField}
 use Rattle.rpg_verify_rules.specs.TypeRules.{are_once, columns_at, is_of_level, joined_width, joined_widths}
 
 -- ---- sums over numbers from one on

@@ -14,8 +14,8 @@ use Rattle.rpg_cards.specs.Constants.{constant_form, is_same}
 use Rattle.rpg_cards.specs.SameConstants.{is_same-equal}
 use Rattle.rpg_cards.specs.declared.constants.Constant.{Constant}
 use Rattle.rpg_cards.specs.declared.constants.Constant.TheVariants.{Number, Text}
-use Rattle.rpg_effect.specs.Forms.{form_at, has_field}
-use Rattle.rpg_effect.specs.declared.form.FieldForm.{FieldForm}
+use Rattle.rpg_program.specs.Forms.{form_at, has_field}
+use Rattle.rpg_program.specs.declared.form.FieldForm.{FieldForm}
 use Rattle.rpg_sheet_specs.specs.Numeral.{Numeral}
 use Rattle.rpg_effect_renaming.specs.Naming.{IsRenaming}
 use Rattle.rpg_symbols.specs.Fields.{NamedForms, defined_form}

@@ -15,20 +15,20 @@ use Rattle.rpg_cards.specs.declared.operations.Content.TheVariants.{Searched, Ta
 use Rattle.rpg_cards.specs.declared.operations.OperationColumns.{OperationColumns}
 use Rattle.rpg_cards.specs.Names.{form_in, form_of_name}
 use Rattle.rpg_cards.specs.declared.spec_card.SpecCard.{SpecCard}
-use Rattle.rpg_effect.specs.Forms.{entries_of, has_field, is_array, is_table, may_write}
-use Rattle.rpg_effect.specs.Rows.{can_hold, form_of, holds_positions, row_of}
-use Rattle.rpg_effect.specs.declared.form.FieldForm.{FieldForm}
-use Rattle.rpg_effect.specs.declared.form.Kind.{Kind}
-use Rattle.rpg_effect.specs.declared.form.Kind.TheVariants as kind
-use Rattle.rpg_effect.specs.declared.operation.Action.TheVariants.{Assign, Compare, Compute, CrossFoot, Divide, LookUp, Move, SetIndicators, TakeRemainder}
-use Rattle.rpg_effect.specs.declared.operation.Operand.{Operand}
-use Rattle.rpg_effect.specs.declared.operation.Operator.{Operator}
-use Rattle.rpg_effect.specs.declared.operation.Operator.TheVariants as operator
-use Rattle.rpg_effect.specs.declared.operation.Side.{Side}
-use Rattle.rpg_effect.specs.declared.operation.Side.TheVariants.{Left, Right}
-use Rattle.rpg_effect.specs.declared.row.Shape.{Shape}
-use Rattle.rpg_effect.specs.declared.row.Shape.TheVariants as shape
-use Rattle.rpg_effect.specs.declared.row.Use.{Use}
+use Rattle.rpg_program.specs.Forms.{entries_of, has_field, is_array, is_table, may_write}
+use Rattle.rpg_program.specs.Rows.{can_hold, form_of, holds_positions, row_of}
+use Rattle.rpg_program.specs.declared.form.FieldForm.{FieldForm}
+use Rattle.rpg_program.specs.declared.form.Kind.{Kind}
+use Rattle.rpg_program.specs.declared.form.Kind.TheVariants as kind
+use Rattle.rpg_program.specs.declared.operation.Action.TheVariants.{Assign, Compare, Compute, CrossFoot, Divide, LookUp, Move, SetIndicators, TakeRemainder}
+use Rattle.rpg_program.specs.declared.operation.Operand.{Operand}
+use Rattle.rpg_program.specs.declared.operation.Operator.{Operator}
+use Rattle.rpg_program.specs.declared.operation.Operator.TheVariants as operator
+use Rattle.rpg_program.specs.declared.operation.Side.{Side}
+use Rattle.rpg_program.specs.declared.operation.Side.TheVariants.{Left, Right}
+use Rattle.rpg_program.specs.declared.row.Shape.{Shape}
+use Rattle.rpg_program.specs.declared.row.Shape.TheVariants as shape
+use Rattle.rpg_program.specs.declared.row.Use.{Use}
 use Rattle.rpg_faults_flow.specs.Columns.{bad_last, bad_operation, bad_shown, misses}
 use Rattle.rpg_faults_operands.specs.Columns.{bad_search, is_unordered, lacks_sequence}
 use Rattle.rpg_faults_operands.specs.Indexes.{bad_index_of}

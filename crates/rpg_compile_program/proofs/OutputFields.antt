@@ -10,17 +10,17 @@ use Rattle.rpg_cards.specs.Constants.{constant_form}
 use Rattle.rpg_cards.specs.Names.{form_in, form_of_name}
 use Rattle.rpg_cards.specs.declared.constants.Constant.TheVariants as constant
 use Rattle.rpg_cards.specs.declared.spec_card.SpecCard.{SpecCard}
-use Rattle.rpg_effect.specs.Editing.{how_of, width_as}
-use Rattle.rpg_effect.specs.Forms.{has_field, is_array, is_writable, same_kind}
-use Rattle.rpg_effect.specs.LineFaults.{KeepsFieldRules, fits_editing, fits_source}
-use Rattle.rpg_effect.specs.Rows.{has_entry, has_operand, is_one_entry, is_shaped}
-use Rattle.rpg_effect.specs.declared.form.Class.TheVariants as class
-use Rattle.rpg_effect.specs.declared.form.FieldForm.{FieldForm}
-use Rattle.rpg_effect.specs.declared.form.Kind.{Kind}
-use Rattle.rpg_effect.specs.declared.form.Kind.TheVariants as kind
-use Rattle.rpg_effect.specs.declared.line.Source.TheVariants as sources
-use Rattle.rpg_effect.specs.declared.operation.Index.TheVariants as index
-use Rattle.rpg_effect.specs.declared.row.Shape.TheVariants as shape
+use Rattle.rpg_program.specs.Editing.{how_of, width_as}
+use Rattle.rpg_program.specs.Forms.{has_field, is_array, is_writable, same_kind}
+use Rattle.rpg_program.specs.LineFaults.{KeepsFieldRules, fits_editing, fits_source}
+use Rattle.rpg_program.specs.Rows.{has_entry, has_operand, is_one_entry, is_shaped}
+use Rattle.rpg_program.specs.declared.form.Class.TheVariants as class
+use Rattle.rpg_program.specs.declared.form.FieldForm.{FieldForm}
+use Rattle.rpg_program.specs.declared.form.Kind.{Kind}
+use Rattle.rpg_program.specs.declared.form.Kind.TheVariants as kind
+use Rattle.rpg_program.specs.declared.line.Source.TheVariants as sources
+use Rattle.rpg_program.specs.declared.operation.Index.TheVariants as index
+use Rattle.rpg_program.specs.declared.row.Shape.TheVariants as shape
 use Rattle.rpg_edit_marks.specs.How.{width_of}
 use Rattle.rpg_edit_marks.specs.declared.code.EditCode.{EditCode}
 use Rattle.rpg_edit_marks.specs.declared.code.Fill.{Fill}

@@ -25,23 +25,23 @@ use Rattle.rpg_faults_operands.specs.Indexes.{bad_index, bad_index_of}
 use Rattle.rpg_faults_operands.specs.Kinds.{wrong_in_output, wrong_operand}
 use Rattle.rpg_faults_operands.specs.Names.{lacks_name, names_nothing}
 use Rattle.rpg_faults_operands.specs.Operands.{Operand, operands_ending, operands_listed, output_operand, output_operand_on}
-use Rattle.rpg_effect.specs.Forms.{form_at, has_field, length_of}
-use Rattle.rpg_effect.specs.LineFaults.{KeepsFieldRules, fits_editing}
-use Rattle.rpg_effect.specs.declared.condition.Condition.{Condition}
-use Rattle.rpg_effect.specs.declared.form.FieldForm.{FieldForm}
-use Rattle.rpg_effect.specs.declared.line.Editing.{Editing}
-use Rattle.rpg_effect.specs.declared.line.Editing.TheVariants as editing
-use Rattle.rpg_effect.specs.declared.line.File.{File}
-use Rattle.rpg_effect.specs.declared.line.File.TheVariants as put
-use Rattle.rpg_effect.specs.declared.line.LineField.{LineField}
+use Rattle.rpg_program.specs.Forms.{form_at, has_field, length_of}
+use Rattle.rpg_program.specs.LineFaults.{KeepsFieldRules, fits_editing}
+use Rattle.rpg_program.specs.declared.condition.Condition.{Condition}
+use Rattle.rpg_program.specs.declared.form.FieldForm.{FieldForm}
+use Rattle.rpg_program.specs.declared.line.Editing.{Editing}
+use Rattle.rpg_program.specs.declared.line.Editing.TheVariants as editing
+use Rattle.rpg_program.specs.declared.line.File.{File}
+use Rattle.rpg_program.specs.declared.line.File.TheVariants as put
+use Rattle.rpg_program.specs.declared.line.LineField.{LineField}
 use Rattle.rpg_edit_marks.specs.declared.code.Fill.{Fill}
 use Rattle.rpg_faults.specs.Places.{is_past, outside_line}
-use Rattle.rpg_object_program.specs.Constants.{word_at}
-use Rattle.rpg_object_program.specs.Object.{Object, file_length}
+use Rattle.rpg_program.specs.Constants.{word_at}
+use Rattle.rpg_program.specs.Object.{Object, file_length}
 use Rattle.rpg_effect_renaming.proofs.Lines.{keeps_same}
 use Rattle.rpg_effect_renaming.specs.Naming.{renamed_field}
 use Rattle.rpg_verify_rules.proofs.Kept.{NoneTrue}
-use Rattle.rpg_object_program.specs.declared.row.Version.{Version}
+use Rattle.rpg_program.specs.declared.rows.Version.{Version}
 use Rattle.rpg_verify_rules.specs.Indicators.{all_asked, if_any, may_be_asked}
 use Rattle.rpg_verify_rules.specs.LineRules.{asks_wrongly, blanks_wrongly, edits_form, is_field_asked, is_field_edited, is_field_there, is_spaced_on, is_word_for, lacks_editing, lacks_room, lacks_word, line_breaks}
 use Rattle.rpg_verify_rules.specs.Rules.{broken}

@@ -1,6 +1,6 @@
 -- What faultless sources say of sections, in plain words, is what the rules on targets, calls, returns and levels need.
 use Rattle.std.proofs.Common.{ℕ, suc, List, [], ◌∷◌, length, inl, inr}
-use Rattle.rpg_object_program.specs.Object.{Object}
+use Rattle.rpg_program.specs.Object.{Object}
 use Rattle.rpg_verify_rules.proofs.Kept.{NoneTrue}
 use Rattle.rpg_verify_rules.specs.Rules.{broken}
 use Rattle.rpg_verify_rules.specs.declared.rule.PlaceRule.TheVariants.{V21, V22}

@@ -2,20 +2,20 @@
 use Rattle.std.proofs.Common.{◌≡◌, Bool, true, false, not, ◌||◌, Option, None, Some, refl}
 use Rattle.std.proofs.lemmas.Bool.{and_from, and_parts, not-false, not_from_true, or_from, or_left, or_parts, or_right}
 use Rattle.rpg_cards.specs.Deeds.{Acts, Begins, Deed, Ends, Executes, GoesTo, Marks, Nothing, PutsOut}
-use Rattle.rpg_effect.specs.Forms.{is_array, is_index_form, is_table, is_writable, kind_of, may_write, same_kind}
-use Rattle.rpg_effect.specs.Right.{IsRightRow, KeepsRules}
-use Rattle.rpg_effect.specs.Rows.{all_of, all_used, fits_use, form_of, has_form, has_kind, has_shape, holds_positions, is_blank_index, is_current_table, is_good_operand, is_shaped, is_stored, is_table_as, is_there, is_two_sided, is_writable_use, is_written, lacks_storage, mixes_kinds, operand_shape, row_of}
-use Rattle.rpg_effect.specs.declared.form.Class.{Class}
-use Rattle.rpg_effect.specs.declared.form.Class.TheVariants as class
-use Rattle.rpg_effect.specs.declared.form.FieldForm.{FieldForm}
-use Rattle.rpg_effect.specs.declared.operation.Action.{Action}
-use Rattle.rpg_effect.specs.declared.operation.Index.{Index}
-use Rattle.rpg_effect.specs.declared.operation.Index.TheVariants as index
-use Rattle.rpg_effect.specs.declared.operation.Operand.{Operand}
-use Rattle.rpg_effect.specs.declared.row.Row.{Row}
-use Rattle.rpg_effect.specs.declared.row.Shape.{Shape}
-use Rattle.rpg_effect.specs.declared.row.Shape.TheVariants as shape
-use Rattle.rpg_effect.specs.declared.row.Use.{Use}
+use Rattle.rpg_program.specs.Forms.{is_array, is_index_form, is_table, is_writable, kind_of, may_write, same_kind}
+use Rattle.rpg_program.specs.Right.{IsRightRow, KeepsRules}
+use Rattle.rpg_program.specs.Rows.{all_of, all_used, fits_use, form_of, has_form, has_kind, has_shape, holds_positions, is_blank_index, is_current_table, is_good_operand, is_shaped, is_stored, is_table_as, is_there, is_two_sided, is_writable_use, is_written, lacks_storage, mixes_kinds, operand_shape, row_of}
+use Rattle.rpg_program.specs.declared.form.Class.{Class}
+use Rattle.rpg_program.specs.declared.form.Class.TheVariants as class
+use Rattle.rpg_program.specs.declared.form.FieldForm.{FieldForm}
+use Rattle.rpg_program.specs.declared.operation.Action.{Action}
+use Rattle.rpg_program.specs.declared.operation.Index.{Index}
+use Rattle.rpg_program.specs.declared.operation.Index.TheVariants as index
+use Rattle.rpg_program.specs.declared.operation.Operand.{Operand}
+use Rattle.rpg_program.specs.declared.row.Row.{Row}
+use Rattle.rpg_program.specs.declared.row.Shape.{Shape}
+use Rattle.rpg_program.specs.declared.row.Shape.TheVariants as shape
+use Rattle.rpg_program.specs.declared.row.Use.{Use}
 use Rattle.rpg_verify_rules.specs.PlaceRules.{are_marked, is_form_ascending, is_ordered}
 
 -- ---- classes

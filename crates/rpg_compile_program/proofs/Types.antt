@@ -19,15 +19,15 @@ use Rattle.rpg_cards.specs.declared.files.FileUse.{FileUse}
 use Rattle.rpg_cards.specs.declared.files.FileUse.TheVariants.{Disk, Primary, Printer, Secondary}
 use Rattle.rpg_cards.specs.declared.spec_card.SpecCard.{SpecCard}
 use Rattle.rpg_compile_program.proofs.Each.{each_append, each_map, each_passes, each_row, none_broken, none_passes}
-use Rattle.rpg_effect.specs.Forms.{form_at, kind_of}
-use Rattle.rpg_effect.specs.Input.{TypeRow, fits_columns, fits_shows}
-use Rattle.rpg_effect.specs.declared.input.ControlField.{ControlField}
-use Rattle.rpg_effect.specs.declared.input.InputField as row
-use Rattle.rpg_effect.specs.declared.input.RecordCode as row_code
-use Rattle.rpg_effect.specs.declared.form.FieldForm.{FieldForm}
+use Rattle.rpg_program.specs.Forms.{form_at, kind_of}
+use Rattle.rpg_program.specs.Input.{TypeRow, fits_columns, fits_shows}
+use Rattle.rpg_program.specs.declared.input.ControlField.{ControlField}
+use Rattle.rpg_program.specs.declared.input.InputField as row
+use Rattle.rpg_program.specs.declared.input.RecordCode as row_code
+use Rattle.rpg_program.specs.declared.form.FieldForm.{FieldForm}
 use Rattle.rpg_faults_operands.specs.Indicators.{any_of, cannot_be_set}
 use Rattle.rpg_faults.specs.Places.{first_length, first_matches, good_matches, has_other_lengths, has_other_matches, input_columns, is_at_level, is_past, joined_length, joins_badly, lengths_differ, level_fields, level_length, levels, match_fields, matches_badly, matches_differ, open_specs, outside_on_input, outside_record, own_file, passes_length, passes_matches, repeats}
-use Rattle.rpg_object_program.specs.Object.{Object, input_length}
+use Rattle.rpg_program.specs.Object.{Object, input_length}
 use Rattle.rpg_effect_renaming.specs.Naming.{renamed_input, renamed_type}
 use Rattle.rpg_verify_rules.proofs.Kept.{NoneTrue}
 use Rattle.rpg_verify_rules.specs.Rules.{broken}

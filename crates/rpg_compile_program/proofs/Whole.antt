@@ -3,12 +3,12 @@ use Rattle.std.proofs.Common.{◌≡◌, ℕ, zero, suc, ◌+◌, ◌-◌, ◌�
 use Rattle.std.specs.Prelude.{nat_le}
 use Rattle.std.specs.List.{list_all, list_any}
 use Rattle.std.proofs.lemmas.Bool.{and_from, le-leb, lt-ltb, not_from_true, or_from}
-use Rattle.rpg_effect.specs.declared.operation.Instruction.{Instruction}
-use Rattle.rpg_effect.specs.declared.operation.Instruction.TheVariants as made
-use Rattle.rpg_object_program.specs.Object.{Object}
-use Rattle.rpg_object_program.specs.Sections.{body_of, first_in, first_place, has_end, level_in, level_of, place_behind, section_instructions}
-use Rattle.rpg_object_program.specs.declared.section.Section.{Section}
-use Rattle.rpg_object_program.specs.declared.section.Section.TheVariants as section
+use Rattle.rpg_program.specs.declared.operation.Instruction.{Instruction}
+use Rattle.rpg_program.specs.declared.operation.Instruction.TheVariants as made
+use Rattle.rpg_program.specs.Object.{Object}
+use Rattle.rpg_program.specs.Sections.{body_of, first_in, first_place, has_end, level_in, level_of, place_behind, section_instructions}
+use Rattle.rpg_program.specs.declared.section.Section.{Section}
+use Rattle.rpg_program.specs.declared.section.Section.TheVariants as section
 use Rattle.rpg_verify_rules.proofs.Kept.{NoneTrue}
 use Rattle.rpg_text.specs.Texts.{is_between}
 use Rattle.rpg_verify_rules.specs.PlaceRules.{bodies_judged, calls_higher, ends_in_return, has_stray_return, is_body, is_off_level, is_own, is_return, is_return_if_any, place_breaks, places_judged, judged_behind_detail, section_judged, stays_inside, subroutines_judged, with_first}

@@ -1,9 +1,9 @@
 -- The instructions of calculations.
 use Rattle.std.specs.Prelude.{ℕ, suc, ◌+◌, ◌++◌, true, false, List, [], ◌∷◌, length, map, Option, None, Some, if◌then◌else◌}
-use Rattle.rpg_effect.specs.declared.condition.Conditions.{Conditions}
-use Rattle.rpg_effect.specs.declared.operation.Instruction.{Instruction}
-use Rattle.rpg_effect.specs.declared.operation.Instruction.TheVariants as made
-use Rattle.rpg_object_program.specs.Object.{SubroutineRow}
+use Rattle.rpg_program.specs.declared.condition.Conditions.{Conditions}
+use Rattle.rpg_program.specs.declared.operation.Instruction.{Instruction}
+use Rattle.rpg_program.specs.declared.operation.Instruction.TheVariants as made
+use Rattle.rpg_program.specs.Object.{SubroutineRow}
 use Rattle.rpg_cards.specs.Deeds.{Acts, Begins, Calculation, Deed, Ends, Executes, GoesTo, Marks, Nothing, PutsOut, has_instruction}
 use Rattle.rpg_cards.specs.Keys.{Key, Name}
 use Rattle.rpg_cards.specs.Sections.{Subroutine}

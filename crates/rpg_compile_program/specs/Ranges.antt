@@ -6,7 +6,7 @@ use Rattle.rpg_cards.specs.Plain.{Each}
 use Rattle.rpg_cards.specs.Constants.{IsConstant, constant_of}
 use Rattle.rpg_cards.specs.declared.constants.Constant.TheVariants.{Text}
 use Rattle.rpg_cards.specs.declared.spec_card.SpecCard.{SpecCard}
-use Rattle.rpg_object_program.specs.Kept.{IsCharacter, IsIndicator, IsOverflowIndicator}
+use Rattle.rpg_program.specs.Kept.{IsCharacter, IsIndicator, IsOverflowIndicator}
 use Rattle.rpg_sheet_specs.specs.declared.calculation.CalculationSpec.{CalculationSpec}
 use Rattle.rpg_sheet_specs.specs.declared.calculation.ControlLevel.{ControlLevel}
 use Rattle.rpg_sheet_specs.specs.declared.calculation.ControlLevel.TheVariants as control

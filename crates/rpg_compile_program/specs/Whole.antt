@@ -3,8 +3,8 @@ use Rattle.std.specs.Prelude.{◌≡◌, ℕ, ◌+◌, List, Option}
 use Rattle.rpg_cards.specs.Keys.{Key, Name}
 use Rattle.rpg_cards.specs.Sections.{Sections, callee}
 use Rattle.rpg_compile_program.specs.Code.{section_code, sizes, subroutines_code}
-use Rattle.rpg_effect.specs.declared.operation.Instruction.{Instruction}
-use Rattle.rpg_object_program.specs.Object.{Object, SubroutineRow}
+use Rattle.rpg_program.specs.declared.operation.Instruction.{Instruction}
+use Rattle.rpg_program.specs.Object.{Object, SubroutineRow}
 
 -- the number of the subroutine that is called
 abbrev pub called_number : Sections Key → Option Name → ℕ

@@ -2,7 +2,7 @@
 
 ghost use Rattle.std.specs.Option.{ForSome};
 ghost use Rattle.rpg_cards.specs.Constants.{IsConstant, constant_of};
-ghost use Rattle.rpg_object_program.specs.Kept.{IsIndicator, IsOverflowIndicator};
+ghost use Rattle.rpg_program.specs.Kept.{IsIndicator, IsOverflowIndicator};
 ghost use Rattle.rpg_compile_program.specs.Ranges as ranges;
 ghost use Rattle.rpg_compile_program.specs.Ranges.{InThree};
 

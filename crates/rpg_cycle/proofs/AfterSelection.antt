@@ -10,12 +10,12 @@ use Rattle.rpg_cycle.specs.Ends.{PhaseEnd}
 use Rattle.rpg_cycle_records.specs.Keeping.{renewed, renewed_by, selected_as}
 use Rattle.rpg_cycle.specs.Phases.{detail_calculations, end_where_last, fill_fields, is_bypassed, output, overflow_lines, section, show_match, unless, ◌before◌}
 use Rattle.rpg_cycle.specs.Staging.{after_selection}
-use Rattle.rpg_effect.specs.declared.input.InputFile.{InputFile}
-use Rattle.rpg_effect.specs.declared.input.InputFile.TheVariants.{Primary, Secondary}
+use Rattle.rpg_program.specs.declared.input.InputFile.{InputFile}
+use Rattle.rpg_program.specs.declared.input.InputFile.TheVariants.{Primary, Secondary}
 use Rattle.rpg_machine.specs.Running.{Running, config_on}
 use Rattle.rpg_machine.specs.declared.time.OutputTime.TheVariants as times
-use Rattle.rpg_object_program.specs.Object.{Object}
-use Rattle.rpg_object_program.specs.declared.section.Section.TheVariants as sections
+use Rattle.rpg_program.specs.Object.{Object}
+use Rattle.rpg_program.specs.declared.section.Section.TheVariants as sections
 use Rattle.rpg_paper.specs.Paper.{last_position_from}
 
 -- what is kept beside the levels

@@ -4,13 +4,13 @@ use Rattle.std.specs.Option.{ForSome}
 use Rattle.std.specs.Result.{IsErrAnd}
 use Rattle.rpg_paper.proofs.Papers.{bytes_from-append}
 use Rattle.rpg_paper.specs.Paper.{Placed, Position, bytes_from, last_position_from}
-use Rattle.rpg_effect.proofs.Putting.{disk-append, end_from-lines}
-use Rattle.rpg_effect.specs.Put.{Bytes, disk_bytes, line_of, with_output}
+use Rattle.rpg_program.proofs.Putting.{disk-append, end_from-lines}
+use Rattle.rpg_program.specs.Put.{Bytes, disk_bytes, line_of, with_output}
 use Rattle.rpg_cycle.specs.Doing.{Does, DoesBehind, Beside, DoesAlone, under_way, unselected}
 use Rattle.rpg_cycle_records.specs.Waiting.{unread}
-use Rattle.rpg_object_program.specs.Object.{Object}
+use Rattle.rpg_program.specs.Object.{Object}
 use Rattle.rpg_cycle.specs.Ends.{PhaseEnd, GoesOn, EndOfJob, Halt}
-use Rattle.rpg_effect.specs.Halts.{halt_number}
+use Rattle.rpg_program.specs.Halts.{halt_number}
 use Rattle.rpg_cycle.specs.Phases.{Done, Phase, UnderWay, does, done, either, passes, unless, ◌before◌}
 use Rattle.rpg_cycle.specs.Stages.{IfStops, UnlessNoMemory, job_end}
 use Rattle.rpg_cycle.specs.declared.ends.JobEnd.{JobEnd}

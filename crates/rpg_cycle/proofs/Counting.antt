@@ -1,7 +1,7 @@
 -- A run goes by the count of its own cycles.
 use Rattle.std.proofs.Common.{◌≡◌, ℕ, zero, suc, ◌+◌, List, sym, ap, subst, arith}
-use Rattle.rpg_effect.specs.declared.input.InputFile.TheVariants.{Primary, Secondary}
-use Rattle.rpg_object_program.specs.Object.{Object}
+use Rattle.rpg_program.specs.declared.input.InputFile.TheVariants.{Primary, Secondary}
+use Rattle.rpg_program.specs.Object.{Object}
 use Rattle.rpg_cycle_records.specs.Earlier.{Selected, with_record}
 use Rattle.rpg_cycle.specs.Ends.{PhaseEnd, GoesOn, EndOfJob, Halt, Wrong}
 use Rattle.rpg_machine.specs.Config.{Config, Output}

@@ -1,10 +1,10 @@
 -- Runs under way: what was done so far, and what is left.
 use Rattle.std.proofs.Common.{◌≡◌, ℕ, suc, ◌+◌, max, ◌<◌, ◌≤◌, Bool, true, ◌&&◌, List, [], ◌∷◌, ◌++◌, Option, None, Some, refl, sym, ap, ◌∙◌, subst, append_assoc, append-nil, arith}
 use Rattle.rpg_paper.specs.Paper.{Placed, Position, last_position_from, paper}
-use Rattle.rpg_effect.proofs.Putting.{end_from-lines}
-use Rattle.rpg_effect.specs.Put.{Bytes, line_of, with_output}
-use Rattle.rpg_effect.specs.declared.input.InputFile.{InputFile}
-use Rattle.rpg_effect.specs.declared.input.InputFile.TheVariants.{Primary, Secondary}
+use Rattle.rpg_program.proofs.Putting.{end_from-lines}
+use Rattle.rpg_program.specs.Put.{Bytes, line_of, with_output}
+use Rattle.rpg_program.specs.declared.input.InputFile.{InputFile}
+use Rattle.rpg_program.specs.declared.input.InputFile.TheVariants.{Primary, Secondary}
 use Rattle.rpg_cycle.proofs.Composing.{output_both, output_none}
 use Rattle.rpg_cycle.proofs.Counting.{own_count}
 use Rattle.rpg_cycle.proofs.Cycling.{at_first, keeps}
@@ -24,7 +24,7 @@ use Rattle.rpg_cycle.specs.declared.ends.JobEnd.TheVariants as jobs
 use Rattle.rpg_cycle.specs.declared.runs.Summary.{Summary}
 use Rattle.rpg_machine.specs.Config.{Config, Output, no_output, with_more}
 use Rattle.rpg_machine.specs.Running.{config_on, feed_behind}
-use Rattle.rpg_object_program.specs.Object.{Object}
+use Rattle.rpg_program.specs.Object.{Object}
 use Rattle.rpg_verify.specs.Bound.{bound}
 
 -- ---- how a cycle ended, by the stage that it led to

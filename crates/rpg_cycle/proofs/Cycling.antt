@@ -1,14 +1,14 @@
 -- A whole cycle keeps what makes matches known, and finds them by the last values.
 use Rattle.std.proofs.Common.{◌≡◌, ℕ, Bool, true, false, not, ◌&&◌, List, [], Option, None, Some, is_none, refl, sym, ap, ◌∙◌, subst}
-use Rattle.rpg_effect.specs.declared.input.InputFile.{InputFile}
-use Rattle.rpg_effect.specs.declared.input.InputFile.TheVariants.{Primary, Secondary}
+use Rattle.rpg_program.specs.declared.input.InputFile.{InputFile}
+use Rattle.rpg_program.specs.declared.input.InputFile.TheVariants.{Primary, Secondary}
 use Rattle.rpg_machine.specs.Config.{Config, Output}
 use Rattle.rpg_machine.specs.Outputs.{FillsFields, PutsOut}
 use Rattle.rpg_machine.specs.Run.{RunsTo}
 use Rattle.rpg_machine.specs.Running.{Behaviour}
 use Rattle.rpg_machine.specs.declared.time.OutputTime.TheVariants as times
-use Rattle.rpg_object_program.specs.Object.{Object, has_file}
-use Rattle.rpg_object_program.specs.declared.section.Section.TheVariants as sections
+use Rattle.rpg_program.specs.Object.{Object, has_file}
+use Rattle.rpg_program.specs.declared.section.Section.TheVariants as sections
 use Rattle.rpg_cycle.proofs.InTurn.{behind, both_on}
 use Rattle.rpg_cycle_records.proofs.Matches.{found}
 use Rattle.rpg_cycle.proofs.Picking.{Picked, selects}

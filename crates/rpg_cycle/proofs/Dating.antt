@@ -2,14 +2,14 @@
 use Rattle.std.proofs.Common.{◌≡◌, ℕ, ◌<◌, ◌^◌, ℤ, true, List, Some, unsigned_abs, refl, sym, ap, ◌∙◌, subst, arith}
 use Rattle.std.proofs.lemmas.Option.{same_Some}
 use Rattle.std.specs.FinMap as map
-use Rattle.rpg_effect.specs.Forms.{form_at, is_date, length_of}
-use Rattle.rpg_effect.specs.Values.{Number}
-use Rattle.rpg_effect.specs.declared.form.Class.{Class}
-use Rattle.rpg_effect.specs.declared.form.Class.TheVariants as classes
-use Rattle.rpg_effect.specs.declared.form.FieldForm.{FieldForm}
-use Rattle.rpg_effect.specs.declared.form.Kind.{Kind}
-use Rattle.rpg_effect.specs.declared.form.Kind.TheVariants as kinds
-use Rattle.rpg_object_program.specs.Kept.{IsDateForm, IsFieldRow}
+use Rattle.rpg_program.specs.Forms.{form_at, is_date, length_of}
+use Rattle.rpg_program.specs.Values.{Number}
+use Rattle.rpg_program.specs.declared.form.Class.{Class}
+use Rattle.rpg_program.specs.declared.form.Class.TheVariants as classes
+use Rattle.rpg_program.specs.declared.form.FieldForm.{FieldForm}
+use Rattle.rpg_program.specs.declared.form.Kind.{Kind}
+use Rattle.rpg_program.specs.declared.form.Kind.TheVariants as kinds
+use Rattle.rpg_program.specs.Kept.{IsDateForm, IsFieldRow}
 use Rattle.rpg_memory.proofs.Fitting.{fits-insert}
 use Rattle.rpg_memory.specs.Fields.{IsValue}
 use Rattle.rpg_memory.specs.Fits.{Fits, HasForm}

@@ -1,18 +1,18 @@
 -- A run has at most one cycle more than there are records.
 use Rattle.std.proofs.Common.{◌≡◌, ℕ, zero, suc, ◌+◌, ◌≤◌, Bool, true, false, cond, not, ◌&&◌, ◌||◌, List, [], ◌∷◌, length, slice_get, Option, None, Some, is_none, refl, sym, ap, ◌∙◌, subst, arith}
 use Rattle.std.specs.List.{list_all}
-use Rattle.rpg_effect.specs.declared.input.InputFile.{InputFile}
-use Rattle.rpg_effect.specs.declared.input.InputFile.TheVariants.{Primary, Secondary}
+use Rattle.rpg_program.specs.declared.input.InputFile.{InputFile}
+use Rattle.rpg_program.specs.declared.input.InputFile.TheVariants.{Primary, Secondary}
 use Rattle.rpg_machine.specs.Config.{Config, Output, charged}
 use Rattle.rpg_machine.specs.Outputs.{PutsOut}
 use Rattle.rpg_machine.specs.declared.time.OutputTime.TheVariants as times
-use Rattle.rpg_object_program.specs.Object.{Object}
+use Rattle.rpg_program.specs.Object.{Object}
 use Rattle.rpg_cycle.proofs.InTurn.{both_on}
 use Rattle.rpg_cycle.proofs.Cycling.{Stays, at_totals, behind_4, behind_match, by_act, from_selection, keeps, same, settled_still, stay}
 use Rattle.rpg_cycle.proofs.Taking.{takes}
 use Rattle.rpg_cycle.specs.Counting.{one_if, records_count, waiting_count}
 use Rattle.rpg_cycle_records.specs.Earlier.{Left, Selected, control_fields, left_by, match_value, with_record}
-use Rattle.rpg_effect.specs.Ends as effects
+use Rattle.rpg_program.specs.Ends as effects
 use Rattle.rpg_cycle.specs.Ends.{PhaseEnd, GoesOn, EndOfJob, Halt, Wrong}
 use Rattle.rpg_cycle.specs.Indicators.{any_on, halt_indicators, is_on, last_record, level_indicators, with_all, with_levels, with_type}
 use Rattle.rpg_cycle_records.specs.Levels.{is_in_record}

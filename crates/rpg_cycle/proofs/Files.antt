@@ -1,8 +1,8 @@
 -- What code_holds of each file.
 use Rattle.std.proofs.Common.{◌≡◌, ℕ, Bool, true, false, cond, not, ◌&&◌, ◌||◌, List, [], ◌∷◌, Option, None, Some, is_none, refl, ap, ◌∙◌}
-use Rattle.rpg_effect.specs.declared.input.InputFile.{InputFile}
-use Rattle.rpg_effect.specs.declared.input.InputFile.TheVariants.{Primary, Secondary}
-use Rattle.rpg_object_program.specs.Object.{Object, has_file}
+use Rattle.rpg_program.specs.declared.input.InputFile.{InputFile}
+use Rattle.rpg_program.specs.declared.input.InputFile.TheVariants.{Primary, Secondary}
+use Rattle.rpg_program.specs.Object.{Object, has_file}
 use Rattle.rpg_cycle_records.proofs.Order.{not_above, not_self}
 use Rattle.rpg_cycle_records.specs.Earlier.{Selected, file_at, match_value, or_before, value_from}
 use Rattle.rpg_cycle_records.specs.Identifying.{same_file}

@@ -5,10 +5,10 @@ use Rattle.rpg_cycle.specs.Doing.{Beside, Does, DoesAlone, unselected}
 use Rattle.rpg_cycle.specs.Ends.{PhaseEnd}
 use Rattle.rpg_cycle.specs.Phases.{Phase}
 use Rattle.rpg_cycle_records.specs.Waiting.{unread}
-use Rattle.rpg_effect.proofs.Fronts.{grows_by, grows_on, grows_same}
-use Rattle.rpg_effect.specs.Ends as effects
-use Rattle.rpg_effect.specs.Fronts.{OnlyGrows}
-use Rattle.rpg_effect.specs.Put.{Bytes}
+use Rattle.rpg_program.proofs.Fronts.{grows_by, grows_on, grows_same}
+use Rattle.rpg_program.specs.Ends as effects
+use Rattle.rpg_program.specs.Fronts.{OnlyGrows}
+use Rattle.rpg_program.specs.Put.{Bytes}
 use Rattle.rpg_machine.specs.Running.{Behaviour, Did, Running}
 
 -- a call of the machine put out no more than its lines and records

@@ -1,7 +1,7 @@
 -- What a machine's cycle means for the job.
 use Rattle.std.proofs.Common.{◌≡◌, ℕ, List, [], Option, None, Some, refl, sym, ap, ◌∙◌, subst, append-nil}
 use Rattle.rpg_paper.specs.Paper.{Position, last_position_from}
-use Rattle.rpg_effect.specs.Put.{Bytes, line_of, with_output}
+use Rattle.rpg_program.specs.Put.{Bytes, line_of, with_output}
 use Rattle.rpg_cycle.proofs.Cycling.{from_last, keeps}
 use Rattle.rpg_cycle.specs.Doing.{Does, Beside, holding, under_way, unselected}
 use Rattle.rpg_cycle_records.specs.Earlier.{Left, Selected, left_by, with_record}
@@ -16,7 +16,7 @@ use Rattle.rpg_cycle.specs.declared.ends.JobEnd.{JobEnd}
 use Rattle.rpg_cycle.specs.declared.ends.JobEnd.TheVariants as jobs
 use Rattle.rpg_machine.specs.Config.{Output}
 use Rattle.rpg_machine.specs.Running.{Running, config_on, feed_behind, finished, refilled}
-use Rattle.rpg_object_program.specs.Object.{Object}
+use Rattle.rpg_program.specs.Object.{Object}
 
 -- a job with that machine
 abbrev pub job : Object → Running → Left → Inputs → Stage → AtWork

@@ -1,6 +1,6 @@
 -- Phases that are the machine's.
 use Rattle.std.proofs.Common.{◌≡◌, ℕ, List, Option, None, Some, refl, sym, subst}
-use Rattle.rpg_effect.specs.Ends as effects
+use Rattle.rpg_program.specs.Ends as effects
 use Rattle.rpg_cycle.specs.Doing.{Does, Beside, DoesAlone, holding}
 use Rattle.rpg_cycle_records.specs.Waiting.{Inputs}
 use Rattle.rpg_cycle.specs.Ends.{GoesOn, PhaseEnd, phase_end}
@@ -9,8 +9,8 @@ use Rattle.rpg_machine.specs.Outputs.{FillsFields, PutsOut}
 use Rattle.rpg_machine.specs.Run.{RunsTo}
 use Rattle.rpg_machine.specs.Running.{Behaviour, Did, Running}
 use Rattle.rpg_machine.specs.declared.time.OutputTime.{OutputTime}
-use Rattle.rpg_object_program.specs.Object.{Object}
-use Rattle.rpg_object_program.specs.declared.section.Section.{Section}
+use Rattle.rpg_program.specs.Object.{Object}
+use Rattle.rpg_program.specs.declared.section.Section.{Section}
 
 -- what the machine did is a phase
 machine_does : (P : Behaviour) (a b : Running) (last : effects.End) (s : Beside) → Did P a last b → Does (by_machine P) a s (phase_end last) b s

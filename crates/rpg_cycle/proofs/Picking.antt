@@ -1,14 +1,14 @@
 -- A waiting record is selected.
 use Rattle.std.proofs.Common.{◌≡◌, ◌⊎◌, inl, inr, ℕ, Bool, true, false, cond, List, ◌∷◌, length, slice_get, Option, None, Some, refl, sym, ap, ◌∙◌, subst}
 use Rattle.std.specs.List.{list_all}
-use Rattle.rpg_effect.specs.declared.input.InputFile.{InputFile}
-use Rattle.rpg_effect.specs.declared.input.InputFile.TheVariants.{Primary, Secondary}
+use Rattle.rpg_program.specs.declared.input.InputFile.{InputFile}
+use Rattle.rpg_program.specs.declared.input.InputFile.TheVariants.{Primary, Secondary}
 use Rattle.rpg_machine.specs.Config.{Output, charged}
-use Rattle.rpg_object_program.specs.Object.{Object}
+use Rattle.rpg_program.specs.Object.{Object}
 use Rattle.rpg_cycle.proofs.Files.{file_orderly, none_up, or_up, settled_spent, top_any, value_other, value_own}
 use Rattle.rpg_cycle_records.proofs.Order.{not_both}
 use Rattle.rpg_cycle_records.specs.Earlier.{Selected, control_fields, file_at, last_value, left_by, match_value, or_before, with_record}
-use Rattle.rpg_effect.specs.Ends as effects
+use Rattle.rpg_program.specs.Ends as effects
 use Rattle.rpg_cycle.specs.Ends.{GoesOn, Wrong}
 use Rattle.rpg_cycle.specs.Indicators.{with_levels, with_type}
 use Rattle.rpg_cycle_records.specs.Levels.{is_in_record}

@@ -4,9 +4,9 @@ use Rattle.std.proofs.lemmas.Bool.Decides.{nat_tests}
 use Rattle.std.specs.List.{list_all}
 use Rattle.std.specs.Option.{ForSome}
 use Rattle.rpg_paper.specs.Paper.{Position, last_position_from}
-use Rattle.rpg_effect.specs.declared.input.ControlField.{ControlField}
-use Rattle.rpg_effect.specs.declared.input.InputFile.{InputFile}
-use Rattle.rpg_effect.specs.declared.input.InputFile.TheVariants.{Primary, Secondary}
+use Rattle.rpg_program.specs.declared.input.ControlField.{ControlField}
+use Rattle.rpg_program.specs.declared.input.InputFile.{InputFile}
+use Rattle.rpg_program.specs.declared.input.InputFile.TheVariants.{Primary, Secondary}
 use Rattle.rpg_cycle.proofs.Composing.{of_some, quietly}
 use Rattle.rpg_cycle.proofs.Spending.{keeps_reach}
 use Rattle.rpg_cycle.proofs.Turning.{all_keep, all_on, type_keeps, type_on}
@@ -30,7 +30,7 @@ use Rattle.rpg_cycle.specs.Stages.{job_end}
 use Rattle.rpg_cycle.specs.declared.ends.JobEnd.{JobEnd}
 use Rattle.rpg_machine.specs.Config.{Config, charged}
 use Rattle.rpg_machine.specs.Running.{Running, config_on}
-use Rattle.rpg_object_program.specs.Object.{Object, has_file, input_length}
+use Rattle.rpg_program.specs.Object.{Object, has_file, input_length}
 use Rattle.rpg_verify.specs.Bound.{most}
 
 and : (b c : Bool) → b ≡ true → c ≡ true → (b && c) ≡ true

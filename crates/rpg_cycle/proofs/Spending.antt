@@ -3,22 +3,22 @@ use Rattle.std.proofs.Common.{◌≡◌, ℕ, ◌≤◌, ◌<◌, ◌+◌, ◌-�
 use Rattle.std.proofs.lemmas.Bool.Decides.{nat_tests}
 use Rattle.std.specs.List.{list_all}
 use Rattle.rpg_paper.specs.Paper.{Position}
-use Rattle.rpg_effect.specs.Ends as effects
-use Rattle.rpg_effect.specs.Input.{TypeRow}
-use Rattle.rpg_effect.specs.Lines as lines
-use Rattle.rpg_effect.specs.Put.{line_of}
-use Rattle.rpg_effect.specs.Weights.{is_at_detail, is_at_total, is_in_cycle, line_weight, lines_weight, type_weight, types_weight}
-use Rattle.rpg_effect.specs.declared.line.Time.{Time}
-use Rattle.rpg_effect.specs.declared.line.Time.TheVariants as times
+use Rattle.rpg_program.specs.Ends as effects
+use Rattle.rpg_program.specs.Input.{TypeRow}
+use Rattle.rpg_program.specs.Lines as lines
+use Rattle.rpg_program.specs.Put.{line_of}
+use Rattle.rpg_program.specs.Weights.{is_at_detail, is_at_total, is_in_cycle, line_weight, lines_weight, type_weight, types_weight}
+use Rattle.rpg_program.specs.declared.line.Time.{Time}
+use Rattle.rpg_program.specs.declared.line.Time.TheVariants as times
 use Rattle.rpg_cycle.proofs.Composing.{of_none}
 use Rattle.rpg_cycle.proofs.Turning.{Keeps, off_keeps}
 use Rattle.rpg_cycle_records.proofs.Weighing.{all_paid, matches_sum, moved_sum, one_row, row_moved, two_rows}
 use Rattle.rpg_cycle_records.specs.Earlier.{file_of, levels_of}
 use Rattle.rpg_cycle_records.specs.Paying.{moved_of}
 use Rattle.std.specs.Option.{ForSome}
-use Rattle.rpg_effect.specs.declared.input.InputFile.TheVariants.{Primary, Secondary}
+use Rattle.rpg_program.specs.declared.input.InputFile.TheVariants.{Primary, Secondary}
 use Rattle.rpg_cycle_records.specs.Identifying.{code_holds, has_position, same_file, trial_weight}
-use Rattle.rpg_effect.specs.declared.input.InputFile.{InputFile}
+use Rattle.rpg_program.specs.declared.input.InputFile.{InputFile}
 use Rattle.rpg_cycle.specs.Phases.{all_off, has_no_overflow}
 use Rattle.rpg_cycle.specs.Spending.{SpendsSelecting, Spends, SpendsTakingIn, compared_weight, cycle_weight, fields_weight, full_page_weight, matched_weight, phases_weight, reach, record_weight, section_cost, totals_weight}
 use Rattle.rpg_machine.specs.Config.{Config, charged}
@@ -27,10 +27,10 @@ use Rattle.rpg_machine.specs.Outputs.{FillsFields, PutsOut, inputs_at, input_fie
 use Rattle.rpg_machine.specs.Running.{Did, Running, refilled, with_indicator}
 use Rattle.rpg_machine.specs.declared.time.OutputTime.{OutputTime}
 use Rattle.rpg_machine.specs.declared.time.OutputTime.TheVariants as outputs
-use Rattle.rpg_object_program.specs.Object.{Object, lines_of}
-use Rattle.rpg_object_program.specs.Sections.{first_place}
-use Rattle.rpg_object_program.specs.declared.section.Section.{Section}
-use Rattle.rpg_object_program.specs.declared.section.Section.TheVariants as sections
+use Rattle.rpg_program.specs.Object.{Object, lines_of}
+use Rattle.rpg_program.specs.Sections.{first_place}
+use Rattle.rpg_program.specs.declared.section.Section.{Section}
+use Rattle.rpg_program.specs.declared.section.Section.TheVariants as sections
 use Rattle.rpg_verify.specs.Bound.{bound, cost_in, most}
 use Rattle.rpg_verify.specs.Bound as bounds
 

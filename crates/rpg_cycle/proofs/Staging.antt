@@ -11,16 +11,16 @@ use Rattle.rpg_cycle.specs.Spending.{Spends, cycle_weight, reach, section_cost}
 use Rattle.rpg_cycle.specs.Stages.{IfStops, UnlessNoMemory, job_end}
 use Rattle.rpg_cycle.specs.Staging.{CanDo, CanSpend, DoesPhase, DoesStage}
 use Rattle.rpg_cycle.specs.declared.ends.Stop.{Stop}
-use Rattle.rpg_effect.proofs.Fronts.{grows_not}
-use Rattle.rpg_effect.specs.Ends as effects
-use Rattle.rpg_effect.specs.declared.outcome.End as answers
-use Rattle.rpg_effect.specs.declared.outcome.End.TheVariants as ways
-use Rattle.rpg_effect.specs.Fronts.{OnlyGrows}
+use Rattle.rpg_program.proofs.Fronts.{grows_not}
+use Rattle.rpg_program.specs.Ends as effects
+use Rattle.rpg_program.specs.declared.outcome.End as answers
+use Rattle.rpg_program.specs.declared.outcome.End.TheVariants as ways
+use Rattle.rpg_program.specs.Fronts.{OnlyGrows}
 use Rattle.rpg_machine.specs.Config.{Config}
 use Rattle.rpg_machine.specs.Ready.{IsReady}
 use Rattle.rpg_machine.specs.Running.{Running, config_on}
-use Rattle.rpg_object_program.specs.Object.{Object}
-use Rattle.rpg_object_program.specs.declared.section.Section.TheVariants as sections
+use Rattle.rpg_program.specs.Object.{Object}
+use Rattle.rpg_program.specs.declared.section.Section.TheVariants as sections
 use Rattle.rpg_paper.specs.Paper.{Position}
 use Rattle.rpg_verify.specs.Bound.{bound, most}
 

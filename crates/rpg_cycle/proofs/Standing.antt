@@ -11,14 +11,14 @@ use Rattle.rpg_cycle.specs.Starting.{job_start}
 use Rattle.rpg_cycle_records.specs.Earlier.{Left, Selected, control_fields, last_of_file, left_by, match_fields, match_value, with_record}
 use Rattle.rpg_cycle_records.specs.Matching.{exceeds}
 use Rattle.rpg_cycle_records.specs.Waiting.{Inputs, chosen, has_match, takes_in, unread, waiting_in, with_waiting}
-use Rattle.rpg_effect.specs.declared.input.InputFile.{InputFile}
-use Rattle.rpg_effect.specs.declared.input.InputFile.TheVariants.{Primary, Secondary}
+use Rattle.rpg_program.specs.declared.input.InputFile.{InputFile}
+use Rattle.rpg_program.specs.declared.input.InputFile.TheVariants.{Primary, Secondary}
 use Rattle.rpg_cycle_records.specs.Identifying.{IsOf, IsOfNone, Misplaced, Trial, identified, is_good_record, padded, trial_weight}
 use Rattle.rpg_cycle_records.specs.Levels.{is_in_record}
-use Rattle.rpg_effect.specs.Effect.{Effect}
-use Rattle.rpg_effect.specs.Ends as effects
-use Rattle.rpg_effect.specs.Input.{TypeRow}
-use Rattle.rpg_effect.specs.World.{Fields, World}
+use Rattle.rpg_program.specs.Effect.{Effect}
+use Rattle.rpg_program.specs.Ends as effects
+use Rattle.rpg_program.specs.Input.{TypeRow}
+use Rattle.rpg_program.specs.World.{Fields, World}
 use Rattle.rpg_machine.proofs.Standing.{sections_stand_right}
 use Rattle.rpg_machine.specs.Config.{Config, Output, charged, here}
 use Rattle.rpg_machine.specs.Laws as machines
@@ -26,11 +26,11 @@ use Rattle.rpg_machine.specs.Outputs.{ByEffect}
 use Rattle.rpg_machine.specs.Run.{running_place}
 use Rattle.rpg_machine.specs.declared.time.OutputTime.{OutputTime}
 use Rattle.rpg_machine.specs.declared.time.OutputTime.TheVariants as times
-use Rattle.rpg_object_program.specs.Object.{Object}
-use Rattle.rpg_object_program.specs.Sections.{first_place, has_end, place_behind}
-use Rattle.rpg_object_program.specs.declared.section.Place.{Place}
-use Rattle.rpg_object_program.specs.declared.section.Section.{Section}
-use Rattle.rpg_object_program.specs.declared.section.Section.TheVariants as sections
+use Rattle.rpg_program.specs.Object.{Object}
+use Rattle.rpg_program.specs.Sections.{first_place, has_end, place_behind}
+use Rattle.rpg_program.specs.declared.section.Place.{Place}
+use Rattle.rpg_program.specs.declared.section.Section.{Section}
+use Rattle.rpg_program.specs.declared.section.Section.TheVariants as sections
 
 -- ---- indicators and steps leave the place as it is
 

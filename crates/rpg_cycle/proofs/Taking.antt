@@ -1,14 +1,14 @@
 -- A record is taken in.
 use Rattle.std.proofs.Common.{◌≡◌, ℕ, suc, ◌+◌, Bool, true, false, cond, not, ◌&&◌, List, [], ◌∷◌, length, slice_get, Option, None, Some, is_none, refl, sym, ap, ◌∙◌, subst, arith}
 use Rattle.std.specs.List.{list_all}
-use Rattle.rpg_effect.specs.Input.{TypeRow}
-use Rattle.rpg_effect.specs.declared.input.InputFile.{InputFile}
-use Rattle.rpg_effect.specs.declared.input.InputFile.TheVariants.{Primary, Secondary}
+use Rattle.rpg_program.specs.Input.{TypeRow}
+use Rattle.rpg_program.specs.declared.input.InputFile.{InputFile}
+use Rattle.rpg_program.specs.declared.input.InputFile.TheVariants.{Primary, Secondary}
 use Rattle.rpg_machine.specs.Config.{Output, charged}
-use Rattle.rpg_object_program.specs.Object.{Object, has_file}
+use Rattle.rpg_program.specs.Object.{Object, has_file}
 use Rattle.rpg_cycle.proofs.Files.{file_orderly, over_spent, taking_none, taking_unspent, top_up, value_own, with_orderly}
 use Rattle.rpg_cycle_records.specs.Earlier.{Selected, file_at, file_of, last_of_file, last_value, left_by, match_fields, match_value, or_before}
-use Rattle.rpg_effect.specs.Ends as effects
+use Rattle.rpg_program.specs.Ends as effects
 use Rattle.rpg_cycle.specs.Ends.{GoesOn, Halt, Wrong}
 use Rattle.rpg_cycle_records.specs.Identifying.{Trial, IsOf, IsOfNone, Misplaced, padded, code_holds, identified, is_good_record, has_position, same_file, trial_weight}
 use Rattle.rpg_cycle_records.specs.Levels.{is_in_record}

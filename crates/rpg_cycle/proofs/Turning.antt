@@ -3,7 +3,7 @@ use Rattle.std.proofs.Common.{◌≡◌, ℕ, ◌<◌, Bool, true, false, cond, 
 use Rattle.std.proofs.lemmas.List.{get_or-map, length-map}
 use Rattle.std.specs.Option.{ForSome}
 use Rattle.rpg_paper.specs.Paper.{Position}
-use Rattle.rpg_effect.specs.Input.{TypeRow}
+use Rattle.rpg_program.specs.Input.{TypeRow}
 use Rattle.rpg_cycle.proofs.Composing.{quietly}
 use Rattle.rpg_cycle.specs.Doing.{Does, Beside, DoesAlone, under_way}
 use Rattle.rpg_cycle_records.specs.Earlier.{Selected}
@@ -14,9 +14,9 @@ use Rattle.rpg_cycle.specs.Indicators.{first_page, last_record, level_indicators
 use Rattle.rpg_cycle.specs.Phases.{all_off, done, has_no_overflow, if_selected, set_off, show_match, with_config}
 use Rattle.rpg_machine.specs.Config.{Config}
 use Rattle.rpg_machine.specs.Running.{Running, config_on}
-use Rattle.rpg_object_program.specs.Kept.{IsIndicator}
-use Rattle.rpg_object_program.specs.Object.{Object, type_row}
-use Rattle.rpg_object_program.specs.declared.row.RecordType.{RecordType}
+use Rattle.rpg_program.specs.Kept.{IsIndicator}
+use Rattle.rpg_program.specs.Object.{Object, type_row}
+use Rattle.rpg_program.specs.declared.rows.RecordType.{RecordType}
 
 -- ---- on the paper
 

@@ -2,26 +2,26 @@
 use Rattle.std.proofs.Common.{◌≡◌, ℕ, ◌≤◌, Bool, true, false, cond, eqb, ne_eqb, not, ◌&&◌, ◌||◌, List, [], ◌∷◌, length, Option, None, Some, is_none, refl, sym, ap, ◌∙◌, arith}
 use Rattle.std.proofs.lemmas.Bool.{eqb-false}
 use Rattle.std.specs.Option.{ForSome}
-use Rattle.rpg_effect.specs.Forms.{form_at}
-use Rattle.rpg_effect.specs.Input.{TypeRow}
+use Rattle.rpg_program.specs.Forms.{form_at}
+use Rattle.rpg_program.specs.Input.{TypeRow}
 use Rattle.rpg_cycle.proofs.Others.{IsOther, details_keep, insert_other, remove_other}
 use Rattle.rpg_cycle_records.specs.Earlier.{Left, Selected, last_of_file, left_by, match_fields, match_value}
 use Rattle.rpg_cycle_records.specs.Identifying.{IsOf, IsOfNone, Misplaced, Trial, identified, is_good_record, padded, trial_weight}
 use Rattle.rpg_cycle_records.specs.Levels.{is_in_record}
 use Rattle.rpg_cycle_records.specs.Matching.{exceeds}
 use Rattle.rpg_cycle_records.specs.Waiting.{InputState, Inputs, has_match, takes_in, with_waiting}
-use Rattle.rpg_effect.specs.Ends as effects
-use Rattle.rpg_effect.specs.declared.input.InputFile.{InputFile}
-use Rattle.rpg_effect.specs.declared.input.InputFile.TheVariants.{Primary, Secondary}
+use Rattle.rpg_program.specs.Ends as effects
+use Rattle.rpg_program.specs.declared.input.InputFile.{InputFile}
+use Rattle.rpg_program.specs.declared.input.InputFile.TheVariants.{Primary, Secondary}
 use Rattle.std.specs.List.{list_all}
 use Rattle.rpg_cycle.specs.Ends.{PhaseEnd, GoesOn, EndOfJob, Halt, Wrong}
 use Rattle.rpg_cycle.specs.Indicators.{any_on, first_page, halt_indicators, is_on, last_record, level_indicators, with_all, with_one, without_type, without_types}
 use Rattle.rpg_cycle.specs.Phases.{Cycle, Done, Phase, UnderWay, all_off, begun, detail_lines, does, done, either, halt_where_asked, identify, needs_record, read_record, select_one, select_record, set_off, take_in, take_type, with_config, with_inputs, ◌before◌}
 use Rattle.rpg_cycle.specs.Staging.{after_selection}
 use Rattle.rpg_machine.specs.Config.{Config, Output, charged}
-use Rattle.rpg_object_program.specs.Constants.{word_at}
-use Rattle.rpg_object_program.specs.Kept.{IsOverflowIndicator, IsProgram}
-use Rattle.rpg_object_program.specs.Object.{Object, has_file, lines_of}
+use Rattle.rpg_program.specs.Constants.{word_at}
+use Rattle.rpg_program.specs.Kept.{IsOverflowIndicator, IsProgram}
+use Rattle.rpg_program.specs.Object.{Object, has_file, lines_of}
 
 -- ---- indicators that stay
 

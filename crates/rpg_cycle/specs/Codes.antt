@@ -3,7 +3,7 @@ use Rattle.std.specs.Prelude.{◌≡◌, ℕ, Bool, List, Option, ◌⊎◌, ref
 use Rattle.std.proofs.Common.{inl, inr}
 use Rattle.std.specs.Coded.{Coded, code_by, coded×, coded⊎, coded_ℕ, coded_bool, coded_list, coded_option}
 use base.Stored.{coded_unit}
-use Rattle.rpg_effect.specs.Ends.{Fault, Jump, Storage, Kind, Return}
+use Rattle.rpg_program.specs.Ends.{Fault, Jump, Storage, Kind, Return}
 use Rattle.rpg_cycle_records.specs.Earlier.{Left, Selected}
 use Rattle.rpg_cycle_records.specs.Waiting.{InputState, Inputs}
 use Rattle.rpg_cycle.specs.Ends.{PhaseEnd, GoesOn, EndOfJob, Halt, Wrong}

@@ -10,10 +10,10 @@ use Rattle.rpg_cycle.specs.declared.ends.Stop.{Stop}
 use Rattle.rpg_cycle.specs.declared.seen.Seen.{Seen}
 use Rattle.rpg_cycle_records.specs.Holding.{AreFilesKept}
 use Rattle.rpg_cycle_records.specs.declared.kept.Kept.{Kept}
-use Rattle.rpg_effect.specs.Fronts.{OnlyGrows}
+use Rattle.rpg_program.specs.Fronts.{OnlyGrows}
 use Rattle.rpg_machine.specs.Ready.{IsReady}
 use Rattle.rpg_machine.specs.Running.{Running, refilled}
-use Rattle.rpg_object_program.specs.Object.{Object}
+use Rattle.rpg_program.specs.Object.{Object}
 use Rattle.rpg_verify.specs.Bound.{bound}
 
 -- the records that are next in both files have only characters, if that was seen

@@ -1,6 +1,6 @@
 -- The date in a memory.
 use Rattle.std.specs.Prelude.{ℕ, ℤ, List}
-use Rattle.rpg_effect.specs.declared.form.FieldForm.{FieldForm}
+use Rattle.rpg_program.specs.declared.form.FieldForm.{FieldForm}
 use Rattle.rpg_memory.specs.Memory.{Working, data_put}
 use Rattle.rpg_cycle.specs.Starting.{dated}
 

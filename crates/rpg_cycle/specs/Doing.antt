@@ -4,7 +4,7 @@ use Rattle.std.specs.List.{list_all}
 use Rattle.std.specs.Option.{option_map}
 use denote.Bor.{Bor}
 use Rattle.rpg_paper.specs.Paper.{Position, last_position_from}
-use Rattle.rpg_effect.specs.Put.{line_of, with_output}
+use Rattle.rpg_program.specs.Put.{line_of, with_output}
 use Rattle.rpg_cycle_records.specs.Earlier.{Selected}
 use Rattle.rpg_cycle_records.specs.Holding.{inputs_of, text_in}
 use Rattle.rpg_cycle_records.specs.Keeping.{left_of, selected_as}
@@ -14,7 +14,7 @@ use Rattle.rpg_cycle.specs.Ends.{GoesOn, PhaseEnd}
 use Rattle.rpg_cycle.specs.Phases.{CycleOn, Phase, UnderWay, if_selected}
 use Rattle.rpg_machine.specs.Config.{Config, Output}
 use Rattle.rpg_machine.specs.Running.{Running, config_on}
-use Rattle.rpg_object_program.specs.Object.{Object}
+use Rattle.rpg_program.specs.Object.{Object}
 use Rattle.rpg_text.specs.Texts.{is_character}
 
 -- the text of the record that is next in a file, if there is one

@@ -1,7 +1,7 @@
 -- How a phase, a cycle and a job end.
 use Rattle.std.specs.Prelude.{ℕ}
-use Rattle.rpg_effect.specs.Ends as effects
-use Rattle.rpg_effect.specs.Ends.{Fault}
+use Rattle.rpg_program.specs.Ends as effects
+use Rattle.rpg_program.specs.Ends.{Fault}
 
 -- It goes on, reaches the end of the job, halts with a number, or is wrong.
 pub data PhaseEnd : Type 0 where

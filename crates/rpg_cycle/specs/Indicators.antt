@@ -2,8 +2,8 @@
 use Rattle.std.specs.Prelude.{◌≡◌, ℕ, Bool, true, false, ◌||◌, ◌==◌, List, [], ◌∷◌, take, Option, None, Some, if◌then◌else◌}
 use Rattle.std.specs.FinSet as set
 use Rattle.std.specs.Ordering.{nat_cmp}
-use Rattle.rpg_effect.specs.Input.{TypeRow}
-use Rattle.rpg_effect.specs.World.{with_data}
+use Rattle.rpg_program.specs.Input.{TypeRow}
+use Rattle.rpg_program.specs.World.{with_data}
 use Rattle.rpg_machine.specs.Config.{Config}
 use Rattle.rpg_machine.specs.Ready.{IsReady}
 use Rattle.rpg_machine.specs.Running.{Running}

@@ -2,15 +2,15 @@
 use Rattle.std.specs.Prelude.{◌≡◌, ℕ, ℤ, ◌++◌, ◌≤◌, Bool, true, false, ◌&&◌, List, [], Option, None, Some}
 use Rattle.std.specs.Ordering.{nat_cmp}
 use Rattle.rpg_paper.specs.Paper.{Position, last_position_from}
-use Rattle.rpg_effect.specs.Put.{Bytes, line_of, with_output}
-use Rattle.rpg_effect.specs.World.{Fields}
+use Rattle.rpg_program.specs.Put.{Bytes, line_of, with_output}
+use Rattle.rpg_program.specs.World.{Fields}
 use Rattle.rpg_cycle_records.specs.Earlier.{Left, Selected, left_by, with_record}
 use Rattle.rpg_cycle_records.specs.Holding.{AreFilesKept, inputs_of}
 use Rattle.rpg_cycle_records.specs.Keeping.{left_of}
 use Rattle.rpg_cycle_records.specs.declared.kept.Kept.{Kept}
 use Rattle.rpg_cycle_records.specs.Merging.{AreMergedInOrder}
 use Rattle.rpg_cycle_records.specs.Waiting.{Inputs, unread}
-use Rattle.rpg_effect.specs.declared.input.InputFile.{InputFile}
+use Rattle.rpg_program.specs.declared.input.InputFile.{InputFile}
 use Rattle.rpg_cycle.specs.Ends.{GoesOn, PhaseEnd}
 use Rattle.rpg_machine.specs.Running as machines
 use Rattle.rpg_machine.specs.Ready.{IsReady}
@@ -20,7 +20,7 @@ use Rattle.rpg_cycle.specs.Stages.{Stage, Going, Ended, Failed, has_failed, is_g
 use Rattle.rpg_cycle.specs.Starting.{date_in, dated}
 use Rattle.rpg_machine.specs.Config.{Config, Output}
 use Rattle.rpg_machine.specs.Running.{Running, config_on, feed_behind, no_bytes}
-use Rattle.rpg_object_program.specs.Object.{Object}
+use Rattle.rpg_program.specs.Object.{Object}
 use Rattle.rpg_store.specs.First.{first_contents, first_currents}
 use Rattle.rpg_verify.specs.Bound.{bound}
 

@@ -7,11 +7,11 @@ use Rattle.rpg_cycle.specs.Runs.{Course, IsRun, Records, Runs, RunsIn}
 use Rattle.rpg_cycle_records.specs.Earlier.{Selected, left_by, with_record}
 use Rattle.rpg_cycle_records.specs.Merging.{AreMergedInOrder}
 use Rattle.rpg_cycle_records.specs.Waiting.{Inputs, finds_match}
-use Rattle.rpg_effect.specs.Put.{Bytes}
-use Rattle.rpg_effect.specs.World.{Fields}
-use Rattle.rpg_effect.specs.declared.input.InputFile.TheVariants.{Primary, Secondary}
+use Rattle.rpg_program.specs.Put.{Bytes}
+use Rattle.rpg_program.specs.World.{Fields}
+use Rattle.rpg_program.specs.declared.input.InputFile.TheVariants.{Primary, Secondary}
 use Rattle.rpg_machine.specs.Config.{Config, Output}
-use Rattle.rpg_object_program.specs.Object.{Object}
+use Rattle.rpg_program.specs.Object.{Object}
 
 -- ---- cycles
 

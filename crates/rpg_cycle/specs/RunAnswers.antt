@@ -10,10 +10,10 @@ use Rattle.rpg_cycle.specs.Stages.{is_going, job_end}
 use Rattle.rpg_cycle.specs.Starting.{date_in}
 use Rattle.rpg_cycle.specs.declared.runs.Run.{Run}
 use Rattle.rpg_cycle.specs.declared.runs.Summary.{Summary}
-use Rattle.rpg_effect.specs.Put.{Bytes}
+use Rattle.rpg_program.specs.Put.{Bytes}
 use Rattle.rpg_machine.specs.Config.{Output}
 use Rattle.rpg_machine.specs.Running.{config_on}
-use Rattle.rpg_object_program.specs.Object.{Object}
+use Rattle.rpg_program.specs.Object.{Object}
 
 -- the bytes of records
 abbrev pub texts : List (Vec ℕ) → List (List ℕ)

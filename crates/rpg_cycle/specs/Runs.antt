@@ -7,11 +7,11 @@ use Rattle.rpg_cycle.specs.Ends.{PhaseEnd, GoesOn, EndOfJob, Halt, Wrong}
 use Rattle.rpg_cycle.specs.Phases.{Cycle, UnderWay, begun, needs_record}
 use Rattle.rpg_cycle.specs.Starting.{job_start}
 use Rattle.rpg_paper.specs.Paper.{Placed, paper}
-use Rattle.rpg_effect.specs.Put.{Bytes, disk_bytes}
-use Rattle.rpg_effect.specs.World.{Fields}
-use Rattle.rpg_effect.specs.declared.input.InputFile.TheVariants.{Primary, Secondary}
+use Rattle.rpg_program.specs.Put.{Bytes, disk_bytes}
+use Rattle.rpg_program.specs.World.{Fields}
+use Rattle.rpg_program.specs.declared.input.InputFile.TheVariants.{Primary, Secondary}
 use Rattle.rpg_machine.specs.Config.{Config, Output, with_more}
-use Rattle.rpg_object_program.specs.Object.{Object}
+use Rattle.rpg_program.specs.Object.{Object}
 
 -- how a run ended, in how many cycles, the most steps that one of them took, what was put out, and what the last cycle led to
 pub record Course : Type 0 where

@@ -22,12 +22,12 @@ use Rattle.rpg_cycle.specs.Spending.{Spends, compared_weight}
 use Rattle.rpg_cycle.specs.Stages.{job_end}
 use Rattle.rpg_cycle.specs.declared.ends.JobEnd.{JobEnd}
 use Rattle.rpg_paper.specs.Paper.{Position}
-use Rattle.rpg_effect.specs.declared.input.ControlField.{ControlField}
-use Rattle.rpg_effect.specs.declared.input.InputFile.{InputFile}
+use Rattle.rpg_program.specs.declared.input.ControlField.{ControlField}
+use Rattle.rpg_program.specs.declared.input.InputFile.{InputFile}
 use Rattle.rpg_machine.specs.Config.{Config, charged}
 use Rattle.rpg_machine.specs.Ready.{IsReady}
 use Rattle.rpg_machine.specs.Running.{Running, config_on}
-use Rattle.rpg_object_program.specs.Object.{Object}
+use Rattle.rpg_program.specs.Object.{Object}
 
 -- the record is of that type of its file
 pub record TakesType (p : Object) (f : InputFile) (text : List ℕ) (old : Running) (t : ℕ) (new : Running) : Type 0 where

@@ -4,15 +4,15 @@ use Rattle.rpg_cycle_records.specs.Earlier.{control_fields, file_of}
 use Rattle.std.specs.Prelude.{ℕ, ◌≡◌, List, slice_get, ◌+◌, ◌*◌, ◌≤◌, length, Option, None, Some, is_some, if◌then◌else◌}
 use Rattle.rpg_cycle_records.specs.Identifying.{trial_weight}
 use Rattle.rpg_cycle_records.specs.Paying.{matches_at}
-use Rattle.rpg_effect.specs.declared.input.InputFile.{InputFile}
-use Rattle.rpg_effect.specs.Weights.{types_weight}
+use Rattle.rpg_program.specs.declared.input.InputFile.{InputFile}
+use Rattle.rpg_program.specs.Weights.{types_weight}
 use Rattle.rpg_machine.specs.Outputs.{inputs_at, output_weight}
 use Rattle.rpg_machine.specs.Running.{Running}
 use Rattle.rpg_machine.specs.declared.time.OutputTime.TheVariants as times
-use Rattle.rpg_object_program.specs.Object.{Object}
-use Rattle.rpg_object_program.specs.Sections.{first_place}
-use Rattle.rpg_object_program.specs.declared.section.Section.{Section}
-use Rattle.rpg_object_program.specs.declared.section.Section.TheVariants as sections
+use Rattle.rpg_program.specs.Object.{Object}
+use Rattle.rpg_program.specs.Sections.{first_place}
+use Rattle.rpg_program.specs.declared.section.Section.{Section}
+use Rattle.rpg_program.specs.declared.section.Section.TheVariants as sections
 use Rattle.rpg_verify.specs.Bound.{cost, most}
 
 -- the steps used, and those that what is left of the allowance can still lead to

@@ -1,6 +1,6 @@
 -- How far a job is, and which stage each result of the code means.
 use Rattle.std.specs.Prelude.{Bool, true, false, Result, Ok, Err}
-use Rattle.rpg_effect.specs.Halts.{halt_number}
+use Rattle.rpg_program.specs.Halts.{halt_number}
 use Rattle.rpg_cycle.specs.Ends.{PhaseEnd, GoesOn, EndOfJob, Halt, Wrong}
 use Rattle.rpg_cycle.specs.declared.ends.CycleEnd.{CycleEnd}
 use Rattle.rpg_cycle.specs.declared.ends.CycleEnd.TheVariants as answers

@@ -11,10 +11,10 @@ use Rattle.rpg_cycle_records.specs.Holding.{AreFilesKept, HoldsSelected}
 use Rattle.rpg_cycle_records.specs.Keeping.{left_of}
 use Rattle.rpg_cycle_records.specs.Waiting.{Inputs}
 use Rattle.rpg_cycle_records.specs.declared.kept.Kept.{Kept}
-use Rattle.rpg_effect.specs.Fronts.{OnlyGrows}
+use Rattle.rpg_program.specs.Fronts.{OnlyGrows}
 use Rattle.rpg_machine.specs.Ready.{IsReady}
 use Rattle.rpg_machine.specs.Running.{Running}
-use Rattle.rpg_object_program.specs.Object.{Object}
+use Rattle.rpg_program.specs.Object.{Object}
 
 -- ---- what a phase requires
 

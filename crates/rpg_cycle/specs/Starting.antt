@@ -7,13 +7,13 @@ use Rattle.std.specs.Ordering.{nat_cmp}
 use Rattle.rpg_cycle.specs.Indicators.{first_page, level_zero}
 use Rattle.rpg_decimal_words.specs.Fraction.{with_decimals}
 use Rattle.rpg_decimal_words.specs.Zoned.{is_digit, number_in}
-use Rattle.rpg_effect.specs.Forms.{is_date}
-use Rattle.rpg_effect.specs.Values.{Number}
-use Rattle.rpg_effect.specs.World.{Fields, World, with_value}
-use Rattle.rpg_effect.specs.declared.form.FieldForm.{FieldForm}
+use Rattle.rpg_program.specs.Forms.{is_date}
+use Rattle.rpg_program.specs.Values.{Number}
+use Rattle.rpg_program.specs.World.{Fields, World, with_value}
+use Rattle.rpg_program.specs.declared.form.FieldForm.{FieldForm}
 use Rattle.rpg_machine.specs.Config.{Config}
-use Rattle.rpg_object_program.specs.Object.{Object}
-use Rattle.rpg_object_program.specs.declared.section.Section.TheVariants.{Detail}
+use Rattle.rpg_program.specs.Object.{Object}
+use Rattle.rpg_program.specs.declared.section.Section.TheVariants.{Detail}
 
 -- the number that a text of just six digits spells
 abbrev pub date_in : List ℕ → Option ℤ

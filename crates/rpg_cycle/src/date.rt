@@ -4,13 +4,13 @@ ghost use Rattle.std.specs.List.{list_all};
 ghost use Rattle.rpg_cycle.specs.Starting.{date_in};
 ghost use Rattle.rpg_cycle.specs.Dating.{memory_dated};
 ghost use Rattle.rpg_decimal_words.specs.Zoned.{is_digit};
-ghost use Rattle.rpg_effect.specs.Forms.{is_date};
-ghost use Rattle.rpg_object_program.specs.Kept.{IsFieldRow};
+ghost use Rattle.rpg_program.specs.Forms.{is_date};
+ghost use Rattle.rpg_program.specs.Kept.{IsFieldRow};
 ghost use Rattle.rpg_memory.specs.Memory.{forms_in};
 
 use rpg_decimal::read_zoned;
-use rpg_effect::form::{Class, FieldForm};
 use rpg_memory::memory::Memory;
+use rpg_program::form::{Class, FieldForm};
 use rpg_store::Store;
 
 /// The date of a job: a number of six digits.

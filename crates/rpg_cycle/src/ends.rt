@@ -1,6 +1,6 @@
 //! How a cycle and a job end.
 
-use rpg_effect::halt::Halt;
+use rpg_program::halt::Halt;
 use std::alloc::AllocError;
 use thiserror::Error;
 

@@ -2,7 +2,7 @@
 ghost use Rattle.std.specs.Prelude.{◌≡◌, ◌≤◌, All};
 ghost use Rattle.std.specs.Option.{ForSome};
 ghost use Rattle.rpg_cycle.specs.Indicators as spec;
-ghost use Rattle.rpg_object_program.specs.Kept.{IsIndicator};
+ghost use Rattle.rpg_program.specs.Kept.{IsIndicator};
 
 use rpg_machine::Machine;
 use rpg_store::Store;

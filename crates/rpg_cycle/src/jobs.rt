@@ -9,11 +9,11 @@ use crate::indicators::{LAST_RECORD, is_halt_asked};
 use crate::program::is_end;
 use crate::seen::{NOTHING_SEEN, Seen};
 use rpg_cycle_records::Kept;
-use rpg_effect::input::InputFile;
 use rpg_machine::{Machine, Output};
 use rpg_memory::first_values_fit;
 use rpg_memory::memory::Memory;
-use rpg_object_program::section::Place;
+use rpg_program::input::InputFile;
+use rpg_program::section::Place;
 use rpg_store::{FlatStore, Store};
 use rpg_verify::Verified;
 use std::alloc::{AllocError, Global};
@@ -101,8 +101,8 @@ impl<'a, S: Store + Drop> Job<'a, S> {
     ghost use Rattle.std.specs.Prelude.{◌≤◌, ◌&&◌, true, false, ◌↔◌, None, IfOk, OnErr, IsOk, IsErrOf};
     ghost use Rattle.rpg_cycle.specs.Cycled.{AreSeen};
     ghost use Rattle.rpg_cycle.specs.Doing.{IsSeen, next_text};
-    ghost use Rattle.rpg_effect.specs.Fronts.{OnlyGrows};
-    ghost use Rattle.rpg_effect.specs.declared.input.InputFile.TheVariants as files;
+    ghost use Rattle.rpg_program.specs.Fronts.{OnlyGrows};
+    ghost use Rattle.rpg_program.specs.declared.input.InputFile.TheVariants as files;
     ghost use Rattle.rpg_cycle.specs.Job as of;
     ghost use Rattle.rpg_cycle.specs.Phases.{takes_records};
     ghost use Rattle.rpg_cycle.specs.Stages.{Failed, is_going, told};
@@ -194,7 +194,7 @@ impl<'a, S: Store + Drop> Job<'a, S> {
     }
 
     /// The same, where some records are known to have only characters: their bytes aren't tested again.
-    #[tactic(auto, using(rpg_effect::proofs::Fronts::grows_not))]
+    #[tactic(auto, using(rpg_program::proofs::Fronts::grows_not))]
     pub fn cycle_with_seen(
         &mut self,
         primary: Option<&[u8]>,

@@ -7,7 +7,7 @@ ghost use Rattle.rpg_cycle.specs.Standing.{RunsStandRight};
 ghost use Rattle.rpg_cycle_records.specs.Merging.{AreMergedInOrder};
 ghost use Rattle.rpg_cycle_records.specs.Waiting.{unread};
 ghost use Rattle.rpg_machine.specs.Config.{Config};
-ghost use Rattle.rpg_object_program.specs.Object.{Object};
+ghost use Rattle.rpg_program.specs.Object.{Object};
 
 use rpg_verify::Verified;
 

@@ -19,7 +19,7 @@ pub use laws::{
     cycles_keep_order, runs_are_one, runs_are_short, runs_go_by_their_count, runs_stand_right,
     unneeded_records_are_ignored,
 };
-pub use rpg_effect::halt::Halt;
 pub use rpg_machine::Output;
+pub use rpg_program::halt::Halt;
 pub use runs::{Run, run_records};
 pub use seen::Seen;

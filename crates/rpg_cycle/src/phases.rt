@@ -12,13 +12,13 @@ ghost use Rattle.rpg_cycle.specs.Phases as spec;
 ghost use Rattle.rpg_cycle.specs.Spending.{section_cost, full_page_weight, totals_weight};
 ghost use Rattle.rpg_cycle.specs.Stages.{IfStops, job_end};
 ghost use Rattle.rpg_cycle.specs.Staging.{CanDo, CanSpend, DoesFreely, DoesPhase, FillsSelected, KeepsSelected, ShowsMatch};
-ghost use Rattle.rpg_effect.specs.Ends as effects;
+ghost use Rattle.rpg_program.specs.Ends as effects;
 ghost use Rattle.rpg_machine.specs.Outputs.{output_weight};
 ghost use Rattle.rpg_machine.specs.declared.time.OutputTime.TheVariants as times;
-ghost use Rattle.rpg_object_program.specs.Kept.{IsIndicator};
-ghost use Rattle.rpg_object_program.specs.Object.{type_row};
-ghost use Rattle.rpg_object_program.specs.Sections.{has_end};
-ghost use Rattle.rpg_object_program.specs.declared.section.Section.TheVariants as sections;
+ghost use Rattle.rpg_program.specs.Kept.{IsIndicator};
+ghost use Rattle.rpg_program.specs.Object.{type_row};
+ghost use Rattle.rpg_program.specs.Sections.{has_end};
+ghost use Rattle.rpg_program.specs.declared.section.Section.TheVariants as sections;
 
 use crate::ends::{JobEnd, Stop};
 use crate::indicators::{
@@ -26,12 +26,12 @@ use crate::indicators::{
 };
 use crate::program::{is_bounded, overflow_of};
 use rpg_cycle_records::{Kept, types_of};
-use rpg_effect::halt::Halt;
-use rpg_effect::outcome::End;
 use rpg_machine::Machine;
 use rpg_machine::time::OutputTime;
-use rpg_object_program::row::RecordType;
-use rpg_object_program::section::Section;
+use rpg_program::halt::Halt;
+use rpg_program::outcome::End;
+use rpg_program::rows::RecordType;
+use rpg_program::section::Section;
 use rpg_store::Store;
 use rpg_verify::Verified;
 

@@ -11,9 +11,9 @@ ghost use Rattle.rpg_cycle.specs.Stages.{IfStops, UnlessNoMemory, job_end};
 ghost use Rattle.rpg_cycle_records.specs.Fitting.{IsFilledAs};
 ghost use Rattle.rpg_cycle_records.specs.Holding.{HoldsSelected, IsFileKept};
 ghost use Rattle.rpg_cycle_records.specs.Identifying.{is_good_record};
-ghost use Rattle.rpg_effect.specs.Weights.{types_weight};
+ghost use Rattle.rpg_program.specs.Weights.{types_weight};
 ghost use Rattle.rpg_machine.specs.Ready.{IsReady};
-ghost use Rattle.rpg_object_program.specs.Object.{input_length};
+ghost use Rattle.rpg_program.specs.Object.{input_length};
 ghost use Rattle.rpg_text.specs.Texts.{is_character};
 
 use crate::ends::{JobEnd, Stop};
@@ -24,9 +24,9 @@ use rpg_cycle_records::{
     Kept, KeptFile, LastBytes, LastValues, MatchValue, chosen, compare, control_fields, fill,
     identify, input_length, is_good, match_fields,
 };
-use rpg_effect::halt::Halt;
-use rpg_effect::input::InputFile;
 use rpg_machine::Machine;
+use rpg_program::halt::Halt;
+use rpg_program::input::InputFile;
 use rpg_store::Store;
 use rpg_verify::Verified;
 use std::alloc::AllocError;

@@ -4,8 +4,8 @@ use Rattle.std.specs.List.{list_all}
 use Rattle.rpg_cycle_records.proofs.Trying.{one_file}
 use Rattle.rpg_cycle_records.specs.Earlier.{file_of}
 use Rattle.rpg_cycle_records.specs.Identifying.{IsOf, Misplaced, Trial, code_holds, has_position, identified, same_file}
-use Rattle.rpg_effect.specs.Input.{TypeRow}
-use Rattle.rpg_effect.specs.declared.input.InputFile.{InputFile}
+use Rattle.rpg_program.specs.Input.{TypeRow}
+use Rattle.rpg_program.specs.declared.input.InputFile.{InputFile}
 
 -- a type that takes a record of the file is the file's
 own_file : (f : InputFile) (n : ℕ) (t : TypeRow ℕ) (ts : List (TypeRow ℕ)) (rest : Trial) (k : ℕ) (own there hold : Bool) → same_file t.file f ≡ own →

@@ -3,7 +3,7 @@ use Rattle.std.proofs.Common.{◌≡◌, ℕ, ◌≤◌, ◌<◌, ◌+◌, ◌-�
 use Rattle.std.proofs.Math.ListN.{set}
 use borrow.Author.Tests.{leb-true, leb-false}
 use Rattle.std.proofs.lemmas.List.{get_or-set_other, get_or-map, map-set, set-get_or, drop_more}
-use Rattle.rpg_effect.specs.declared.input.ControlField.{ControlField}
+use Rattle.rpg_program.specs.declared.input.ControlField.{ControlField}
 use Rattle.rpg_cycle_records.specs.Earlier.{or_before}
 use Rattle.rpg_cycle_records.specs.Fronts.{rest_behind}
 use Rattle.rpg_cycle_records.specs.Keeping.{renewed, seen_bytes, seen_levels}

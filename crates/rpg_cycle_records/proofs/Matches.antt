@@ -1,8 +1,8 @@
 -- A match is found by the last values alone.
 use Rattle.std.proofs.Common.{◌≡◌, ℕ, Bool, true, false, cond, ◌||◌, List, [], ◌∷◌, Option, None, Some, refl, sym, ap, ◌∙◌, subst}
-use Rattle.rpg_effect.specs.declared.input.InputFile.{InputFile}
-use Rattle.rpg_effect.specs.declared.input.InputFile.TheVariants.{Primary, Secondary}
-use Rattle.rpg_object_program.specs.Object.{Object}
+use Rattle.rpg_program.specs.declared.input.InputFile.{InputFile}
+use Rattle.rpg_program.specs.declared.input.InputFile.TheVariants.{Primary, Secondary}
+use Rattle.rpg_program.specs.Object.{Object}
 use Rattle.rpg_cycle_records.proofs.Order.{same_top}
 use Rattle.rpg_cycle_records.specs.Earlier.{Selected, any_agrees, file_at, last_of_file, last_value, left_by, match_value, or_before, value_from}
 use Rattle.rpg_cycle_records.specs.Identifying.{same_file}

@@ -5,9 +5,9 @@ use Rattle.std.proofs.lemmas.List.Elements.{All-append, All-replicate}
 use Rattle.std.specs.List.{list_all}
 use Rattle.rpg_text.specs.Texts.{is_character}
 use Rattle.rpg_cycle_records.specs.Identifying.{is_good_record, padded}
-use Rattle.rpg_effect.specs.declared.input.InputFile.{InputFile}
-use Rattle.rpg_object_program.specs.Kept.{IsCharacter}
-use Rattle.rpg_object_program.specs.Object.{Object, input_length}
+use Rattle.rpg_program.specs.declared.input.InputFile.{InputFile}
+use Rattle.rpg_program.specs.Kept.{IsCharacter}
+use Rattle.rpg_program.specs.Object.{Object, input_length}
 
 character : (c : ℕ) → is_character c ≡ true → IsCharacter c
 character c h = record { lowest = grind (arith, nat_tests, h); highest = grind (arith, nat_tests, h) }

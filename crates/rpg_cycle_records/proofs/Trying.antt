@@ -7,12 +7,12 @@ use Rattle.std.specs.List.{All, list_all}
 use Rattle.std.specs.Option.{option_map}
 use Rattle.rpg_cycle_records.specs.Earlier.{file_of}
 use Rattle.rpg_cycle_records.specs.Fitting.{IsCodeIn, IsTypeFit, IsTypeIn, IsTypeOf}
-use Rattle.rpg_effect.specs.Input.{TypeRow}
-use Rattle.rpg_effect.specs.declared.input.InputFile.{InputFile}
-use Rattle.rpg_effect.specs.declared.input.InputFile.TheVariants.{Primary, Secondary}
-use Rattle.rpg_effect.specs.declared.input.RecordCode.{RecordCode}
-use Rattle.rpg_object_program.specs.Object.{Object, input_length, type_row}
-use Rattle.rpg_object_program.specs.declared.row.RecordType.{RecordType}
+use Rattle.rpg_program.specs.Input.{TypeRow}
+use Rattle.rpg_program.specs.declared.input.InputFile.{InputFile}
+use Rattle.rpg_program.specs.declared.input.InputFile.TheVariants.{Primary, Secondary}
+use Rattle.rpg_program.specs.declared.input.RecordCode.{RecordCode}
+use Rattle.rpg_program.specs.Object.{Object, input_length, type_row}
+use Rattle.rpg_program.specs.declared.rows.RecordType.{RecordType}
 use Rattle.rpg_cycle_records.specs.Identifying.{has_position, code_holds, identified, same_file, trial_weight, IsOf}
 
 there : (text : List ℕ) (c : RecordCode) → IsCodeIn (length text) c → has_position text c ≡ true

@@ -1,7 +1,7 @@
 -- The bytes of match fields, from M9 down.
 use Rattle.std.proofs.Common.{◌≡◌, ℕ, ◌+◌, ◌-◌, ◌<◌, suc, List, ◌++◌, sym, ap, ◌∙◌, arith}
 use Rattle.std.proofs.lemmas.List.{append_assoc}
-use Rattle.rpg_effect.specs.declared.input.ControlField.{ControlField}
+use Rattle.rpg_program.specs.declared.input.ControlField.{ControlField}
 use Rattle.rpg_cycle_records.specs.Levels.{joined_bytes}
 use Rattle.rpg_cycle_records.specs.Matching.{joined_down}
 

@@ -1,10 +1,10 @@
 -- What a cycle charges of record types is at most their weight.
 use Rattle.std.proofs.Common.{◌≡◌, ℕ, zero, suc, ◌+◌, ◌≤◌, Bool, true, false, cond, not, ◌&&◌, List, [], ◌∷◌, length, slice_get, refl, sym, ◌∙◌, arith}
 use Rattle.std.specs.List.{list_all}
-use Rattle.rpg_effect.specs.Input.{TypeRow}
-use Rattle.rpg_effect.specs.Weights.{types_weight}
-use Rattle.rpg_effect.specs.declared.input.InputFile.{InputFile}
-use Rattle.rpg_effect.specs.declared.input.InputFile.TheVariants.{Primary, Secondary}
+use Rattle.rpg_program.specs.Input.{TypeRow}
+use Rattle.rpg_program.specs.Weights.{types_weight}
+use Rattle.rpg_program.specs.declared.input.InputFile.{InputFile}
+use Rattle.rpg_program.specs.declared.input.InputFile.TheVariants.{Primary, Secondary}
 use Rattle.rpg_cycle_records.specs.Paying.{matches_at, moved_of}
 use Rattle.rpg_cycle_records.specs.Earlier.{file_of}
 use Rattle.rpg_cycle_records.specs.Identifying.{code_holds, has_position, same_file, trial_weight}

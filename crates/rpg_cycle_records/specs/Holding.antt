@@ -9,10 +9,10 @@ use Rattle.rpg_cycle_records.specs.Waiting.{InputState, Inputs}
 use Rattle.rpg_cycle_records.specs.declared.files.KeptFile.{KeptFile}
 use Rattle.rpg_cycle_records.specs.declared.kept.Kept.{Kept}
 use Rattle.rpg_cycle_records.specs.declared.matching.MatchValue.{MatchValue}
-use Rattle.rpg_effect.specs.declared.input.InputFile.{InputFile}
-use Rattle.rpg_effect.specs.declared.input.InputFile.TheVariants.{Primary, Secondary}
-use Rattle.rpg_object_program.specs.Kept.{IsCharacter}
-use Rattle.rpg_object_program.specs.Object.{Object, has_file}
+use Rattle.rpg_program.specs.declared.input.InputFile.{InputFile}
+use Rattle.rpg_program.specs.declared.input.InputFile.TheVariants.{Primary, Secondary}
+use Rattle.rpg_program.specs.Kept.{IsCharacter}
+use Rattle.rpg_program.specs.Object.{Object, has_file}
 
 -- the record that a file holds, as one of that type
 abbrev pub record_as : ℕ → KeptFile → Selected

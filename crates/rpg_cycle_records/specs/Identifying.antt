@@ -1,11 +1,11 @@
 -- Which type a record is of, among those of its file.
 use Rattle.std.specs.Prelude.{ℕ, ◌+◌, ◌-◌, Bool, true, false, not, ◌&&◌, ◌==◌, nat_le, List, [], ◌∷◌, ◌++◌, length, replicate, slice_index_or, if◌then◌else◌}
 use Rattle.std.specs.List.{list_all}
-use Rattle.rpg_effect.specs.Input.{TypeRow}
-use Rattle.rpg_effect.specs.declared.input.InputFile.{InputFile}
-use Rattle.rpg_effect.specs.declared.input.InputFile.TheVariants.{Primary, Secondary}
-use Rattle.rpg_effect.specs.declared.input.RecordCode.{RecordCode}
-use Rattle.rpg_object_program.specs.Object.{Object, input_length}
+use Rattle.rpg_program.specs.Input.{TypeRow}
+use Rattle.rpg_program.specs.declared.input.InputFile.{InputFile}
+use Rattle.rpg_program.specs.declared.input.InputFile.TheVariants.{Primary, Secondary}
+use Rattle.rpg_program.specs.declared.input.RecordCode.{RecordCode}
+use Rattle.rpg_program.specs.Object.{Object, input_length}
 use Rattle.rpg_text.specs.Texts.{is_character}
 
 -- ---- the record

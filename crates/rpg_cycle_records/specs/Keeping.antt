@@ -5,10 +5,10 @@ use Rattle.rpg_cycle_records.specs.Levels.{level_bytes}
 use Rattle.rpg_cycle_records.specs.declared.kept.Kept.{Kept}
 use Rattle.rpg_cycle_records.specs.declared.levels.LastBytes.{LastBytes}
 use Rattle.rpg_cycle_records.specs.declared.matching.MatchValue.{MatchValue}
-use Rattle.rpg_effect.specs.declared.input.ControlField.{ControlField}
-use Rattle.rpg_effect.specs.declared.input.InputFile.{InputFile}
-use Rattle.rpg_effect.specs.declared.input.InputFile.TheVariants.{Primary, Secondary}
-use Rattle.rpg_object_program.specs.Object.{Object}
+use Rattle.rpg_program.specs.declared.input.ControlField.{ControlField}
+use Rattle.rpg_program.specs.declared.input.InputFile.{InputFile}
+use Rattle.rpg_program.specs.declared.input.InputFile.TheVariants.{Primary, Secondary}
+use Rattle.rpg_program.specs.Object.{Object}
 
 -- the control fields of the last record that had them
 abbrev pub seen_bytes : LastBytes → Option (List ℕ)

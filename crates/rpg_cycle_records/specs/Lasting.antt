@@ -1,7 +1,7 @@
 -- What a record has in common with the one before: control fields whose bytes are the last ones of their levels.
 use Rattle.std.specs.Prelude.{ℕ, ◌-◌, Bool, true, false, not, ◌&&◌, nat_le, List, [], ◌∷◌, slice_index_or, Option, None, Some}
 use Rattle.rpg_cycle_records.specs.Levels.{compared, has_level, same_bytes}
-use Rattle.rpg_effect.specs.declared.input.ControlField.{ControlField}
+use Rattle.rpg_program.specs.declared.input.ControlField.{ControlField}
 
 -- a level had these bytes last
 abbrev pub had : Option (List ℕ) → List ℕ → Bool

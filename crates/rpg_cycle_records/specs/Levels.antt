@@ -1,7 +1,7 @@
 -- Control levels: the bytes of their fields, and which level is broken.
 use Rattle.std.specs.Prelude.{ℕ, zero, suc, ◌+◌, ◌-◌, Bool, true, false, not, ◌&&◌, ◌||◌, ◌==◌, nat_le, List, [], ◌∷◌, ◌++◌, map, slice_index_or, slice_range, Option, None, Some, if◌then◌else◌}
 use Rattle.std.specs.List.{list_any}
-use Rattle.rpg_effect.specs.declared.input.ControlField.{ControlField}
+use Rattle.rpg_program.specs.declared.input.ControlField.{ControlField}
 
 -- the character of the digit that a byte of a numeric control field stands for: a sign makes no difference, and a blank is a zero; any other byte is itself
 abbrev pub unsigned_digit : ℕ → ℕ

@@ -1,8 +1,8 @@
 -- Records that wait in their files, and which of them is selected.
 use Rattle.std.specs.Prelude.{ℕ, Bool, true, false, not, ◌&&◌, ◌||◌, List, Option, None, Some, is_none, if◌then◌else◌}
-use Rattle.rpg_effect.specs.declared.input.InputFile.{InputFile}
-use Rattle.rpg_effect.specs.declared.input.InputFile.TheVariants.{Primary, Secondary}
-use Rattle.rpg_object_program.specs.Object.{Object, has_file}
+use Rattle.rpg_program.specs.declared.input.InputFile.{InputFile}
+use Rattle.rpg_program.specs.declared.input.InputFile.TheVariants.{Primary, Secondary}
+use Rattle.rpg_program.specs.Object.{Object, has_file}
 use Rattle.rpg_cycle_records.specs.Earlier.{Left, Selected, any_agrees, file_at, last_of_file, match_value, value_from, with_record}
 use Rattle.rpg_cycle_records.specs.Matching.{agrees, is_greater}
 

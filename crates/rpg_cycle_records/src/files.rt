@@ -6,11 +6,11 @@ ghost use Rattle.rpg_cycle_records.specs.Holding.{IsFileKept, input_state_of, re
 ghost use Rattle.rpg_cycle_records.specs.Keeping.{seen_value};
 ghost use Rattle.rpg_cycle_records.specs.Matching as values;
 ghost use Rattle.rpg_cycle_records.specs.Waiting as spec;
-ghost use Rattle.rpg_effect.specs.declared.input.InputFile.TheVariants as files;
+ghost use Rattle.rpg_program.specs.declared.input.InputFile.TheVariants as files;
 
 use crate::matching::{LONGEST_VALUE, MatchValue};
 use crate::program::{input_length, match_fields};
-use rpg_effect::input::InputFile;
+use rpg_program::input::InputFile;
 use rpg_verify::Verified;
 use std::alloc::{AllocError, Global};
 

@@ -6,11 +6,11 @@ ghost use Rattle.rpg_cycle_records.specs.Earlier.{file_of};
 ghost use Rattle.rpg_cycle_records.specs.Fitting.{IsCodeIn, IsTypeOf};
 ghost use Rattle.rpg_cycle_records.specs.Identifying as spec;
 ghost use Rattle.rpg_cycle_records.specs.Trying.{trial_of};
-ghost use Rattle.rpg_object_program.specs.Object.{input_length, type_row};
+ghost use Rattle.rpg_program.specs.Object.{input_length, type_row};
 
 use crate::program::types_of;
-use rpg_effect::input::{InputFile, RecordCode};
-use rpg_object_program::row::RecordType;
+use rpg_program::input::{InputFile, RecordCode};
+use rpg_program::rows::RecordType;
 use rpg_verify::Verified;
 
 fn holds(text: &[u8], code: RecordCode) -> bool

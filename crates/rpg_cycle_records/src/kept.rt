@@ -11,7 +11,7 @@ use crate::files::KeptFile;
 use crate::levels::LastBytes;
 use crate::matching::{LastValues, MatchValue};
 use crate::program::{control_fields, file_of};
-use rpg_effect::input::InputFile;
+use rpg_program::input::InputFile;
 use rpg_verify::Verified;
 use std::alloc::{AllocError, Global};
 

@@ -8,7 +8,7 @@ ghost use Rattle.rpg_cycle_records.specs.Levels as spec;
 ghost use Rattle.rpg_cycle_records.specs.Fronts.{rest_behind};
 ghost use Rattle.rpg_cycle_records.specs.Lasting.{are_last, is_last};
 
-use rpg_effect::input::ControlField;
+use rpg_program::input::ControlField;
 use std::alloc::AllocError;
 
 /// The digit that a byte of a numeric control field has.

@@ -7,7 +7,7 @@ ghost use Rattle.rpg_cycle_records.specs.Matching as spec;
 use crate::levels::join;
 use crate::program::{file_of, match_fields};
 use rpg_decimal::compare_text;
-use rpg_effect::input::{ControlField, InputFile};
+use rpg_program::input::{ControlField, InputFile};
 use rpg_verify::Verified;
 use std::alloc::{AllocError, Global};
 use std::cmp::Ordering;
@@ -83,7 +83,7 @@ impl LastValues {
     ghost use Rattle.std.specs.Prelude.{◌<◌, IfOk, None};
     ghost use Rattle.rpg_cycle_records.specs.Fitting.{IsFilledAs};
     ghost use Rattle.rpg_cycle_records.specs.Keeping.{value_behind};
-    ghost use Rattle.rpg_effect.specs.declared.input.InputFile.TheVariants as files;
+    ghost use Rattle.rpg_program.specs.declared.input.InputFile.TheVariants as files;
 
     /// No values, with room for 256 bytes each.
     pub fn none(alloc: Global) -> Result<LastValues, AllocError>

@@ -2,11 +2,11 @@
 ghost use Rattle.std.specs.Prelude.{◌≡◌, ◌≤◌, ◌<◌, All, Some, length, map, slice_get};
 ghost use Rattle.rpg_cycle_records.specs.Earlier as earlier;
 ghost use Rattle.rpg_cycle_records.specs.Fitting.{IsControlIn, IsTypeFit};
-ghost use Rattle.rpg_object_program.specs.Kept.{IsProgram};
-ghost use Rattle.rpg_object_program.specs.Object.{input_length as length_of, seen, type_row};
+ghost use Rattle.rpg_program.specs.Kept.{IsProgram};
+ghost use Rattle.rpg_program.specs.Object.{input_length as length_of, seen, type_row};
 
-use rpg_effect::input::{ControlField, InputFile};
-use rpg_object_program::row::{RecordType, Rows};
+use rpg_program::input::{ControlField, InputFile};
+use rpg_program::rows::{RecordType, Rows};
 use rpg_verify::Verified;
 
 /// The rows of a program.

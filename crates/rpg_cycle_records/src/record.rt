@@ -1,10 +1,10 @@
 //! The text of a record.
 ghost use Rattle.std.specs.Prelude.{◌≡◌, ◌≤◌, IfOk, length, true};
 ghost use Rattle.rpg_cycle_records.specs.Identifying as spec;
-ghost use Rattle.rpg_object_program.specs.Object.{input_length as length_of};
+ghost use Rattle.rpg_program.specs.Object.{input_length as length_of};
 
 use crate::program::input_length;
-use rpg_effect::input::InputFile;
+use rpg_program::input::InputFile;
 use rpg_text::has_only_characters;
 use rpg_verify::Verified;
 use std::alloc::AllocError;

@@ -7,27 +7,27 @@ use Rattle.rpg_decimal.proofs.LawLemmas.{left_digits, length-zoned, read_either,
 use Rattle.rpg_decimal.proofs.WholeLemmas.{fit-below}
 use Rattle.rpg_decimal_words.specs.Fraction.{Fraction, aligned_number, with_decimals}
 use Rattle.rpg_decimal_words.specs.Zoned.{number_in, zoned_text}
-use Rattle.rpg_effect.specs.Act.{act, assigned, computed, divided, exact, field_of_entry, found_in, found_shown, index_set, looked_up, made_current, made_current_if_any, moved, number_after, number_over, remainder_after, source_text, store, stored_value, summed, text_over, with_found}
-use Rattle.rpg_effect.specs.Ended.{Ended, Gives}
-use Rattle.rpg_effect.specs.Entries.{entry_of}
-use Rattle.rpg_effect.specs.Forms.{decimals_of, entries_of, form_at, is_table_form, kind_of, length_of, may_write}
-use Rattle.rpg_effect.specs.Operate.{has_entries, operate, resolved, with_operands}
-use Rattle.rpg_effect.specs.Right.{IsRightRow}
-use Rattle.rpg_effect.specs.Rows.{all_of, all_used, can_hold, form_of, is_there, is_written, lacks_storage, row_of}
-use Rattle.rpg_effect.specs.Values.{Number}
-use Rattle.rpg_effect.specs.World.{Data, characters_at, number_at, set_current, set_value}
-use Rattle.rpg_effect.specs.declared.form.Kind.{Kind}
-use Rattle.rpg_effect.specs.declared.form.Kind.TheVariants as kinds
-use Rattle.rpg_effect.specs.declared.operation.Action.{Action}
-use Rattle.rpg_effect.specs.declared.operation.Action.TheVariants.{Compute, Divide, Assign, TakeRemainder, CrossFoot, Compare, LookUp, Move, SetIndicators}
-use Rattle.rpg_effect.specs.declared.operation.Entry.{Entry}
-use Rattle.rpg_effect.specs.declared.operation.Found.{Found}
-use Rattle.rpg_effect.specs.declared.operation.Index.{Index}
-use Rattle.rpg_effect.specs.declared.operation.Index.TheVariants.{Blank, Literal, Field}
-use Rattle.rpg_effect.specs.declared.operation.Operand.{Operand}
-use Rattle.rpg_effect.specs.declared.operation.Shows.{Shows}
-use Rattle.rpg_effect.specs.declared.operation.Side.{Side}
-use Rattle.rpg_effect.specs.declared.operation.Side.TheVariants.{Right, Left}
+use Rattle.rpg_program.specs.Act.{act, assigned, computed, divided, exact, field_of_entry, found_in, found_shown, index_set, looked_up, made_current, made_current_if_any, moved, number_after, number_over, remainder_after, source_text, store, stored_value, summed, text_over, with_found}
+use Rattle.rpg_program.specs.Ended.{Ended, Gives}
+use Rattle.rpg_program.specs.Entries.{entry_of}
+use Rattle.rpg_program.specs.Forms.{decimals_of, entries_of, form_at, is_table_form, kind_of, length_of, may_write}
+use Rattle.rpg_program.specs.Operate.{has_entries, operate, resolved, with_operands}
+use Rattle.rpg_program.specs.Right.{IsRightRow}
+use Rattle.rpg_program.specs.Rows.{all_of, all_used, can_hold, form_of, is_there, is_written, lacks_storage, row_of}
+use Rattle.rpg_program.specs.Values.{Number}
+use Rattle.rpg_program.specs.World.{Data, characters_at, number_at, set_current, set_value}
+use Rattle.rpg_program.specs.declared.form.Kind.{Kind}
+use Rattle.rpg_program.specs.declared.form.Kind.TheVariants as kinds
+use Rattle.rpg_program.specs.declared.operation.Action.{Action}
+use Rattle.rpg_program.specs.declared.operation.Action.TheVariants.{Compute, Divide, Assign, TakeRemainder, CrossFoot, Compare, LookUp, Move, SetIndicators}
+use Rattle.rpg_program.specs.declared.operation.Entry.{Entry}
+use Rattle.rpg_program.specs.declared.operation.Found.{Found}
+use Rattle.rpg_program.specs.declared.operation.Index.{Index}
+use Rattle.rpg_program.specs.declared.operation.Index.TheVariants.{Blank, Literal, Field}
+use Rattle.rpg_program.specs.declared.operation.Operand.{Operand}
+use Rattle.rpg_program.specs.declared.operation.Shows.{Shows}
+use Rattle.rpg_program.specs.declared.operation.Side.{Side}
+use Rattle.rpg_program.specs.declared.operation.Side.TheVariants.{Right, Left}
 use Rattle.rpg_cycle_safety.proofs.Writing.{current_set, gives, index_may, number_written, or_halts, same_fields, text_long, text_spelled, text_written}
 use Rattle.rpg_cycle_safety.specs.Holding.{Holds, KeepsData}
 use Rattle.rpg_machine_operations.proofs.Characters.{over_characters, zoned_characters}
@@ -40,8 +40,8 @@ use Rattle.rpg_machine_operations.proofs.Rights.{entries_right}
 use Rattle.rpg_memory.proofs.Values.{length_low}
 use Rattle.rpg_machine_operations.specs.Good.{AreOperandEntries, FitsPosition, HasPosition, IsRightAction}
 use Rattle.rpg_memory.specs.Fields.{AreForms, IsValue, reads_index}
-use Rattle.rpg_object_program.specs.Kept.{IsCharacter, IsProgram}
-use Rattle.rpg_object_program.specs.Object.{Object}
+use Rattle.rpg_program.specs.Kept.{IsCharacter, IsProgram}
+use Rattle.rpg_program.specs.Object.{Object}
 
 -- ---- the result of a right operation may be written
 

@@ -1,9 +1,9 @@
 -- Steps and sections of an accepted program pay for what they put out.
 use Rattle.std.proofs.Common.{◌≡◌, ℕ, zero, suc, ◌+◌, Bool, true, false, ◌&&◌, cond, eqb, [], Option, None, Some, refl, sym, subst, arith, nat_cmp}
 use Rattle.std.specs.FinMap as map
-use Rattle.rpg_effect.specs.Effect.{Effect}
-use Rattle.rpg_effect.specs.Ends.{End, GoesOn, Halt, Wrong}
-use Rattle.rpg_effect.specs.declared.operation.Instruction.{Instruction}
+use Rattle.rpg_program.specs.Effect.{Effect}
+use Rattle.rpg_program.specs.Ends.{End, GoesOn, Halt, Wrong}
+use Rattle.rpg_program.specs.declared.operation.Instruction.{Instruction}
 use Rattle.rpg_cycle_safety.proofs.Outputting.{instruction_few}
 use Rattle.rpg_cycle_safety.proofs.Sizing.{PutsFew, bytes_both, near_both}
 use Rattle.rpg_cycle_safety.proofs.Stepping.{leads_well}
@@ -20,11 +20,11 @@ use Rattle.rpg_machine.specs.Control.{spends}
 use Rattle.rpg_machine.specs.Run.{RunsTo, at_first, is_end, onward, put_before, run}
 use Rattle.rpg_machine.specs.Step.{Outcome, Next, Stop, arrived, control_in, destination, effect, outcome_of, step, went}
 use Rattle.rpg_machine.specs.declared.control.Control.{Control}
-use Rattle.rpg_object_program.specs.Instructions.{weight}
-use Rattle.rpg_object_program.specs.Object.{Object}
-use Rattle.rpg_object_program.specs.Sections.{has_end, instruction_at}
-use Rattle.rpg_object_program.specs.declared.section.Place.{Place}
-use Rattle.rpg_object_program.specs.declared.section.Section.{Section}
+use Rattle.rpg_program.specs.ObjectInstructions.{weight}
+use Rattle.rpg_program.specs.Object.{Object}
+use Rattle.rpg_program.specs.Sections.{has_end, instruction_at}
+use Rattle.rpg_program.specs.declared.section.Place.{Place}
+use Rattle.rpg_program.specs.declared.section.Section.{Section}
 use Rattle.rpg_paper.specs.Paper.{Position, last_position_from}
 
 -- ---- from one configuration to another

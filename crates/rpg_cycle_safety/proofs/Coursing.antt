@@ -13,14 +13,14 @@ use Rattle.rpg_cycle.specs.Starting.{job_first_world, job_start}
 use Rattle.rpg_cycle_records.specs.Earlier.{Selected, with_record}
 use Rattle.rpg_cycle_records.specs.Merging as merging
 use Rattle.rpg_cycle_records.specs.Waiting.{Inputs, unread}
-use Rattle.rpg_effect.specs.Put.{Bytes}
-use Rattle.rpg_effect.specs.World.{Fields}
-use Rattle.rpg_effect.specs.declared.input.InputFile.TheVariants.{Primary, Secondary}
+use Rattle.rpg_program.specs.Put.{Bytes}
+use Rattle.rpg_program.specs.World.{Fields}
+use Rattle.rpg_program.specs.declared.input.InputFile.TheVariants.{Primary, Secondary}
 use Rattle.rpg_cycle_safety.specs.Holding.{Holds}
 use Rattle.rpg_cycle_safety.specs.Waiting.{AreWaiting}
 use Rattle.rpg_machine.specs.Accepted.{IsOrderly}
 use Rattle.rpg_machine.specs.Config.{Config, Output}
-use Rattle.rpg_object_program.specs.Object.{Object}
+use Rattle.rpg_program.specs.Object.{Object}
 use Rattle.rpg_cycle_safety.proofs.Cycling.{has_cycle}
 use Rattle.rpg_cycle_safety.proofs.Dating.{start_holds}
 use Rattle.rpg_cycle_safety.proofs.Selecting.{unread_waits}

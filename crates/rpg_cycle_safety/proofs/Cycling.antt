@@ -10,12 +10,12 @@ use Rattle.rpg_cycle.specs.Indicators.{any_on, halt_indicators, is_on, last_reco
 use Rattle.rpg_cycle.specs.Phases.{Cycle, CycleOn, Done, Phase, UnderWay, all_off, begun, detail_calculations, detail_lines, does, done, either, end_where_last, fill_fields, halt_where_asked, if_selected, is_bypassed, output, overflow_lines, read_record, section, select_from, select_one, select_record, set_off, show_match, take_in, total_time, with_config, ◌before◌}
 use Rattle.rpg_cycle.specs.Staging.{after_selection}
 use Rattle.rpg_cycle.specs.Spending.{section_cost}
-use Rattle.rpg_effect.specs.Ends as effects
-use Rattle.rpg_effect.specs.Forms.{form_at}
-use Rattle.rpg_effect.specs.Ended.{on_data}
-use Rattle.rpg_effect.specs.Input.{input_fault, record_in}
-use Rattle.rpg_effect.specs.declared.input.InputFile.{InputFile}
-use Rattle.rpg_effect.specs.declared.input.InputFile.TheVariants.{Primary, Secondary}
+use Rattle.rpg_program.specs.Ends as effects
+use Rattle.rpg_program.specs.Forms.{form_at}
+use Rattle.rpg_program.specs.Ended.{on_data}
+use Rattle.rpg_program.specs.Input.{input_fault, record_in}
+use Rattle.rpg_program.specs.declared.input.InputFile.{InputFile}
+use Rattle.rpg_program.specs.declared.input.InputFile.TheVariants.{Primary, Secondary}
 use Rattle.rpg_cycle_safety.proofs.Accepting.{inputs_right}
 use Rattle.rpg_cycle_safety.proofs.Filling.{record_keeps}
 use Rattle.rpg_cycle_safety.proofs.Instructing.{output_keeps}
@@ -28,10 +28,10 @@ use Rattle.rpg_machine.specs.Outputs.{PutsOut, inputs_at, output_effect, output_
 use Rattle.rpg_machine.specs.Run.{RunsTo}
 use Rattle.rpg_machine.specs.declared.time.OutputTime.{OutputTime}
 use Rattle.rpg_machine.specs.declared.time.OutputTime.TheVariants as times
-use Rattle.rpg_object_program.specs.Object.{Object}
-use Rattle.rpg_object_program.specs.Sections.{has_end}
-use Rattle.rpg_object_program.specs.declared.section.Section.{Section}
-use Rattle.rpg_object_program.specs.declared.section.Section.TheVariants as sections
+use Rattle.rpg_program.specs.Object.{Object}
+use Rattle.rpg_program.specs.Sections.{has_end}
+use Rattle.rpg_program.specs.declared.section.Section.{Section}
+use Rattle.rpg_program.specs.declared.section.Section.TheVariants as sections
 use Rattle.rpg_cycle_safety.proofs.Selecting.{Picks, levels_alone, selects, takes}
 use Rattle.rpg_cycle_safety.proofs.Turning.{off_still, one_still, still_holds, still_reach}
 use Rattle.rpg_cycle_safety.proofs.Weighing.{all_weights, moving_weight, taking_weight}

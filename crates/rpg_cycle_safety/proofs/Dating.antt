@@ -5,18 +5,18 @@ use Rattle.std.specs.List.{list_all}
 use Rattle.rpg_cycle.proofs.Dating.{date_fits}
 use Rattle.rpg_cycle.specs.Starting.{date_in, dated, job_first_world, job_start}
 use Rattle.rpg_decimal_words.specs.Zoned.{is_digit, number_in}
-use Rattle.rpg_effect.specs.Forms.{form_at, is_constant, is_date}
-use Rattle.rpg_effect.specs.Values.{Number}
-use Rattle.rpg_effect.specs.World.{Fields, with_value}
-use Rattle.rpg_effect.specs.declared.form.Class.{Class}
-use Rattle.rpg_effect.specs.declared.form.Class.TheVariants as classes
-use Rattle.rpg_effect.specs.declared.form.FieldForm.{FieldForm}
+use Rattle.rpg_program.specs.Forms.{form_at, is_constant, is_date}
+use Rattle.rpg_program.specs.Values.{Number}
+use Rattle.rpg_program.specs.World.{Fields, with_value}
+use Rattle.rpg_program.specs.declared.form.Class.{Class}
+use Rattle.rpg_program.specs.declared.form.Class.TheVariants as classes
+use Rattle.rpg_program.specs.declared.form.FieldForm.{FieldForm}
 use Rattle.rpg_cycle_safety.proofs.Acting.{read_fits}
 use Rattle.rpg_cycle_safety.specs.Holding.{Holds}
 use Rattle.rpg_machine_lines.proofs.Operands.{row_at}
 use Rattle.rpg_memory.proofs.Entries.{and_true}
-use Rattle.rpg_object_program.specs.Kept.{IsProgram}
-use Rattle.rpg_object_program.specs.Object.{Object}
+use Rattle.rpg_program.specs.Kept.{IsProgram}
+use Rattle.rpg_program.specs.Object.{Object}
 use Rattle.rpg_memory.proofs.Fitting.{constants-insert}
 
 date_is_no_constant : (c : Class) → is_date c ≡ true → is_constant c ≡ false

@@ -5,24 +5,24 @@ use Rattle.std.proofs.lemmas.List.Elements.{All-drop, All-head, All-tail, All-ta
 use Rattle.std.proofs.lemmas.Option.{same_Some}
 use Rattle.std.specs.Prelude.{All, option_map}
 use Rattle.rpg_decimal_words.specs.Zoned.{number_in}
-use Rattle.rpg_effect.specs.Ended.{Gives, if_right, or_halt}
-use Rattle.rpg_effect.specs.Ends.{Fault}
-use Rattle.rpg_effect.specs.Forms.{form_at, is_plain, is_plain_form, kind_of, length_of, may_write}
-use Rattle.rpg_effect.specs.Input.{field_in, fits_columns, fits_shows, input_fault, record_in, record_part, taken_in, value_read}
-use Rattle.rpg_effect.specs.Values.{Value, Number, Text}
-use Rattle.rpg_effect.specs.World.{Data, set_value}
-use Rattle.rpg_effect.specs.declared.form.FieldForm.{FieldForm}
-use Rattle.rpg_effect.specs.declared.form.Kind.{Kind}
-use Rattle.rpg_effect.specs.declared.form.Kind.TheVariants as kinds
-use Rattle.rpg_effect.specs.declared.input.InputField.{InputField}
+use Rattle.rpg_program.specs.Ended.{Gives, if_right, or_halt}
+use Rattle.rpg_program.specs.Ends.{Fault}
+use Rattle.rpg_program.specs.Forms.{form_at, is_plain, is_plain_form, kind_of, length_of, may_write}
+use Rattle.rpg_program.specs.Input.{field_in, fits_columns, fits_shows, input_fault, record_in, record_part, taken_in, value_read}
+use Rattle.rpg_program.specs.Values.{Value, Number, Text}
+use Rattle.rpg_program.specs.World.{Data, set_value}
+use Rattle.rpg_program.specs.declared.form.FieldForm.{FieldForm}
+use Rattle.rpg_program.specs.declared.form.Kind.{Kind}
+use Rattle.rpg_program.specs.declared.form.Kind.TheVariants as kinds
+use Rattle.rpg_program.specs.declared.input.InputField.{InputField}
 use Rattle.rpg_cycle_safety.proofs.Acting.{read_fits}
 use Rattle.rpg_cycle_safety.proofs.Writing.{followed_keeps, gives, number_written, or_halts, plain_may, same_fields, text_written}
 use Rattle.rpg_cycle_safety.specs.Holding.{Holds, KeepsData}
 use Rattle.rpg_machine_lines.proofs.Filling.{fits_field, long_there, value_there}
 use Rattle.rpg_memory.proofs.Entries.{and_true}
 use Rattle.rpg_memory.specs.Fields.{AreForms, IsValue}
-use Rattle.rpg_object_program.specs.Kept.{IsCharacter}
-use Rattle.rpg_object_program.specs.Object.{Object}
+use Rattle.rpg_program.specs.Kept.{IsCharacter}
+use Rattle.rpg_program.specs.Object.{Object}
 
 -- ---- plain fields
 

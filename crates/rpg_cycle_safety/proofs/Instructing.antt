@@ -1,15 +1,15 @@
 -- Outputs and instructions of an accepted program keep what holds of a world.
 use Rattle.std.proofs.Common.{ℕ, refl, nat_cmp}
-use Rattle.rpg_effect.specs.Effect.{Leaves}
-use Rattle.rpg_effect.specs.Forms.{form_at}
-use Rattle.rpg_effect.specs.Instructions.{instruction_effect}
-use Rattle.rpg_effect.specs.Lines.{movements_watched, settled}
-use Rattle.rpg_effect.specs.Operate.{operate}
-use Rattle.rpg_effect.specs.World.{World}
-use Rattle.rpg_effect.specs.declared.line.Pass.{Pass}
-use Rattle.rpg_effect.specs.declared.line.Pass.TheVariants as passes
-use Rattle.rpg_effect.specs.declared.operation.Instruction.{Instruction}
-use Rattle.rpg_effect.specs.declared.operation.Instruction.TheVariants.{Act, Except, Branch, Call, Return}
+use Rattle.rpg_program.specs.Effect.{Leaves}
+use Rattle.rpg_program.specs.Forms.{form_at}
+use Rattle.rpg_program.specs.Instructions.{instruction_effect}
+use Rattle.rpg_program.specs.Lines.{movements_watched, settled}
+use Rattle.rpg_program.specs.Operate.{operate}
+use Rattle.rpg_program.specs.World.{World}
+use Rattle.rpg_program.specs.declared.line.Pass.{Pass}
+use Rattle.rpg_program.specs.declared.line.Pass.TheVariants as passes
+use Rattle.rpg_program.specs.declared.operation.Instruction.{Instruction}
+use Rattle.rpg_program.specs.declared.operation.Instruction.TheVariants.{Act, Except, Branch, Call, Return}
 use Rattle.rpg_cycle_safety.proofs.Acting.{operate_keeps}
 use Rattle.rpg_cycle_safety.proofs.Printing.{lines_keep}
 use Rattle.rpg_cycle_safety.proofs.Writing.{leaves, on_data_keeps, same_fields, then_keeps}
@@ -19,9 +19,9 @@ use Rattle.rpg_machine.specs.Outputs.{output_effect}
 use Rattle.rpg_machine.specs.Step.{effect}
 use Rattle.rpg_machine.specs.declared.time.OutputTime.{OutputTime}
 use Rattle.rpg_machine.specs.declared.time.OutputTime.TheVariants as times
-use Rattle.rpg_object_program.specs.Kept.{IsProgram}
-use Rattle.rpg_object_program.specs.Object.{Object}
-use Rattle.rpg_object_program.specs.declared.section.Place.{Place}
+use Rattle.rpg_program.specs.Kept.{IsProgram}
+use Rattle.rpg_program.specs.Object.{Object}
+use Rattle.rpg_program.specs.declared.section.Place.{Place}
 use Rattle.rpg_verify_rules.specs.Sound.{IsAt, IsSound}
 
 module _ (p : Object) (kept : IsProgram p) (sound : IsSound p) where

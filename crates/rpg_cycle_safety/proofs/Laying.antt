@@ -1,23 +1,23 @@
 -- A line is as long as its file's lines.
 use Rattle.std.proofs.Common.{◌≡◌, ℕ, ◌+◌, ◌-◌, ◌≤◌, Bool, true, false, cond, List, [], ◌∷◌, ◌++◌, length, take, drop, Option, None, Some, IfSome, refl, sym, ◌∙◌, subst, arith, length-append, length-drop, length-take-le, nat_cmp}
 use Rattle.std.proofs.lemmas.List.Elements.{All-head, All-tail}
-use Rattle.rpg_effect.specs.Editing.{how_of, text_of}
-use Rattle.rpg_effect.specs.Ends.{End, Fault, GoesOn, Halt, Wrong}
-use Rattle.rpg_effect.specs.Entries.{position_of}
-use Rattle.rpg_effect.specs.Forms.{form_at, kind_of, length_of}
-use Rattle.rpg_effect.specs.LineFaults.{AreRight, field_fault}
-use Rattle.rpg_effect.specs.Lines.{Draft, Drafted, assembled, counted, drafted, go_on_with, laid, laid_over, unless_faulty, with_field}
-use Rattle.rpg_effect.specs.World.{Data, Fields, three_hold, value_in}
-use Rattle.rpg_effect.specs.declared.form.FieldForm.{FieldForm}
-use Rattle.rpg_effect.specs.declared.line.LineField.{LineField}
+use Rattle.rpg_program.specs.Editing.{how_of, text_of}
+use Rattle.rpg_program.specs.Ends.{End, Fault, GoesOn, Halt, Wrong}
+use Rattle.rpg_program.specs.Entries.{position_of}
+use Rattle.rpg_program.specs.Forms.{form_at, kind_of, length_of}
+use Rattle.rpg_program.specs.LineFaults.{AreRight, field_fault}
+use Rattle.rpg_program.specs.Lines.{Draft, Drafted, assembled, counted, drafted, go_on_with, laid, laid_over, unless_faulty, with_field}
+use Rattle.rpg_program.specs.World.{Data, Fields, three_hold, value_in}
+use Rattle.rpg_program.specs.declared.form.FieldForm.{FieldForm}
+use Rattle.rpg_program.specs.declared.line.LineField.{LineField}
 use Rattle.rpg_cycle_safety.proofs.Printing.{Draws, field_keeps, laid_keeps}
 use Rattle.rpg_cycle_safety.proofs.Widths.{text_wide}
 use Rattle.rpg_machine_lines.proofs.Fields.{right}
 use Rattle.rpg_machine_lines.proofs.Operands.{entry_there, row_at, value_there}
 use Rattle.rpg_machine_lines.specs.Entries.{IsFieldEntry}
-use Rattle.rpg_object_program.specs.Constants.{word_at}
-use Rattle.rpg_object_program.specs.Kept.{IsProgram}
-use Rattle.rpg_object_program.specs.Object.{Object}
+use Rattle.rpg_program.specs.Constants.{word_at}
+use Rattle.rpg_program.specs.Kept.{IsProgram}
+use Rattle.rpg_program.specs.Object.{Object}
 use Rattle.rpg_memory.specs.Fits.{HasForm}
 
 -- a part that ends inside a text leaves it as long as it was

@@ -1,12 +1,12 @@
 -- Where the form stands, and how far the way to a line is.
 use Rattle.std.proofs.Common.{◌≡◌, ℕ, ◌+◌, ◌-◌, ◌≤◌, Bool, true, false, ◌&&◌, cond, eqb, leb, leb-true, [], ◌∷◌, ◌++◌, length, replicate, Option, None, Some, refl, arith, length-append, nat_cmp}
 use Rattle.std.proofs.lemmas.List.{length-replicate}
-use Rattle.rpg_effect.specs.Ends.{Fault}
-use Rattle.rpg_effect.specs.LineFaults.{is_spacing, line_fault}
-use Rattle.rpg_effect.specs.Lines.{after_movement, after_skip, after_space, spaced_after, spaced_before}
-use Rattle.rpg_effect.specs.Showing.{turned_on}
-use Rattle.rpg_effect.specs.World.{World}
-use Rattle.rpg_effect.specs.declared.line.Spacing.{Spacing}
+use Rattle.rpg_program.specs.Ends.{Fault}
+use Rattle.rpg_program.specs.LineFaults.{is_spacing, line_fault}
+use Rattle.rpg_program.specs.Lines.{after_movement, after_skip, after_space, spaced_after, spaced_before}
+use Rattle.rpg_program.specs.Showing.{turned_on}
+use Rattle.rpg_program.specs.World.{World}
+use Rattle.rpg_program.specs.declared.line.Spacing.{Spacing}
 use Rattle.rpg_memory.proofs.Entries.{and_true}
 use Rattle.rpg_paper.specs.Form.{page_or_1}
 use Rattle.rpg_paper.specs.Paper.{Position, skipped, spaced, top_of_paper, travel, turns_overflow_on, way}

@@ -1,18 +1,18 @@
 -- What outputs and instructions of an accepted program put out is at most 10,000 bytes for each step that they weigh.
 use Rattle.std.proofs.Common.{◌≡◌, ℕ, ◌+◌, Bool, false, cond, List, [], ◌∷◌, Option, refl, arith, nat_cmp}
-use Rattle.rpg_effect.specs.Effect.{Leaves}
-use Rattle.rpg_effect.specs.Forms.{form_at}
-use Rattle.rpg_effect.specs.Instructions.{instruction_effect}
-use Rattle.rpg_effect.specs.Lines.{Line, movements_watched, settled}
-use Rattle.rpg_effect.specs.Weights.{instruction_weight, is_at_detail, is_at_total, is_exception, is_in_cycle, line_weight, lines_weight}
-use Rattle.rpg_effect.specs.Operate.{operate}
-use Rattle.rpg_effect.specs.World.{World}
-use Rattle.rpg_effect.specs.declared.line.Pass.{Pass}
-use Rattle.rpg_effect.specs.declared.line.Pass.TheVariants as passes
-use Rattle.rpg_effect.specs.declared.line.Time.{Time}
-use Rattle.rpg_effect.specs.declared.line.Time.TheVariants as spoken
-use Rattle.rpg_effect.specs.declared.operation.Instruction.{Instruction}
-use Rattle.rpg_effect.specs.declared.operation.Instruction.TheVariants.{Act, Except, Branch, Call, Return}
+use Rattle.rpg_program.specs.Effect.{Leaves}
+use Rattle.rpg_program.specs.Forms.{form_at}
+use Rattle.rpg_program.specs.Instructions.{instruction_effect}
+use Rattle.rpg_program.specs.Lines.{Line, movements_watched, settled}
+use Rattle.rpg_program.specs.Weights.{instruction_weight, is_at_detail, is_at_total, is_exception, is_in_cycle, line_weight, lines_weight}
+use Rattle.rpg_program.specs.Operate.{operate}
+use Rattle.rpg_program.specs.World.{World}
+use Rattle.rpg_program.specs.declared.line.Pass.{Pass}
+use Rattle.rpg_program.specs.declared.line.Pass.TheVariants as passes
+use Rattle.rpg_program.specs.declared.line.Time.{Time}
+use Rattle.rpg_program.specs.declared.line.Time.TheVariants as spoken
+use Rattle.rpg_program.specs.declared.operation.Instruction.{Instruction}
+use Rattle.rpg_program.specs.declared.operation.Instruction.TheVariants.{Act, Except, Branch, Call, Return}
 use Rattle.rpg_cycle_safety.proofs.Instructing.{passage_keeps}
 use Rattle.rpg_cycle_safety.proofs.Sizing.{PutsFew, data_few, few_more, leaves_few, lines_few, then_few}
 use Rattle.rpg_cycle_safety.specs.Holding.{Holds}
@@ -23,9 +23,9 @@ use Rattle.rpg_machine.specs.Outputs.{output_effect, output_weight}
 use Rattle.rpg_machine.specs.Step.{effect}
 use Rattle.rpg_machine.specs.declared.time.OutputTime.{OutputTime}
 use Rattle.rpg_machine.specs.declared.time.OutputTime.TheVariants as times
-use Rattle.rpg_object_program.specs.Instructions.{weight}
-use Rattle.rpg_object_program.specs.Kept.{IsProgram}
-use Rattle.rpg_object_program.specs.Object.{Object, lines_of}
+use Rattle.rpg_program.specs.ObjectInstructions.{weight}
+use Rattle.rpg_program.specs.Kept.{IsProgram}
+use Rattle.rpg_program.specs.Object.{Object, lines_of}
 use Rattle.rpg_paper.specs.Paper.{Position, last_position_from}
 use Rattle.rpg_verify_rules.specs.Sound.{IsSound}
 

@@ -5,7 +5,7 @@ use Rattle.rpg_cycle_records.specs.Earlier.{Selected}
 use Rattle.rpg_cycle.specs.Ends.{PhaseEnd}
 use Rattle.rpg_cycle.specs.Job.{AtWork, DoesCycle, feed_at, with_feed}
 use Rattle.rpg_cycle.specs.Stages.{Stage, Going, Ended, Failed, stage_at}
-use Rattle.rpg_effect.specs.Put.{Bytes, disk_bytes, with_output}
+use Rattle.rpg_program.specs.Put.{Bytes, disk_bytes, with_output}
 use Rattle.rpg_cycle_safety.proofs.Measuring.{cycle_in_output}
 use Rattle.rpg_cycle_safety.proofs.Writing.{same_fields}
 use Rattle.rpg_cycle_safety.specs.Holding.{Holds}

@@ -5,25 +5,25 @@ use Rattle.std.proofs.lemmas.List.Elements.{All-head, All-nil, All-push, All-tai
 use Rattle.std.specs.Prelude.{All}
 use Rattle.rpg_decimal.proofs.WholeLemmas.{ten_pos}
 use Rattle.rpg_paper.specs.Paper.{Position, spaced, skipped, turns_overflow_on}
-use Rattle.rpg_effect.specs.Effect.{Effect, Leaves, unless_wrong}
-use Rattle.rpg_effect.specs.Ends.{End, Fault, GoesOn, Halt, Wrong}
-use Rattle.rpg_effect.specs.Entries.{position_of}
-use Rattle.rpg_effect.specs.Forms.{form_at, is_index_form, kind_of, length_of, may_write}
-use Rattle.rpg_effect.specs.LineFaults.{AreRight, field_fault, fits_source, has_room, has_storage, has_word, is_page, may_change}
-use Rattle.rpg_effect.specs.Lines.{Draft, Drafted, Line, after_movement, after_skip, assembled, blank_line, blanked, blanked_all, counted, drafted, go_on_with, is_asked, laid, line_out, lines_out, next_page, one_out, printed_line, put_on, put_out, remembered, spaced_after, spaced_before, unless_faulty, where_asked, with_field, with_fields}
-use Rattle.rpg_effect.specs.Rows.{has_entry}
-use Rattle.rpg_effect.specs.Values.{Value, Number, Text, number_of}
-use Rattle.rpg_effect.specs.World.{Data, Fields, World, set_value, three_hold, value_in}
-use Rattle.rpg_effect.specs.declared.form.FieldForm.{FieldForm}
-use Rattle.rpg_effect.specs.declared.form.Kind.{Kind}
-use Rattle.rpg_effect.specs.declared.form.Kind.TheVariants as kinds
-use Rattle.rpg_effect.specs.declared.line.File.{File}
-use Rattle.rpg_effect.specs.declared.line.File.TheVariants.{Printer, Disk}
-use Rattle.rpg_effect.specs.declared.line.LineField.{LineField}
-use Rattle.rpg_effect.specs.declared.line.Pass.{Pass}
-use Rattle.rpg_effect.specs.declared.line.Source.{Source}
-use Rattle.rpg_effect.specs.declared.line.Source.TheVariants as sources
-use Rattle.rpg_effect.specs.declared.line.Spacing.{Spacing}
+use Rattle.rpg_program.specs.Effect.{Effect, Leaves, unless_wrong}
+use Rattle.rpg_program.specs.Ends.{End, Fault, GoesOn, Halt, Wrong}
+use Rattle.rpg_program.specs.Entries.{position_of}
+use Rattle.rpg_program.specs.Forms.{form_at, is_index_form, kind_of, length_of, may_write}
+use Rattle.rpg_program.specs.LineFaults.{AreRight, field_fault, fits_source, has_room, has_storage, has_word, is_page, may_change}
+use Rattle.rpg_program.specs.Lines.{Draft, Drafted, Line, after_movement, after_skip, assembled, blank_line, blanked, blanked_all, counted, drafted, go_on_with, is_asked, laid, line_out, lines_out, next_page, one_out, printed_line, put_on, put_out, remembered, spaced_after, spaced_before, unless_faulty, where_asked, with_field, with_fields}
+use Rattle.rpg_program.specs.Rows.{has_entry}
+use Rattle.rpg_program.specs.Values.{Value, Number, Text, number_of}
+use Rattle.rpg_program.specs.World.{Data, Fields, World, set_value, three_hold, value_in}
+use Rattle.rpg_program.specs.declared.form.FieldForm.{FieldForm}
+use Rattle.rpg_program.specs.declared.form.Kind.{Kind}
+use Rattle.rpg_program.specs.declared.form.Kind.TheVariants as kinds
+use Rattle.rpg_program.specs.declared.line.File.{File}
+use Rattle.rpg_program.specs.declared.line.File.TheVariants.{Printer, Disk}
+use Rattle.rpg_program.specs.declared.line.LineField.{LineField}
+use Rattle.rpg_program.specs.declared.line.Pass.{Pass}
+use Rattle.rpg_program.specs.declared.line.Source.{Source}
+use Rattle.rpg_program.specs.declared.line.Source.TheVariants as sources
+use Rattle.rpg_program.specs.declared.line.Spacing.{Spacing}
 use Rattle.rpg_cycle_safety.proofs.Writing.{index_may, leaves, number_written, same_fields, text_written, then_keeps}
 use Rattle.rpg_cycle_safety.specs.Holding.{Holds, IsEffectEnd, Keeps}
 use Rattle.rpg_machine_lines.proofs.Fields.{right}
@@ -32,9 +32,9 @@ use Rattle.rpg_machine_lines.proofs.Operands.{entry_there, value_there}
 use Rattle.rpg_memory.proofs.Entries.{and_true}
 use Rattle.rpg_machine_lines.specs.Entries.{IsFieldEntry}
 use Rattle.rpg_memory.specs.Fields.{IsValue}
-use Rattle.rpg_object_program.specs.Constants.{word_at}
-use Rattle.rpg_object_program.specs.Kept.{IsCharacter, IsProgram}
-use Rattle.rpg_object_program.specs.Object.{LineRow, Object, file_length, program_line}
+use Rattle.rpg_program.specs.Constants.{word_at}
+use Rattle.rpg_program.specs.Kept.{IsCharacter, IsProgram}
+use Rattle.rpg_program.specs.Object.{LineRow, Object, file_length, program_line}
 use Rattle.rpg_verify_rules.specs.Sound.{IsSoundLine}
 use Rattle.rpg_memory.specs.Fits.{HasForm}
 

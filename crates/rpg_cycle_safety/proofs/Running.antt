@@ -1,7 +1,7 @@
 -- A section of an accepted program has a run, which comes to its end or to a halt.
 use Rattle.std.proofs.Common.{◌≡◌, ℕ, zero, suc, ◌+◌, ◌*◌, ◌-◌, ◌<◌, ◌≤◌, Bool, true, false, cond, [], refl, ap, ◌∙◌, subst, arith, le_trans}
 use Rattle.std.specs.FinMap as map
-use Rattle.rpg_effect.specs.Ends.{End, GoesOn, Halt, Wrong}
+use Rattle.rpg_program.specs.Ends.{End, GoesOn, Halt, Wrong}
 use Rattle.rpg_cycle_safety.proofs.Stepping.{leads_well}
 use Rattle.rpg_cycle_safety.specs.Holding.{Holds}
 use Rattle.rpg_cycle_safety.specs.Leading.{EndsWell, HasSectionRun, IsNamedEnd, IsSteady, StepsWell, StandsWell}
@@ -19,9 +19,9 @@ use Rattle.rpg_machine.specs.Control.{spends}
 use Rattle.rpg_machine.specs.Potential.{potential}
 use Rattle.rpg_machine.specs.Run.{RunsTo, at_first, is_end, onward, put_before, run}
 use Rattle.rpg_machine.specs.Step.{Outcome, Next, Stop, control_in, step}
-use Rattle.rpg_object_program.specs.Object.{Object}
-use Rattle.rpg_object_program.specs.Sections.{has_end}
-use Rattle.rpg_object_program.specs.declared.section.Section.{Section}
+use Rattle.rpg_program.specs.Object.{Object}
+use Rattle.rpg_program.specs.Sections.{has_end}
+use Rattle.rpg_program.specs.declared.section.Section.{Section}
 use Rattle.rpg_verify.specs.Bound.{cost, most}
 
 -- ---- from any steady configuration

@@ -20,18 +20,18 @@ use Rattle.rpg_cycle_records.specs.Paying.{moved_of}
 use Rattle.rpg_cycle_records.specs.Waiting.{Inputs, with_file_over, takes_in, unread, waiting_in, with_waiting}
 use Rattle.rpg_cycle.specs.Indicators.{last_record, level_indicators, with_all, with_levels, with_one, with_type}
 use Rattle.rpg_cycle.specs.Phases.{Done, UnderWay, broken_level, compare_levels, done, identify, match_up, read_record, select_from, select_waiting, take_type, type_indicator, with_config, with_inputs}
-use Rattle.rpg_effect.specs.Ends as effects
-use Rattle.rpg_effect.specs.Input.{TypeRow}
-use Rattle.rpg_effect.specs.declared.input.InputFile.{InputFile}
-use Rattle.rpg_effect.specs.declared.input.InputFile.TheVariants.{Primary, Secondary}
+use Rattle.rpg_program.specs.Ends as effects
+use Rattle.rpg_program.specs.Input.{TypeRow}
+use Rattle.rpg_program.specs.declared.input.InputFile.{InputFile}
+use Rattle.rpg_program.specs.declared.input.InputFile.TheVariants.{Primary, Secondary}
 use Rattle.rpg_text.specs.Texts.{is_character}
 use Rattle.rpg_cycle_safety.specs.Coming.{IsCycleEnd}
 use Rattle.rpg_cycle_safety.specs.Waiting.{AreWaiting, IsWaitingIn}
 use Rattle.rpg_machine.specs.Accepted.{IsOrderly}
 use Rattle.rpg_machine.specs.Config.{Config, charged}
 use Rattle.rpg_machine.specs.Outputs.{input_fields_of}
-use Rattle.rpg_object_program.specs.Kept.{IsCharacter}
-use Rattle.rpg_object_program.specs.Object.{Object, input_length}
+use Rattle.rpg_program.specs.Kept.{IsCharacter}
+use Rattle.rpg_program.specs.Object.{Object, input_length}
 use Rattle.rpg_cycle_safety.proofs.Turning.{Still, all_still, itself, last_still_on, still_then, type_still}
 use Rattle.rpg_cycle_safety.proofs.Weighing.{moved_few, moving_weight, taken_few, taking_weight, tried_few}
 use Rattle.rpg_cycle_safety.proofs.Working.{IsTaken, its_fields}

@@ -4,20 +4,20 @@ use Rattle.std.proofs.lemmas.List.{length-replicate}
 use Rattle.std.proofs.lemmas.List.Elements.{All-head, All-tail}
 use Rattle.std.specs.List.{suffix_len}
 use Rattle.std.specs.Prelude.{All}
-use Rattle.rpg_effect.proofs.Putting.{disk-append, end_from-lines}
-use Rattle.rpg_effect.specs.Effect.{Effect, Leaves, go_on, then_go, unless_wrong}
-use Rattle.rpg_effect.specs.Ended.{Ended, on_data}
-use Rattle.rpg_effect.specs.Ends.{End, Fault, GoesOn, Halt, Wrong}
-use Rattle.rpg_effect.specs.Forms.{form_at}
-use Rattle.rpg_effect.specs.Lines.{Draft, Line, assembled, blank_line, blanked_all, is_asked, line_out, lines_out, one_out, put_on, put_out, spaced_before, where_asked, with_fields}
-use Rattle.rpg_effect.specs.Put.{disk_bytes}
-use Rattle.rpg_effect.specs.Weights.{line_weight, lines_weight}
-use Rattle.rpg_effect.specs.World.{Data, World}
-use Rattle.rpg_effect.specs.declared.line.File.{File}
-use Rattle.rpg_effect.specs.declared.line.File.TheVariants.{Printer, Disk}
-use Rattle.rpg_effect.specs.declared.line.Pass.{Pass}
-use Rattle.rpg_effect.specs.declared.line.Spacing.{Spacing}
-use Rattle.rpg_effect.specs.declared.line.Time.{Time}
+use Rattle.rpg_program.proofs.Putting.{disk-append, end_from-lines}
+use Rattle.rpg_program.specs.Effect.{Effect, Leaves, go_on, then_go, unless_wrong}
+use Rattle.rpg_program.specs.Ended.{Ended, on_data}
+use Rattle.rpg_program.specs.Ends.{End, Fault, GoesOn, Halt, Wrong}
+use Rattle.rpg_program.specs.Forms.{form_at}
+use Rattle.rpg_program.specs.Lines.{Draft, Line, assembled, blank_line, blanked_all, is_asked, line_out, lines_out, one_out, put_on, put_out, spaced_before, where_asked, with_fields}
+use Rattle.rpg_program.specs.Put.{disk_bytes}
+use Rattle.rpg_program.specs.Weights.{line_weight, lines_weight}
+use Rattle.rpg_program.specs.World.{Data, World}
+use Rattle.rpg_program.specs.declared.line.File.{File}
+use Rattle.rpg_program.specs.declared.line.File.TheVariants.{Printer, Disk}
+use Rattle.rpg_program.specs.declared.line.Pass.{Pass}
+use Rattle.rpg_program.specs.declared.line.Spacing.{Spacing}
+use Rattle.rpg_program.specs.declared.line.Time.{Time}
 use Rattle.rpg_cycle_safety.proofs.Laying.{assembled_long}
 use Rattle.rpg_cycle_safety.proofs.Moving.{IsShort, after_up, before_up, short_spacing, way_short}
 use Rattle.rpg_cycle_safety.proofs.Printing.{Draws, one_keeps}
@@ -25,9 +25,9 @@ use Rattle.rpg_cycle_safety.specs.Holding.{Holds}
 use Rattle.rpg_cycle_safety.specs.Measuring.{StandsNear, bytes_of_step}
 use Rattle.rpg_machine_lines.proofs.Passages.{none_asked}
 use Rattle.rpg_machine_lines.specs.Passages.{may_count}
-use Rattle.rpg_object_program.specs.Constants.{word_at}
-use Rattle.rpg_object_program.specs.Kept.{IsProgram}
-use Rattle.rpg_object_program.specs.Object.{LineRow, Object, file_length, program_line}
+use Rattle.rpg_program.specs.Constants.{word_at}
+use Rattle.rpg_program.specs.Kept.{IsProgram}
+use Rattle.rpg_program.specs.Object.{LineRow, Object, file_length, program_line}
 use Rattle.rpg_paper.proofs.Papers.{bytes_from-append}
 use Rattle.rpg_paper.specs.Form.{page_or_1}
 use Rattle.rpg_paper.specs.Paper.{Placed, Position, bytes_from, last_position_from, way}

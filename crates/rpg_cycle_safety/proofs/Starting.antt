@@ -1,9 +1,9 @@
 -- What a job starts with holds of it, on any date.
 use Rattle.std.proofs.Common.{◌≡◌, refl, nat_cmp}
-use Rattle.rpg_effect.specs.World.{Data}
+use Rattle.rpg_program.specs.World.{Data}
 use Rattle.rpg_cycle_safety.specs.Holding.{Holds}
-use Rattle.rpg_object_program.specs.Kept.{IsProgram}
-use Rattle.rpg_object_program.specs.Object.{Object}
+use Rattle.rpg_program.specs.Kept.{IsProgram}
+use Rattle.rpg_program.specs.Object.{Object}
 use Rattle.rpg_memory.proofs.FirstFits.{first_fits}
 use Rattle.rpg_store.specs.First.{first_contents, first_currents}
 

@@ -1,10 +1,10 @@
 -- Each step of an accepted program goes on at a steady configuration, or halts.
 use Rattle.std.proofs.Common.{◌≡◌, ℕ, Bool, true, false, ◌&&◌, cond, eqb, Option, None, Some, refl, sym, subst, arith, le_trans}
 use Rattle.std.specs.Ordering.{nat_cmp}
-use Rattle.rpg_effect.specs.Effect.{Effect}
-use Rattle.rpg_effect.specs.Ends.{End, GoesOn, Halt, Wrong}
-use Rattle.rpg_effect.specs.declared.operation.Instruction.{Instruction}
-use Rattle.rpg_object_program.specs.Instructions.{weight}
+use Rattle.rpg_program.specs.Effect.{Effect}
+use Rattle.rpg_program.specs.Ends.{End, GoesOn, Halt, Wrong}
+use Rattle.rpg_program.specs.declared.operation.Instruction.{Instruction}
+use Rattle.rpg_program.specs.ObjectInstructions.{weight}
 use Rattle.rpg_cycle_safety.proofs.Instructing.{instruction_keeps}
 use Rattle.rpg_cycle_safety.specs.Holding.{Holds, IsEffectEnd, Keeps}
 use Rattle.rpg_cycle_safety.specs.Leading.{IsSteady, StepsWell, StaysInBound}
@@ -18,8 +18,8 @@ use Rattle.rpg_machine.specs.Config.{Config, Output, charged, here, no_output}
 use Rattle.rpg_machine.specs.Control.{spends}
 use Rattle.rpg_machine.specs.Run.{is_end}
 use Rattle.rpg_machine.specs.Step.{Outcome, Next, Stop, arrived, control_in, destination, effect, outcome_of, step, went}
-use Rattle.rpg_object_program.specs.Object.{Object}
-use Rattle.rpg_object_program.specs.Sections.{instruction_at}
+use Rattle.rpg_program.specs.Object.{Object}
+use Rattle.rpg_program.specs.Sections.{instruction_at}
 use Rattle.rpg_verify.specs.Bound.{cost, most}
 
 module _ (p : Object) (orderly : IsOrderly p) (c : Config) (steady : IsSteady p c) where

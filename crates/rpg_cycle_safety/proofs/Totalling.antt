@@ -7,9 +7,9 @@ use Rattle.rpg_cycle.specs.Ends.{PhaseEnd, GoesOn, EndOfJob, Halt, Wrong}
 use Rattle.rpg_cycle.specs.Phases.{UnderWay, needs_record}
 use Rattle.rpg_cycle.specs.Runs.{Course, IsRun, Records, RunsIn, ends_or, last_cycle, last_feed, left_behind, next_of, with_cycle}
 use Rattle.rpg_cycle.specs.Starting.{job_first_world, job_start}
-use Rattle.rpg_effect.specs.Put.{Bytes, disk_bytes}
-use Rattle.rpg_effect.specs.World.{Fields}
-use Rattle.rpg_effect.specs.declared.input.InputFile.TheVariants.{Primary, Secondary}
+use Rattle.rpg_program.specs.Put.{Bytes, disk_bytes}
+use Rattle.rpg_program.specs.World.{Fields}
+use Rattle.rpg_program.specs.declared.input.InputFile.TheVariants.{Primary, Secondary}
 use Rattle.rpg_cycle_safety.proofs.Cycling.{cycles_well}
 use Rattle.rpg_cycle_safety.proofs.Dating.{start_holds}
 use Rattle.rpg_cycle_safety.proofs.Measuring.{cycle_in_output, cycle_pays}
@@ -20,7 +20,7 @@ use Rattle.rpg_cycle_safety.specs.Waiting.{AreWaiting}
 use Rattle.rpg_cycle_safety.specs.Measuring.{StandsNear, StaysInOutput, bytes_of_step, size}
 use Rattle.rpg_machine.specs.Accepted.{IsOrderly}
 use Rattle.rpg_machine.specs.Config.{Config, Output, with_more}
-use Rattle.rpg_object_program.specs.Object.{Object}
+use Rattle.rpg_program.specs.Object.{Object}
 use Rattle.rpg_paper.specs.Paper.{Placed, Position, last_position_from, paper}
 use Rattle.rpg_verify.specs.Bound.{bound}
 

@@ -2,11 +2,11 @@
 use Rattle.std.proofs.Common.{◌≡◌, ℕ, ◌+◌, ◌*◌, Bool, true, false, cond, eqb, List, [], ◌∷◌, Option, None, Some, refl, ap, ◌∙◌, arith}
 use Rattle.rpg_cycle.specs.Indicators.{first_page, last_record, level_indicators, with_all, with_one, with_type, without_type, without_types}
 use Rattle.rpg_cycle.specs.Phases.{all_off}
-use Rattle.rpg_effect.specs.Input.{TypeRow}
+use Rattle.rpg_program.specs.Input.{TypeRow}
 use Rattle.rpg_cycle_safety.proofs.Writing.{same_fields}
 use Rattle.rpg_cycle_safety.specs.Holding.{Holds}
 use Rattle.rpg_machine.specs.Config.{Config, here}
-use Rattle.rpg_object_program.specs.Object.{Object}
+use Rattle.rpg_program.specs.Object.{Object}
 use Rattle.rpg_cycle_safety.proofs.Working.{reach}
 use Rattle.rpg_verify.specs.Bound.{most}
 

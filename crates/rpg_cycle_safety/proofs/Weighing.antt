@@ -4,10 +4,10 @@ use Rattle.std.specs.List.{list_all}
 use Rattle.rpg_cycle_records.specs.Earlier.{file_of}
 use Rattle.rpg_cycle_records.specs.Identifying.{code_holds, has_position, same_file, trial_weight}
 use Rattle.rpg_cycle_records.specs.Paying.{matches_at, moved_of}
-use Rattle.rpg_effect.specs.Input.{TypeRow}
-use Rattle.rpg_effect.specs.Weights.{types_weight}
-use Rattle.rpg_effect.specs.declared.input.InputFile.{InputFile}
-use Rattle.rpg_effect.specs.declared.input.InputFile.TheVariants.{Primary, Secondary}
+use Rattle.rpg_program.specs.Input.{TypeRow}
+use Rattle.rpg_program.specs.Weights.{types_weight}
+use Rattle.rpg_program.specs.declared.input.InputFile.{InputFile}
+use Rattle.rpg_program.specs.declared.input.InputFile.TheVariants.{Primary, Secondary}
 
 if_own : Bool → ℕ → ℕ
 if_own true n = n

@@ -10,12 +10,12 @@ use Rattle.rpg_edit_marks.specs.declared.code.Fill.{Fill}
 use Rattle.rpg_edit_marks.specs.declared.code.Fill.TheVariants.{Blank, Star, Dollar}
 use Rattle.rpg_edit_marks.specs.declared.how.How.{How}
 use Rattle.rpg_edit_marks.specs.declared.how.How.TheVariants.{Plain, Code, Word}
-use Rattle.rpg_effect.specs.Editing.{text_of, width_as}
-use Rattle.rpg_effect.specs.Forms.{decimals_of, length_of}
-use Rattle.rpg_effect.specs.Values.{Value, Number, Text}
-use Rattle.rpg_effect.specs.declared.form.FieldForm.{FieldForm}
-use Rattle.rpg_effect.specs.declared.form.Kind.{Kind}
-use Rattle.rpg_effect.specs.declared.form.Kind.TheVariants as kinds
+use Rattle.rpg_program.specs.Editing.{text_of, width_as}
+use Rattle.rpg_program.specs.Forms.{decimals_of, length_of}
+use Rattle.rpg_program.specs.Values.{Value, Number, Text}
+use Rattle.rpg_program.specs.declared.form.FieldForm.{FieldForm}
+use Rattle.rpg_program.specs.declared.form.Kind.{Kind}
+use Rattle.rpg_program.specs.declared.form.Kind.TheVariants as kinds
 use Rattle.rpg_memory.specs.Fits.{HasForm}
 
 -- a dollar sign stands in a place that was there

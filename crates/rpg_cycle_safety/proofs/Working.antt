@@ -5,15 +5,15 @@ use Rattle.rpg_cycle_records.specs.Earlier.{Selected}
 use Rattle.rpg_cycle_records.specs.Fitting.{IsFilledAs}
 use Rattle.rpg_cycle.specs.Ends.{PhaseEnd, GoesOn, EndOfJob, Halt, Wrong, phase_end}
 use Rattle.rpg_cycle.specs.Phases.{Done, Phase, UnderWay, by_machine, does, done, either, has_no_overflow, passes, unless, ◌before◌}
-use Rattle.rpg_effect.specs.Effect.{Effect}
-use Rattle.rpg_effect.specs.Ends as effects
-use Rattle.rpg_effect.specs.World.{World}
+use Rattle.rpg_program.specs.Effect.{Effect}
+use Rattle.rpg_program.specs.Ends as effects
+use Rattle.rpg_program.specs.World.{World}
 use Rattle.rpg_cycle_safety.specs.Holding.{Holds, IsEffectEnd, Keeps}
 use Rattle.rpg_machine.specs.Config.{Config, Output, charged, no_output, with_more}
 use Rattle.rpg_machine.specs.Outputs.{ByEffect, inputs_at}
 use Rattle.rpg_machine.specs.Running.{Behaviour}
-use Rattle.rpg_object_program.specs.Kept.{IsCharacter}
-use Rattle.rpg_object_program.specs.Object.{Object}
+use Rattle.rpg_program.specs.Kept.{IsCharacter}
+use Rattle.rpg_program.specs.Object.{Object}
 use Rattle.rpg_cycle_safety.specs.Coming.{IsCycleEnd}
 use Rattle.rpg_cycle_safety.specs.Waiting.{AreWaiting}
 use Rattle.rpg_verify.specs.Bound.{most}

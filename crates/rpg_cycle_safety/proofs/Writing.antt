@@ -2,24 +2,24 @@
 use Rattle.std.proofs.Common.{◌≡◌, ℕ, ℤ, ◌≤◌, ◌<◌, ◌^◌, true, false, List, Option, None, Some, refl, sym, ap, ◌∙◌, subst, length, unsigned_abs, nat_cmp}
 use Rattle.std.specs.FinMap as maps
 use Rattle.std.specs.Prelude.{All}
-use Rattle.rpg_effect.specs.Effect.{Effect, Leaves, go_on, then_go}
-use Rattle.rpg_effect.specs.Ended.{Ended, Gives, followed_by, followed_if, on_data, or_halt}
-use Rattle.rpg_effect.specs.Ends.{End, GoesOn, Halt, Wrong}
-use Rattle.rpg_effect.specs.Forms.{entries_of, form_at, is_constant, is_index_form, is_plain, is_plain_form, is_writable, length_of, may_write}
-use Rattle.rpg_effect.specs.Values.{Value, Number, Text, characters_of}
-use Rattle.rpg_effect.specs.World.{Data, Fields, World, characters_at, set_current, set_value}
-use Rattle.rpg_effect.specs.declared.form.Class.{Class}
-use Rattle.rpg_effect.specs.declared.form.Class.TheVariants as classes
-use Rattle.rpg_effect.specs.declared.form.FieldForm.{FieldForm}
-use Rattle.rpg_effect.specs.declared.form.Kind.TheVariants as kinds
+use Rattle.rpg_program.specs.Effect.{Effect, Leaves, go_on, then_go}
+use Rattle.rpg_program.specs.Ended.{Ended, Gives, followed_by, followed_if, on_data, or_halt}
+use Rattle.rpg_program.specs.Ends.{End, GoesOn, Halt, Wrong}
+use Rattle.rpg_program.specs.Forms.{entries_of, form_at, is_constant, is_index_form, is_plain, is_plain_form, is_writable, length_of, may_write}
+use Rattle.rpg_program.specs.Values.{Value, Number, Text, characters_of}
+use Rattle.rpg_program.specs.World.{Data, Fields, World, characters_at, set_current, set_value}
+use Rattle.rpg_program.specs.declared.form.Class.{Class}
+use Rattle.rpg_program.specs.declared.form.Class.TheVariants as classes
+use Rattle.rpg_program.specs.declared.form.FieldForm.{FieldForm}
+use Rattle.rpg_program.specs.declared.form.Kind.TheVariants as kinds
 use Rattle.rpg_cycle_safety.specs.Holding.{Holds, IsEffectEnd, Keeps, KeepsData}
 use Rattle.rpg_memory.proofs.Entries.{and_true, text_in_form}
 use Rattle.rpg_memory.proofs.Fitting.{fits-current}
 use Rattle.rpg_memory.proofs.Keeping.{fits_number, fits_text}
 use Rattle.rpg_memory.proofs.Values.{form_there}
 use Rattle.rpg_memory.specs.Fields.{IsValue}
-use Rattle.rpg_object_program.specs.Kept.{IsCharacter}
-use Rattle.rpg_object_program.specs.Object.{Object}
+use Rattle.rpg_program.specs.Kept.{IsCharacter}
+use Rattle.rpg_program.specs.Object.{Object}
 use Rattle.rpg_memory.proofs.Fitting.{constants-insert}
 use Rattle.rpg_memory.specs.Fits.{Fits, KeepsConstants}
 

@@ -8,13 +8,13 @@ use Rattle.rpg_cycle.specs.Counting.{records_count}
 use Rattle.rpg_cycle.specs.Ends.{PhaseEnd, GoesOn, EndOfJob, Halt, Wrong}
 use Rattle.rpg_cycle.specs.Phases.{Cycle, Phase, UnderWay, begun, needs_record}
 use Rattle.rpg_cycle.specs.Runs.{Course, IsRun, Records, next_of}
-use Rattle.rpg_effect.specs.Put.{Bytes}
-use Rattle.rpg_effect.specs.World.{Fields}
-use Rattle.rpg_effect.specs.declared.input.InputFile.TheVariants.{Primary, Secondary}
+use Rattle.rpg_program.specs.Put.{Bytes}
+use Rattle.rpg_program.specs.World.{Fields}
+use Rattle.rpg_program.specs.declared.input.InputFile.TheVariants.{Primary, Secondary}
 use Rattle.rpg_cycle_safety.specs.Holding.{Holds}
 use Rattle.rpg_cycle_safety.specs.Waiting.{AreWaiting}
 use Rattle.rpg_machine.specs.Config.{Config, Output}
-use Rattle.rpg_object_program.specs.Object.{Object}
+use Rattle.rpg_program.specs.Object.{Object}
 use Rattle.rpg_verify.specs.Bound.{bound}
 
 -- how a cycle may end: nothing is wrong; it goes on, reaches the end of the job, or halts with a number from 1 to 8

@@ -1,11 +1,11 @@
 -- What holds of the data all along a run of an accepted program, and what keeps it.
 use Rattle.std.specs.Prelude.{◌≡◌, ◌≤◌}
 use Rattle.std.specs.Ordering.{nat_cmp}
-use Rattle.rpg_effect.specs.Effect.{Effect}
-use Rattle.rpg_effect.specs.Ended.{Ended}
-use Rattle.rpg_effect.specs.Ends.{End, GoesOn, Halt, Wrong}
-use Rattle.rpg_effect.specs.World.{Data}
-use Rattle.rpg_object_program.specs.Object.{Object}
+use Rattle.rpg_program.specs.Effect.{Effect}
+use Rattle.rpg_program.specs.Ended.{Ended}
+use Rattle.rpg_program.specs.Ends.{End, GoesOn, Halt, Wrong}
+use Rattle.rpg_program.specs.World.{Data}
+use Rattle.rpg_program.specs.Object.{Object}
 use Rattle.rpg_memory.specs.Fits.{Fits, KeepsConstants}
 
 -- each entry has a value of its field's form, the current entry of a table is one of its entries, and constants have their first values

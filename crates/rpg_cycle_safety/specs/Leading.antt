@@ -1,16 +1,16 @@
 -- What holds of a configuration all along a run of an accepted program, what a step of it may lead to, and what a section's run may lead to.
 use Rattle.std.specs.Prelude.{◌≡◌, ◌+◌, ◌*◌, ◌≤◌, true}
 use Rattle.std.specs.FinMap as map
-use Rattle.rpg_effect.specs.Ends.{End, GoesOn, Halt, Wrong}
+use Rattle.rpg_program.specs.Ends.{End, GoesOn, Halt, Wrong}
 use Rattle.rpg_cycle_safety.specs.Holding.{Holds}
 use Rattle.rpg_machine.specs.Chain.{IsSafe}
 use Rattle.rpg_machine.specs.Config.{Config, Output}
 use Rattle.rpg_machine.specs.Potential.{potential}
 use Rattle.rpg_machine.specs.Run.{RunsTo, is_end}
 use Rattle.rpg_machine.specs.Step.{Outcome, Next, Stop}
-use Rattle.rpg_object_program.specs.Object.{Object}
-use Rattle.rpg_object_program.specs.Sections.{first_place}
-use Rattle.rpg_object_program.specs.declared.section.Section.{Section}
+use Rattle.rpg_program.specs.Object.{Object}
+use Rattle.rpg_program.specs.Sections.{first_place}
+use Rattle.rpg_program.specs.declared.section.Section.{Section}
 use Rattle.rpg_verify.specs.Bound.{cost, most}
 
 -- the values are what they are to be, the place is one of the running section, and the return cells are one chain

@@ -8,11 +8,11 @@ use Rattle.rpg_cycle.specs.Job.{AtWork}
 use Rattle.rpg_cycle.specs.Phases.{UnderWay, begun}
 use Rattle.rpg_cycle.specs.Runs.{Records, left_behind}
 use Rattle.rpg_cycle.specs.Starting.{job_start}
-use Rattle.rpg_effect.specs.Put.{disk_bytes}
-use Rattle.rpg_effect.specs.World.{Fields}
+use Rattle.rpg_program.specs.Put.{disk_bytes}
+use Rattle.rpg_program.specs.World.{Fields}
 use Rattle.rpg_cycle_safety.specs.Coming.{next_cycle}
 use Rattle.rpg_machine.specs.Config.{Config, Output}
-use Rattle.rpg_object_program.specs.Object.{Object}
+use Rattle.rpg_program.specs.Object.{Object}
 use Rattle.rpg_paper.specs.Form.{page_or_1}
 use Rattle.rpg_paper.specs.Paper.{Position, bytes_from, last_position_from}
 use Rattle.rpg_verify.specs.Bound.{bound}

@@ -10,9 +10,9 @@ use Rattle.rpg_cycle.specs.Job.{AtWork, DoesCycle}
 use Rattle.rpg_cycle.specs.Phases.{Cycle, UnderWay, begun}
 use Rattle.rpg_cycle.specs.Runs.{Course, IsRun, Records}
 use Rattle.rpg_cycle.specs.Starting.{date_in, job_first_world}
-use Rattle.rpg_effect.specs.Ends.{End}
-use Rattle.rpg_effect.specs.Put.{Bytes}
-use Rattle.rpg_effect.specs.World.{Fields}
+use Rattle.rpg_program.specs.Ends.{End}
+use Rattle.rpg_program.specs.Put.{Bytes}
+use Rattle.rpg_program.specs.World.{Fields}
 use Rattle.rpg_cycle_safety.specs.Coming.{CyclesWell, HasCycle, HasRun, RunsWell}
 use Rattle.rpg_cycle_safety.specs.Holding.{Holds}
 use Rattle.rpg_cycle_safety.specs.Leading.{IsSteady}
@@ -22,10 +22,10 @@ use Rattle.rpg_cycle_safety.specs.Waiting.{AreWaiting}
 use Rattle.rpg_machine.specs.Config.{Config, Output}
 use Rattle.rpg_machine.specs.Run.{RunsTo}
 use Rattle.rpg_machine.specs.Running.{config_on, no_bytes}
-use Rattle.rpg_object_program.specs.Kept.{IsProgram}
-use Rattle.rpg_object_program.specs.Object.{Object}
-use Rattle.rpg_object_program.specs.Sections.{has_end}
-use Rattle.rpg_object_program.specs.declared.section.Section.{Section}
+use Rattle.rpg_program.specs.Kept.{IsProgram}
+use Rattle.rpg_program.specs.Object.{Object}
+use Rattle.rpg_program.specs.Sections.{has_end}
+use Rattle.rpg_program.specs.declared.section.Section.{Section}
 use Rattle.rpg_paper.specs.Paper.{Position}
 use Rattle.rpg_verify_rules.specs.Accepted.{IsAccepted}
 use Rattle.rpg_verify.specs.Bound.{bound}

@@ -2,15 +2,15 @@
 use Rattle.std.specs.Prelude.{◌≡◌, ℕ, All, List, length, true}
 use Rattle.std.specs.FinMap as map
 use Rattle.std.specs.Ordering.{nat_cmp}
-use Rattle.rpg_effect.specs.Ends.{End}
-use Rattle.rpg_effect.specs.Forms.{form_at}
-use Rattle.rpg_effect.specs.Input.{record_in}
-use Rattle.rpg_effect.specs.Operate.{operate}
-use Rattle.rpg_effect.specs.Right.{IsRightRow}
-use Rattle.rpg_effect.specs.Rows.{form_of, row_of}
-use Rattle.rpg_effect.specs.World.{Data}
-use Rattle.rpg_effect.specs.declared.operation.Action.{Action}
-use Rattle.rpg_effect.specs.declared.operation.Operand.{Operand}
+use Rattle.rpg_program.specs.Ends.{End}
+use Rattle.rpg_program.specs.Forms.{form_at}
+use Rattle.rpg_program.specs.Input.{record_in}
+use Rattle.rpg_program.specs.Operate.{operate}
+use Rattle.rpg_program.specs.Right.{IsRightRow}
+use Rattle.rpg_program.specs.Rows.{form_of, row_of}
+use Rattle.rpg_program.specs.World.{Data}
+use Rattle.rpg_program.specs.declared.operation.Action.{Action}
+use Rattle.rpg_program.specs.declared.operation.Operand.{Operand}
 use Rattle.rpg_cycle_safety.specs.Holding.{Holds, KeepsData}
 use Rattle.rpg_cycle_safety.specs.Leading.{EndsWell, HasSectionRun, StandsWell, StaysInBound}
 use Rattle.rpg_machine.specs.Chain.{IsSafe}
@@ -18,10 +18,10 @@ use Rattle.rpg_machine.specs.Config.{Config, Output}
 use Rattle.rpg_machine.specs.Outputs.{inputs_at, length_at}
 use Rattle.rpg_machine.specs.Run.{RunsTo, at_first, run}
 use Rattle.rpg_machine.specs.Step.{Next, step}
-use Rattle.rpg_object_program.specs.Kept.{IsCharacter, IsProgram}
-use Rattle.rpg_object_program.specs.Object.{Object}
-use Rattle.rpg_object_program.specs.Sections.{has_end}
-use Rattle.rpg_object_program.specs.declared.section.Section.{Section}
+use Rattle.rpg_program.specs.Kept.{IsCharacter, IsProgram}
+use Rattle.rpg_program.specs.Object.{Object}
+use Rattle.rpg_program.specs.Sections.{has_end}
+use Rattle.rpg_program.specs.declared.section.Section.{Section}
 use Rattle.rpg_verify_rules.specs.Accepted.{IsAccepted}
 
 -- an operation with nothing wrong in its row keeps what holds of the values

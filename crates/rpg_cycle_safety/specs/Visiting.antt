@@ -7,16 +7,16 @@ use Rattle.rpg_cycle.specs.Ends.{PhaseEnd, GoesOn}
 use Rattle.rpg_cycle.specs.Phases.{Phase, UnderWay, begun, detail_lines, end_where_last, fill_fields, halt_where_asked, is_bypassed, needs_record, output, overflow_lines, section, select_record, set_off, show_match, total_time}
 use Rattle.rpg_cycle.specs.Runs.{Records, left_behind, next_of}
 use Rattle.rpg_cycle.specs.Starting.{job_start}
-use Rattle.rpg_effect.specs.World.{Fields}
-use Rattle.rpg_effect.specs.declared.input.InputFile.TheVariants.{Primary, Secondary}
+use Rattle.rpg_program.specs.World.{Fields}
+use Rattle.rpg_program.specs.declared.input.InputFile.TheVariants.{Primary, Secondary}
 use Rattle.rpg_cycle_safety.specs.Coming.{next_cycle}
 use Rattle.rpg_machine.specs.Config.{Config, Output}
 use Rattle.rpg_machine.specs.Run.{at_first, run}
 use Rattle.rpg_machine.specs.Step.{Outcome, Next, Stop}
 use Rattle.rpg_machine.specs.declared.time.OutputTime.TheVariants as times
-use Rattle.rpg_object_program.specs.Object.{Object}
-use Rattle.rpg_object_program.specs.declared.section.Section.{Section}
-use Rattle.rpg_object_program.specs.declared.section.Section.TheVariants as sections
+use Rattle.rpg_program.specs.Object.{Object}
+use Rattle.rpg_program.specs.declared.section.Section.{Section}
+use Rattle.rpg_program.specs.declared.section.Section.TheVariants as sections
 
 -- the configurations that something comes by, from where it starts
 abbrev pub Way : Type 1

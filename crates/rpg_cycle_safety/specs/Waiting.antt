@@ -3,10 +3,10 @@ use Rattle.std.specs.Option.{ForSome}
 use Rattle.std.specs.Prelude.{◌≡◌, ◌<◌, All, length}
 use Rattle.rpg_cycle_records.specs.Earlier.{Selected, file_at}
 use Rattle.rpg_cycle_records.specs.Waiting.{Inputs}
-use Rattle.rpg_effect.specs.declared.input.InputFile.{InputFile}
-use Rattle.rpg_effect.specs.declared.input.InputFile.TheVariants.{Primary, Secondary}
-use Rattle.rpg_object_program.specs.Kept.{IsCharacter}
-use Rattle.rpg_object_program.specs.Object.{Object, input_length}
+use Rattle.rpg_program.specs.declared.input.InputFile.{InputFile}
+use Rattle.rpg_program.specs.declared.input.InputFile.TheVariants.{Primary, Secondary}
+use Rattle.rpg_program.specs.Kept.{IsCharacter}
+use Rattle.rpg_program.specs.Object.{Object, input_length}
 
 -- a record is of a type of the file, is as long as the file's records, and is characters
 pub record IsWaitingIn (p : Object) (f : InputFile) (s : Selected) : Type 0 where

@@ -2,7 +2,7 @@
 ghost use Rattle.rpg_cycle_records.specs.Waiting.{unread};
 ghost use Rattle.rpg_cycle_safety.specs.RunLaws.{CyclesAreOne, CyclesAreThere, CyclesEndWell, CyclesPayForOutput, JobsStayInOutput, RunsAreSteady, RunsAreThere, RunsEndWell, RunsPutOutFew, RunsStayInOutput, SectionsPayForOutput};
 ghost use Rattle.rpg_cycle_safety.specs.Waiting.{AreWaiting};
-ghost use Rattle.rpg_object_program.specs.Object.{Object};
+ghost use Rattle.rpg_program.specs.Object.{Object};
 
 /// There is a cycle from any configuration whose values hold, in which no subroutine runs, and whose waiting records are well kept, whatever
 /// was read before and whatever is next in each file; no cycle from there is wrong or takes more steps than the program's bound, and what waits

@@ -1,9 +1,9 @@
 //! Laws of the definitions: what every run of an accepted program keeps. The functions do nothing: they are called only for their contracts.
 ghost use Rattle.std.specs.Prelude.{◌≡◌, ℕ, false};
 ghost use Rattle.std.specs.Ordering.{nat_cmp};
-ghost use Rattle.rpg_effect.specs.World.{Data, World};
-ghost use Rattle.rpg_effect.specs.declared.line.Pass.{Pass};
-ghost use Rattle.rpg_effect.specs.declared.operation.Instruction.{Instruction};
+ghost use Rattle.rpg_program.specs.World.{Data, World};
+ghost use Rattle.rpg_program.specs.declared.line.Pass.{Pass};
+ghost use Rattle.rpg_program.specs.declared.operation.Instruction.{Instruction};
 ghost use Rattle.rpg_cycle_safety.specs.Buying.{IsGreatestSpend};
 ghost use Rattle.rpg_cycle_safety.specs.Holding.{Holds, Keeps};
 ghost use Rattle.rpg_cycle_safety.specs.Leading.{IsSteady, StepsWell};
@@ -14,9 +14,9 @@ ghost use Rattle.rpg_machine.specs.Outputs.{output_effect};
 ghost use Rattle.rpg_machine.specs.Run.{is_end};
 ghost use Rattle.rpg_machine.specs.Step.{effect, step};
 ghost use Rattle.rpg_machine.specs.declared.time.OutputTime.{OutputTime};
-ghost use Rattle.rpg_object_program.specs.Kept.{IsProgram};
-ghost use Rattle.rpg_object_program.specs.Object.{Object};
-ghost use Rattle.rpg_object_program.specs.declared.section.Place.{Place};
+ghost use Rattle.rpg_program.specs.Kept.{IsProgram};
+ghost use Rattle.rpg_program.specs.Object.{Object};
+ghost use Rattle.rpg_program.specs.declared.section.Place.{Place};
 ghost use Rattle.rpg_verify_rules.specs.Accepted.{IsAccepted};
 ghost use Rattle.rpg_verify_rules.specs.Sound.{IsAt};
 ghost use Rattle.rpg_verify.specs.Bound.{most};

@@ -1,14 +1,14 @@
 -- Renaming keys commutes with what the columns of a record become.
 use Rattle.std.proofs.Common.{◌≡◌, ℕ, true, not, cond, List, [], ◌∷◌, length, map, Option, None, Some, refl, sym, ap, ◌∙◌, subst, Ordering}
-use Rattle.rpg_effect.specs.Ends.{Fault, Kind, Storage}
-use Rattle.rpg_effect.specs.Forms.{has_field, kind_of}
-use Rattle.rpg_effect.specs.Input.{field_in, fits_columns, fits_shows, input_fault, order_of, record_in, record_part, taken_in, value_read}
-use Rattle.rpg_effect.specs.Ended.{Gives, if_right, or_halt}
-use Rattle.rpg_effect.specs.Showing.{shown_if_any}
-use Rattle.rpg_effect.specs.Values.{Value}
-use Rattle.rpg_effect.specs.World.{Data}
-use Rattle.rpg_effect.specs.declared.form.FieldForm.{FieldForm}
-use Rattle.rpg_effect.specs.declared.input.InputField.{InputField}
+use Rattle.rpg_program.specs.Ends.{Fault, Kind, Storage}
+use Rattle.rpg_program.specs.Forms.{has_field, kind_of}
+use Rattle.rpg_program.specs.Input.{field_in, fits_columns, fits_shows, input_fault, order_of, record_in, record_part, taken_in, value_read}
+use Rattle.rpg_program.specs.Ended.{Gives, if_right, or_halt}
+use Rattle.rpg_program.specs.Showing.{shown_if_any}
+use Rattle.rpg_program.specs.Values.{Value}
+use Rattle.rpg_program.specs.World.{Data}
+use Rattle.rpg_program.specs.declared.form.FieldForm.{FieldForm}
+use Rattle.rpg_program.specs.declared.input.InputField.{InputField}
 use Rattle.rpg_effect_renaming.proofs.Operations.{ends_same, followed_same, gives_same, on_agrees, set_agrees}
 use Rattle.rpg_effect_renaming.specs.Naming.{AgreeData, IsRenaming, SameEnd, renamed_input}
 

@@ -6,34 +6,34 @@ use Rattle.std.specs.Prelude.{All, nat_le, ◌==◌}
 use Rattle.rpg_paper.specs.Paper.{Position, spaced, skipped, turns_overflow_on}
 use Rattle.rpg_edit_marks.specs.declared.code.Fill.{Fill}
 use Rattle.rpg_edit_marks.specs.declared.how.How.TheVariants as hows
-use Rattle.rpg_effect.specs.Editing.{how_of, text_of, width_as}
-use Rattle.rpg_effect.specs.Effect.{Effect, Leaves, go_on, quiet, then_go, unless_wrong}
-use Rattle.rpg_effect.specs.Ends.{End, Fault, GoesOn, Halt, Kind, Storage, Wrong}
-use Rattle.rpg_effect.specs.Entries.{position_of}
-use Rattle.rpg_effect.specs.Forms.{has_field, is_array, is_index_form, is_text_constant, kind_of, length_of, may_write, same_kind}
-use Rattle.rpg_effect.specs.LineFaults.{KeepsFieldRules, field_fault, fits_editing, fits_source, fits_word, has_kinds, has_storage, has_word, is_blank_fill, is_page, line_fault}
-use Rattle.rpg_effect.specs.Lines.{Draft, Drafted, Line, after_movement, after_skip, after_space, assembled, blank_line, blanked, blanked_all, counted, drafted, exception_output, go_on_with, is_asked, laid, laid_over, line_out, lines_out, next_page, one_out, printed_line, put_on, put_out, remembered, spaced_before, unless_faulty, where_asked, with_field, with_fields}
-use Rattle.rpg_effect.specs.Rows.{has_entry, has_index, has_operand, is_one, is_one_entry, is_shaped}
-use Rattle.rpg_effect.specs.Showing.{turned_on}
-use Rattle.rpg_effect.specs.Values.{Number, number_of}
-use Rattle.rpg_effect.specs.Ended.{Ended, on_data}
-use Rattle.rpg_effect.specs.World.{Data, Fields, World, three_hold}
-use Rattle.rpg_effect.specs.declared.form.FieldForm.{FieldForm}
-use Rattle.rpg_effect.specs.declared.form.Kind.TheVariants as kinds
-use Rattle.rpg_effect.specs.declared.line.Editing.{Editing}
-use Rattle.rpg_effect.specs.declared.line.Editing.TheVariants as editings
-use Rattle.rpg_effect.specs.declared.line.File.{File}
-use Rattle.rpg_effect.specs.declared.line.File.TheVariants.{Printer, Disk}
-use Rattle.rpg_effect.specs.declared.line.LineField.{LineField}
-use Rattle.rpg_effect.specs.declared.line.Pass.{Pass}
-use Rattle.rpg_effect.specs.declared.line.Pass.TheVariants as passes
-use Rattle.rpg_effect.specs.declared.line.Source.{Source}
-use Rattle.rpg_effect.specs.declared.line.Source.TheVariants as sources
-use Rattle.rpg_effect.specs.declared.line.Spacing.{Spacing}
-use Rattle.rpg_effect.specs.declared.operation.Index.{Index}
-use Rattle.rpg_effect.specs.declared.operation.Index.TheVariants.{Blank, Literal, Field}
-use Rattle.rpg_effect.specs.declared.operation.Operand.{Operand}
-use Rattle.rpg_effect.specs.declared.row.Shape.TheVariants as shapes
+use Rattle.rpg_program.specs.Editing.{how_of, text_of, width_as}
+use Rattle.rpg_program.specs.Effect.{Effect, Leaves, go_on, quiet, then_go, unless_wrong}
+use Rattle.rpg_program.specs.Ends.{End, Fault, GoesOn, Halt, Kind, Storage, Wrong}
+use Rattle.rpg_program.specs.Entries.{position_of}
+use Rattle.rpg_program.specs.Forms.{has_field, is_array, is_index_form, is_text_constant, kind_of, length_of, may_write, same_kind}
+use Rattle.rpg_program.specs.LineFaults.{KeepsFieldRules, field_fault, fits_editing, fits_source, fits_word, has_kinds, has_storage, has_word, is_blank_fill, is_page, line_fault}
+use Rattle.rpg_program.specs.Lines.{Draft, Drafted, Line, after_movement, after_skip, after_space, assembled, blank_line, blanked, blanked_all, counted, drafted, exception_output, go_on_with, is_asked, laid, laid_over, line_out, lines_out, next_page, one_out, printed_line, put_on, put_out, remembered, spaced_before, unless_faulty, where_asked, with_field, with_fields}
+use Rattle.rpg_program.specs.Rows.{has_entry, has_index, has_operand, is_one, is_one_entry, is_shaped}
+use Rattle.rpg_program.specs.Showing.{turned_on}
+use Rattle.rpg_program.specs.Values.{Number, number_of}
+use Rattle.rpg_program.specs.Ended.{Ended, on_data}
+use Rattle.rpg_program.specs.World.{Data, Fields, World, three_hold}
+use Rattle.rpg_program.specs.declared.form.FieldForm.{FieldForm}
+use Rattle.rpg_program.specs.declared.form.Kind.TheVariants as kinds
+use Rattle.rpg_program.specs.declared.line.Editing.{Editing}
+use Rattle.rpg_program.specs.declared.line.Editing.TheVariants as editings
+use Rattle.rpg_program.specs.declared.line.File.{File}
+use Rattle.rpg_program.specs.declared.line.File.TheVariants.{Printer, Disk}
+use Rattle.rpg_program.specs.declared.line.LineField.{LineField}
+use Rattle.rpg_program.specs.declared.line.Pass.{Pass}
+use Rattle.rpg_program.specs.declared.line.Pass.TheVariants as passes
+use Rattle.rpg_program.specs.declared.line.Source.{Source}
+use Rattle.rpg_program.specs.declared.line.Source.TheVariants as sources
+use Rattle.rpg_program.specs.declared.line.Spacing.{Spacing}
+use Rattle.rpg_program.specs.declared.operation.Index.{Index}
+use Rattle.rpg_program.specs.declared.operation.Index.TheVariants.{Blank, Literal, Field}
+use Rattle.rpg_program.specs.declared.operation.Operand.{Operand}
+use Rattle.rpg_program.specs.declared.row.Shape.TheVariants as shapes
 use Rattle.rpg_effect_renaming.proofs.Operations.{position_same, written}
 use Rattle.rpg_effect_renaming.specs.Naming.{Agree, AgreeFields, AreNamed, IsNamed, IsRenaming, SameEffect, SameEnd, renamed_editing, renamed_field, renamed_index, renamed_line, renamed_operand}
 

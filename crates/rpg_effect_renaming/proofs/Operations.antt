@@ -9,29 +9,29 @@ use Rattle.std.specs.Prelude.{unwrap_or, is_some, nat_lt, nat_le, ◌^◌}
 use Rattle.rpg_decimal_words.specs.Fraction.{Fraction, fraction_cmp, with_decimals}
 use Rattle.rpg_decimal_words.specs.Order.{text_cmp}
 use Rattle.rpg_decimal_words.specs.Zoned.{number_in, zoned_text}
-use Rattle.rpg_effect.specs.Act.{act, assigned, number_over, text_over, computed, divided, entry_at, exact, found_in, index_set, stored_value, left_over, looked_up, made_current, made_current_if_any, moved, number_after, order_by, with_found, position_fault, remainder_after, source_text, store, sum_to, summed}
-use Rattle.rpg_effect.specs.Ends.{End, Fault, GoesOn, Halt, Storage, Wrong}
-use Rattle.rpg_effect.specs.Entries.{entry_of, in_range, position_by, position_of}
-use Rattle.rpg_effect.specs.Forms.{decimals_of, entries_of, has_field, is_table_form, kind_of, length_of}
-use Rattle.rpg_effect.specs.Operate.{has_entries, operate, resolved, with_operands}
-use Rattle.rpg_effect.specs.Ended.{Gives, Ended, ends_with, followed_by, followed_if, if_right, or_halt}
-use Rattle.rpg_effect.specs.Rows.{can_hold, holds_position, is_blank_index, row_of}
-use Rattle.rpg_effect.specs.Search.{positions, search_of}
-use Rattle.rpg_effect.specs.Showing.{set_to, shown, shown_if_any, sign_of}
-use Rattle.rpg_effect.specs.Values.{Value, Number, Text, entry_cmp, number_of, characters_of}
-use Rattle.rpg_effect.specs.World.{Data, Fields, characters_at, number_at, set_current, set_value, with_current, with_value}
-use Rattle.rpg_effect.specs.declared.form.FieldForm.{FieldForm}
-use Rattle.rpg_effect.specs.declared.form.Kind.{Kind}
-use Rattle.rpg_effect.specs.declared.form.Kind.TheVariants as kinds
-use Rattle.rpg_effect.specs.declared.operation.Action.{Action}
-use Rattle.rpg_effect.specs.declared.operation.Action.TheVariants.{Compute, Divide, Assign, TakeRemainder, CrossFoot, Compare, LookUp, Move, SetIndicators}
-use Rattle.rpg_effect.specs.declared.operation.Entry.{Entry}
-use Rattle.rpg_effect.specs.declared.operation.Found.{Found}
-use Rattle.rpg_effect.specs.declared.operation.Index.{Index}
-use Rattle.rpg_effect.specs.declared.operation.Index.TheVariants.{Blank, Literal, Field}
-use Rattle.rpg_effect.specs.declared.operation.Operand.{Operand}
-use Rattle.rpg_effect.specs.declared.operation.Shows.{Shows}
-use Rattle.rpg_effect.specs.declared.operation.Side.{Side}
+use Rattle.rpg_program.specs.Act.{act, assigned, number_over, text_over, computed, divided, entry_at, exact, found_in, index_set, stored_value, left_over, looked_up, made_current, made_current_if_any, moved, number_after, order_by, with_found, position_fault, remainder_after, source_text, store, sum_to, summed}
+use Rattle.rpg_program.specs.Ends.{End, Fault, GoesOn, Halt, Storage, Wrong}
+use Rattle.rpg_program.specs.Entries.{entry_of, in_range, position_by, position_of}
+use Rattle.rpg_program.specs.Forms.{decimals_of, entries_of, has_field, is_table_form, kind_of, length_of}
+use Rattle.rpg_program.specs.Operate.{has_entries, operate, resolved, with_operands}
+use Rattle.rpg_program.specs.Ended.{Gives, Ended, ends_with, followed_by, followed_if, if_right, or_halt}
+use Rattle.rpg_program.specs.Rows.{can_hold, holds_position, is_blank_index, row_of}
+use Rattle.rpg_program.specs.Search.{positions, search_of}
+use Rattle.rpg_program.specs.Showing.{set_to, shown, shown_if_any, sign_of}
+use Rattle.rpg_program.specs.Values.{Value, Number, Text, entry_cmp, number_of, characters_of}
+use Rattle.rpg_program.specs.World.{Data, Fields, characters_at, number_at, set_current, set_value, with_current, with_value}
+use Rattle.rpg_program.specs.declared.form.FieldForm.{FieldForm}
+use Rattle.rpg_program.specs.declared.form.Kind.{Kind}
+use Rattle.rpg_program.specs.declared.form.Kind.TheVariants as kinds
+use Rattle.rpg_program.specs.declared.operation.Action.{Action}
+use Rattle.rpg_program.specs.declared.operation.Action.TheVariants.{Compute, Divide, Assign, TakeRemainder, CrossFoot, Compare, LookUp, Move, SetIndicators}
+use Rattle.rpg_program.specs.declared.operation.Entry.{Entry}
+use Rattle.rpg_program.specs.declared.operation.Found.{Found}
+use Rattle.rpg_program.specs.declared.operation.Index.{Index}
+use Rattle.rpg_program.specs.declared.operation.Index.TheVariants.{Blank, Literal, Field}
+use Rattle.rpg_program.specs.declared.operation.Operand.{Operand}
+use Rattle.rpg_program.specs.declared.operation.Shows.{Shows}
+use Rattle.rpg_program.specs.declared.operation.Side.{Side}
 use Rattle.rpg_effect_renaming.specs.Naming.{AgreeData, AgreeFields, HasIndex, IsNamed, IsRenaming, SameEnd, Uses, renamed_action, renamed_entry, renamed_index, renamed_operand}
 
 pub entries_total : {K : Type 0} {R : K → K → Ordering} → IsTotalOrder R → IsTotalOrder (entry_cmp R)

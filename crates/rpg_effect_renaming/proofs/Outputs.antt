@@ -1,10 +1,10 @@
 -- Renaming keys commutes with the outputs of a cycle.
 use Rattle.std.proofs.Common.{◌≡◌, ℕ, true, false, not, ◌&&◌, cond, List, map, Option, refl, Ordering}
-use Rattle.rpg_effect.specs.Lines.{Line, detail_output, movements_watched, overflow_details, overflow_output, settled, total_output}
-use Rattle.rpg_effect.specs.Showing.{turned_off}
-use Rattle.rpg_effect.specs.World.{World}
-use Rattle.rpg_effect.specs.declared.form.FieldForm.{FieldForm}
-use Rattle.rpg_effect.specs.declared.line.Pass.TheVariants as passes
+use Rattle.rpg_program.specs.Lines.{Line, detail_output, movements_watched, overflow_details, overflow_output, settled, total_output}
+use Rattle.rpg_program.specs.Showing.{turned_off}
+use Rattle.rpg_program.specs.World.{World}
+use Rattle.rpg_program.specs.declared.form.FieldForm.{FieldForm}
+use Rattle.rpg_program.specs.declared.line.Pass.TheVariants as passes
 use Rattle.rpg_effect_renaming.proofs.Lines.{leaves_same, lines_same, then_same}
 use Rattle.rpg_effect_renaming.specs.Naming.{Agree, AreNamed, IsRenaming, SameEffect, renamed_line}
 

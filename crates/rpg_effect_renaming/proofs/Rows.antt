@@ -2,20 +2,20 @@
 use Rattle.std.proofs.Common.{◌≡◌, ℕ, Bool, not, ◌&&◌, ◌||◌, cond, Option, None, Some, refl, sym, ap, ◌∙◌, subst, Ordering}
 use Rattle.std.specs.Option.{option_map}
 use Rattle.std.specs.Prelude.{nat_lt, nat_le, ◌^◌}
-use Rattle.rpg_effect.specs.Forms.{entries_of, has_field, is_array, is_index_form, is_table, kind_of, length_of, may_write, same_kind}
-use Rattle.rpg_effect.specs.Right.{IsRightRow}
-use Rattle.rpg_effect.specs.Rows.{all_of, all_used, can_hold, field_of, fits_use, form_of, has_form, has_index, has_operand, has_shape, holds_all, holds_position, holds_positions, is_blank_index, is_one, is_searched, is_stored, is_there, is_two_sided, is_written, lacks_storage, mixes_kinds, row_of, use_of}
-use Rattle.rpg_effect.specs.declared.form.FieldForm.{FieldForm}
-use Rattle.rpg_effect.specs.declared.operation.Action.{Action}
-use Rattle.rpg_effect.specs.declared.operation.Action.TheVariants.{Compute, Divide, Assign, TakeRemainder, CrossFoot, Compare, LookUp, Move, SetIndicators}
-use Rattle.rpg_effect.specs.declared.operation.Index.{Index}
-use Rattle.rpg_effect.specs.declared.operation.Index.TheVariants.{Blank, Literal, Field}
-use Rattle.rpg_effect.specs.declared.operation.Operand.{Operand}
-use Rattle.rpg_effect.specs.declared.row.Marks.TheVariants.{Unmarked, Wanted, Sought}
-use Rattle.rpg_effect.specs.declared.row.Row.{Row}
-use Rattle.rpg_effect.specs.declared.row.Shape.{Shape}
-use Rattle.rpg_effect.specs.declared.row.Shape.TheVariants as shapes
-use Rattle.rpg_effect.specs.declared.row.Use.{Use}
+use Rattle.rpg_program.specs.Forms.{entries_of, has_field, is_array, is_index_form, is_table, kind_of, length_of, may_write, same_kind}
+use Rattle.rpg_program.specs.Right.{IsRightRow}
+use Rattle.rpg_program.specs.Rows.{all_of, all_used, can_hold, field_of, fits_use, form_of, has_form, has_index, has_operand, has_shape, holds_all, holds_position, holds_positions, is_blank_index, is_one, is_searched, is_stored, is_there, is_two_sided, is_written, lacks_storage, mixes_kinds, row_of, use_of}
+use Rattle.rpg_program.specs.declared.form.FieldForm.{FieldForm}
+use Rattle.rpg_program.specs.declared.operation.Action.{Action}
+use Rattle.rpg_program.specs.declared.operation.Action.TheVariants.{Compute, Divide, Assign, TakeRemainder, CrossFoot, Compare, LookUp, Move, SetIndicators}
+use Rattle.rpg_program.specs.declared.operation.Index.{Index}
+use Rattle.rpg_program.specs.declared.operation.Index.TheVariants.{Blank, Literal, Field}
+use Rattle.rpg_program.specs.declared.operation.Operand.{Operand}
+use Rattle.rpg_program.specs.declared.row.Marks.TheVariants.{Unmarked, Wanted, Sought}
+use Rattle.rpg_program.specs.declared.row.Row.{Row}
+use Rattle.rpg_program.specs.declared.row.Shape.{Shape}
+use Rattle.rpg_program.specs.declared.row.Shape.TheVariants as shapes
+use Rattle.rpg_program.specs.declared.row.Use.{Use}
 use Rattle.rpg_effect_renaming.specs.Naming.{IsRenaming, renamed_action, renamed_index, renamed_operand}
 
 abbrev renamed_use : {K L : Type 0} → (K → L) → Use (Operand K) → Use (Operand L)

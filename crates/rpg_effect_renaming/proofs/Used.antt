@@ -1,17 +1,17 @@
 -- What is right uses only what has a form.
 use Rattle.std.proofs.Common.{◌≡◌, ℕ, Bool, true, false, not, ◌&&◌, cond, List, Option, None, Some, refl, ap}
-use Rattle.rpg_effect.specs.Ends.{Fault}
-use Rattle.rpg_effect.specs.Forms.{has_field}
-use Rattle.rpg_effect.specs.LineFaults.{field_fault, has_kinds, has_storage, has_word}
-use Rattle.rpg_effect.specs.Rows.{all_of, all_used, form_of, has_index, has_operand, is_there, is_written, lacks_storage, row_of}
-use Rattle.rpg_effect.specs.declared.form.FieldForm.{FieldForm}
-use Rattle.rpg_effect.specs.declared.line.LineField.{LineField}
-use Rattle.rpg_effect.specs.declared.operation.Action.{Action}
-use Rattle.rpg_effect.specs.declared.operation.Action.TheVariants.{Compute, Divide, Assign, TakeRemainder, CrossFoot, Compare, LookUp, Move, SetIndicators}
-use Rattle.rpg_effect.specs.declared.operation.Index.{Index}
-use Rattle.rpg_effect.specs.declared.operation.Index.TheVariants.{Blank, Literal, Field}
-use Rattle.rpg_effect.specs.declared.operation.Operand.{Operand}
-use Rattle.rpg_effect.specs.declared.row.Row.{Row}
+use Rattle.rpg_program.specs.Ends.{Fault}
+use Rattle.rpg_program.specs.Forms.{has_field}
+use Rattle.rpg_program.specs.LineFaults.{field_fault, has_kinds, has_storage, has_word}
+use Rattle.rpg_program.specs.Rows.{all_of, all_used, form_of, has_index, has_operand, is_there, is_written, lacks_storage, row_of}
+use Rattle.rpg_program.specs.declared.form.FieldForm.{FieldForm}
+use Rattle.rpg_program.specs.declared.line.LineField.{LineField}
+use Rattle.rpg_program.specs.declared.operation.Action.{Action}
+use Rattle.rpg_program.specs.declared.operation.Action.TheVariants.{Compute, Divide, Assign, TakeRemainder, CrossFoot, Compare, LookUp, Move, SetIndicators}
+use Rattle.rpg_program.specs.declared.operation.Index.{Index}
+use Rattle.rpg_program.specs.declared.operation.Index.TheVariants.{Blank, Literal, Field}
+use Rattle.rpg_program.specs.declared.operation.Operand.{Operand}
+use Rattle.rpg_program.specs.declared.row.Row.{Row}
 use Rattle.rpg_effect_renaming.specs.Naming.{HasIndex, IsNamed, Uses}
 
 module _ {K : Type 0} (forms : K → Option FieldForm) where

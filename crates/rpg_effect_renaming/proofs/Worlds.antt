@@ -4,10 +4,10 @@ use Rattle.std.proofs.lemmas.Bool.{ne_eqb}
 use Rattle.std.specs.Cmp.{tied_then, unsigned_tied}
 use Rattle.std.specs.FinMap as maps
 use Rattle.std.specs.Ordering.{eq_by_cmp, is_eq}
-use Rattle.rpg_effect.specs.Forms.{has_field}
-use Rattle.rpg_effect.specs.Values.{Value, entry_cmp}
-use Rattle.rpg_effect.specs.World.{World}
-use Rattle.rpg_effect.specs.declared.form.FieldForm.{FieldForm}
+use Rattle.rpg_program.specs.Forms.{has_field}
+use Rattle.rpg_program.specs.Values.{Value, entry_cmp}
+use Rattle.rpg_program.specs.World.{World}
+use Rattle.rpg_program.specs.declared.form.FieldForm.{FieldForm}
 use Rattle.rpg_effect_renaming.proofs.Operations.{entries_total, tied}
 use Rattle.rpg_effect_renaming.specs.Naming.{Agree, IsRenaming}
 

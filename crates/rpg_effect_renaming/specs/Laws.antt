@@ -2,18 +2,18 @@
 use Rattle.std.specs.Prelude.{◌≡◌, ◌↔◌, ℕ, true, List, map, Option, Some}
 use Rattle.std.specs.Ordering.{nat_cmp}
 use Rattle.std.specs.declared.cmp.Ordering.{Ordering}
-use Rattle.rpg_effect.specs.Forms.{has_field}
-use Rattle.rpg_effect.specs.Input.{record_in}
-use Rattle.rpg_effect.specs.Lines.{Line, lines_out}
-use Rattle.rpg_effect.specs.Operate.{operate}
-use Rattle.rpg_effect.specs.Right.{IsRightRow}
-use Rattle.rpg_effect.specs.Rows.{form_of, row_of}
-use Rattle.rpg_effect.specs.World.{Data, World}
-use Rattle.rpg_effect.specs.declared.form.FieldForm.{FieldForm}
-use Rattle.rpg_effect.specs.declared.input.InputField.{InputField}
-use Rattle.rpg_effect.specs.declared.line.Pass.{Pass}
-use Rattle.rpg_effect.specs.declared.operation.Action.{Action}
-use Rattle.rpg_effect.specs.declared.operation.Operand.{Operand}
+use Rattle.rpg_program.specs.Forms.{has_field}
+use Rattle.rpg_program.specs.Input.{record_in}
+use Rattle.rpg_program.specs.Lines.{Line, lines_out}
+use Rattle.rpg_program.specs.Operate.{operate}
+use Rattle.rpg_program.specs.Right.{IsRightRow}
+use Rattle.rpg_program.specs.Rows.{form_of, row_of}
+use Rattle.rpg_program.specs.World.{Data, World}
+use Rattle.rpg_program.specs.declared.form.FieldForm.{FieldForm}
+use Rattle.rpg_program.specs.declared.input.InputField.{InputField}
+use Rattle.rpg_program.specs.declared.line.Pass.{Pass}
+use Rattle.rpg_program.specs.declared.operation.Action.{Action}
+use Rattle.rpg_program.specs.declared.operation.Operand.{Operand}
 use Rattle.rpg_effect_renaming.specs.Naming.{Agree, AgreeData, AreNamed, IsRenaming, SameEffect, SameEnd, Uses, renamed_action, renamed_input, renamed_line}
 
 -- an operation whose operands have forms does the same by both names

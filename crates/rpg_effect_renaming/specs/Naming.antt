@@ -5,24 +5,24 @@ use Rattle.std.specs.Cmp.{IsTotalOrder}
 use Rattle.std.specs.FinMap as maps
 use Rattle.std.specs.Ordering.{eq_by_cmp}
 use Rattle.std.specs.declared.cmp.Ordering.{Ordering}
-use Rattle.rpg_effect.specs.Effect.{Effect}
-use Rattle.rpg_effect.specs.Forms.{has_field}
-use Rattle.rpg_effect.specs.Input.{TypeRow}
-use Rattle.rpg_effect.specs.Lines.{Line}
-use Rattle.rpg_effect.specs.Operate.{with_operands}
-use Rattle.rpg_effect.specs.Ended.{Ended}
-use Rattle.rpg_effect.specs.World.{Data, Fields, World, value_in}
-use Rattle.rpg_effect.specs.declared.form.FieldForm.{FieldForm}
-use Rattle.rpg_effect.specs.declared.input.InputField.{InputField}
-use Rattle.rpg_effect.specs.declared.line.Editing.{Editing}
-use Rattle.rpg_effect.specs.declared.line.Editing.TheVariants as editings
-use Rattle.rpg_effect.specs.declared.line.LineField.{LineField}
-use Rattle.rpg_effect.specs.declared.operation.Action.{Action}
-use Rattle.rpg_effect.specs.declared.operation.Action.TheVariants.{Compute, Divide, Assign, TakeRemainder, CrossFoot, Compare, LookUp, Move, SetIndicators}
-use Rattle.rpg_effect.specs.declared.operation.Entry.{Entry}
-use Rattle.rpg_effect.specs.declared.operation.Index.{Index}
-use Rattle.rpg_effect.specs.declared.operation.Index.TheVariants.{Blank, Literal, Field}
-use Rattle.rpg_effect.specs.declared.operation.Operand.{Operand}
+use Rattle.rpg_program.specs.Effect.{Effect}
+use Rattle.rpg_program.specs.Forms.{has_field}
+use Rattle.rpg_program.specs.Input.{TypeRow}
+use Rattle.rpg_program.specs.Lines.{Line}
+use Rattle.rpg_program.specs.Operate.{with_operands}
+use Rattle.rpg_program.specs.Ended.{Ended}
+use Rattle.rpg_program.specs.World.{Data, Fields, World, value_in}
+use Rattle.rpg_program.specs.declared.form.FieldForm.{FieldForm}
+use Rattle.rpg_program.specs.declared.input.InputField.{InputField}
+use Rattle.rpg_program.specs.declared.line.Editing.{Editing}
+use Rattle.rpg_program.specs.declared.line.Editing.TheVariants as editings
+use Rattle.rpg_program.specs.declared.line.LineField.{LineField}
+use Rattle.rpg_program.specs.declared.operation.Action.{Action}
+use Rattle.rpg_program.specs.declared.operation.Action.TheVariants.{Compute, Divide, Assign, TakeRemainder, CrossFoot, Compare, LookUp, Move, SetIndicators}
+use Rattle.rpg_program.specs.declared.operation.Entry.{Entry}
+use Rattle.rpg_program.specs.declared.operation.Index.{Index}
+use Rattle.rpg_program.specs.declared.operation.Index.TheVariants.{Blank, Literal, Field}
+use Rattle.rpg_program.specs.declared.operation.Operand.{Operand}
 
 -- ---- the same words at another key
 

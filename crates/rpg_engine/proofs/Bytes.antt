@@ -10,8 +10,8 @@ use Rattle.rpg_cycle.specs.Runs.{last_feed, printed, stored}
 use Rattle.rpg_cycle.specs.Stages.{stage_at}
 use Rattle.rpg_paper.proofs.Papers.{bytes_from-append}
 use Rattle.rpg_paper.specs.Paper.{Placed, Position, bytes_from, last_position, last_position_from, paper}
-use Rattle.rpg_effect.proofs.Putting.{disk-append, end_from-lines}
-use Rattle.rpg_effect.specs.Put.{Bytes, disk_bytes, line_of, with_output}
+use Rattle.rpg_program.proofs.Putting.{disk-append, end_from-lines}
+use Rattle.rpg_program.specs.Put.{Bytes, disk_bytes, line_of, with_output}
 use Rattle.rpg_files.specs.Sending.{AppendsFirst}
 use Rattle.rpg_machine.specs.Config.{Output, with_more}
 use Rattle.rpg_machine.specs.Running.{feed_behind, no_bytes}

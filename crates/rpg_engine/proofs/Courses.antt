@@ -4,13 +4,13 @@ use Rattle.rpg_cycle.proofs.Counting.{own_count}
 use Rattle.rpg_cycle.proofs.OneRun.{cycle_fixed}
 use Rattle.rpg_cycle_records.specs.Earlier.{Selected, left_by, with_record}
 use Rattle.rpg_cycle_records.specs.Waiting.{Inputs, has_match, unread}
-use Rattle.rpg_effect.specs.declared.input.InputFile.TheVariants.{Primary, Secondary}
+use Rattle.rpg_program.specs.declared.input.InputFile.TheVariants.{Primary, Secondary}
 use Rattle.rpg_cycle.specs.Ends.{PhaseEnd, GoesOn, EndOfJob, Halt, Wrong}
 use Rattle.rpg_cycle.specs.Phases.{Cycle, UnderWay, begun, needs_record}
 use Rattle.rpg_cycle.specs.Runs.{Course, Records, Runs, RunsIn, ends_or, last_cycle, left_behind, next_of, with_cycle}
 use Rattle.rpg_paper.specs.Paper.{Placed}
 use Rattle.rpg_machine.specs.Config.{Config, Output, no_output, with_more}
-use Rattle.rpg_object_program.specs.Object.{Object}
+use Rattle.rpg_program.specs.Object.{Object}
 use Rattle.rpg_engine.specs.Reporting.{GoesOnFor}
 
 -- a course with cycles before it

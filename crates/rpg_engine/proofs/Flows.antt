@@ -4,7 +4,7 @@ use Rattle.rpg_cycle.specs.Ends.{PhaseEnd, GoesOn}
 use Rattle.rpg_cycle.specs.Job.{AtWork}
 use Rattle.rpg_cycle_records.specs.Earlier.{left_by}
 use Rattle.rpg_cycle_records.specs.Waiting.{unread}
-use Rattle.rpg_effect.specs.Put.{Bytes, disk_bytes}
+use Rattle.rpg_program.specs.Put.{Bytes, disk_bytes}
 use Rattle.rpg_machine.specs.Config.{Output}
 use Rattle.rpg_machine.specs.Running.{no_bytes}
 use Rattle.rpg_paper.specs.Paper.{last_position, paper}

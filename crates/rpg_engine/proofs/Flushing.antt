@@ -3,7 +3,7 @@ use Rattle.std.proofs.Common.{◌≡◌, ℕ, ℤ, List, Option, Some}
 use Rattle.std.proofs.KnownBytes.{Appends-kept}
 use Rattle.std.specs.Io.KnownBytes.{Keeps}
 use Rattle.rpg_cycle.specs.Starting.{date_in}
-use Rattle.rpg_object_program.specs.Object.{Object}
+use Rattle.rpg_program.specs.Object.{Object}
 use Rattle.rpg_engine.proofs.Headline.{of_each}
 use Rattle.rpg_engine.specs.Inputs.{OfInputs}
 use Rattle.rpg_engine.specs.Reporting.{Reports}

@@ -5,8 +5,8 @@ use Rattle.rpg_cycle.specs.Counting.{records_count}
 use Rattle.rpg_cycle.specs.Job.{first_fields}
 use Rattle.rpg_cycle.specs.Runs.{Course, IsRun, Records}
 use Rattle.rpg_cycle_safety.specs.Coming.{HasRun, RunsWell}
-use Rattle.rpg_effect.specs.Put.{Bytes}
-use Rattle.rpg_object_program.specs.Object.{Object}
+use Rattle.rpg_program.specs.Put.{Bytes}
+use Rattle.rpg_program.specs.Object.{Object}
 use Rattle.rpg_engine.specs.Inputs.{OfFronts, OfInputs, records_of}
 use Rattle.rpg_engine.specs.Reporting.{JobEndsWell, Reports, SendsParts}
 use Rattle.rpg_engine.specs.Streaming.{StopsEarly}

@@ -17,13 +17,13 @@ use Rattle.rpg_cycle_records.specs.Identifying.{is_good_record, padded}
 use Rattle.rpg_cycle_records.specs.Levels.{is_in_record}
 use Rattle.rpg_cycle_records.specs.Merging.{AreMergedInOrder}
 use Rattle.rpg_cycle_records.specs.Waiting.{InputState, Inputs, chosen, has_match, input_at, with_file_over, takes_in, waiting_in, with_waiting}
-use Rattle.rpg_effect.specs.Ends as effects
-use Rattle.rpg_effect.specs.declared.input.InputFile.{InputFile}
-use Rattle.rpg_effect.specs.declared.input.InputFile.TheVariants.{Primary, Secondary}
+use Rattle.rpg_program.specs.Ends as effects
+use Rattle.rpg_program.specs.declared.input.InputFile.{InputFile}
+use Rattle.rpg_program.specs.declared.input.InputFile.TheVariants.{Primary, Secondary}
 use Rattle.rpg_machine.specs.Config.{Config, Output, charged}
 use Rattle.rpg_machine.specs.Outputs.{PutsOut}
 use Rattle.rpg_machine.specs.declared.time.OutputTime.TheVariants as times
-use Rattle.rpg_object_program.specs.Object.{Object, has_file}
+use Rattle.rpg_program.specs.Object.{Object, has_file}
 use Rattle.rpg_engine.specs.Reporting.{AreAlike, IsBad}
 
 -- ---- records that are alike to a cycle

@@ -1,13 +1,13 @@
 -- A job that never began.
 use Rattle.std.proofs.Common.{◌≡◌, ℕ, ℤ, false, List, [], Option, None, Some, Result, Ok, Err, IfErr, IfOk, refl, sym, ap, subst, arith, inl}
 use Rattle.std.proofs.KnownBytes.{Appends-nil, Consumes-nil}
-use Rattle.rpg_effect.specs.Put.{Bytes}
-use Rattle.rpg_effect.specs.declared.input.InputFile.{InputFile}
+use Rattle.rpg_program.specs.Put.{Bytes}
+use Rattle.rpg_program.specs.declared.input.InputFile.{InputFile}
 use Rattle.rpg_files.specs.Sending.{AppendsPrefix}
 use Rattle.rpg_files.specs.declared.reader.ReadFault.{ReadFault}
 use Rattle.rpg_machine.specs.Config.{no_output}
 use Rattle.rpg_machine.specs.Running.{no_bytes}
-use Rattle.rpg_object_program.specs.Object.{Object}
+use Rattle.rpg_program.specs.Object.{Object}
 use Rattle.rpg_engine.specs.Inputs.{Front, OfFronts, OfInputs, WasRead}
 use Rattle.rpg_cycle.specs.Starting.{date_in}
 use Rattle.rpg_cycle.specs.Job.{AtWork, Starts, first_fields, job_started}

@@ -13,9 +13,9 @@ use Rattle.rpg_cycle_records.specs.Earlier.{Selected, with_record}
 use Rattle.rpg_cycle_records.specs.Identifying.{is_good_record}
 use Rattle.rpg_cycle_records.specs.Waiting.{Inputs, unread}
 use Rattle.rpg_paper.specs.Paper.{last_position, paper}
-use Rattle.rpg_effect.specs.Put.{Bytes, disk_bytes}
-use Rattle.rpg_effect.specs.declared.input.InputFile.{InputFile}
-use Rattle.rpg_effect.specs.declared.input.InputFile.TheVariants.{Primary, Secondary}
+use Rattle.rpg_program.specs.Put.{Bytes, disk_bytes}
+use Rattle.rpg_program.specs.declared.input.InputFile.{InputFile}
+use Rattle.rpg_program.specs.declared.input.InputFile.TheVariants.{Primary, Secondary}
 use Rattle.rpg_files.specs.NextLine.{CanFollow}
 use Rattle.rpg_files.specs.Reading.{Advances, Input, ReadsNext, buffered_of, input_of, limit_of}
 use Rattle.rpg_files.specs.Records.{begins_with_line_feed, max_records, onto_first, records}
@@ -27,8 +27,8 @@ use Rattle.rpg_files.specs.declared.reader.RecordReader.{RecordReader}
 use Rattle.rpg_machine.specs.Config.{Config, Output, with_more}
 use Rattle.rpg_machine.specs.Run.{running_place}
 use Rattle.rpg_machine.specs.Running.{config_on, no_bytes}
-use Rattle.rpg_object_program.specs.Object.{Object, input_length}
-use Rattle.rpg_object_program.specs.declared.section.Place.{Place}
+use Rattle.rpg_program.specs.Object.{Object, input_length}
+use Rattle.rpg_program.specs.declared.section.Place.{Place}
 use Rattle.rpg_verify.specs.Bound.{bound}
 use Rattle.rpg_engine.specs.Inputs.{OfFronts, OfInputs, records_of}
 use Rattle.rpg_engine.specs.Reporting.{AreAlike, IsBad, GoesOnFor, HasParts, HasSent, IsPutOut, IsPutOutBy, IsRunOver, IsUnread, MayBePutOut, Reports, WaitsFor, WentOn, following, records_in}

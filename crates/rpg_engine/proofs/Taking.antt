@@ -13,9 +13,9 @@ use Rattle.rpg_cycle_records.specs.Earlier.{Selected, left_by}
 use Rattle.rpg_cycle_records.specs.Identifying.{is_good_record}
 use Rattle.rpg_cycle_records.specs.Merging.{AreMergedInOrder}
 use Rattle.rpg_cycle_records.specs.Waiting.{Inputs, input_at}
-use Rattle.rpg_effect.specs.Put.{line_of}
-use Rattle.rpg_effect.specs.declared.input.InputFile.{InputFile}
-use Rattle.rpg_effect.specs.declared.input.InputFile.TheVariants.{Primary, Secondary}
+use Rattle.rpg_program.specs.Put.{line_of}
+use Rattle.rpg_program.specs.declared.input.InputFile.{InputFile}
+use Rattle.rpg_program.specs.declared.input.InputFile.TheVariants.{Primary, Secondary}
 use Rattle.rpg_files.specs.Counting.{faults_of}
 use Rattle.rpg_files.specs.Reading.{Advances, GivesNext, Input, ReadsNext, answer_of, count_of, input_of, is_record, limit_of, reader_of, record_of}
 use Rattle.rpg_files.specs.Records.{records}
@@ -24,7 +24,7 @@ use Rattle.rpg_files.specs.declared.reader.Next.TheVariants as next
 use Rattle.rpg_files.specs.declared.reader.ReadFault.{ReadFault}
 use Rattle.rpg_files.specs.declared.reader.RecordReader.{RecordReader}
 use Rattle.rpg_machine.specs.Running.{config_on}
-use Rattle.rpg_object_program.specs.Object.{Object, input_length}
+use Rattle.rpg_program.specs.Object.{Object, input_length}
 use Rattle.rpg_paper.specs.Paper.{Position}
 use Rattle.rpg_engine.specs.Reporting.{AreAlike, IsBad}
 use Rattle.rpg_engine.specs.Streaming.{Asks, IsBehindRecord, IsNeedOf, TakesCycle, record_with}

@@ -9,7 +9,7 @@ use Rattle.rpg_files.specs.Counting.{device_of, faults_of}
 use Rattle.rpg_files.specs.Reading.{reader_of}
 use Rattle.rpg_files.specs.declared.counting.Counted.{Counted}
 use Rattle.rpg_files.specs.declared.reader.RecordReader.{RecordReader}
-use Rattle.rpg_object_program.specs.Object.{Object}
+use Rattle.rpg_program.specs.Object.{Object}
 use Rattle.rpg_engine.specs.Faults.{FaultsAre, device_counts}
 use Rattle.rpg_engine.specs.Inputs.{Front, OfFronts, OfInputs}
 use Rattle.rpg_engine.specs.Refusing.{IsJobOf}

@@ -1,6 +1,6 @@
 -- Whose fault it is that a run gave no report.
 use Rattle.std.specs.Prelude.{◌≡◌, ℕ, ◌+◌, ◌⊎◌, List, Option, Result, Err}
-use Rattle.rpg_effect.specs.declared.input.InputFile.TheVariants.{Primary, Secondary}
+use Rattle.rpg_program.specs.declared.input.InputFile.TheVariants.{Primary, Secondary}
 use Rattle.rpg_files.specs.Counting.{faults_of}
 use Rattle.rpg_files.specs.declared.counting.Counted.{Counted}
 use Rattle.rpg_files.specs.declared.reader.ReadFault.TheVariants as reading

@@ -10,8 +10,8 @@ pub mod Sending
 pub mod Streaming
 pub use Rattle.rpg_cycle.specs.Starting
 pub use Rattle.rpg_cycle.specs.declared.ends.JobEnd
-pub use Rattle.rpg_effect.specs.Halts
+pub use Rattle.rpg_program.specs.Halts
 pub use Rattle.rpg_object_format.specs.CodeTexts
-pub use Rattle.rpg_object_program.specs.Object
+pub use Rattle.rpg_program.specs.Object
 pub use Rattle.rpg_verify.specs.Bound
 pub use Rattle.rpg_verify_rules.specs.Rules

@@ -3,8 +3,8 @@ use Rattle.std.specs.Prelude.{◌≡◌, ℕ, List, Some}
 use Rattle.rpg_object.specs.Program.{first_fault, spelling}
 use Rattle.rpg_object.specs.declared.decoding.DecodeFault.{DecodeFault}
 use Rattle.rpg_object.specs.declared.decoding.DecodeFault.TheVariants as decoding
-use Rattle.rpg_object_program.specs.Kept.{IsProgram}
-use Rattle.rpg_object_program.specs.Object.{Object}
+use Rattle.rpg_program.specs.Kept.{IsProgram}
+use Rattle.rpg_program.specs.Object.{Object}
 use Rattle.rpg_verify_rules.specs.Accepted.{IsAccepted, IsLeastBroken}
 use Rattle.rpg_verify.specs.Bound as verified
 use Rattle.rpg_verify.specs.declared.verified.VerifyFault.{VerifyFault}

@@ -12,9 +12,9 @@ use Rattle.rpg_cycle_records.specs.Earlier.{Selected, with_record}
 use Rattle.rpg_cycle_records.specs.Identifying.{is_good_record}
 use Rattle.rpg_cycle_records.specs.Waiting.{Inputs, unread}
 use Rattle.rpg_cycle_safety.specs.Coming.{HasRun, RunsWell}
-use Rattle.rpg_effect.specs.Put.{Bytes, disk_bytes}
-use Rattle.rpg_effect.specs.declared.input.InputFile.{InputFile}
-use Rattle.rpg_effect.specs.declared.input.InputFile.TheVariants.{Primary, Secondary}
+use Rattle.rpg_program.specs.Put.{Bytes, disk_bytes}
+use Rattle.rpg_program.specs.declared.input.InputFile.{InputFile}
+use Rattle.rpg_program.specs.declared.input.InputFile.TheVariants.{Primary, Secondary}
 use Rattle.rpg_files.specs.NextLine.{CanFollow}
 use Rattle.rpg_files.specs.Records.{max_records, records}
 use Rattle.rpg_files.specs.Sending.{AppendsFirst, AppendsPrefix}
@@ -22,8 +22,8 @@ use Rattle.rpg_files.specs.declared.reader.ReadFault.{ReadFault}
 use Rattle.rpg_files.specs.declared.reader.ReadFault.TheVariants as reading
 use Rattle.rpg_machine.specs.Config.{Config, Output, no_output, with_more}
 use Rattle.rpg_machine.specs.Run.{running_place}
-use Rattle.rpg_object_program.specs.Kept.{IsProgram}
-use Rattle.rpg_object_program.specs.Object.{Object}
+use Rattle.rpg_program.specs.Kept.{IsProgram}
+use Rattle.rpg_program.specs.Object.{Object}
 use Rattle.rpg_paper.specs.Paper.{paper}
 use Rattle.rpg_text.specs.Lines.{is_line}
 use Rattle.rpg_verify.specs.Bound.{bound}

@@ -6,8 +6,8 @@ use Rattle.rpg_cycle.specs.Stages.{Ended, Going, Stage, job_end}
 use Rattle.rpg_cycle.specs.declared.ends.JobEnd.{JobEnd}
 use Rattle.rpg_cycle.specs.declared.jobs.Need.{Need}
 use Rattle.rpg_cycle_records.specs.Waiting.{input_at}
-use Rattle.rpg_effect.specs.declared.input.InputFile.{InputFile}
-use Rattle.rpg_effect.specs.declared.input.InputFile.TheVariants.{Primary, Secondary}
+use Rattle.rpg_program.specs.declared.input.InputFile.{InputFile}
+use Rattle.rpg_program.specs.declared.input.InputFile.TheVariants.{Primary, Secondary}
 use Rattle.rpg_files.specs.Counting.{faults_of}
 use Rattle.rpg_files.specs.Reading.{IsFresh, ReadsNext, answer_of, is_record, is_sure, reader_of, record_of}
 use Rattle.rpg_files.specs.Sending.{AppendsFirst, AppendsPrefix}
@@ -15,7 +15,7 @@ use Rattle.rpg_files.specs.declared.reader.Next.{Next}
 use Rattle.rpg_files.specs.declared.reader.Next.TheVariants as next
 use Rattle.rpg_files.specs.declared.reader.ReadFault.{ReadFault}
 use Rattle.rpg_files.specs.declared.reader.RecordReader.{RecordReader}
-use Rattle.rpg_object_program.specs.Object.{Object}
+use Rattle.rpg_program.specs.Object.{Object}
 use Rattle.rpg_verify.specs.Bound.{bound}
 use Rattle.rpg_engine.specs.Inputs.{Front, OfEach}
 use Rattle.rpg_engine.specs.Reporting.{NeedsRecord, StopsOver}

@@ -4,8 +4,8 @@ ghost use Rattle.std.specs.Prelude.{◌≡◌, ◌-◌, ◌^◌, ◌<◌, IfErr,
 ghost use Rattle.std.specs.Option.{option_map};
 ghost use Rattle.rpg_cycle.specs.Doing.{IsSeen, next_text};
 ghost use Rattle.rpg_cycle.specs.Stages.{is_going};
-ghost use Rattle.rpg_effect.specs.Fronts.{OnlyGrows};
-ghost use Rattle.rpg_effect.specs.declared.input.InputFile.TheVariants as files;
+ghost use Rattle.rpg_program.specs.Fronts.{OnlyGrows};
+ghost use Rattle.rpg_program.specs.declared.input.InputFile.TheVariants as files;
 ghost use Rattle.rpg_files.specs.Counting.{faults_of};
 ghost use Rattle.rpg_files.specs.Reading.{answer_of, is_record, reader_of};
 ghost use Rattle.rpg_engine.specs.Devices.{AreLentOn};
@@ -14,8 +14,8 @@ ghost use Rattle.rpg_engine.specs.declared.fault.CycleFault.TheVariants as stops
 
 use crate::fault::CycleFault;
 use rpg_cycle::{CycleEnd, Job, JobEnd, Need, Seen};
-use rpg_effect::input::InputFile;
 use rpg_files::{Next, ReadFault, RecordReader};
+use rpg_program::input::InputFile;
 use rpg_store::Store;
 use std::io::Read;
 

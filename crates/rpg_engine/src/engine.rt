@@ -4,7 +4,7 @@ ghost use Rattle.std.specs.Prelude.{◌≡◌, ◌-◌, ◌^◌, ◌<◌, IfErr,
 ghost use Rattle.rpg_cycle.specs.Job.{Starts, first_fields};
 ghost use Rattle.rpg_cycle.specs.Starting.{date_in};
 ghost use Rattle.rpg_files.specs.Counting.{faults_of};
-ghost use Rattle.rpg_object_program.specs.Object.{Object};
+ghost use Rattle.rpg_program.specs.Object.{Object};
 ghost use Rattle.rpg_engine.specs.Devices.{EndsWellOn, JobEndedWell, ReportsJob, ReportsOn, SendsPartsOfJob, SendsPartsOn, TellsWhoseFault};
 ghost use Rattle.rpg_engine.specs.Objects.{SpellsProgram};
 ghost use Rattle.rpg_engine.specs.Refusing.{IsToldOf, IsToldOfDate, MayRun};

@@ -5,8 +5,8 @@ ghost use Rattle.rpg_engine.specs.declared.fault.RunFault.TheVariants as faults;
 
 use crate::object::ObjectFault;
 use rpg_cycle::StartFault;
-use rpg_effect::input::InputFile;
 use rpg_files::ReadFault;
+use rpg_program::input::InputFile;
 use std::alloc::AllocError;
 
 /// Why a run gave no report.

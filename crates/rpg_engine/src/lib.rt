@@ -21,10 +21,10 @@ pub use rpg_cycle::{
     Halt, Job, JobEnd, Need, run_records, runs_are_one, runs_are_short, runs_stand_right,
     unneeded_records_are_ignored,
 };
-pub use rpg_effect::input::InputFile;
 pub use rpg_files::ReadFault;
 pub use rpg_object::Code;
-pub use rpg_object_program::Program;
-pub use rpg_object_program::section::{Place, Section};
+pub use rpg_program::Program;
+pub use rpg_program::input::InputFile;
+pub use rpg_program::section::{Place, Section};
 pub use rpg_verify::{BrokenRule, Rule, Verified};
 pub use watching::{Unwatched, Watcher};

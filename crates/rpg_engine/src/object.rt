@@ -1,12 +1,12 @@
 //! The bytes of an object program, and the verifier's result for it.
 
 ghost use Rattle.std.specs.Prelude.{◌≡◌, nat_lt, IfErr, IfOk};
-ghost use Rattle.rpg_object_program.specs.Object.{Object};
+ghost use Rattle.rpg_program.specs.Object.{Object};
 ghost use Rattle.rpg_verify_rules.specs.Accepted.{IsAccepted};
 ghost use Rattle.rpg_engine.specs.Objects.{HasObjectFault, IsAcceptedWith, IsRefused, SpellsProgram};
 
 use rpg_object::{Code, DecodeFault, decode};
-use rpg_object_program::Program;
+use rpg_program::Program;
 use rpg_verify::{BrokenRule, Verified, VerifyFault, verify};
 use std::alloc::Global;
 

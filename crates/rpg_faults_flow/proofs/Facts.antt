@@ -12,7 +12,7 @@ use Rattle.rpg_cards.specs.Sections.{is_subroutine}
 use Rattle.rpg_cards.specs.Cards.{calculation_on}
 use Rattle.rpg_cards.specs.Groups.{joins}
 use Rattle.rpg_cards.specs.declared.spec_card.SpecCard.{SpecCard}
-use Rattle.rpg_effect.specs.declared.condition.Conditions.{Conditions}
+use Rattle.rpg_program.specs.declared.condition.Conditions.{Conditions}
 use Rattle.rpg_sheet_specs.specs.Three.{filled_count}
 use Rattle.rpg_faults_flow.specs.Columns.{bad_by_end, bad_calculation, bad_calculation_columns, bad_conditions, bad_last, bad_operation, may_depend}
 use Rattle.rpg_faults_flow.specs.Flow.{calls_itself, comes_back, goes_apart, goes_nowhere, lacks_label, leaves_section}

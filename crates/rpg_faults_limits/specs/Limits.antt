@@ -10,7 +10,7 @@ use Rattle.rpg_cards.specs.Names.{names}
 use Rattle.rpg_cards.specs.declared.constants.Constant.{Constant}
 use Rattle.rpg_cards.specs.declared.names.Definition.{Definition}
 use Rattle.rpg_cards.specs.declared.spec_card.SpecCard.{SpecCard}
-use Rattle.rpg_effect.specs.Forms.{size_of}
+use Rattle.rpg_program.specs.Forms.{size_of}
 use Rattle.rpg_sheet_specs.specs.Three.{filled_count}
 use Rattle.rpg_sheet_specs.specs.declared.extension.ExtensionSpec.{ExtensionSpec}
 use Rattle.rpg_sheet_specs.specs.declared.input.InputSpec.{InputSpec}

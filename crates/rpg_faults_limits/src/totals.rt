@@ -5,11 +5,11 @@ ghost use Rattle.std.specs.Option.{option_map_or};
 ghost use Rattle.rpg_cards.specs.Constants.{constants_in};
 ghost use Rattle.rpg_cards.specs.Names.{definitions};
 ghost use Rattle.rpg_cards.specs.declared.spec_card.SpecCard.{SpecCard};
-ghost use Rattle.rpg_effect.specs.Forms.{size_of};
+ghost use Rattle.rpg_program.specs.Forms.{size_of};
 ghost use Rattle.rpg_faults_limits.specs.Totals.{CountsCard, HasConstants, HasNames, SeenBefore};
 
 use rpg_cards::{Constant, Definition, IndexedCards, SpecCard};
-use rpg_effect::form::FieldForm;
+use rpg_program::form::FieldForm;
 
 /// Names or constants: how many items were seen, how many of these are new, and the bytes of the new ones.
 #[derive(Clone, Copy)]

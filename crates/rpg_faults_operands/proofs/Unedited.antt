@@ -3,7 +3,7 @@ use Rattle.std.proofs.Common.{◌≡◌, List, ℕ, Bool, true, false, not, ◌|
 use Rattle.std.specs.Option.{option_and_then, option_map_or, is_none, is_some}
 use Rattle.std.specs.Prelude.{◌&&◌}
 use Rattle.rpg_cards.specs.declared.spec_card.SpecCard.{SpecCard}
-use Rattle.rpg_effect.specs.declared.form.FieldForm.{FieldForm}
+use Rattle.rpg_program.specs.declared.form.FieldForm.{FieldForm}
 use Rattle.rpg_edit_marks.specs.declared.code.EditCode.{EditCode}
 use Rattle.rpg_edit_marks.specs.declared.how.How.{How}
 use Rattle.rpg_edit_marks.specs.declared.how.How.TheVariants.{Plain}

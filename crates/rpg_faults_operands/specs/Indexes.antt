@@ -6,8 +6,8 @@ use Rattle.rpg_cards.specs.declared.operations.Content.{Content}
 use Rattle.rpg_cards.specs.declared.operations.Content.TheVariants.{Value, WholeArray, Searched, Table, Label, Subroutine}
 use Rattle.rpg_cards.specs.Names.{form_in, form_of_name}
 use Rattle.rpg_cards.specs.declared.spec_card.SpecCard.{SpecCard}
-use Rattle.rpg_effect.specs.Forms.{is_array, is_index_form}
-use Rattle.rpg_effect.specs.declared.form.FieldForm.{FieldForm}
+use Rattle.rpg_program.specs.Forms.{is_array, is_index_form}
+use Rattle.rpg_program.specs.declared.form.FieldForm.{FieldForm}
 use Rattle.rpg_sheet_specs.specs.declared.entry.Entry.{Entry}
 use Rattle.rpg_sheet_specs.specs.declared.entry.EntryIndex.{EntryIndex}
 use Rattle.rpg_sheet_specs.specs.declared.entry.EntryIndex.TheVariants as index

@@ -10,9 +10,9 @@ use Rattle.rpg_cards.specs.declared.operations.Kinds.TheVariants.{Numbers, Alike
 use Rattle.rpg_cards.specs.declared.operations.OperationColumns.{OperationColumns}
 use Rattle.rpg_cards.specs.Cards.{output_field_on}
 use Rattle.rpg_cards.specs.declared.spec_card.SpecCard.{SpecCard}
-use Rattle.rpg_effect.specs.Forms.{is_array, is_table, is_writable, same_kind}
-use Rattle.rpg_effect.specs.declared.form.FieldForm.{FieldForm}
-use Rattle.rpg_effect.specs.declared.form.Kind.TheVariants as kind
+use Rattle.rpg_program.specs.Forms.{is_array, is_table, is_writable, same_kind}
+use Rattle.rpg_program.specs.declared.form.FieldForm.{FieldForm}
+use Rattle.rpg_program.specs.declared.form.Kind.TheVariants as kind
 use Rattle.rpg_sheet_specs.specs.declared.calculation.CalculationSpec.{CalculationSpec}
 use Rattle.rpg_sheet_specs.specs.declared.output.OutputField.{OutputField}
 use Rattle.rpg_faults_operands.specs.Operands.{factor_form, field_content, output_form, result_form}

@@ -6,7 +6,7 @@ use Rattle.rpg_cards.specs.Cards.{output_field_on}
 use Rattle.rpg_cards.specs.Operations.{card_columns}
 use Rattle.rpg_cards.specs.declared.operations.OperationColumns.{OperationColumns}
 use Rattle.rpg_cards.specs.declared.spec_card.SpecCard.{SpecCard}
-use Rattle.rpg_effect.specs.declared.form.FieldForm.{FieldForm}
+use Rattle.rpg_program.specs.declared.form.FieldForm.{FieldForm}
 use Rattle.rpg_faults_operands.specs.Editing.{unedited}
 use Rattle.rpg_faults_operands.specs.Indexes.{bad_index_of}
 use Rattle.rpg_faults_operands.specs.Kinds.{has_wrong_class, is_text, wrong_kinds}

@@ -1,8 +1,8 @@
 -- The sizes that forms of names have.
 use Rattle.std.specs.Prelude.{ℕ, ◌≤◌}
-use Rattle.rpg_effect.specs.declared.form.FieldForm.{FieldForm}
-use Rattle.rpg_effect.specs.declared.form.Kind.{Kind}
-use Rattle.rpg_effect.specs.declared.form.Kind.TheVariants as kind
+use Rattle.rpg_program.specs.declared.form.FieldForm.{FieldForm}
+use Rattle.rpg_program.specs.declared.form.Kind.{Kind}
+use Rattle.rpg_program.specs.declared.form.Kind.TheVariants as kind
 
 -- 1 to 15 digits, the decimals among them, or 1 to 256 characters
 abbrev pub HasSize : Kind → ℕ → ℕ → Type 0

@@ -7,7 +7,7 @@ ghost use Rattle.rpg_faults_operands.specs.Columns as words;
 
 use crate::operands::factor_form;
 use rpg_cards::{IndexedCards, OperationColumns, Shown, SpecCard, columns, last_card};
-use rpg_effect::form::{FieldForm, is_array, is_table};
+use rpg_program::form::{FieldForm, is_array, is_table};
 use rpg_sheet_specs::{CalculationSpec, OutputField};
 
 /// F9, as far as it is of output fields, or of the sequence of what LOKUP searches.

@@ -12,8 +12,8 @@ use crate::operands::entry_form;
 use rpg_cards::{IndexedCards, SpecCard};
 use rpg_edit_marks::{EditCode, Fill};
 use rpg_edit_widths::{EditWord, How};
-use rpg_effect::form::{FieldForm, Kind};
-use rpg_effect::line::{fits_code, is_blank_fill};
+use rpg_program::form::{FieldForm, Kind};
+use rpg_program::line::{fits_code, is_blank_fill};
 use rpg_sheet_specs::{OutputField, TextLiteral};
 
 // ---- the meaning of the columns

@@ -4,7 +4,7 @@ ghost use Rattle.std.specs.Prelude.{◌≡◌};
 ghost use Rattle.rpg_faults_operands.specs.Indexes as indexes;
 ghost use Rattle.rpg_faults_operands.specs.Kinds as kinds;
 
-use rpg_effect::form::{FieldForm, Kind, is_plain, is_writable, same_kind};
+use rpg_program::form::{FieldForm, Kind, is_plain, is_writable, same_kind};
 
 pub(crate) fn is_text(form: FieldForm) -> bool
     ensures { result ≡ kinds.is_text form }

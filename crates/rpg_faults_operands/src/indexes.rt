@@ -11,7 +11,7 @@ use crate::forms::can_index;
 use crate::names::index_name;
 use crate::operands::{Operand, entry_form, form_in, operands_of, output_operand};
 use rpg_cards::{Content, IndexedCards, SpecCard, last_card};
-use rpg_effect::form::{FieldForm, fits_digits, is_array};
+use rpg_program::form::{FieldForm, fits_digits, is_array};
 use rpg_sheet_specs::{CalculationSpec, Entry, EntryIndex};
 
 /// F5: an index that is missing or not allowed, a literal out of range, or a field that can't be an index.

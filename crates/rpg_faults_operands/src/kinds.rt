@@ -11,7 +11,7 @@ use crate::editing::is_unedited;
 use crate::forms::{is_text, is_unwritable};
 use crate::operands::{factor_form, field_content, output_form, result_form};
 use rpg_cards::{Content, IndexedCards, Kinds, OperationColumns, SpecCard, columns, last_card};
-use rpg_effect::form::{FieldForm, is_array, is_table, same_kind};
+use rpg_program::form::{FieldForm, is_array, is_table, same_kind};
 use rpg_sheet_specs::{CalculationSpec, OutputField};
 
 /// F4: an operand or output field of the wrong kind, a field that can't be written, a table with too few entries.

@@ -11,7 +11,7 @@ use crate::kinds::{are_wrong_kinds, has_wrong_class};
 use crate::names::names_nothing;
 use crate::operands::{factor_form, field_content, operands_ending, output_form};
 use rpg_cards::{IndexedCards, OperationColumns, SpecCard, columns, last_card};
-use rpg_effect::form::FieldForm;
+use rpg_program::form::FieldForm;
 use rpg_sheet_specs::{CalculationSpec, ColumnRange, OutputField};
 
 /// F1: the columns of a name that no card defines.

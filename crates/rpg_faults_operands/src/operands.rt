@@ -8,7 +8,7 @@ ghost use Rattle.rpg_faults_operands.specs.Sizes.{IsSized};
 use rpg_cards::{
     Column, Content, Defined, IndexedCards, OperationColumns, SpecCard, columns, last_card,
 };
-use rpg_effect::form::FieldForm;
+use rpg_program::form::FieldForm;
 use rpg_sheet_specs::{CalculationSpec, Entry, Factor, OutputField, Three};
 use std::marker::Model;
 

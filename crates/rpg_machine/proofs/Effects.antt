@@ -1,10 +1,10 @@
 -- What a call did by an effect on the world.
 use Rattle.std.proofs.Common.{◌≡◌, ℕ, ◌+◌, refl}
 use Rattle.std.specs.Ordering.{nat_cmp}
-use Rattle.rpg_effect.specs.Effect.{Effect}
-use Rattle.rpg_effect.specs.Ends.{End}
-use Rattle.rpg_effect.specs.Put.{Bytes, Held, IsDone, on_paper}
-use Rattle.rpg_effect.specs.World.{World}
+use Rattle.rpg_program.specs.Effect.{Effect}
+use Rattle.rpg_program.specs.Ends.{End}
+use Rattle.rpg_program.specs.Put.{Bytes, Held, IsDone, on_paper}
+use Rattle.rpg_program.specs.World.{World}
 use Rattle.rpg_machine.proofs.Making.{held}
 use Rattle.rpg_machine.proofs.Steps.{output_of}
 use Rattle.rpg_machine.specs.Outputs.{ByEffect}

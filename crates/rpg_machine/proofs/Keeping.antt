@@ -12,27 +12,27 @@ use Rattle.rpg_decimal.proofs.WholeLemmas.{fit-below}
 use Rattle.rpg_decimal_words.specs.Fraction.{Fraction, aligned_number}
 use Rattle.rpg_decimal_words.specs.Place.{place_value}
 use Rattle.rpg_decimal_words.specs.Zoned.{digit_of, is_minus, last_of, number_in, zoned_text}
-use Rattle.rpg_effect.specs.Act.{act, divided, exact, field_of_entry, found_in, found_shown, index_set, looked_up, made_current, made_current_if_any, moved, number_over, source_text, store, stored_value, text_over, with_found}
-use Rattle.rpg_effect.specs.Ended.{Ended, Gives, if_right, or_halt}
-use Rattle.rpg_effect.specs.Ends.{Fault}
-use Rattle.rpg_effect.specs.Forms.{decimals_of, entries_of, form_at, is_table_form, kind_of, length_of}
-use Rattle.rpg_effect.specs.Operate.{operate, resolved}
-use Rattle.rpg_effect.specs.Rows.{can_hold, holds_position}
-use Rattle.rpg_effect.specs.Values.{Number, Text}
-use Rattle.rpg_effect.specs.World.{Data, characters_at, number_at, set_current, set_value}
-use Rattle.rpg_effect.specs.declared.form.FieldForm.{FieldForm}
-use Rattle.rpg_effect.specs.declared.form.Kind.{Kind}
-use Rattle.rpg_effect.specs.declared.form.Kind.TheVariants as kinds
-use Rattle.rpg_effect.specs.declared.operation.Action.{Action}
-use Rattle.rpg_effect.specs.declared.operation.Action.TheVariants.{Compute, Divide, Assign, TakeRemainder, CrossFoot, Compare, LookUp, Move, SetIndicators}
-use Rattle.rpg_effect.specs.declared.operation.Entry.{Entry}
-use Rattle.rpg_effect.specs.declared.operation.Found.{Found}
-use Rattle.rpg_effect.specs.declared.operation.Index.{Index}
-use Rattle.rpg_effect.specs.declared.operation.Index.TheVariants.{Blank, Literal, Field}
-use Rattle.rpg_effect.specs.declared.operation.Operand.{Operand}
-use Rattle.rpg_effect.specs.declared.operation.Shows.{Shows}
-use Rattle.rpg_effect.specs.declared.operation.Side.{Side}
-use Rattle.rpg_effect.specs.declared.operation.Side.TheVariants.{Right, Left}
+use Rattle.rpg_program.specs.Act.{act, divided, exact, field_of_entry, found_in, found_shown, index_set, looked_up, made_current, made_current_if_any, moved, number_over, source_text, store, stored_value, text_over, with_found}
+use Rattle.rpg_program.specs.Ended.{Ended, Gives, if_right, or_halt}
+use Rattle.rpg_program.specs.Ends.{Fault}
+use Rattle.rpg_program.specs.Forms.{decimals_of, entries_of, form_at, is_table_form, kind_of, length_of}
+use Rattle.rpg_program.specs.Operate.{operate, resolved}
+use Rattle.rpg_program.specs.Rows.{can_hold, holds_position}
+use Rattle.rpg_program.specs.Values.{Number, Text}
+use Rattle.rpg_program.specs.World.{Data, characters_at, number_at, set_current, set_value}
+use Rattle.rpg_program.specs.declared.form.FieldForm.{FieldForm}
+use Rattle.rpg_program.specs.declared.form.Kind.{Kind}
+use Rattle.rpg_program.specs.declared.form.Kind.TheVariants as kinds
+use Rattle.rpg_program.specs.declared.operation.Action.{Action}
+use Rattle.rpg_program.specs.declared.operation.Action.TheVariants.{Compute, Divide, Assign, TakeRemainder, CrossFoot, Compare, LookUp, Move, SetIndicators}
+use Rattle.rpg_program.specs.declared.operation.Entry.{Entry}
+use Rattle.rpg_program.specs.declared.operation.Found.{Found}
+use Rattle.rpg_program.specs.declared.operation.Index.{Index}
+use Rattle.rpg_program.specs.declared.operation.Index.TheVariants.{Blank, Literal, Field}
+use Rattle.rpg_program.specs.declared.operation.Operand.{Operand}
+use Rattle.rpg_program.specs.declared.operation.Shows.{Shows}
+use Rattle.rpg_program.specs.declared.operation.Side.{Side}
+use Rattle.rpg_program.specs.declared.operation.Side.TheVariants.{Right, Left}
 use Rattle.rpg_machine.specs.Laws.{EndsRight, FitsIn}
 use Rattle.rpg_machine_operations.proofs.Characters.{over_characters, zoned_characters}
 use Rattle.rpg_machine_operations.proofs.Doing.{assign_entries, compute_entries, cross_entries, divide_entries, look_entries, look_positions, look_reads, move_entries, remainder_entries}
@@ -45,7 +45,7 @@ use Rattle.rpg_machine_operations.proofs.Rights.{entries_if}
 use Rattle.rpg_memory.proofs.Values.{form_there, length_low, text_fits, text_is}
 use Rattle.rpg_machine_operations.specs.Good.{AreOperandEntries, FitsPosition, HasPosition, IsRightAction}
 use Rattle.rpg_memory.specs.Fields.{AreForms, IsValue, reads_index}
-use Rattle.rpg_object_program.specs.Kept.{IsCharacter}
+use Rattle.rpg_program.specs.Kept.{IsCharacter}
 
 -- ---- digits of characters
 

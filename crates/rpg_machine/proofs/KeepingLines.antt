@@ -4,26 +4,26 @@ use Rattle.std.specs.FinSet as set
 use Rattle.std.specs.Ordering.{nat_cmp}
 use Rattle.std.specs.Prelude.{All}
 use Rattle.rpg_paper.specs.Paper.{Position, skipped, spaced, turns_overflow_on}
-use Rattle.rpg_effect.specs.Effect.{Effect, Leaves, go_on, unless_wrong}
-use Rattle.rpg_effect.specs.Ends.{End, Fault, GoesOn, Halt, Wrong}
-use Rattle.rpg_effect.specs.Entries.{position_of}
-use Rattle.rpg_effect.specs.Forms.{form_at, kind_of}
-use Rattle.rpg_effect.specs.LineFaults.{AreRight, field_fault, fits_source}
-use Rattle.rpg_effect.specs.Lines.{Draft, Drafted, after_movement, after_skip, after_space, assembled, blank_line, blanked_all, blanked_at, counted, drafted, exception_output, go_on_with, is_asked, laid, line_out, lines_out, one_out, put_on, put_out, remembered, spaced_before, unless_faulty, where_asked, with_field, with_fields}
-use Rattle.rpg_effect.specs.Showing.{turned_on}
-use Rattle.rpg_effect.specs.Values.{Number, Text, Value, number_of}
-use Rattle.rpg_effect.specs.World.{Fields, World, three_hold, value_in}
-use Rattle.rpg_effect.specs.declared.form.FieldForm.{FieldForm}
-use Rattle.rpg_effect.specs.declared.form.Kind.{Kind}
-use Rattle.rpg_effect.specs.declared.form.Kind.TheVariants as kinds
-use Rattle.rpg_effect.specs.declared.line.File.{File}
-use Rattle.rpg_effect.specs.declared.line.File.TheVariants.{Printer, Disk}
-use Rattle.rpg_effect.specs.declared.line.LineField.{LineField}
-use Rattle.rpg_effect.specs.declared.line.Pass.{Pass}
-use Rattle.rpg_effect.specs.declared.line.Pass.TheVariants as passes
-use Rattle.rpg_effect.specs.declared.line.Source.{Source}
-use Rattle.rpg_effect.specs.declared.line.Source.TheVariants as sources
-use Rattle.rpg_effect.specs.declared.line.Spacing.{Spacing}
+use Rattle.rpg_program.specs.Effect.{Effect, Leaves, go_on, unless_wrong}
+use Rattle.rpg_program.specs.Ends.{End, Fault, GoesOn, Halt, Wrong}
+use Rattle.rpg_program.specs.Entries.{position_of}
+use Rattle.rpg_program.specs.Forms.{form_at, kind_of}
+use Rattle.rpg_program.specs.LineFaults.{AreRight, field_fault, fits_source}
+use Rattle.rpg_program.specs.Lines.{Draft, Drafted, after_movement, after_skip, after_space, assembled, blank_line, blanked_all, blanked_at, counted, drafted, exception_output, go_on_with, is_asked, laid, line_out, lines_out, one_out, put_on, put_out, remembered, spaced_before, unless_faulty, where_asked, with_field, with_fields}
+use Rattle.rpg_program.specs.Showing.{turned_on}
+use Rattle.rpg_program.specs.Values.{Number, Text, Value, number_of}
+use Rattle.rpg_program.specs.World.{Fields, World, three_hold, value_in}
+use Rattle.rpg_program.specs.declared.form.FieldForm.{FieldForm}
+use Rattle.rpg_program.specs.declared.form.Kind.{Kind}
+use Rattle.rpg_program.specs.declared.form.Kind.TheVariants as kinds
+use Rattle.rpg_program.specs.declared.line.File.{File}
+use Rattle.rpg_program.specs.declared.line.File.TheVariants.{Printer, Disk}
+use Rattle.rpg_program.specs.declared.line.LineField.{LineField}
+use Rattle.rpg_program.specs.declared.line.Pass.{Pass}
+use Rattle.rpg_program.specs.declared.line.Pass.TheVariants as passes
+use Rattle.rpg_program.specs.declared.line.Source.{Source}
+use Rattle.rpg_program.specs.declared.line.Source.TheVariants as sources
+use Rattle.rpg_program.specs.declared.line.Spacing.{Spacing}
 use Rattle.rpg_machine_lines.proofs.Entering.{one_more}
 use Rattle.rpg_machine_lines.proofs.Fields.{right}
 use Rattle.rpg_machine_lines.proofs.Keeping.{fits-blanked, page_counted, page_kind, page_small}
@@ -31,9 +31,9 @@ use Rattle.rpg_machine_lines.proofs.Operands.{entry_there}
 use Rattle.rpg_machine_lines.specs.Entries.{AreFieldEntries, IsFieldEntry}
 use Rattle.rpg_machine_lines.specs.Right.{AreRightLines, IsRightLine}
 use Rattle.rpg_machine.specs.Laws.{FitsIn, GoesRight, IsNoFault}
-use Rattle.rpg_object_program.specs.Constants.{word_at}
-use Rattle.rpg_object_program.specs.Kept.{IsFieldRow}
-use Rattle.rpg_object_program.specs.Object.{LineRow, Object, file_length, lines_of, program_line}
+use Rattle.rpg_program.specs.Constants.{word_at}
+use Rattle.rpg_program.specs.Kept.{IsFieldRow}
+use Rattle.rpg_program.specs.Object.{LineRow, Object, file_length, lines_of, program_line}
 use Rattle.rpg_memory.specs.Fits.{Fits, HasForm}
 use Rattle.rpg_store.specs.Store.{IsNumber}
 

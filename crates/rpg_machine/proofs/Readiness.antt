@@ -5,7 +5,7 @@ use Rattle.rpg_machine.specs.Ready.{IsReady}
 use Rattle.rpg_machine.specs.Running.{Running}
 use Rattle.rpg_machine.specs.State.{IsAble, running_of}
 use Rattle.rpg_machine.specs.declared.state.State.{State}
-use Rattle.rpg_object_program.specs.Object.{Object}
+use Rattle.rpg_program.specs.Object.{Object}
 
 module _ {S : Type 0} where
   pub able_of : (p : Object) (s : State S) (r : Running) → running_of p s ≡ r → IsReady r → s.memory.program ≡ p → IsAble p s.memory

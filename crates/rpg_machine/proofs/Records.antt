@@ -1,16 +1,16 @@
 -- The fields of a record, filled.
 use Rattle.std.proofs.Common.{◌≡◌, ℕ, ◌+◌, List, length, slice_get, Option, Some, sym, subst}
-use Rattle.rpg_effect.proofs.Putting.{data_done}
-use Rattle.rpg_effect.specs.Ended.{ends_with, on_data}
-use Rattle.rpg_effect.specs.Ends.{End}
-use Rattle.rpg_effect.specs.Forms.{form_at}
-use Rattle.rpg_effect.specs.Input.{TypeRow, record_in}
-use Rattle.rpg_effect.specs.Put.{Held}
+use Rattle.rpg_program.proofs.Putting.{data_done}
+use Rattle.rpg_program.specs.Ended.{ends_with, on_data}
+use Rattle.rpg_program.specs.Ends.{End}
+use Rattle.rpg_program.specs.Forms.{form_at}
+use Rattle.rpg_program.specs.Input.{TypeRow, record_in}
+use Rattle.rpg_program.specs.Put.{Held}
 use Rattle.rpg_machine.proofs.Effects.{did_effect}
 use Rattle.rpg_machine.proofs.Making.{held}
 use Rattle.rpg_machine.specs.Outputs.{ByEffect, FillsFields, input_fields_of}
 use Rattle.rpg_machine.specs.Running.{Did, Running}
-use Rattle.rpg_object_program.specs.Object.{Object}
+use Rattle.rpg_program.specs.Object.{Object}
 
 pub record_filled : (p : Object) (row : ℕ) (text : List ℕ) (t : TypeRow ℕ) (n : ℕ) (e : End) (r : Running) (v : Held) → slice_get p.types row ≡ Some t → n ≡ r.config.steps + length t.inputs → v.last ≡ r.last → v.world.paper ≡ r.config.world.paper →
     ends_with e v.world.data ≡ record_in (form_at p.fields) text t.inputs r.config.world.data →

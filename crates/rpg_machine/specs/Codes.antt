@@ -4,11 +4,11 @@ use Rattle.std.proofs.Common.{inl, inr}
 use Rattle.std.specs.Coded.{Coded, code_by, coded×, coded_ℕ, coded⊎}
 use Rattle.std.specs.FinMap as map
 use Rattle.std.specs.Ordering.{nat_cmp}
-use Rattle.rpg_effect.specs.World.{World}
+use Rattle.rpg_program.specs.World.{World}
 use Rattle.rpg_machine.specs.Config.{Config}
-use Rattle.rpg_object_program.specs.declared.section.Place.{Place}
-use Rattle.rpg_object_program.specs.declared.section.Section.{Section}
-use Rattle.rpg_object_program.specs.declared.section.Section.TheVariants.{Detail, Total, Subroutine}
+use Rattle.rpg_program.specs.declared.section.Place.{Place}
+use Rattle.rpg_program.specs.declared.section.Section.{Section}
+use Rattle.rpg_program.specs.declared.section.Section.TheVariants.{Detail, Total, Subroutine}
 use Rattle.rpg_memory.specs.Codes.{world_code}
 use base.Stored.{coded_unit}
 

@@ -2,7 +2,7 @@
 ghost use Rattle.std.specs.Prelude.{◌≡◌, ◌<◌};
 ghost use Rattle.std.specs.FinMap as map;
 
-use rpg_object_program::section::Place;
+use rpg_program::section::Place;
 use std::marker::Model;
 
 /// The most subroutines of a program.
@@ -20,7 +20,7 @@ impl Model for Cells {
     ghost use Rattle.std.specs.FinMap as map;
     ghost use Rattle.rpg_machine.specs.Cells.{cells_set};
     ghost use Rattle.rpg_machine.specs.Codes.{place_code};
-    ghost use Rattle.rpg_object_program.specs.declared.section.Place.{Place};
+    ghost use Rattle.rpg_program.specs.declared.section.Place.{Place};
 
     ghost Value = { map.FinMap nat_cmp Place };
 

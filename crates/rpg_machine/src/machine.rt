@@ -2,7 +2,7 @@
 ghost use Rattle.std.specs.Prelude.{IfOk};
 ghost use Rattle.rpg_machine_lines.specs.Right.{HasLineRoom};
 ghost use Rattle.rpg_machine.specs.Leaving.{IsStartOf};
-ghost use Rattle.rpg_object_program.specs.Object.{seen};
+ghost use Rattle.rpg_program.specs.Object.{seen};
 
 use crate::accepted::Accepted;
 use crate::cells::Cells;
@@ -10,12 +10,12 @@ use crate::output::put_out;
 use crate::section::run_section;
 use crate::state::{State, Writer};
 use crate::time::OutputTime;
-use rpg_effect::outcome::End;
 use rpg_machine_lines::inputs::fill_all;
 use rpg_machine_lines::{Entries, Output};
 use rpg_memory::memory::Memory;
-use rpg_object_program::row::Rows;
-use rpg_object_program::section::{Place, Section};
+use rpg_program::outcome::End;
+use rpg_program::rows::Rows;
+use rpg_program::section::{Place, Section};
 use rpg_store::store::Store;
 use rpg_verify::Verified;
 use std::alloc::{AllocError, Global};
@@ -86,8 +86,8 @@ fn first_state<'a, S: Store + Drop>(
 impl<'a, S: Store + Drop> Machine<'a, S> {
     ghost use Rattle.std.specs.Prelude.{◌≡◌, ◌<◌, ◌≤◌, ◌^◌, All, length, true, IfOk, OnOk};
     ghost use Rattle.std.specs.FinSet as set;
-    ghost use Rattle.rpg_effect.specs.Ends.{end_of};
-    ghost use Rattle.rpg_effect.specs.Fronts.{OnlyGrows};
+    ghost use Rattle.rpg_program.specs.Ends.{end_of};
+    ghost use Rattle.rpg_program.specs.Fronts.{OnlyGrows};
     ghost use Rattle.rpg_machine.specs.Config.{here};
     ghost use Rattle.rpg_machine.specs.Outputs.{FillsFields, PutsOut, length_at};
     ghost use Rattle.rpg_machine.specs.Potential.{PaysForSection};
@@ -95,8 +95,8 @@ impl<'a, S: Store + Drop> Machine<'a, S> {
     ghost use Rattle.rpg_machine.specs.Run.{RunsTo};
     ghost use Rattle.rpg_machine.specs.Running as of;
     ghost use Rattle.rpg_machine.specs.Running.{Did};
-    ghost use Rattle.rpg_object_program.specs.Kept.{IsCharacter};
-    ghost use Rattle.rpg_object_program.specs.Sections.{has_end};
+    ghost use Rattle.rpg_program.specs.Kept.{IsCharacter};
+    ghost use Rattle.rpg_program.specs.Sections.{has_end};
     ghost use Rattle.rpg_memory.specs.Memory.{first_working};
 
     /// A machine before its first cycle: no indicator on but L0 and 1P, the form at its first line, and the values that are in the memory.

@@ -1,6 +1,6 @@
 //! The outputs of a cycle.
 ghost use Rattle.std.specs.Prelude.{◌≡◌, IfOk, OnOk};
-ghost use Rattle.rpg_effect.specs.Ends.{end_of};
+ghost use Rattle.rpg_program.specs.Ends.{end_of};
 ghost use Rattle.rpg_machine.specs.Outputs as spec;
 ghost use Rattle.rpg_machine.specs.Outputs.{output_weight};
 ghost use Rattle.rpg_machine.specs.Leaving.{CanPutOut, KeepsRoom};
@@ -10,14 +10,14 @@ ghost use Rattle.rpg_machine_lines.specs.Right.{AreRightLines};
 
 use crate::state::Writer;
 use crate::time::OutputTime;
-use rpg_effect::outcome::End;
 use rpg_machine_lines::{Plan, put_details, put_overflow, put_totals};
 use rpg_memory::memory::Memory;
+use rpg_program::outcome::End;
 use rpg_store::store::Store;
 use std::alloc::AllocError;
 
 /// Puts out the lines of a time, which weigh so much. Where no line is a T line, total time costs nothing.
-#[tactic(auto, using(rpg_effect::proofs::Fronts::grows_not))]
+#[tactic(auto, using(rpg_program::proofs::Fronts::grows_not))]
 pub(crate) fn put_out<S: Store + Drop>(
     memory: &mut Memory<'_, S>,
     writer: &mut Writer,

@@ -3,7 +3,7 @@
 use crate::cells::Cells;
 use rpg_machine_lines::{Entries, Output};
 use rpg_memory::memory::Memory;
-use rpg_object_program::section::Section;
+use rpg_program::section::Section;
 use rpg_store::store::Store;
 
 /// The bytes that were put out, and room for the line that is assembled.

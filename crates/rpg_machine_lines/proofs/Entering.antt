@@ -1,7 +1,7 @@
 -- Entries that are to be blanked.
 use Rattle.std.proofs.Common.{ℕ, List, [], ◌∷◌, ◌++◌}
 use Rattle.std.proofs.lemmas.List.Elements.{All-push}
-use Rattle.rpg_effect.specs.declared.form.FieldForm.{FieldForm}
+use Rattle.rpg_program.specs.declared.form.FieldForm.{FieldForm}
 use Rattle.rpg_machine_lines.specs.Entries.{AreFieldEntries, IsFieldEntry}
 
 -- one more entry

@@ -10,12 +10,12 @@ use Rattle.rpg_edit_marks.specs.declared.code.EditCode.TheVariants as codes
 use Rattle.rpg_edit_marks.specs.declared.code.Fill.{Fill}
 use Rattle.rpg_edit_marks.specs.declared.code.Fill.TheVariants as fills
 use Rattle.rpg_edit_marks.specs.declared.how.How.{How}
-use Rattle.rpg_effect.specs.LineFaults.{field_fault, field_width, fits_code, fits_editing, fits_word, has_kinds, has_room, has_storage, has_word, is_blank_fill, may_change}
-use Rattle.rpg_effect.specs.Lines.{laid_over}
-use Rattle.rpg_effect.specs.Rows.{has_entry, is_one_entry}
-use Rattle.rpg_effect.specs.declared.form.FieldForm.{FieldForm}
-use Rattle.rpg_effect.specs.declared.line.LineField.{LineField}
-use Rattle.rpg_effect.specs.Ends.{Fault}
+use Rattle.rpg_program.specs.LineFaults.{field_fault, field_width, fits_code, fits_editing, fits_word, has_kinds, has_room, has_storage, has_word, is_blank_fill, may_change}
+use Rattle.rpg_program.specs.Lines.{laid_over}
+use Rattle.rpg_program.specs.Rows.{has_entry, is_one_entry}
+use Rattle.rpg_program.specs.declared.form.FieldForm.{FieldForm}
+use Rattle.rpg_program.specs.declared.line.LineField.{LineField}
+use Rattle.rpg_program.specs.Ends.{Fault}
 use Rattle.rpg_machine_lines.specs.Right.{IsRightField}
 use Rattle.rpg_memory.proofs.Entries.{and_true}
 

@@ -1,16 +1,16 @@
 -- Input fields with which nothing is wrong.
 use Rattle.std.proofs.Common.{◌≡◌, ℕ, ◌+◌, ◌-◌, ◌≤◌, Bool, true, false, not, ◌&&◌, cond, eqb-true, nat_le, leb-true, List, [], ◌∷◌, length, Option, None, Some, refl, sym, ap, ◌∙◌, arith}
 use Rattle.std.specs.Ordering.{nat_cmp}
-use Rattle.rpg_effect.specs.Ended.{Ended, ends_with, followed_by, if_right}
-use Rattle.rpg_effect.specs.Ends.{Fault, GoesOn, end_of}
-use Rattle.rpg_effect.specs.Forms.{form_at, is_plain, kind_of, length_of}
-use Rattle.rpg_effect.specs.Input.{field_in, fits_columns, fits_shows, input_fault, record_in, record_part, value_read}
-use Rattle.rpg_effect.specs.World.{Data}
-use Rattle.rpg_effect.specs.declared.form.FieldForm.{FieldForm}
-use Rattle.rpg_effect.specs.declared.form.Kind.{Kind}
-use Rattle.rpg_effect.specs.declared.input.InputField.{InputField}
-use Rattle.rpg_effect.specs.declared.outcome.End as rust
-use Rattle.rpg_effect.specs.declared.outcome.End.TheVariants as answers
+use Rattle.rpg_program.specs.Ended.{Ended, ends_with, followed_by, if_right}
+use Rattle.rpg_program.specs.Ends.{Fault, GoesOn, end_of}
+use Rattle.rpg_program.specs.Forms.{form_at, is_plain, kind_of, length_of}
+use Rattle.rpg_program.specs.Input.{field_in, fits_columns, fits_shows, input_fault, record_in, record_part, value_read}
+use Rattle.rpg_program.specs.World.{Data}
+use Rattle.rpg_program.specs.declared.form.FieldForm.{FieldForm}
+use Rattle.rpg_program.specs.declared.form.Kind.{Kind}
+use Rattle.rpg_program.specs.declared.input.InputField.{InputField}
+use Rattle.rpg_program.specs.declared.outcome.End as rust
+use Rattle.rpg_program.specs.declared.outcome.End.TheVariants as answers
 use Rattle.rpg_memory.proofs.Entries.{and_true}
 use Rattle.rpg_machine_lines.specs.Inputs.{filled_field}
 use Rattle.rpg_memory.proofs.Silent.{nothing_shown, nothing_shown_if_any}

@@ -1,15 +1,15 @@
 -- An effect that was done, and what follows where it goes on.
 use Rattle.std.proofs.Common.{◌≡◌, refl, ap, subst, nat_cmp}
 use Rattle.std.specs.Prelude.{Result, Ok, Err, IfOk}
-use Rattle.rpg_effect.proofs.Putting.{halts_done, then_done}
-use Rattle.rpg_effect.specs.Effect.{Effect, after_output, go_on, then_go}
-use Rattle.rpg_effect.specs.Ends.{End, GoesOn, Halt, Wrong, end_of}
-use Rattle.rpg_effect.specs.Put.{Bytes, Held, IsDone}
-use Rattle.rpg_effect.specs.World.{World}
-use Rattle.rpg_effect.specs.declared.outcome.End as rust
-use Rattle.rpg_effect.specs.declared.outcome.End.TheVariants as answers
-use Rattle.rpg_effect.specs.Halts.{halt_number}
-use Rattle.rpg_effect.specs.declared.halt.Halt as halts
+use Rattle.rpg_program.proofs.Putting.{halts_done, then_done}
+use Rattle.rpg_program.specs.Effect.{Effect, after_output, go_on, then_go}
+use Rattle.rpg_program.specs.Ends.{End, GoesOn, Halt, Wrong, end_of}
+use Rattle.rpg_program.specs.Put.{Bytes, Held, IsDone}
+use Rattle.rpg_program.specs.World.{World}
+use Rattle.rpg_program.specs.declared.outcome.End as rust
+use Rattle.rpg_program.specs.declared.outcome.End.TheVariants as answers
+use Rattle.rpg_program.specs.Halts.{halt_number}
+use Rattle.rpg_program.specs.declared.halt.Halt as halts
 
 module _ (first next : World nat_cmp → Effect nat_cmp) (w v : Held) (q o : Bytes) (r : rust.End) (done : IsDone first w q (end_of r) v o) where
   -- it went on, and so did what follows

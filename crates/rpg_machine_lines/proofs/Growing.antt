@@ -1,8 +1,8 @@
 -- Outputs that only grow, by what was appended.
 use Rattle.std.proofs.Common.{◌≡◌, ℕ, List, [], ◌++◌, take, drop, sym, ap, ◌∙◌, append-nil}
 use Rattle.std.proofs.lemmas.List.{take-append-drop}
-use Rattle.rpg_effect.specs.Fronts.{OnlyGrows}
-use Rattle.rpg_effect.specs.Put.{Bytes}
+use Rattle.rpg_program.specs.Fronts.{OnlyGrows}
+use Rattle.rpg_program.specs.Put.{Bytes}
 
 -- bytes of the printer
 pub grows_print : (old new : Bytes) (more : List ℕ) → new.print ≡ old.print ++ more → new.disk ≡ old.disk → OnlyGrows old new

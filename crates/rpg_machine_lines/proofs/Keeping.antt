@@ -4,18 +4,18 @@ use Rattle.std.proofs.Math.IntN.{+ℤ_one}
 use Rattle.std.proofs.lemmas.List.{get_or-replicate, length-replicate}
 use Rattle.std.proofs.lemmas.Option.{same_Some}
 use Rattle.std.specs.Ordering.{int_eq}
-use Rattle.rpg_effect.specs.Forms.{form_at, is_index_form, kind_of, length_of}
-use Rattle.rpg_effect.specs.LineFaults.{fits_source}
-use Rattle.rpg_effect.specs.Lines.{blanked, blanked_at, next_page}
-use Rattle.rpg_effect.specs.Values.{Value, Number, Text}
-use Rattle.rpg_effect.specs.World.{Fields, value_in, with_value}
-use Rattle.rpg_effect.specs.declared.form.FieldForm.{FieldForm}
-use Rattle.rpg_effect.specs.declared.form.Kind.{Kind}
-use Rattle.rpg_effect.specs.declared.form.Kind.TheVariants as kinds
-use Rattle.rpg_effect.specs.declared.line.Source.TheVariants as sources
+use Rattle.rpg_program.specs.Forms.{form_at, is_index_form, kind_of, length_of}
+use Rattle.rpg_program.specs.LineFaults.{fits_source}
+use Rattle.rpg_program.specs.Lines.{blanked, blanked_at, next_page}
+use Rattle.rpg_program.specs.Values.{Value, Number, Text}
+use Rattle.rpg_program.specs.World.{Fields, value_in, with_value}
+use Rattle.rpg_program.specs.declared.form.FieldForm.{FieldForm}
+use Rattle.rpg_program.specs.declared.form.Kind.{Kind}
+use Rattle.rpg_program.specs.declared.form.Kind.TheVariants as kinds
+use Rattle.rpg_program.specs.declared.line.Source.TheVariants as sources
 use Rattle.rpg_machine_lines.proofs.Operands.{AreFit, as_value, value_there}
 use Rattle.rpg_machine_lines.specs.Entries.{IsFieldEntry}
-use Rattle.rpg_object_program.specs.Kept.{IsCharacter}
+use Rattle.rpg_program.specs.Kept.{IsCharacter}
 use Rattle.rpg_memory.proofs.Entries.{and_true, kinds_same}
 use Rattle.rpg_memory.proofs.Fitting.{fits-insert}
 use Rattle.rpg_memory.specs.Fields.{IsValue}

@@ -1,9 +1,9 @@
 -- Movements of the form.
 use Rattle.std.proofs.Common.{◌≡◌, ℕ, ◌+◌, ◌-◌, ◌≤◌, Bool, true, false, cond, nat_le, leb-true, arith}
 use Rattle.rpg_paper.specs.Paper.{Position, spaced, skipped}
-use Rattle.rpg_effect.proofs.Printing.{print_done}
-use Rattle.rpg_effect.specs.LineFaults.{is_spacing}
-use Rattle.rpg_effect.specs.declared.line.Spacing.{Spacing}
+use Rattle.rpg_program.proofs.Printing.{print_done}
+use Rattle.rpg_program.specs.LineFaults.{is_spacing}
+use Rattle.rpg_program.specs.declared.line.Spacing.{Spacing}
 use Rattle.rpg_memory.proofs.Entries.{and_true}
 
 few_by : (b : Bool) (page line other : ℕ) → (cond {A = Position} b (record { page = page; line = line }) (record { page = page + 1; line = other })).page ≤ page + 1

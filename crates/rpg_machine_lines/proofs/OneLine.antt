@@ -2,18 +2,18 @@
 use Rattle.std.proofs.Common.{◌≡◌, ℕ, Bool, true, false, ◌&&◌, cond, nat_le, List, [], Option, None, Some, refl, sym, ap, ◌∙◌, subst, nat_cmp, replicate}
 use Rattle.std.specs.FinSet as sets
 use Rattle.rpg_paper.specs.Paper.{Position}
-use Rattle.rpg_effect.proofs.Putting.{quiet_done, then_done}
-use Rattle.rpg_effect.specs.Effect.{Effect, Leaves, unless_wrong}
-use Rattle.rpg_effect.specs.Ends.{End, Fault, GoesOn, Halt, Storage, end_of}
-use Rattle.rpg_effect.specs.LineFaults.{is_spacing, line_fault}
-use Rattle.rpg_effect.specs.Lines.{Draft, Drafted, Line, assembled, blank_line, blanked_all, drafted, is_asked, line_out, one_out, put_on, put_out, where_asked, with_fields}
-use Rattle.rpg_effect.specs.Put.{Bytes, Held, IsDone, IsLeft, on_paper}
-use Rattle.rpg_effect.specs.World.{Fields, World}
-use Rattle.rpg_effect.specs.declared.form.FieldForm.{FieldForm}
-use Rattle.rpg_effect.specs.declared.line.LineField.{LineField}
-use Rattle.rpg_effect.specs.declared.line.Pass.{Pass}
-use Rattle.rpg_effect.specs.declared.line.Spacing.{Spacing}
-use Rattle.rpg_effect.specs.declared.outcome.End as rust
+use Rattle.rpg_program.proofs.Putting.{quiet_done, then_done}
+use Rattle.rpg_program.specs.Effect.{Effect, Leaves, unless_wrong}
+use Rattle.rpg_program.specs.Ends.{End, Fault, GoesOn, Halt, Storage, end_of}
+use Rattle.rpg_program.specs.LineFaults.{is_spacing, line_fault}
+use Rattle.rpg_program.specs.Lines.{Draft, Drafted, Line, assembled, blank_line, blanked_all, drafted, is_asked, line_out, one_out, put_on, put_out, where_asked, with_fields}
+use Rattle.rpg_program.specs.Put.{Bytes, Held, IsDone, IsLeft, on_paper}
+use Rattle.rpg_program.specs.World.{Fields, World}
+use Rattle.rpg_program.specs.declared.form.FieldForm.{FieldForm}
+use Rattle.rpg_program.specs.declared.line.LineField.{LineField}
+use Rattle.rpg_program.specs.declared.line.Pass.{Pass}
+use Rattle.rpg_program.specs.declared.line.Spacing.{Spacing}
+use Rattle.rpg_program.specs.declared.outcome.End as rust
 use Rattle.rpg_memory.proofs.Entries.{and_true}
 use Rattle.rpg_machine_lines.specs.Drafts.{draft_of}
 

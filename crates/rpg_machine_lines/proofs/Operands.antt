@@ -1,19 +1,19 @@
 -- What an operand with nothing wrong means.
 use Rattle.std.proofs.Common.{◌≡◌, ℕ, zero, suc, ℤ, pos, negsuc, ◌≤◌, All, Bool, true, false, not, ◌&&◌, ◌||◌, cond, nat_le, List, Option, None, Some, refl, sym, ap, ◌∙◌, subst, arith, leb-true, IfSome, nat_cmp}
 use Rattle.std.proofs.lemmas.Option.{cond_some, get_or_from_slice_get, same_Some, slice_get_within}
-use Rattle.rpg_effect.specs.Entries.{in_range, position_by, position_of}
-use Rattle.rpg_effect.specs.Forms.{entries_of, form_at, is_array, is_table_form, kind_of}
-use Rattle.rpg_effect.specs.Rows.{has_entry, has_index, has_operand, is_one, is_one_entry, is_shaped}
-use Rattle.rpg_effect.specs.Values.{number_of}
-use Rattle.rpg_effect.specs.World.{Fields, current_in, value_in}
-use Rattle.rpg_effect.specs.declared.form.FieldForm.{FieldForm}
-use Rattle.rpg_effect.specs.declared.form.Kind.{Kind}
-use Rattle.rpg_effect.specs.declared.operation.Index.{Index}
-use Rattle.rpg_effect.specs.declared.operation.Index.TheVariants as indexed
-use Rattle.rpg_effect.specs.declared.operation.Operand.{Operand}
-use Rattle.rpg_effect.specs.declared.row.Shape.TheVariants as shapes
+use Rattle.rpg_program.specs.Entries.{in_range, position_by, position_of}
+use Rattle.rpg_program.specs.Forms.{entries_of, form_at, is_array, is_table_form, kind_of}
+use Rattle.rpg_program.specs.Rows.{has_entry, has_index, has_operand, is_one, is_one_entry, is_shaped}
+use Rattle.rpg_program.specs.Values.{number_of}
+use Rattle.rpg_program.specs.World.{Fields, current_in, value_in}
+use Rattle.rpg_program.specs.declared.form.FieldForm.{FieldForm}
+use Rattle.rpg_program.specs.declared.form.Kind.{Kind}
+use Rattle.rpg_program.specs.declared.operation.Index.{Index}
+use Rattle.rpg_program.specs.declared.operation.Index.TheVariants as indexed
+use Rattle.rpg_program.specs.declared.operation.Operand.{Operand}
+use Rattle.rpg_program.specs.declared.row.Shape.TheVariants as shapes
 use Rattle.rpg_machine_lines.specs.Entries.{IsFieldEntry}
-use Rattle.rpg_object_program.specs.Kept.{IsFieldRow}
+use Rattle.rpg_program.specs.Kept.{IsFieldRow}
 use Rattle.rpg_memory.proofs.Entries.{and_true}
 use Rattle.rpg_memory.specs.Fields.{AreForms, IsValue}
 use Rattle.rpg_memory.specs.Fits.{Fits, HasForm}

@@ -1,13 +1,13 @@
 -- Lines that no alternative asks for at a passage.
 use Rattle.std.proofs.Common.{◌≡◌, ℕ, Bool, true, false, ◌&&◌, ◌||◌, cond, List, [], ◌∷◌, Option, refl, nat_cmp}
 use Rattle.std.specs.FinSet as sets
-use Rattle.rpg_effect.specs.Lines.{is_asked, is_pass, names_overflow, pass_of}
-use Rattle.rpg_effect.specs.World.{all_hold}
-use Rattle.rpg_effect.specs.declared.condition.Condition.{Condition}
-use Rattle.rpg_effect.specs.declared.line.Pass.{Pass}
-use Rattle.rpg_effect.specs.declared.line.Pass.TheVariants as passes
-use Rattle.rpg_effect.specs.declared.line.Time.{Time}
-use Rattle.rpg_effect.specs.declared.line.Time.TheVariants as times
+use Rattle.rpg_program.specs.Lines.{is_asked, is_pass, names_overflow, pass_of}
+use Rattle.rpg_program.specs.World.{all_hold}
+use Rattle.rpg_program.specs.declared.condition.Condition.{Condition}
+use Rattle.rpg_program.specs.declared.line.Pass.{Pass}
+use Rattle.rpg_program.specs.declared.line.Pass.TheVariants as passes
+use Rattle.rpg_program.specs.declared.line.Time.{Time}
+use Rattle.rpg_program.specs.declared.line.Time.TheVariants as times
 use Rattle.rpg_machine_lines.specs.Passages.{counts_at, may_count}
 
 -- neither of two passages

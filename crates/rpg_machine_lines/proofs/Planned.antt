@@ -3,19 +3,19 @@ use Rattle.std.proofs.Common.{◌≡◌, ℕ, ◌<◌, true, false, ◌&&◌, �
 use Rattle.std.proofs.lemmas.List.{get_or-map, length-map}
 use Rattle.std.proofs.lemmas.Slice.Zip.{AllZip-long}
 use Rattle.std.specs.FinSet as sets
-use Rattle.rpg_effect.specs.Control.{has_condition, has_conditions}
-use Rattle.rpg_effect.specs.Ends.{GoesOn}
-use Rattle.rpg_effect.specs.Entries.{entry_of}
-use Rattle.rpg_effect.specs.Forms.{form_at}
-use Rattle.rpg_effect.specs.LineFaults.{field_fault}
-use Rattle.rpg_effect.specs.Lines.{laid_over, remembered, with_field}
-use Rattle.rpg_effect.specs.Rows.{has_entry, is_one_entry}
-use Rattle.rpg_effect.specs.World.{Fields, holds_if_any, three_hold}
-use Rattle.rpg_effect.specs.declared.condition.Condition.{Condition}
-use Rattle.rpg_effect.specs.declared.condition.Conditions.{Conditions}
-use Rattle.rpg_effect.specs.declared.form.FieldForm.{FieldForm}
-use Rattle.rpg_effect.specs.declared.line.LineField.{LineField}
-use Rattle.rpg_effect.specs.declared.operation.Entry.{Entry}
+use Rattle.rpg_program.specs.Control.{has_condition, has_conditions}
+use Rattle.rpg_program.specs.Ends.{GoesOn}
+use Rattle.rpg_program.specs.Entries.{entry_of}
+use Rattle.rpg_program.specs.Forms.{form_at}
+use Rattle.rpg_program.specs.LineFaults.{field_fault}
+use Rattle.rpg_program.specs.Lines.{laid_over, remembered, with_field}
+use Rattle.rpg_program.specs.Rows.{has_entry, is_one_entry}
+use Rattle.rpg_program.specs.World.{Fields, holds_if_any, three_hold}
+use Rattle.rpg_program.specs.declared.condition.Condition.{Condition}
+use Rattle.rpg_program.specs.declared.condition.Conditions.{Conditions}
+use Rattle.rpg_program.specs.declared.form.FieldForm.{FieldForm}
+use Rattle.rpg_program.specs.declared.line.LineField.{LineField}
+use Rattle.rpg_program.specs.declared.operation.Entry.{Entry}
 use Rattle.rpg_machine_lines.proofs.Operands.{AreFit, entry_named}
 use Rattle.rpg_machine_lines.proofs.Pairs.{pair_at}
 use Rattle.rpg_machine_lines.specs.Drafts.{drafted_in, field_text_in, with_field_in}
@@ -23,9 +23,9 @@ use Rattle.rpg_machine_lines.specs.Entries.{IsFieldEntry}
 use Rattle.rpg_machine_lines.specs.Plans.{IsFixedField, IsPlanOf, IsPlannedLine}
 use Rattle.rpg_machine_lines.specs.declared.plan.LinePlan.{LinePlan}
 use Rattle.rpg_machine_lines.specs.declared.plan.Plan.{Plan}
-use Rattle.rpg_object_program.specs.Constants.{word_at}
-use Rattle.rpg_object_program.specs.Object.{LineRow, Object, line_row}
-use Rattle.rpg_object_program.specs.declared.row.Line as rows
+use Rattle.rpg_program.specs.Constants.{word_at}
+use Rattle.rpg_program.specs.Object.{LineRow, Object, line_row}
+use Rattle.rpg_program.specs.declared.rows.Line as rows
 use Rattle.rpg_store.specs.Contents.{IsEntryAt}
 use Rattle.rpg_memory.specs.Fields.{AreForms}
 use Rattle.rpg_memory.specs.Memory.{Working, forms_in}

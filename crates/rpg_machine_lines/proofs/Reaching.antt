@@ -5,18 +5,18 @@ use Rattle.std.proofs.lemmas.List.Elements.{All-cons, All-head, All-nil, All-tai
 use Rattle.std.proofs.lemmas.Slice.{drop-append-drop}
 use Rattle.std.specs.FinSet as sets
 use Rattle.std.specs.List.{fold}
-use Rattle.rpg_effect.specs.Ends.{End, Fault, GoesOn}
-use Rattle.rpg_effect.specs.LineFaults.{AreRight, field_fault}
-use Rattle.rpg_effect.specs.Lines.{Draft, Drafted, drafted, laid, laid_over, unless_faulty, with_field}
-use Rattle.rpg_effect.specs.World.{three_hold}
-use Rattle.rpg_effect.specs.Entries.{position_of}
-use Rattle.rpg_effect.specs.declared.form.FieldForm.{FieldForm}
-use Rattle.rpg_effect.specs.declared.line.LineField.{LineField}
+use Rattle.rpg_program.specs.Ends.{End, Fault, GoesOn}
+use Rattle.rpg_program.specs.LineFaults.{AreRight, field_fault}
+use Rattle.rpg_program.specs.Lines.{Draft, Drafted, drafted, laid, laid_over, unless_faulty, with_field}
+use Rattle.rpg_program.specs.World.{three_hold}
+use Rattle.rpg_program.specs.Entries.{position_of}
+use Rattle.rpg_program.specs.declared.form.FieldForm.{FieldForm}
+use Rattle.rpg_program.specs.declared.line.LineField.{LineField}
 use Rattle.rpg_machine_lines.proofs.Fields.{right}
 use Rattle.rpg_machine_lines.specs.Drafts.{draft_in, drafted_in, with_field_in}
 use Rattle.rpg_machine_lines.specs.Plans.{reach_of}
 use Rattle.rpg_machine_lines.specs.Ready.{IsBlankAfter}
-use Rattle.rpg_object_program.specs.Constants.{word_at}
+use Rattle.rpg_program.specs.Constants.{word_at}
 use Rattle.rpg_memory.specs.Memory.{Working, forms_in}
 
 -- ---- the greatest end

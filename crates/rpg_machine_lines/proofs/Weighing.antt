@@ -1,11 +1,11 @@
 -- Weights of lines of which some are left, and how much lines weigh at most.
 use Rattle.std.proofs.Common.{◌≡◌, ℕ, suc, ◌+◌, ◌*◌, ◌<◌, ◌≤◌, All, Bool, true, false, cond, List, [], ◌∷◌, map, drop, length, get_or, ap, arith}
-use Rattle.rpg_effect.specs.Weights.{lines_weight}
-use Rattle.rpg_effect.specs.declared.line.Time.{Time}
+use Rattle.rpg_program.specs.Weights.{lines_weight}
+use Rattle.rpg_program.specs.declared.line.Time.{Time}
 use Rattle.rpg_machine_lines.proofs.Left.{from_named}
-use Rattle.rpg_object_program.specs.Kept.{IsLineRow, IsProgram}
-use Rattle.rpg_object_program.specs.Object.{LineRow, Object, line_row, lines_of, program_line}
-use Rattle.rpg_object_program.specs.declared.row.Line.{Line}
+use Rattle.rpg_program.specs.Kept.{IsLineRow, IsProgram}
+use Rattle.rpg_program.specs.Object.{LineRow, Object, line_row, lines_of, program_line}
+use Rattle.rpg_program.specs.declared.rows.Line.{Line}
 
 -- the weights of the lines that are left
 abbrev pub weight_left : Object → (Time → Bool) → List Line → ℕ → ℕ

@@ -1,24 +1,24 @@
 -- Programs whose total lines weigh nothing: they have none, and none is asked for.
 use Rattle.std.proofs.Common.{◌≡◌, ℕ, ◌+◌, Bool, true, false, cond, List, [], ◌∷◌, refl, map, length, nat_cmp, arith}
-use Rattle.rpg_effect.proofs.Putting.{quiet_done}
-use Rattle.rpg_effect.specs.Effect.{Effect}
-use Rattle.rpg_effect.specs.Ends.{GoesOn}
-use Rattle.rpg_effect.specs.Forms.{form_at}
-use Rattle.rpg_effect.specs.Lines.{lines_out}
-use Rattle.rpg_effect.specs.Put.{Bytes, Held, IsDone}
-use Rattle.rpg_effect.specs.Weights.{is_at_total, lines_weight, total_weight}
-use Rattle.rpg_effect.specs.World.{World}
-use Rattle.rpg_effect.specs.declared.line.Pass.TheVariants.{Total}
-use Rattle.rpg_effect.specs.declared.line.Time.{Time}
-use Rattle.rpg_effect.specs.declared.line.Time.TheVariants as times
-use Rattle.rpg_effect.specs.declared.outcome.End.TheVariants as answers
+use Rattle.rpg_program.proofs.Putting.{quiet_done}
+use Rattle.rpg_program.specs.Effect.{Effect}
+use Rattle.rpg_program.specs.Ends.{GoesOn}
+use Rattle.rpg_program.specs.Forms.{form_at}
+use Rattle.rpg_program.specs.Lines.{lines_out}
+use Rattle.rpg_program.specs.Put.{Bytes, Held, IsDone}
+use Rattle.rpg_program.specs.Weights.{is_at_total, lines_weight, total_weight}
+use Rattle.rpg_program.specs.World.{World}
+use Rattle.rpg_program.specs.declared.line.Pass.TheVariants.{Total}
+use Rattle.rpg_program.specs.declared.line.Time.{Time}
+use Rattle.rpg_program.specs.declared.line.Time.TheVariants as times
+use Rattle.rpg_program.specs.declared.outcome.End.TheVariants as answers
 use Rattle.rpg_machine_lines.proofs.Following.{went_on}
 use Rattle.rpg_machine_lines.proofs.OneLine.{not_asked}
 use Rattle.rpg_machine_lines.proofs.Passages.{none_asked}
 use Rattle.rpg_machine_lines.specs.Outputs.{one_effect, total_effect}
 use Rattle.rpg_machine_lines.specs.Passages.{may_count}
-use Rattle.rpg_object_program.specs.Constants.{word_at}
-use Rattle.rpg_object_program.specs.Object.{LineRow, Object, lines_of, program_line}
+use Rattle.rpg_program.specs.Constants.{word_at}
+use Rattle.rpg_program.specs.Object.{LineRow, Object, lines_of, program_line}
 
 -- a line that weighs nothing is none that may count at total time
 no_total : (time : Time) (fields others : ℕ) → cond (is_at_total time) (1 + fields) 0 + others ≡ 0 → may_count time Total ≡ false

@@ -1,7 +1,7 @@
 -- Entries of fields, and the forms of numbers.
 use Rattle.std.specs.Prelude.{◌≡◌, All, ℕ, ◌≤◌, List, Some}
-use Rattle.rpg_effect.specs.Forms.{form_at}
-use Rattle.rpg_effect.specs.declared.form.FieldForm.{FieldForm}
+use Rattle.rpg_program.specs.Forms.{form_at}
+use Rattle.rpg_program.specs.declared.form.FieldForm.{FieldForm}
 
 -- the lengths and decimals that numbers have
 pub record IsEditableForm (d : FieldForm) : Type 0 where

@@ -2,14 +2,14 @@
 use Rattle.std.specs.Prelude.{◌≡◌, ℕ, ◌≤◌, List, Option, length}
 use Rattle.std.specs.Ordering.{nat_cmp}
 use Rattle.std.specs.declared.cmp.Ordering.{Ordering}
-use Rattle.rpg_effect.specs.Ended.{Ended, Gives, or_halt}
-use Rattle.rpg_effect.specs.Forms.{form_at, length_of}
-use Rattle.rpg_effect.specs.Input.{order_of, taken_in, value_read}
-use Rattle.rpg_effect.specs.Values.{Text}
-use Rattle.rpg_effect.specs.World.{Data}
-use Rattle.rpg_effect.specs.declared.form.FieldForm.{FieldForm}
-use Rattle.rpg_effect.specs.declared.form.Kind.{Kind}
-use Rattle.rpg_effect.specs.declared.input.InputField.{InputField}
+use Rattle.rpg_program.specs.Ended.{Ended, Gives, or_halt}
+use Rattle.rpg_program.specs.Forms.{form_at, length_of}
+use Rattle.rpg_program.specs.Input.{order_of, taken_in, value_read}
+use Rattle.rpg_program.specs.Values.{Text}
+use Rattle.rpg_program.specs.World.{Data}
+use Rattle.rpg_program.specs.declared.form.FieldForm.{FieldForm}
+use Rattle.rpg_program.specs.declared.form.Kind.{Kind}
+use Rattle.rpg_program.specs.declared.input.InputField.{InputField}
 use Rattle.rpg_machine_lines.specs.FixedInputs.{IsFixedInput}
 use Rattle.rpg_machine_lines.specs.declared.fixed_inputs.FixedInput.{FixedInput}
 use Rattle.rpg_memory.specs.Fields.{IsValue}

@@ -1,12 +1,12 @@
 -- What putting out lines and their fields needs, and what it leaves as it was.
 use Rattle.std.specs.Prelude.{◌≡◌, ℕ, ◌+◌, ◌<◌, ◌≤◌, true, List, length, Option, Result, OnOk}
-use Rattle.rpg_effect.specs.Fronts.{OnlyGrows}
-use Rattle.rpg_effect.specs.LineFaults.{is_spacing}
-use Rattle.rpg_effect.specs.Put.{Bytes}
-use Rattle.rpg_effect.specs.Rows.{has_entry, is_one_entry}
-use Rattle.rpg_effect.specs.declared.form.FieldForm.{FieldForm}
-use Rattle.rpg_effect.specs.declared.line.Spacing.{Spacing}
-use Rattle.rpg_effect.specs.declared.operation.Operand.{Operand}
+use Rattle.rpg_program.specs.Fronts.{OnlyGrows}
+use Rattle.rpg_program.specs.LineFaults.{is_spacing}
+use Rattle.rpg_program.specs.Put.{Bytes}
+use Rattle.rpg_program.specs.Rows.{has_entry, is_one_entry}
+use Rattle.rpg_program.specs.declared.form.FieldForm.{FieldForm}
+use Rattle.rpg_program.specs.declared.line.Spacing.{Spacing}
+use Rattle.rpg_program.specs.declared.operation.Operand.{Operand}
 use Rattle.rpg_machine_lines.specs.Drafts.{fields_replaced}
 use Rattle.rpg_machine_lines.specs.Entries.{AreFieldEntries}
 use Rattle.rpg_machine_lines.specs.Plans.{IsLinePlan, IsPlanOf, IsPlannedLine}
@@ -15,8 +15,8 @@ use Rattle.rpg_machine_lines.specs.Right.{AreRightLines, HasLineRoom, IsRightLin
 use Rattle.rpg_machine_lines.specs.declared.plan.LinePlan.{LinePlan}
 use Rattle.rpg_machine_lines.specs.declared.plan.Plan.{Plan}
 use Rattle.rpg_memory.specs.Memory.{Working, forms_in}
-use Rattle.rpg_object_program.specs.Object.{file_length, line_row}
-use Rattle.rpg_object_program.specs.declared.row.Line.{Line}
+use Rattle.rpg_program.specs.Object.{file_length, line_row}
+use Rattle.rpg_program.specs.declared.rows.Line.{Line}
 
 -- ---- what is needed
 

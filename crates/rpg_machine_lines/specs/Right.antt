@@ -1,14 +1,14 @@
 -- Lines with nothing wrong, and room for them.
 use Rattle.std.specs.Prelude.{◌≡◌, All, ℕ, ◌≤◌, true, List, Option, None, Some, length}
 use Rattle.rpg_edit_marks.specs.declared.code.Fill.{Fill}
-use Rattle.rpg_effect.specs.Forms.{form_at}
-use Rattle.rpg_effect.specs.LineFaults.{AreRight, field_width, fits_editing, fits_source, line_fault}
-use Rattle.rpg_effect.specs.Rows.{has_entry, is_one_entry}
-use Rattle.rpg_effect.specs.declared.form.FieldForm.{FieldForm}
-use Rattle.rpg_effect.specs.declared.line.Editing.{Editing}
-use Rattle.rpg_effect.specs.declared.line.LineField.{LineField}
-use Rattle.rpg_object_program.specs.Constants.{word_at}
-use Rattle.rpg_object_program.specs.Object.{LineRow, Object, file_length}
+use Rattle.rpg_program.specs.Forms.{form_at}
+use Rattle.rpg_program.specs.LineFaults.{AreRight, field_width, fits_editing, fits_source, line_fault}
+use Rattle.rpg_program.specs.Rows.{has_entry, is_one_entry}
+use Rattle.rpg_program.specs.declared.form.FieldForm.{FieldForm}
+use Rattle.rpg_program.specs.declared.line.Editing.{Editing}
+use Rattle.rpg_program.specs.declared.line.LineField.{LineField}
+use Rattle.rpg_program.specs.Constants.{word_at}
+use Rattle.rpg_program.specs.Object.{LineRow, Object, file_length}
 
 -- what a field with nothing wrong has
 pub record IsRightField (forms : ℕ → Option FieldForm) (words : ℕ → List ℕ) (len : ℕ) (f : LineField ℕ) : Type 0 where

@@ -1,7 +1,7 @@
 -- The lines that are weighed for an output.
 use Rattle.std.specs.Prelude.{Bool}
-use Rattle.rpg_effect.specs.Weights.{is_at_detail, is_at_total, is_exception, is_in_cycle}
-use Rattle.rpg_effect.specs.declared.line.Time.{Time}
+use Rattle.rpg_program.specs.Weights.{is_at_detail, is_at_total, is_exception, is_in_cycle}
+use Rattle.rpg_program.specs.declared.line.Time.{Time}
 use Rattle.rpg_machine_lines.specs.declared.weights.Weighed.{Weighed}
 use Rattle.rpg_machine_lines.specs.declared.weights.Weighed.TheVariants as outputs
 

@@ -1,28 +1,28 @@
 //! A line is assembled: the fields whose conditions hold are laid over blanks, in order.
 ghost use Rattle.std.specs.Prelude.{◌≡◌, ◌≤◌, ◌+◌, length, drop, true, None};
 ghost use Rattle.arrayvec.specs.ArrayVec.{array_vec_len};
-ghost use Rattle.rpg_effect.specs.Ends.{GoesOn, end_of};
-ghost use Rattle.rpg_effect.specs.LineFaults as faults;
-ghost use Rattle.rpg_effect.specs.Lines as lines;
-ghost use Rattle.rpg_effect.specs.World.{three_hold};
+ghost use Rattle.rpg_program.specs.Ends.{GoesOn, end_of};
+ghost use Rattle.rpg_program.specs.LineFaults as faults;
+ghost use Rattle.rpg_program.specs.Lines as lines;
+ghost use Rattle.rpg_program.specs.World.{three_hold};
 ghost use Rattle.rpg_machine_lines.specs.Drafts.{assembled_in, drafted_in, with_field_in};
 ghost use Rattle.rpg_machine_lines.specs.Entries.{AreFieldEntries, IsFieldEntry};
 ghost use Rattle.rpg_machine_lines.specs.Plans.{IsFieldPlan, IsFixedField, AreFieldPlans, reach_of};
 ghost use Rattle.rpg_machine_lines.specs.Putting.{CanRemember, ChangesFields, ChangesValues, RemembersOne};
-ghost use Rattle.rpg_object_program.specs.Constants.{word_at};
+ghost use Rattle.rpg_program.specs.Constants.{word_at};
 ghost use Rattle.rpg_memory.specs.Memory.{forms_in};
 
 use crate::field::{count_page, lay_fixed_value, lay_value};
 use crate::plan::FieldPlan;
 use crate::reading::position_of;
 use arrayvec::ArrayVec;
-use rpg_effect::halt::Halt;
-use rpg_effect::line::LineField;
-use rpg_effect::outcome::End;
 use rpg_memory::condition::three_hold;
 use rpg_memory::memory::Memory;
 use rpg_memory::resolved::FixedEntry;
-use rpg_object_program::forms::form_at;
+use rpg_program::forms::form_at;
+use rpg_program::halt::Halt;
+use rpg_program::line::LineField;
+use rpg_program::outcome::End;
 use rpg_store::store::Store;
 
 /// The most fields of a line.
@@ -51,7 +51,7 @@ fn remember<S: Store + Drop>(
 
 /// One field, where its conditions hold; its entry is looked for. Apart from the loop over fields, which seldom comes here.
 #[inline(never)]
-#[tactic(auto, using(crate::proofs::Fields::rightness), unfolding(rpg_effect::specs::Lines::with_field))]
+#[tactic(auto, using(crate::proofs::Fields::rightness), unfolding(rpg_program::specs::Lines::with_field))]
 fn with_field<S: Store + Drop>(
     memory: &mut Memory<'_, S>,
     text: &mut [u8],
@@ -111,7 +111,7 @@ fn with_fixed_field<S: Store + Drop>(
 }
 
 /// One field, where its conditions hold, by what was found of it.
-#[tactic(auto, using(crate::proofs::Planned::always_put), unfolding(rpg_effect::specs::Lines::with_field))]
+#[tactic(auto, using(crate::proofs::Planned::always_put), unfolding(rpg_program::specs::Lines::with_field))]
 fn with_planned_field<S: Store + Drop>(
     memory: &mut Memory<'_, S>,
     text: &mut [u8],

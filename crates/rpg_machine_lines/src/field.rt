@@ -1,26 +1,26 @@
 //! Fields of lines: how they are edited, their text in the line, PAGE, and blank after.
 ghost use Rattle.std.specs.Prelude.{◌≡◌, ◌≤◌, ◌<◌, ◌^◌, Some, length, unsigned_abs, replicate, true};
 ghost use Rattle.rpg_edit_marks.specs.How.{edited, width_of};
-ghost use Rattle.rpg_effect.specs.Forms as forms;
-ghost use Rattle.rpg_effect.specs.LineFaults as faults;
-ghost use Rattle.rpg_effect.specs.Lines as lines;
+ghost use Rattle.rpg_program.specs.Forms as forms;
+ghost use Rattle.rpg_program.specs.LineFaults as faults;
+ghost use Rattle.rpg_program.specs.Lines as lines;
 ghost use Rattle.rpg_machine_lines.specs.Drafts.{counted_in, field_text_in, fields_replaced, how_in};
 ghost use Rattle.rpg_machine_lines.specs.Entries.{AreFieldEntries, IsEditableForm, IsFieldEntry};
 ghost use Rattle.rpg_machine_lines.specs.Right.{FitsEditing, IsRightField};
-ghost use Rattle.rpg_object_program.specs.Constants as constants;
-ghost use Rattle.rpg_object_program.specs.Object.{seen};
+ghost use Rattle.rpg_program.specs.Constants as constants;
+ghost use Rattle.rpg_program.specs.Object.{seen};
 ghost use Rattle.rpg_store.specs.Contents.{IsEntryAt};
 ghost use Rattle.rpg_memory.specs.Memory.{forms_in};
 
 use rpg_edit::{write_coded, write_plain, write_worded};
 use rpg_edit_widths::EditWord;
-use rpg_effect::form::{FieldForm, Kind};
-use rpg_effect::line::{Editing, LineField, Source};
 use rpg_memory::memory::Memory;
 use rpg_memory::resolved::FixedEntry;
-use rpg_object_program::forms::{form_at, kind_of};
-use rpg_object_program::row::Rows;
-use rpg_object_program::words::word_at;
+use rpg_program::form::{FieldForm, Kind};
+use rpg_program::forms::{form_at, kind_of};
+use rpg_program::line::{Editing, LineField, Source};
+use rpg_program::rows::Rows;
+use rpg_program::words::word_at;
 use rpg_store::store::Store;
 
 /// The word that a number of so many digits is edited by.
@@ -56,7 +56,7 @@ fn lay_number(rows: &Rows, text: &mut [u8], field: &LineField<u16>, form: FieldF
 }
 
 /// Lays a text over the line, ending at that place.
-#[tactic(auto, unfolding(rpg_effect::specs::Lines::laid_over))]
+#[tactic(auto, unfolding(rpg_program::specs::Lines::laid_over))]
 fn lay_text(text: &mut [u8], end: u16, part: &[u8])
     requires width { length part.now ≤ end }
     requires end { end ≤ length text.old }
@@ -124,7 +124,7 @@ pub fn lay_fixed_value<S: Store + Drop>(
 }
 
 /// The next page.
-#[tactic(auto, unfolding(rpg_effect::specs::Lines::next_page))]
+#[tactic(auto, unfolding(rpg_program::specs::Lines::next_page))]
 fn next_page(n: i64) -> i64
     requires { unsigned_abs n < 10000 }
     ensures { result ≡ lines.next_page n }

@@ -1,24 +1,24 @@
 //! The columns of a record that become values of fields. No field is tested here: the rules have tested them all.
 ghost use Rattle.std.specs.Prelude.{◌≡◌, ◌+◌, ◌-◌, All, length, true, None};
-ghost use Rattle.rpg_effect.specs.Ends.{end_of};
-ghost use Rattle.rpg_effect.specs.Input as of;
-ghost use Rattle.rpg_effect.specs.Showing.{shown_if_any};
-ghost use Rattle.rpg_effect.specs.declared.form.Kind.TheVariants as kinds;
+ghost use Rattle.rpg_program.specs.Ends.{end_of};
+ghost use Rattle.rpg_program.specs.Input as of;
+ghost use Rattle.rpg_program.specs.Showing.{shown_if_any};
+ghost use Rattle.rpg_program.specs.declared.form.Kind.TheVariants as kinds;
 ghost use Rattle.rpg_machine_lines.specs.FixedInputs.{AreFixedInputs, IsFixedInput};
 ghost use Rattle.rpg_machine_lines.specs.Inputs.{CanFill, HasColumns, filled_field, order_of_text};
 ghost use Rattle.rpg_memory.specs.Doing.{DidData};
-ghost use Rattle.rpg_object_program.specs.Kept.{IsCharacter};
+ghost use Rattle.rpg_program.specs.Kept.{IsCharacter};
 ghost use Rattle.rpg_memory.specs.Memory.{data_put, forms_in, with_on};
 ghost use Rattle.rpg_memory.specs.Silent.{names_none};
 
 use crate::fixed_inputs::FixedInput;
 use rpg_decimal::read_zoned;
-use rpg_effect::form::Kind;
-use rpg_effect::halt::Halt;
-use rpg_effect::input::InputField;
-use rpg_effect::operation::Shows;
-use rpg_effect::outcome::End;
 use rpg_memory::memory::Memory;
+use rpg_program::form::Kind;
+use rpg_program::halt::Halt;
+use rpg_program::input::InputField;
+use rpg_program::operation::Shows;
+use rpg_program::outcome::End;
 use rpg_store::store::Store;
 use rpg_text::is_blank;
 use std::cmp::Ordering;
@@ -47,7 +47,7 @@ fn order_of_text(text: &[u8]) -> Option<Ordering>
 
 /// Puts the number that digits spell into a field, if they spell one.
 #[inline(always)]
-#[tactic(auto, using(crate::proofs::Filling::numbers, crate::proofs::Filling::silent), unfolding(rpg_effect::specs::Showing::shown_if_any))]
+#[tactic(auto, using(crate::proofs::Filling::numbers, crate::proofs::Filling::silent), unfolding(rpg_program::specs::Showing::shown_if_any))]
 fn fill_number<S: Store + Drop>(
     memory: &mut Memory<'_, S>,
     input: &InputField<u16>,
@@ -129,7 +129,7 @@ fn fill_one<S: Store + Drop>(
 
 /// Fills the fields of a record, in order, until one halts.
 #[inline(always)]
-#[tactic(auto, unfolding(rpg_effect::specs::Input::record_in))]
+#[tactic(auto, unfolding(rpg_program::specs::Input::record_in))]
 pub fn fill_all<S: Store + Drop>(
     memory: &mut Memory<'_, S>,
     text: &[u8],

@@ -1,19 +1,19 @@
 //! One line is put out.
 ghost use Rattle.std.specs.Prelude.{IfOk};
-ghost use Rattle.rpg_effect.specs.Ends.{end_of};
-ghost use Rattle.rpg_effect.specs.Fronts.{OnlyGrows};
+ghost use Rattle.rpg_program.specs.Ends.{end_of};
+ghost use Rattle.rpg_program.specs.Fronts.{OnlyGrows};
 ghost use Rattle.rpg_machine_lines.specs.Outputs.{PutsOwn, line_effect, output_of};
 ghost use Rattle.rpg_machine_lines.specs.Putting.{CanPutLine, StaysNear};
-ghost use Rattle.rpg_object_program.specs.Object.{line_row};
+ghost use Rattle.rpg_program.specs.Object.{line_row};
 
 use crate::assembly::{Entries, assemble};
 use crate::bytes::Output;
 use crate::field::{blank_all, fill_blanks};
 use crate::plan::LinePlan;
 use crate::printer::put_on;
-use rpg_effect::outcome::End;
 use rpg_memory::memory::Memory;
-use rpg_object_program::row::Line;
+use rpg_program::outcome::End;
+use rpg_program::rows::Line;
 use rpg_store::store::Store;
 use std::alloc::AllocError;
 

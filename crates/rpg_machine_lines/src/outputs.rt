@@ -1,7 +1,7 @@
 //! The outputs of a program: at detail time, at total time, at overflow, and at an EXCPT.
 ghost use Rattle.std.specs.Prelude.{◌≡◌, IfOk, OnOk};
-ghost use Rattle.rpg_effect.specs.Ends.{end_of};
-ghost use Rattle.rpg_effect.specs.Fronts.{OnlyGrows};
+ghost use Rattle.rpg_program.specs.Ends.{end_of};
+ghost use Rattle.rpg_program.specs.Fronts.{OnlyGrows};
 ghost use Rattle.rpg_machine_lines.specs.Outputs.{PutsOwn, detail_effect, exception_effect, output_of, overflow_detail_effect, overflow_effect, total_effect};
 ghost use Rattle.rpg_machine_lines.specs.Plans.{IsPlanOf};
 ghost use Rattle.rpg_machine_lines.specs.Putting.{CanPutLines, StaysNear};
@@ -12,9 +12,9 @@ use crate::assembly::Entries;
 use crate::bytes::Output;
 use crate::passage::put_lines;
 use crate::plan::Plan;
-use rpg_effect::line::Pass;
-use rpg_effect::outcome::End;
 use rpg_memory::memory::Memory;
+use rpg_program::line::Pass;
+use rpg_program::outcome::End;
 use rpg_store::store::Store;
 use std::alloc::AllocError;
 

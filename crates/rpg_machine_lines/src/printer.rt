@@ -1,20 +1,20 @@
 //! Lines on the printer's form, and records on the disk.
 ghost use Rattle.std.specs.Prelude.{◌≡◌, ◌≤◌, ◌+◌, ◌++◌, ◌∷◌, [], take, vec_len, OnErr, OnOk};
-ghost use Rattle.rpg_effect.specs.Ends.{GoesOn};
-ghost use Rattle.rpg_effect.specs.Fronts.{OnlyGrows};
-ghost use Rattle.rpg_effect.specs.Lines as lines;
+ghost use Rattle.rpg_program.specs.Ends.{GoesOn};
+ghost use Rattle.rpg_program.specs.Fronts.{OnlyGrows};
+ghost use Rattle.rpg_program.specs.Lines as lines;
 ghost use Rattle.rpg_machine_lines.specs.Outputs.{Puts, form_moved, output_of};
 ghost use Rattle.rpg_machine_lines.specs.Putting.{CanPlace, PlacesNear};
 ghost use Rattle.rpg_machine_lines.specs.Ready.{IsNear};
 
 use crate::bytes::Output;
-use rpg_effect::line::{File, Spacing};
 use rpg_memory::memory::Memory;
+use rpg_program::line::{File, Spacing};
 use rpg_store::store::Store;
 use std::alloc::AllocError;
 
 /// The form moves: a skip, and then a space.
-#[tactic(auto, using(crate::proofs::Moving::moving), unfolding(rpg_effect::specs::Lines::after_movement))]
+#[tactic(auto, using(crate::proofs::Moving::moving), unfolding(rpg_program::specs::Lines::after_movement))]
 fn move_form<S: Store + Drop>(memory: &mut Memory<'_, S>, line: u8, spaces: u8)
     requires line { line ≤ 66 }
     requires spaces { spaces ≤ 3 }
@@ -27,7 +27,7 @@ fn move_form<S: Store + Drop>(memory: &mut Memory<'_, S>, line: u8, spaces: u8)
 }
 
 /// Moves the form, places the line without the blanks after `reach`, and moves the form.
-#[tactic(auto, using(crate::proofs::Moving::printing, crate::proofs::Moving::moving), unfolding(rpg_effect::specs::Lines::after_movement))]
+#[tactic(auto, using(crate::proofs::Moving::printing, crate::proofs::Moving::moving), unfolding(rpg_program::specs::Lines::after_movement))]
 fn print_line<S: Store + Drop>(
     memory: &mut Memory<'_, S>,
     output: &mut Output,
@@ -55,7 +55,7 @@ fn append_record(disk: &mut Vec<u8>, text: &[u8]) -> Result<(), AllocError>
 }
 
 /// A record of the disk, with a line feed after it.
-#[tactic(auto, using(rpg_effect::proofs::Printing::record_done))]
+#[tactic(auto, using(rpg_program::proofs::Printing::record_done))]
 fn write_record<S: Store + Drop>(
     memory: &Memory<'_, S>,
     output: &mut Output,

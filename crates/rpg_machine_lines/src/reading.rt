@@ -4,10 +4,10 @@ ghost use Rattle.rpg_machine_lines.specs.Entries.{IsFieldEntry};
 ghost use Rattle.rpg_machine_lines.specs.Putting.{CanBeRead};
 ghost use Rattle.rpg_memory.specs.Memory.{position_in};
 
-use rpg_effect::form::FieldForm;
-use rpg_effect::operation::Operand;
 use rpg_memory::entry;
 use rpg_memory::memory::Memory;
+use rpg_program::form::FieldForm;
+use rpg_program::operation::Operand;
 use rpg_store::store::Store;
 
 /// The position that an operand names, where its index is in range; `form` is that of its field.

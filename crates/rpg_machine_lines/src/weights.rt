@@ -1,12 +1,12 @@
 //! What the lines of each output weigh.
 ghost use Rattle.std.specs.Prelude.{◌≡◌, ◌≤◌};
-ghost use Rattle.rpg_effect.specs.Weights as words;
+ghost use Rattle.rpg_program.specs.Weights as words;
 ghost use Rattle.rpg_machine_lines.specs.Weighed.{weighed};
-ghost use Rattle.rpg_object_program.specs.Kept.{IsProgram};
-ghost use Rattle.rpg_object_program.specs.Object.{lines_of, seen};
+ghost use Rattle.rpg_program.specs.Kept.{IsProgram};
+ghost use Rattle.rpg_program.specs.Object.{lines_of, seen};
 
-use rpg_effect::line::Time;
-use rpg_object_program::row::Rows;
+use rpg_program::line::Time;
+use rpg_program::rows::Rows;
 
 /// The output whose lines are weighed.
 #[derive(Clone, Copy)]

@@ -6,9 +6,9 @@ use Rattle.std.specs.Int.{w128}
 use lib.Signed.{mag}
 use Rattle.rpg_decimal.proofs.WholeLemmas.{back, mag_below}
 use Rattle.rpg_decimal_words.specs.Fraction.{minus, plus, stored_number, with_decimals}
-use Rattle.rpg_effect.specs.Act.{computed}
-use Rattle.rpg_effect.specs.declared.operation.Operator.{Operator}
-use Rattle.rpg_effect.specs.declared.operation.Operator.TheVariants.{Add, Multiply, Subtract}
+use Rattle.rpg_program.specs.Act.{computed}
+use Rattle.rpg_program.specs.declared.operation.Operator.{Operator}
+use Rattle.rpg_program.specs.declared.operation.Operator.TheVariants.{Add, Multiply, Subtract}
 use Rattle.rpg_memory.proofs.Entries.{and_true}
 use Rattle.rpg_machine_operations.specs.Fixed.{are_aligned}
 

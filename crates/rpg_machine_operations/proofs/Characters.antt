@@ -4,10 +4,10 @@ use Rattle.std.specs.Prelude.{All}
 use Rattle.std.proofs.lemmas.List.Elements.{All-append, All-cons, All-drop, All-map, All-nil, All-take}
 use Rattle.rpg_decimal_words.specs.Place.{lowest_digits}
 use Rattle.rpg_decimal_words.specs.Zoned.{last_character, minus_letter, zoned_text}
-use Rattle.rpg_effect.specs.Act.{text_over}
-use Rattle.rpg_effect.specs.declared.operation.Side.{Side}
-use Rattle.rpg_effect.specs.declared.operation.Side.TheVariants.{Right, Left}
-use Rattle.rpg_object_program.specs.Kept.{IsCharacter}
+use Rattle.rpg_program.specs.Act.{text_over}
+use Rattle.rpg_program.specs.declared.operation.Side.{Side}
+use Rattle.rpg_program.specs.declared.operation.Side.TheVariants.{Right, Left}
+use Rattle.rpg_program.specs.Kept.{IsCharacter}
 
 -- places of characters over characters
 pub over_characters : (side : Side) (source old : List ℕ) → All IsCharacter source → All IsCharacter old → All IsCharacter (text_over side source old)

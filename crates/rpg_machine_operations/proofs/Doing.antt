@@ -1,25 +1,25 @@
 -- What the columns of an operation give of its entries.
 use Rattle.std.proofs.Common.{◌≡◌, ℕ, Bool, true, List, Option, None, Some}
 use Rattle.std.specs.Option.{option_map}
-use Rattle.rpg_effect.specs.Act.{field_of_entry}
-use Rattle.rpg_effect.specs.Forms.{entries_of, kind_of}
-use Rattle.rpg_effect.specs.Rows.{holds_position, holds_positions, row_of}
-use Rattle.rpg_effect.specs.declared.form.FieldForm.{FieldForm}
-use Rattle.rpg_effect.specs.declared.form.Kind.TheVariants as kinds
-use Rattle.rpg_effect.specs.declared.operation.Action.TheVariants.{Compute, Divide, Assign, TakeRemainder, CrossFoot, LookUp, Move}
-use Rattle.rpg_effect.specs.declared.operation.Entry.{Entry}
-use Rattle.rpg_effect.specs.declared.operation.Operand.{Operand}
-use Rattle.rpg_effect.specs.declared.operation.Operator.{Operator}
-use Rattle.rpg_effect.specs.declared.operation.Shows.{Shows}
-use Rattle.rpg_effect.specs.declared.operation.Side.{Side}
-use Rattle.rpg_effect.specs.declared.form.Kind.{Kind}
-use Rattle.rpg_effect.specs.declared.row.Shape.{Shape}
-use Rattle.rpg_effect.specs.declared.row.Shape.TheVariants as shapes
+use Rattle.rpg_program.specs.Act.{field_of_entry}
+use Rattle.rpg_program.specs.Forms.{entries_of, kind_of}
+use Rattle.rpg_program.specs.Rows.{holds_position, holds_positions, row_of}
+use Rattle.rpg_program.specs.declared.form.FieldForm.{FieldForm}
+use Rattle.rpg_program.specs.declared.form.Kind.TheVariants as kinds
+use Rattle.rpg_program.specs.declared.operation.Action.TheVariants.{Compute, Divide, Assign, TakeRemainder, CrossFoot, LookUp, Move}
+use Rattle.rpg_program.specs.declared.operation.Entry.{Entry}
+use Rattle.rpg_program.specs.declared.operation.Operand.{Operand}
+use Rattle.rpg_program.specs.declared.operation.Operator.{Operator}
+use Rattle.rpg_program.specs.declared.operation.Shows.{Shows}
+use Rattle.rpg_program.specs.declared.operation.Side.{Side}
+use Rattle.rpg_program.specs.declared.form.Kind.{Kind}
+use Rattle.rpg_program.specs.declared.row.Shape.{Shape}
+use Rattle.rpg_program.specs.declared.row.Shape.TheVariants as shapes
 use Rattle.rpg_memory.specs.Fields.{IsValue, reads_index}
 use Rattle.rpg_machine_operations.specs.Good.{AreOperandEntries, IsOperandEntry, IsRightAction}
 use Rattle.rpg_machine_operations.specs.Words.{operand_field}
 use Rattle.rpg_machine_operations.proofs.Rights.{reads_shape}
-use Rattle.rpg_effect.specs.Forms.{form_at}
+use Rattle.rpg_program.specs.Forms.{form_at}
 
 module _ (forms : List FieldForm) where
   abbrev pub IsNumber : Entry ℕ → Type 0

@@ -3,26 +3,26 @@ use Rattle.std.proofs.Common.{◌≡◌, ℕ, zero, suc, pos, ◌+◌, ◌-◌, 
 use Rattle.std.proofs.Math.Nat.{pow-le-pow_right}
 use Rattle.std.proofs.lemmas.Option.{same_Some}
 use Rattle.std.specs.List.{find, range_with_len}
-use Rattle.rpg_effect.specs.Act.{found_in, found_shown, looked_up, with_found, position_fault, order_at, search_start}
-use Rattle.rpg_effect.specs.Forms.{entries_of, length_of}
-use Rattle.rpg_effect.specs.Ended.{ends_with}
-use Rattle.rpg_effect.specs.Rows.{can_hold, holds_position}
-use Rattle.rpg_effect.specs.Search.{first_one, found_as, if_asked, last_one, nearest, or_else, positions, search_of, stands}
-use Rattle.rpg_effect.specs.World.{Data}
-use Rattle.rpg_effect.specs.declared.form.FieldForm.{FieldForm}
-use Rattle.rpg_effect.specs.declared.form.Kind.{Kind}
-use Rattle.rpg_effect.specs.declared.operation.Entry.{Entry}
-use Rattle.rpg_effect.specs.declared.operation.Found.{Found}
-use Rattle.rpg_effect.specs.declared.operation.Index.{Index}
-use Rattle.rpg_effect.specs.declared.operation.Index.TheVariants.{Blank, Literal, Field}
-use Rattle.rpg_effect.specs.declared.operation.Shows.{Shows}
-use Rattle.rpg_effect.specs.Ends.{Fault, GoesOn}
+use Rattle.rpg_program.specs.Act.{found_in, found_shown, looked_up, with_found, position_fault, order_at, search_start}
+use Rattle.rpg_program.specs.Forms.{entries_of, length_of}
+use Rattle.rpg_program.specs.Ended.{ends_with}
+use Rattle.rpg_program.specs.Rows.{can_hold, holds_position}
+use Rattle.rpg_program.specs.Search.{first_one, found_as, if_asked, last_one, nearest, or_else, positions, search_of, stands}
+use Rattle.rpg_program.specs.World.{Data}
+use Rattle.rpg_program.specs.declared.form.FieldForm.{FieldForm}
+use Rattle.rpg_program.specs.declared.form.Kind.{Kind}
+use Rattle.rpg_program.specs.declared.operation.Entry.{Entry}
+use Rattle.rpg_program.specs.declared.operation.Found.{Found}
+use Rattle.rpg_program.specs.declared.operation.Index.{Index}
+use Rattle.rpg_program.specs.declared.operation.Index.TheVariants.{Blank, Literal, Field}
+use Rattle.rpg_program.specs.declared.operation.Shows.{Shows}
+use Rattle.rpg_program.specs.Ends.{Fault, GoesOn}
 use Rattle.rpg_memory.specs.Fields.{AreForms, IsValue, reads_index}
 use Rattle.rpg_machine_operations.specs.Good.{FitsPosition, HasPosition}
 use Rattle.rpg_memory.proofs.Entries.{index_value, and_true}
-use Rattle.rpg_effect.proofs.Searches.{reverse_more}
+use Rattle.rpg_program.proofs.Searches.{reverse_more}
 use Rattle.rpg_memory.proofs.Values.{length_low}
-use Rattle.rpg_effect.specs.Forms.{form_at}
+use Rattle.rpg_program.specs.Forms.{form_at}
 
 pub record Between (from last p : ℕ) : Type 0 where
   pub low : from ≤ p

@@ -2,14 +2,14 @@
 use Rattle.std.proofs.Common.{◌≡◌, ℕ, Bool, true, false, cond, Option, None, Some, is_some, refl, sym}
 use Rattle.std.proofs.lemmas.Option.{cond_some, same_Some}
 use Rattle.std.specs.Option.{option_map}
-use Rattle.rpg_effect.specs.Act.{act}
-use Rattle.rpg_effect.specs.Entries.{entry_of}
-use Rattle.rpg_effect.specs.Operate.{has_entries, names_entry, operate, resolved}
-use Rattle.rpg_effect.specs.Rows.{all_used, form_of, row_of, table_use}
-use Rattle.rpg_effect.specs.declared.operation.Action.TheVariants.{LookUp}
-use Rattle.rpg_effect.specs.declared.operation.Entry.{Entry}
-use Rattle.rpg_effect.specs.declared.operation.Operand.{Operand}
-use Rattle.rpg_effect.specs.declared.operation.Shows.{Shows}
+use Rattle.rpg_program.specs.Act.{act}
+use Rattle.rpg_program.specs.Entries.{entry_of}
+use Rattle.rpg_program.specs.Operate.{has_entries, names_entry, operate, resolved}
+use Rattle.rpg_program.specs.Rows.{all_used, form_of, row_of, table_use}
+use Rattle.rpg_program.specs.declared.operation.Action.TheVariants.{LookUp}
+use Rattle.rpg_program.specs.declared.operation.Entry.{Entry}
+use Rattle.rpg_program.specs.declared.operation.Operand.{Operand}
+use Rattle.rpg_program.specs.declared.operation.Shows.{Shows}
 use Rattle.rpg_memory.specs.Fields.{resolved_entry}
 use Rattle.rpg_memory.specs.Memory.{Working, entry_if_in_range, forms_in, position_in}
 use Rattle.rpg_memory.specs.declared.resolved.Resolved.{Resolved}

@@ -1,17 +1,17 @@
 -- Operations on operands that were resolved.
 use Rattle.std.proofs.Common.{◌≡◌, ℕ, ℤ, Bool, true, false, Some, is_some, refl, sym}
 use Rattle.std.proofs.lemmas.Option.{cond_some}
-use Rattle.rpg_effect.specs.Act.{act, store}
-use Rattle.rpg_effect.specs.Ends.{GoesOn}
-use Rattle.rpg_effect.specs.Entries.{entry_of}
-use Rattle.rpg_effect.specs.Operate.{has_entries, operate, resolved}
-use Rattle.rpg_effect.specs.Ended.{Gives}
-use Rattle.rpg_effect.specs.Rows.{row_of}
-use Rattle.rpg_effect.specs.declared.operation.Action.TheVariants.{Assign, Compare, Compute, CrossFoot, Divide, Move, TakeRemainder}
-use Rattle.rpg_effect.specs.declared.operation.Operand.{Operand}
-use Rattle.rpg_effect.specs.declared.operation.Operator.{Operator}
-use Rattle.rpg_effect.specs.declared.operation.Shows.{Shows}
-use Rattle.rpg_effect.specs.declared.operation.Side.{Side}
+use Rattle.rpg_program.specs.Act.{act, store}
+use Rattle.rpg_program.specs.Ends.{GoesOn}
+use Rattle.rpg_program.specs.Entries.{entry_of}
+use Rattle.rpg_program.specs.Operate.{has_entries, operate, resolved}
+use Rattle.rpg_program.specs.Ended.{Gives}
+use Rattle.rpg_program.specs.Rows.{row_of}
+use Rattle.rpg_program.specs.declared.operation.Action.TheVariants.{Assign, Compare, Compute, CrossFoot, Divide, Move, TakeRemainder}
+use Rattle.rpg_program.specs.declared.operation.Operand.{Operand}
+use Rattle.rpg_program.specs.declared.operation.Operator.{Operator}
+use Rattle.rpg_program.specs.declared.operation.Shows.{Shows}
+use Rattle.rpg_program.specs.declared.operation.Side.{Side}
 use Rattle.rpg_memory.specs.Memory.{Working, data_put, entry_if_in_range, forms_in, position_in}
 use Rattle.rpg_memory.specs.declared.resolved.Resolved.{Resolved}
 use Rattle.rpg_machine_operations.specs.Words.{act_in, assigned_in, computed_in, kind_in, moved_in, operate_in, stored_value_in, summed_in}

@@ -2,12 +2,12 @@
 ghost use Rattle.std.specs.Prelude.{◌≡◌, ◌≢◌, ◌<◌, ◌≤◌, ◌+◌, ◌^◌, pos, true, false, None, if◌then◌else◌, unsigned_abs, IfSome};
 ghost use Rattle.rpg_decimal_words.specs.Fraction.{stored_number, times, with_decimals};
 ghost use Rattle.rpg_decimal.specs.Num.{value_of};
-ghost use Rattle.rpg_effect.specs.Act as acts;
-ghost use Rattle.rpg_effect.specs.Ends.{end_of};
-ghost use Rattle.rpg_effect.specs.Forms.{length_of};
-ghost use Rattle.rpg_effect.specs.World.{number_at};
-ghost use Rattle.rpg_effect.specs.declared.form.Kind.TheVariants as kinds;
-ghost use Rattle.rpg_effect.specs.declared.operation.Action.TheVariants as actions;
+ghost use Rattle.rpg_program.specs.Act as acts;
+ghost use Rattle.rpg_program.specs.Ends.{end_of};
+ghost use Rattle.rpg_program.specs.Forms.{length_of};
+ghost use Rattle.rpg_program.specs.World.{number_at};
+ghost use Rattle.rpg_program.specs.declared.form.Kind.TheVariants as kinds;
+ghost use Rattle.rpg_program.specs.declared.operation.Action.TheVariants as actions;
 ghost use Rattle.rpg_memory.specs.Fields.{IsValue};
 ghost use Rattle.rpg_memory.specs.Memory.{NamesNumber, data_put, forms_in, rest_value};
 ghost use Rattle.rpg_machine_operations.specs.Fixed.{are_aligned};
@@ -16,12 +16,12 @@ ghost use Rattle.rpg_memory.specs.Doing.{DidData};
 
 use crate::resolving::number_named;
 use rpg_decimal::{Num, Rest, Scale, Target, add, div, fit, keep, mult, remainder, sub};
-use rpg_effect::halt::Halt;
-use rpg_effect::operation::{Entry, Operand, Operator, Shows};
-use rpg_effect::outcome::End;
 use rpg_memory::memory::Memory;
 use rpg_memory::numbers::{number_at, target_of};
 use rpg_memory::resolved::Resolved;
+use rpg_program::halt::Halt;
+use rpg_program::operation::{Entry, Operand, Operator, Shows};
+use rpg_program::outcome::End;
 use rpg_store::store::Store;
 
 /// Stores a number, and sets the indicators by it.
@@ -210,7 +210,7 @@ fn kept_remainder<S: Store + Drop>(memory: &Memory<'_, S>, to: Resolved) -> i64
 }
 
 /// ADD, SUB and MULT. None where an index is out of range.
-#[tactic(auto, unfolding(rpg_effect::specs::Act::act, rpg_effect::specs::Operate::has_entries, rpg_effect::specs::Operate::operate, rpg_effect::specs::Operate::resolved, rpg_effect::specs::Rows::row_of))]
+#[tactic(auto, unfolding(rpg_program::specs::Act::act, rpg_program::specs::Operate::has_entries, rpg_program::specs::Operate::operate, rpg_program::specs::Operate::resolved, rpg_program::specs::Rows::row_of))]
 pub fn compute<S: Store + Drop>(
     memory: &mut Memory<'_, S>,
     operator: Operator,
@@ -234,7 +234,7 @@ pub fn compute<S: Store + Drop>(
 }
 
 /// Divides, stores the quotient and keeps the remainder. A zero divisor is halt 1.
-#[tactic(auto, unfolding(rpg_effect::specs::Act::act))]
+#[tactic(auto, unfolding(rpg_program::specs::Act::act))]
 fn divide_numbers<S: Store + Drop>(
     memory: &mut Memory<'_, S>,
     half: bool,
@@ -254,7 +254,7 @@ fn divide_numbers<S: Store + Drop>(
 }
 
 /// DIV. None where an index is out of range.
-#[tactic(auto, unfolding(rpg_effect::specs::Act::act, rpg_effect::specs::Operate::has_entries, rpg_effect::specs::Operate::operate, rpg_effect::specs::Operate::resolved, rpg_effect::specs::Rows::row_of))]
+#[tactic(auto, unfolding(rpg_program::specs::Act::act, rpg_program::specs::Operate::has_entries, rpg_program::specs::Operate::operate, rpg_program::specs::Operate::resolved, rpg_program::specs::Rows::row_of))]
 pub fn divide<S: Store + Drop>(
     memory: &mut Memory<'_, S>,
     half: bool,
@@ -275,7 +275,7 @@ pub fn divide<S: Store + Drop>(
 }
 
 /// Z-ADD and Z-SUB. None where an index is out of range.
-#[tactic(auto, unfolding(rpg_effect::specs::Act::act, rpg_effect::specs::Operate::has_entries, rpg_effect::specs::Operate::operate, rpg_effect::specs::Operate::resolved, rpg_effect::specs::Rows::row_of))]
+#[tactic(auto, unfolding(rpg_program::specs::Act::act, rpg_program::specs::Operate::has_entries, rpg_program::specs::Operate::operate, rpg_program::specs::Operate::resolved, rpg_program::specs::Rows::row_of))]
 pub fn assign<S: Store + Drop>(
     memory: &mut Memory<'_, S>,
     is_negated: bool,
@@ -296,7 +296,7 @@ pub fn assign<S: Store + Drop>(
 }
 
 /// MVR. None where an index is out of range.
-#[tactic(auto, unfolding(rpg_effect::specs::Act::act, rpg_effect::specs::Operate::has_entries, rpg_effect::specs::Operate::operate, rpg_effect::specs::Operate::resolved, rpg_effect::specs::Rows::row_of))]
+#[tactic(auto, unfolding(rpg_program::specs::Act::act, rpg_program::specs::Operate::has_entries, rpg_program::specs::Operate::operate, rpg_program::specs::Operate::resolved, rpg_program::specs::Rows::row_of))]
 pub fn take_remainder<S: Store + Drop>(
     memory: &mut Memory<'_, S>,
     to: &Operand<u16>,

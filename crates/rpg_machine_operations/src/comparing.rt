@@ -1,18 +1,18 @@
 //! How entries compare, and COMP.
 ghost use Rattle.std.specs.Prelude.{◌≡◌};
-ghost use Rattle.rpg_effect.specs.declared.operation.Action.TheVariants as actions;
+ghost use Rattle.rpg_program.specs.declared.operation.Action.TheVariants as actions;
 ghost use Rattle.rpg_memory.specs.Fields.{IsResolved};
 ghost use Rattle.rpg_memory.specs.Memory.{data_put};
 ghost use Rattle.rpg_machine_operations.specs.Words.{AreAlike, DidOperate, IsLikeOperand, compared_in, order_in};
 
 use crate::resolving::entry_named;
 use rpg_decimal::{compare, compare_text};
-use rpg_effect::form::Kind;
-use rpg_effect::operation::{Operand, Shows};
-use rpg_effect::outcome::End;
 use rpg_memory::memory::Memory;
 use rpg_memory::numbers::number_at;
 use rpg_memory::resolved::Resolved;
+use rpg_program::form::Kind;
+use rpg_program::operation::{Operand, Shows};
+use rpg_program::outcome::End;
 use rpg_store::store::Store;
 use std::cmp::Ordering;
 
@@ -51,7 +51,7 @@ fn show_order<S: Store + Drop>(
 }
 
 /// COMP. None where an index is out of range.
-#[tactic(auto, unfolding(rpg_effect::specs::Act::act, rpg_effect::specs::Operate::has_entries, rpg_effect::specs::Operate::operate, rpg_effect::specs::Operate::resolved, rpg_effect::specs::Rows::row_of))]
+#[tactic(auto, unfolding(rpg_program::specs::Act::act, rpg_program::specs::Operate::has_entries, rpg_program::specs::Operate::operate, rpg_program::specs::Operate::resolved, rpg_program::specs::Rows::row_of))]
 pub fn compare_entries<S: Store + Drop>(
     memory: &mut Memory<'_, S>,
     factor1: &Operand<u16>,

@@ -1,10 +1,10 @@
 //! Operations: their weight, and what they do to values, current entries and indicators.
 ghost use Rattle.std.specs.Prelude.{◌≡◌};
-ghost use Rattle.rpg_effect.specs.Ends.{end_of};
-ghost use Rattle.rpg_effect.specs.Forms.{form_at};
-ghost use Rattle.rpg_effect.specs.Rows as rows_of;
-ghost use Rattle.rpg_effect.specs.Weights as weights;
-ghost use Rattle.rpg_effect.specs.declared.operation.Action.TheVariants as actions;
+ghost use Rattle.rpg_program.specs.Ends.{end_of};
+ghost use Rattle.rpg_program.specs.Forms.{form_at};
+ghost use Rattle.rpg_program.specs.Rows as rows_of;
+ghost use Rattle.rpg_program.specs.Weights as weights;
+ghost use Rattle.rpg_program.specs.declared.operation.Action.TheVariants as actions;
 ghost use Rattle.rpg_machine_operations.specs.Good.{IsRightAction};
 ghost use Rattle.rpg_machine_operations.specs.Words.{DidOperate, operate_in};
 ghost use Rattle.rpg_memory.specs.Doing.{DidData};
@@ -14,16 +14,16 @@ use crate::comparing::compare_entries;
 use crate::places::move_places;
 use crate::searching::look_up;
 use crate::summing::cross_foot;
-use rpg_effect::halt::Halt;
-use rpg_effect::operation::{Action, Operand, Shows};
-use rpg_effect::outcome::End;
 use rpg_memory::memory::Memory;
-use rpg_object_program::forms::{entries_of, form_at};
-use rpg_object_program::row::Rows;
+use rpg_program::forms::{entries_of, form_at};
+use rpg_program::halt::Halt;
+use rpg_program::operation::{Action, Operand, Shows};
+use rpg_program::outcome::End;
+use rpg_program::rows::Rows;
 use rpg_store::store::Store;
 
 /// The weight of an operation: one, and the entries that XFOOT and LOKUP go through.
-#[tactic(auto, unfolding(rpg_effect::specs::Weights::row_weight, rpg_effect::specs::Rows::row_of))]
+#[tactic(auto, unfolding(rpg_program::specs::Weights::row_weight, rpg_program::specs::Rows::row_of))]
 pub fn weight(rows: &Rows, action: &Action<Operand<u16>>) -> u32
     ensures { result ≡ weights.row_weight (form_at rows.now.fields.items) (rows_of.row_of (rows_of.form_of (form_at rows.now.fields.items)) action.now) }
 {
@@ -42,7 +42,7 @@ pub fn weight(rows: &Rows, action: &Action<Operand<u16>>) -> u32
 }
 
 /// SETON and SETOF.
-#[tactic(auto, unfolding(rpg_effect::specs::Act::act, rpg_effect::specs::Operate::has_entries, rpg_effect::specs::Operate::operate, rpg_effect::specs::Operate::resolved, rpg_effect::specs::Rows::row_of))]
+#[tactic(auto, unfolding(rpg_program::specs::Act::act, rpg_program::specs::Operate::has_entries, rpg_program::specs::Operate::operate, rpg_program::specs::Operate::resolved, rpg_program::specs::Rows::row_of))]
 fn set_indicators<S: Store + Drop>(
     memory: &mut Memory<'_, S>,
     is_on: bool,

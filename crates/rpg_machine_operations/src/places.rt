@@ -1,26 +1,26 @@
 //! MOVE and MOVEL: places of factor 2 over those of the result field.
 ghost use Rattle.std.specs.Prelude.{◌≡◌, ℕ, ℤ, All, IfSome};
 ghost use Rattle.rpg_decimal.specs.Source as sources;
-ghost use Rattle.rpg_effect.specs.Act as acts;
-ghost use Rattle.rpg_effect.specs.Ends.{end_of, GoesOn};
-ghost use Rattle.rpg_effect.specs.Forms.{length_of};
-ghost use Rattle.rpg_effect.specs.World.{number_at};
-ghost use Rattle.rpg_effect.specs.declared.form.Kind.TheVariants as kinds;
-ghost use Rattle.rpg_effect.specs.declared.operation.Action.TheVariants as actions;
-ghost use Rattle.rpg_effect.specs.declared.operation.Side.TheVariants as sides;
+ghost use Rattle.rpg_program.specs.Act as acts;
+ghost use Rattle.rpg_program.specs.Ends.{end_of, GoesOn};
+ghost use Rattle.rpg_program.specs.Forms.{length_of};
+ghost use Rattle.rpg_program.specs.World.{number_at};
+ghost use Rattle.rpg_program.specs.declared.form.Kind.TheVariants as kinds;
+ghost use Rattle.rpg_program.specs.declared.operation.Action.TheVariants as actions;
+ghost use Rattle.rpg_program.specs.declared.operation.Side.TheVariants as sides;
 ghost use Rattle.rpg_memory.specs.Memory.{NamesLike, NamesNumber, NamesText, forms_in};
 ghost use Rattle.rpg_machine_operations.specs.Words.{DidOperate, FitsResult, IsLikeOperand, kind_in, moved_in, number_moved, number_after_in, source_in};
 ghost use Rattle.rpg_memory.specs.Doing.{DidData};
-ghost use Rattle.rpg_object_program.specs.Kept.{IsCharacter};
+ghost use Rattle.rpg_program.specs.Kept.{IsCharacter};
 
 use crate::resolving::entry_named;
 use rpg_decimal::{Figure, Source, move_left, move_left_text, move_right, move_right_text};
-use rpg_effect::form::Kind;
-use rpg_effect::halt::Halt;
-use rpg_effect::operation::{Operand, Side};
-use rpg_effect::outcome::End;
 use rpg_memory::memory::Memory;
 use rpg_memory::resolved::Resolved;
+use rpg_program::form::Kind;
+use rpg_program::halt::Halt;
+use rpg_program::operation::{Operand, Side};
+use rpg_program::outcome::End;
 use rpg_store::store::Store;
 
 /// The digits of a number field.
@@ -72,7 +72,7 @@ fn number_after<S: Store + Drop>(
 }
 
 /// Puts factor 2 over a number. What is no number is halt 4.
-#[tactic(auto, unfolding(rpg_effect::specs::Act::moved))]
+#[tactic(auto, unfolding(rpg_program::specs::Act::moved))]
 fn move_to_number<S: Store + Drop>(
     memory: &mut Memory<'_, S>,
     side: Side,
@@ -100,7 +100,7 @@ fn put_over(side: Side, source: Source<'_>, text: &mut [u8])
 }
 
 /// Puts factor 2 over a text.
-#[tactic(auto, unfolding(rpg_effect::specs::Act::moved))]
+#[tactic(auto, unfolding(rpg_program::specs::Act::moved))]
 fn move_to_text<S: Store + Drop>(
     memory: &mut Memory<'_, S>,
     side: Side,
@@ -141,7 +141,7 @@ fn move_to_entry<S: Store + Drop>(
 }
 
 /// MOVE and MOVEL. None where an index is out of range.
-#[tactic(auto, unfolding(rpg_effect::specs::Act::act, rpg_effect::specs::Operate::has_entries, rpg_effect::specs::Operate::operate, rpg_effect::specs::Operate::resolved, rpg_effect::specs::Rows::row_of))]
+#[tactic(auto, unfolding(rpg_program::specs::Act::act, rpg_program::specs::Operate::has_entries, rpg_program::specs::Operate::operate, rpg_program::specs::Operate::resolved, rpg_program::specs::Rows::row_of))]
 pub fn move_places<S: Store + Drop>(
     memory: &mut Memory<'_, S>,
     side: Side,

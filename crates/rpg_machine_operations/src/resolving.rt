@@ -1,21 +1,21 @@
 //! The entries that the operands of a right operation name. None where an index is out of range.
 ghost use Rattle.std.specs.Prelude.{◌≡◌, IfSome};
 ghost use Rattle.std.specs.Option.{option_map};
-ghost use Rattle.rpg_effect.specs.declared.form.Kind.{Kind};
+ghost use Rattle.rpg_program.specs.declared.form.Kind.{Kind};
 ghost use Rattle.rpg_memory.specs.Fields.{CanBeResolved, IsResolved, resolved_entry};
 ghost use Rattle.rpg_memory.specs.Memory.{NamesNumber, entry_if_in_range};
 ghost use Rattle.rpg_machine_operations.specs.Good.{IsRightOperand, written_operand};
 ghost use Rattle.rpg_machine_operations.specs.Words.{IsNumberOperand, entry_if_any, field_if_any, operand_field};
 
-use rpg_effect::operation::Operand;
 use rpg_memory::entry::resolve;
 use rpg_memory::memory::Memory;
 use rpg_memory::resolved::Resolved;
+use rpg_program::operation::Operand;
 use rpg_store::store::Store;
 
 /// The entry that an operand names: of whatever kind it is right for.
 #[inline(always)]
-#[tactic(auto, unfolding(rpg_effect::specs::Entries::entry_of))]
+#[tactic(auto, unfolding(rpg_program::specs::Entries::entry_of))]
 pub fn entry_named<S: Store + Drop>(
     memory: &Memory<'_, S>,
     operand: &Operand<u16>,
@@ -43,7 +43,7 @@ pub fn number_named<S: Store + Drop>(
 }
 
 /// The result's table of LOKUP, if there is one, with the entry that is current there.
-#[tactic(auto, unfolding(rpg_effect::specs::Entries::entry_of))]
+#[tactic(auto, unfolding(rpg_program::specs::Entries::entry_of))]
 pub fn table_named<S: Store + Drop>(
     memory: &Memory<'_, S>,
     operand: &Option<Operand<u16>>,

@@ -1,13 +1,13 @@
 //! LOKUP.
 ghost use Rattle.std.specs.Prelude.{◌≡◌, ◌≤◌, true, IfSome};
 ghost use Rattle.std.specs.Option.{option_map};
-ghost use Rattle.rpg_effect.specs.Act as acts;
-ghost use Rattle.rpg_effect.specs.Ends.{end_of};
-ghost use Rattle.rpg_effect.specs.Forms as forms_of;
-ghost use Rattle.rpg_effect.specs.Rows as rows_of;
-ghost use Rattle.rpg_effect.specs.Search as of;
-ghost use Rattle.rpg_effect.specs.declared.operation.Action.TheVariants as actions;
-ghost use Rattle.rpg_effect.specs.declared.operation.Found.{Found};
+ghost use Rattle.rpg_program.specs.Act as acts;
+ghost use Rattle.rpg_program.specs.Ends.{end_of};
+ghost use Rattle.rpg_program.specs.Forms as forms_of;
+ghost use Rattle.rpg_program.specs.Rows as rows_of;
+ghost use Rattle.rpg_program.specs.Search as of;
+ghost use Rattle.rpg_program.specs.declared.operation.Action.TheVariants as actions;
+ghost use Rattle.rpg_program.specs.declared.operation.Found.{Found};
 ghost use Rattle.rpg_memory.specs.Fields.{CanBeResolved, reads_index};
 ghost use Rattle.rpg_memory.specs.Memory.{data_put, forms_in};
 ghost use Rattle.rpg_machine_operations.specs.Good.{FitsPosition, HasPosition, written_operand};
@@ -16,11 +16,11 @@ ghost use Rattle.rpg_memory.specs.Doing.{DidData};
 
 use crate::comparing::compared;
 use crate::resolving::{entry_named, table_named};
-use rpg_effect::operation::{Entry, Found, Index, Operand, Shows};
-use rpg_effect::outcome::End;
 use rpg_memory::memory::Memory;
 use rpg_memory::resolved::Resolved;
-use rpg_object_program::forms::{form_at, is_table_form};
+use rpg_program::forms::{form_at, is_table_form};
+use rpg_program::operation::{Entry, Found, Index, Operand, Shows};
+use rpg_program::outcome::End;
 use rpg_store::store::Store;
 use std::cmp::Ordering;
 
@@ -146,7 +146,7 @@ fn nearest_if_asked<S: Store + Drop>(
 }
 
 /// What a search finds: an equal entry first, if an indicator is named for it.
-#[tactic(auto, unfolding(rpg_effect::specs::Act::found_in, rpg_effect::specs::Search::search_of))]
+#[tactic(auto, unfolding(rpg_program::specs::Act::found_in, rpg_program::specs::Search::search_of))]
 fn search<S: Store + Drop>(
     memory: &Memory<'_, S>,
     factor1: Resolved,
@@ -206,7 +206,7 @@ fn make_current_if_any<S: Store + Drop>(
 }
 
 /// Puts a position that was found where it goes; where nothing was found the index field gets 1.
-#[tactic(auto, unfolding(rpg_effect::specs::Act::with_found))]
+#[tactic(auto, unfolding(rpg_program::specs::Act::with_found))]
 fn place<S: Store + Drop>(
     memory: &mut Memory<'_, S>,
     factor2: Entry<u16>,
@@ -241,7 +241,7 @@ fn order_of(found: Option<Found>) -> Option<Ordering>
 }
 
 /// Searches factor 1 among the entries of factor 2, puts the position where it goes, and shows what was found.
-#[tactic(auto, unfolding(rpg_effect::specs::Act::looked_up), using(crate::proofs::Finding::found_fits, crate::proofs::Finding::no_position_fault))]
+#[tactic(auto, unfolding(rpg_program::specs::Act::looked_up), using(crate::proofs::Finding::found_fits, crate::proofs::Finding::no_position_fault))]
 fn search_and_place<S: Store + Drop>(
     memory: &mut Memory<'_, S>,
     factor1: Resolved,
@@ -261,7 +261,7 @@ fn search_and_place<S: Store + Drop>(
 }
 
 /// LOKUP. None where an index is out of range.
-#[tactic(auto, unfolding(rpg_effect::specs::Act::act, rpg_effect::specs::Operate::has_entries, rpg_effect::specs::Operate::operate, rpg_effect::specs::Operate::resolved, rpg_effect::specs::Rows::row_of))]
+#[tactic(auto, unfolding(rpg_program::specs::Act::act, rpg_program::specs::Operate::has_entries, rpg_program::specs::Operate::operate, rpg_program::specs::Operate::resolved, rpg_program::specs::Rows::row_of))]
 pub fn look_up<S: Store + Drop>(
     memory: &mut Memory<'_, S>,
     factor1: &Operand<u16>,

@@ -1,17 +1,17 @@
 //! XFOOT.
 ghost use Rattle.std.specs.Prelude.{◌≡◌, ◌<◌, ◌^◌, ◌+ℤ◌, unsigned_abs};
-ghost use Rattle.rpg_effect.specs.declared.operation.Action.TheVariants as actions;
+ghost use Rattle.rpg_program.specs.declared.operation.Action.TheVariants as actions;
 ghost use Rattle.rpg_memory.specs.Memory.{NamesNumber};
 ghost use Rattle.rpg_machine_operations.specs.Words.{DidOperate, FitsResult, IsNumberOperand, summed_in, total_in};
 
 use crate::arithmetic::store;
 use crate::resolving::number_named;
 use rpg_decimal::{Scale, keep};
-use rpg_effect::operation::{Operand, Shows};
-use rpg_effect::outcome::End;
 use rpg_memory::memory::Memory;
 use rpg_memory::numbers::target_of;
 use rpg_memory::resolved::Resolved;
+use rpg_program::operation::{Operand, Shows};
+use rpg_program::outcome::End;
 use rpg_store::store::Store;
 
 /// A sum with one number more.
@@ -57,7 +57,7 @@ fn summed<S: Store + Drop>(
 }
 
 /// XFOOT. None where an index is out of range.
-#[tactic(auto, unfolding(rpg_effect::specs::Act::act, rpg_effect::specs::Operate::has_entries, rpg_effect::specs::Operate::operate, rpg_effect::specs::Operate::resolved, rpg_effect::specs::Rows::row_of))]
+#[tactic(auto, unfolding(rpg_program::specs::Act::act, rpg_program::specs::Operate::has_entries, rpg_program::specs::Operate::operate, rpg_program::specs::Operate::resolved, rpg_program::specs::Rows::row_of))]
 pub fn cross_foot<S: Store + Drop>(
     memory: &mut Memory<'_, S>,
     half: bool,

@@ -2,3 +2,4 @@ pub mod Calculations
 pub mod Calls
 pub mod Jobs
 pub mod Operations
+pub mod Sources

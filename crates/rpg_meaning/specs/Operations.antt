@@ -9,21 +9,21 @@ use Rattle.rpg_cards.specs.Keys.{Key, Named, key_cmp}
 use Rattle.rpg_decimal_words.specs.Fraction.{Fraction, fraction_cmp, minus, over, plus, times}
 use Rattle.rpg_decimal_words.specs.Order.{text_cmp}
 use Rattle.rpg_decimal_words.specs.Zoned.{number_in, zoned_text}
-use Rattle.rpg_effect.specs.Act.{exact, found_in, index_set, left_over, made_current, made_current_if_any, store, stored_value, summed}
-use Rattle.rpg_effect.specs.Entries.{entry_of, position_of}
-use Rattle.rpg_effect.specs.Forms.{decimals_of, kind_of, length_of}
-use Rattle.rpg_effect.specs.Lines.{exception_output}
-use Rattle.rpg_effect.specs.Rows.{holds_position}
-use Rattle.rpg_effect.specs.Showing.{all_on, named_off, shown}
-use Rattle.rpg_effect.specs.Values.{Number, Text, Value}
-use Rattle.rpg_effect.specs.World.{Data, characters_at, number_at, set_value, with_data}
-use Rattle.rpg_effect.specs.declared.form.FieldForm.{FieldForm}
-use Rattle.rpg_effect.specs.declared.form.Kind.{Kind}
-use Rattle.rpg_effect.specs.declared.form.Kind.TheVariants as kinds
-use Rattle.rpg_effect.specs.declared.operation.Entry.{Entry}
-use Rattle.rpg_effect.specs.declared.operation.Found.{Found}
-use Rattle.rpg_effect.specs.declared.operation.Operand.{Operand}
-use Rattle.rpg_effect.specs.declared.operation.Shows.{Shows}
+use Rattle.rpg_program.specs.Act.{exact, found_in, index_set, left_over, made_current, made_current_if_any, store, stored_value, summed}
+use Rattle.rpg_program.specs.Entries.{entry_of, position_of}
+use Rattle.rpg_program.specs.Forms.{decimals_of, kind_of, length_of}
+use Rattle.rpg_program.specs.Lines.{exception_output}
+use Rattle.rpg_program.specs.Rows.{holds_position}
+use Rattle.rpg_program.specs.Showing.{all_on, named_off, shown}
+use Rattle.rpg_program.specs.Values.{Number, Text, Value}
+use Rattle.rpg_program.specs.World.{Data, characters_at, number_at, set_value, with_data}
+use Rattle.rpg_program.specs.declared.form.FieldForm.{FieldForm}
+use Rattle.rpg_program.specs.declared.form.Kind.{Kind}
+use Rattle.rpg_program.specs.declared.form.Kind.TheVariants as kinds
+use Rattle.rpg_program.specs.declared.operation.Entry.{Entry}
+use Rattle.rpg_program.specs.declared.operation.Found.{Found}
+use Rattle.rpg_program.specs.declared.operation.Operand.{Operand}
+use Rattle.rpg_program.specs.declared.operation.Shows.{Shows}
 use Rattle.rpg_job.specs.Calculations.{done_by, entry_named, first_or, meant_factor, meant_indicators, meant_name, meant_result}
 use Rattle.rpg_machine.specs.Config.{no_output}
 use Rattle.rpg_meaning.specs.Calculations.Meaning.{MeantOutcome, On, Source, State, Stops, affected, at_next, deed_done}

@@ -7,7 +7,7 @@ ghost use Rattle.rpg_faults.specs.Source.{IsSourceRefusal, cards_in};
 
 use crate::laws::compiled_programs_do_as_meant;
 use rpg_compile::{SourceFault, compile};
-use rpg_object_program::Program;
+use rpg_program::Program;
 use std::alloc::Global;
 
 /// Compiles a source as `compile` does, and returns a program that does what the cards mean.

@@ -3,12 +3,12 @@ ghost use Rattle.std.specs.Prelude.{◌≡◌, ℕ, ℤ, List, Some};
 ghost use Rattle.rpg_cards.specs.Keys.{key_cmp};
 ghost use Rattle.rpg_cards.specs.declared.spec_card.SpecCard.{SpecCard};
 ghost use Rattle.rpg_cycle.specs.Starting.{date_in};
-ghost use Rattle.rpg_effect.specs.World.{World};
+ghost use Rattle.rpg_program.specs.World.{World};
 ghost use Rattle.rpg_faults_flow.specs.Columns.{bad_calculation_columns};
 ghost use Rattle.rpg_faults_flow.specs.Kept.{KeepsRule};
 ghost use Rattle.rpg_meaning.specs.Jobs.Sources.{MeantRunsAreOne, RunsAreMeant};
 ghost use Rattle.rpg_meaning.specs.Jobs.Start.{IsStart};
-ghost use Rattle.rpg_object_program.specs.Kept.{IsProgram};
+ghost use Rattle.rpg_program.specs.Kept.{IsProgram};
 ghost use Rattle.rpg_verify_rules.specs.Accepted.{IsAccepted};
 ghost use Rattle.rpg_compile_program.specs.Program.{program_of};
 

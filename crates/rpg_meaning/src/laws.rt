@@ -3,7 +3,7 @@ ghost use Rattle.rpg_compile.specs.Compile.{Compiles};
 ghost use Rattle.rpg_meaning.specs.Jobs.Meant.{DoesAsMeant};
 ghost use Rattle.rpg_faults.specs.Source.{cards_in};
 
-use rpg_object_program::Program;
+use rpg_program::Program;
 
 /// A compiled program does what the cards of its text mean.
 #[tactic(auto, using(crate::proofs::Jobs::CompiledMeant::does_as_meant))]

@@ -5,11 +5,11 @@ use Rattle.std.specs.Cmp.{nat_cmp_total, unsigned_tied}
 use Rattle.std.specs.FinMap as maps
 use Rattle.std.specs.List.{All}
 use Rattle.std.specs.Ordering.{eq_by_cmp, nat_cmp}
-use Rattle.rpg_effect.specs.Forms.{entries_of, form_at, is_constant}
-use Rattle.rpg_effect.specs.Values.{Value, Text}
-use Rattle.rpg_effect.specs.declared.form.FieldForm.{FieldForm}
-use Rattle.rpg_object_program.specs.Kept.{IsCharacter}
-use Rattle.rpg_object_program.specs.Object.{Object}
+use Rattle.rpg_program.specs.Forms.{entries_of, form_at, is_constant}
+use Rattle.rpg_program.specs.Values.{Value, Text}
+use Rattle.rpg_program.specs.declared.form.FieldForm.{FieldForm}
+use Rattle.rpg_program.specs.Kept.{IsCharacter}
+use Rattle.rpg_program.specs.Object.{Object}
 use Rattle.rpg_memory.specs.Fits.{Fits, HasForm, KeepsConstants}
 use Rattle.rpg_store.specs.Store.{Currents, Values}
 use Rattle.rpg_store.proofs.ByEntry.{at_only, entries_total, tied, ties}

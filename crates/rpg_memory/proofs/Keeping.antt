@@ -3,12 +3,12 @@ use Rattle.std.proofs.Common.{◌≡◌, ℕ, ℤ, ◌≤◌, ◌<◌, ◌^◌, 
 use Rattle.std.specs.Prelude.{All}
 use Rattle.std.proofs.lemmas.Option.{same_Some}
 use Rattle.std.specs.FinMap as maps
-use Rattle.rpg_effect.specs.Forms.{entries_of, form_at, length_of}
-use Rattle.rpg_effect.specs.Values.{Value, Number, Text, characters_of}
-use Rattle.rpg_effect.specs.declared.form.FieldForm.{FieldForm}
-use Rattle.rpg_effect.specs.declared.form.Kind.{Kind}
-use Rattle.rpg_effect.specs.declared.form.Kind.TheVariants as kinds
-use Rattle.rpg_object_program.specs.Kept.{IsCharacter}
+use Rattle.rpg_program.specs.Forms.{entries_of, form_at, length_of}
+use Rattle.rpg_program.specs.Values.{Value, Number, Text, characters_of}
+use Rattle.rpg_program.specs.declared.form.FieldForm.{FieldForm}
+use Rattle.rpg_program.specs.declared.form.Kind.{Kind}
+use Rattle.rpg_program.specs.declared.form.Kind.TheVariants as kinds
+use Rattle.rpg_program.specs.Kept.{IsCharacter}
 use Rattle.rpg_memory.specs.Fields.{IsValue}
 use Rattle.rpg_memory.specs.Fits.{Fits, HasForm}
 use Rattle.rpg_memory.specs.Memory.{HoldsFields}

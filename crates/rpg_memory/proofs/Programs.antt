@@ -2,13 +2,13 @@
 use Rattle.std.proofs.Common.{◌≡◌, ℕ, zero, suc, ◌≤◌, ◌<◌, List, Some, length, sym, ◌∙◌, subst}
 use Rattle.std.specs.Prelude.{All, slice_index_or}
 use Rattle.std.proofs.lemmas.Option.{same_Some, slice_get_within, slice_get-get_or}
-use Rattle.rpg_effect.specs.Forms.{form_at}
-use Rattle.rpg_effect.specs.declared.form.FieldForm.{FieldForm}
-use Rattle.rpg_effect.specs.declared.form.Kind.{Kind}
-use Rattle.rpg_effect.specs.declared.form.Kind.TheVariants as kinds
+use Rattle.rpg_program.specs.Forms.{form_at}
+use Rattle.rpg_program.specs.declared.form.FieldForm.{FieldForm}
+use Rattle.rpg_program.specs.declared.form.Kind.{Kind}
+use Rattle.rpg_program.specs.declared.form.Kind.TheVariants as kinds
 use Rattle.rpg_memory.specs.Fields.{AreForms}
-use Rattle.rpg_object_program.specs.Kept.{AreDecimals, IsFieldRow, IsProgram, length_limit}
-use Rattle.rpg_object_program.specs.Object.{Object}
+use Rattle.rpg_program.specs.Kept.{AreDecimals, IsFieldRow, IsProgram, length_limit}
+use Rattle.rpg_program.specs.Object.{Object}
 
 row_at : (forms : List FieldForm) (field : ℕ) (d : FieldForm) → All IsFieldRow forms → form_at forms field ≡ Some d → IsFieldRow d
 row_at forms zero d all h = cc

@@ -4,8 +4,8 @@ use Rattle.std.specs.FinSet as set
 use Rattle.std.specs.Ordering.{nat_cmp}
 use Rattle.std.specs.declared.cmp.Ordering.{Ordering}
 use Rattle.std.specs.declared.cmp.Ordering.TheVariants.{Equal, Greater, Less}
-use Rattle.rpg_effect.specs.Showing.{shown, shown_if_any}
-use Rattle.rpg_effect.specs.declared.operation.Shows.{Shows}
+use Rattle.rpg_program.specs.Showing.{shown, shown_if_any}
+use Rattle.rpg_program.specs.declared.operation.Shows.{Shows}
 use Rattle.rpg_memory.specs.Silent.{names_none}
 
 silent : (p m z : Option ℕ) (order : Ordering) (on : set.FinSet nat_cmp) → (is_none p && (is_none m && is_none z)) ≡ true → shown (record { plus = p; minus = m; zero = z }) order on ≡ on

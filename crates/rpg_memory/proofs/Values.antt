@@ -2,15 +2,15 @@
 use Rattle.std.proofs.Common.{◌≡◌, ℕ, ℤ, ◌<◌, ◌≤◌, ◌^◌, List, Option, Some, refl, sym, ap, ◌∙◌, subst, arith, length, unsigned_abs}
 use Rattle.std.proofs.Math.Nat.{pow-le-pow_right}
 use Rattle.std.specs.FinMap as map
-use Rattle.rpg_effect.specs.Forms.{decimals_of, entries_of, length_of}
-use Rattle.rpg_effect.specs.Values.{Value, Number, Text, characters_of}
-use Rattle.rpg_effect.specs.declared.form.FieldForm.{FieldForm}
-use Rattle.rpg_effect.specs.declared.form.Kind.{Kind}
-use Rattle.rpg_effect.specs.declared.form.Kind.TheVariants as kinds
+use Rattle.rpg_program.specs.Forms.{decimals_of, entries_of, length_of}
+use Rattle.rpg_program.specs.Values.{Value, Number, Text, characters_of}
+use Rattle.rpg_program.specs.declared.form.FieldForm.{FieldForm}
+use Rattle.rpg_program.specs.declared.form.Kind.{Kind}
+use Rattle.rpg_program.specs.declared.form.Kind.TheVariants as kinds
 use Rattle.rpg_memory.specs.Fields.{AreForms, IsValue}
 use Rattle.rpg_memory.specs.Fits.{Fits, HasForm}
 use Rattle.rpg_memory.proofs.Entries.{number_in_form, text_in_form}
-use Rattle.rpg_effect.specs.Forms.{form_at}
+use Rattle.rpg_program.specs.Forms.{form_at}
 use Rattle.rpg_store.specs.Store.{Values, Currents, IsNumber, IsText}
 
 pub form_there : (forms : List FieldForm) (values : Values) (current : Currents) (k : Kind) (field n : ℕ) → Fits forms values current → (v : IsValue forms k field n) → HasForm k v.form.length (map.get values (field, n))

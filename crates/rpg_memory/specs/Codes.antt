@@ -7,8 +7,8 @@ use Rattle.std.specs.FinSet as set
 use Rattle.std.specs.Ordering.{nat_cmp}
 use Rattle.rpg_decimal_words.specs.Fraction.{Fraction}
 use Rattle.rpg_paper.specs.Paper.{Position}
-use Rattle.rpg_effect.specs.Values.{Value, Number, Text}
-use Rattle.rpg_effect.specs.World.{Data, Fields, Paper, World}
+use Rattle.rpg_program.specs.Values.{Value, Number, Text}
+use Rattle.rpg_program.specs.World.{Data, Fields, Paper, World}
 use Rattle.rpg_store.specs.Store.{Currents, Values}
 
 -- ---- worlds

@@ -1,8 +1,8 @@
 -- What is done to the data of a memory.
 use Rattle.std.specs.Prelude.{◌≡◌, ℕ, ◌≤◌}
 use Rattle.std.specs.Ordering.{nat_cmp}
-use Rattle.rpg_effect.specs.Ended.{Ended, ends_with}
-use Rattle.rpg_effect.specs.Ends.{End, GoesOn, Halt, Wrong}
+use Rattle.rpg_program.specs.Ended.{Ended, ends_with}
+use Rattle.rpg_program.specs.Ends.{End, GoesOn, Halt, Wrong}
 use Rattle.rpg_memory.specs.Memory.{Working, data_put}
 
 -- nothing is wrong: it goes on, or halts with a number from 1 to 4

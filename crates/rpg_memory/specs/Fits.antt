@@ -1,13 +1,13 @@
 -- What holds of values while a program runs.
 use Rattle.std.specs.Prelude.{◌≡◌, All, ℕ, ◌≤◌, ◌<◌, ◌^◌, true, unsigned_abs, List, length, Option, None, Some, unwrap_or}
 use Rattle.std.specs.FinMap as map
-use Rattle.rpg_effect.specs.Forms.{entries_of, form_at, is_constant, is_table_form}
-use Rattle.rpg_effect.specs.Values.{Value, Number, Text}
-use Rattle.rpg_effect.specs.declared.form.FieldForm.{FieldForm}
-use Rattle.rpg_effect.specs.declared.form.Kind.{Kind}
-use Rattle.rpg_effect.specs.declared.form.Kind.TheVariants as kinds
-use Rattle.rpg_object_program.specs.Kept.{IsCharacter}
-use Rattle.rpg_object_program.specs.Object.{Object}
+use Rattle.rpg_program.specs.Forms.{entries_of, form_at, is_constant, is_table_form}
+use Rattle.rpg_program.specs.Values.{Value, Number, Text}
+use Rattle.rpg_program.specs.declared.form.FieldForm.{FieldForm}
+use Rattle.rpg_program.specs.declared.form.Kind.{Kind}
+use Rattle.rpg_program.specs.declared.form.Kind.TheVariants as kinds
+use Rattle.rpg_program.specs.Kept.{IsCharacter}
+use Rattle.rpg_program.specs.Object.{Object}
 use Rattle.rpg_store.specs.First.{first_contents}
 use Rattle.rpg_store.specs.Store.{Currents, Values}
 

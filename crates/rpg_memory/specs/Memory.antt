@@ -5,17 +5,17 @@ use Rattle.std.specs.Ordering.{nat_cmp}
 use Rattle.rpg_decimal_words.specs.Fraction.{Fraction, with_decimals}
 use Rattle.rpg_decimal.specs.declared.num.Rest.{Rest}
 use Rattle.rpg_paper.specs.Form.{Standing}
-use Rattle.rpg_effect.specs.Entries.{entry_of, position_of}
-use Rattle.rpg_effect.specs.Forms.{form_at, kind_of}
-use Rattle.rpg_effect.specs.Put.{Held}
-use Rattle.rpg_effect.specs.World.{Data, Fields, World, with_data}
-use Rattle.rpg_effect.specs.declared.form.FieldForm.{FieldForm}
-use Rattle.rpg_effect.specs.declared.form.Kind.TheVariants as kinds
-use Rattle.rpg_effect.specs.declared.operation.Entry.{Entry}
-use Rattle.rpg_effect.specs.declared.operation.Operand.{Operand}
+use Rattle.rpg_program.specs.Entries.{entry_of, position_of}
+use Rattle.rpg_program.specs.Forms.{form_at, kind_of}
+use Rattle.rpg_program.specs.Put.{Held}
+use Rattle.rpg_program.specs.World.{Data, Fields, World, with_data}
+use Rattle.rpg_program.specs.declared.form.FieldForm.{FieldForm}
+use Rattle.rpg_program.specs.declared.form.Kind.TheVariants as kinds
+use Rattle.rpg_program.specs.declared.operation.Entry.{Entry}
+use Rattle.rpg_program.specs.declared.operation.Operand.{Operand}
 use Rattle.rpg_memory.specs.Fields.{AreForms, IsResolved}
 use Rattle.rpg_memory.specs.declared.resolved.Resolved.{Resolved}
-use Rattle.rpg_object_program.specs.Object.{Object}
+use Rattle.rpg_program.specs.Object.{Object}
 use Rattle.rpg_memory.specs.Fits.{Fits}
 use Rattle.rpg_store.specs.Store.{Values, Currents}
 

@@ -1,6 +1,6 @@
 -- Where no indicator is named.
 use Rattle.std.specs.Prelude.{Bool, ◌&&◌, is_none}
-use Rattle.rpg_effect.specs.declared.operation.Shows.{Shows}
+use Rattle.rpg_program.specs.declared.operation.Shows.{Shows}
 
 -- no indicator is named, so there is nothing to show
 abbrev pub names_none : Shows → Bool

@@ -1,7 +1,7 @@
 //! The indicators that are on.
 ghost use Rattle.std.specs.Prelude.{◌≡◌, if◌then◌else◌};
 ghost use Rattle.std.specs.FinSet as set;
-ghost use Rattle.rpg_effect.specs.Showing as showing;
+ghost use Rattle.rpg_program.specs.Showing as showing;
 
 use std::marker::Model;
 

@@ -3,7 +3,7 @@ ghost use Rattle.rpg_store.specs.First.{first_contents, first_currents};
 ghost use Rattle.rpg_memory.specs.Fields.{AreForms};
 ghost use Rattle.rpg_memory.specs.Fits.{Fits, KeepsConstants};
 
-use rpg_object_program::Program;
+use rpg_program::Program;
 
 /// What a program starts with fits its fields, and constants have their first values.
 #[tactic(auto, using(crate::proofs::FirstFits::first_fits))]

@@ -2,7 +2,7 @@
 ghost use Rattle.std.specs.Prelude.{◌≡◌, ◌<◌, ◌≤◌, ◌++◌, OnErr, OnOk};
 ghost use Rattle.rpg_paper.specs.Form.{way_of};
 ghost use Rattle.rpg_text.specs.Texts.{trimmed};
-ghost use Rattle.rpg_effect.specs.Lines as lines;
+ghost use Rattle.rpg_program.specs.Lines as lines;
 ghost use Rattle.rpg_memory.specs.Memory.{after_line, standing_of};
 
 use crate::indicators::{turn_off, turn_on};
@@ -19,7 +19,7 @@ impl<'a, S: Store + Drop> Memory<'a, S> {
     }
 
     /// The form moves some lines on.
-    #[tactic(auto, unfolding(rpg_effect::specs::Lines::after_movement))]
+    #[tactic(auto, unfolding(rpg_program::specs::Lines::after_movement))]
     pub fn space(&mut self, spaces: u8)
         requires spaces { spaces ≤ 3 }
         requires few { self.old.world.paper.here.page < 1000 }
@@ -33,7 +33,7 @@ impl<'a, S: Store + Drop> Memory<'a, S> {
     }
 
     /// The form moves to a line; 0 is no skip.
-    #[tactic(auto, unfolding(rpg_effect::specs::Lines::after_movement))]
+    #[tactic(auto, unfolding(rpg_program::specs::Lines::after_movement))]
     pub fn skip(&mut self, line: u8)
         requires line { line ≤ 66 }
         requires few { self.old.world.paper.here.page < 1000 }

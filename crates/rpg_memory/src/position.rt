@@ -1,6 +1,6 @@
 //! Numbers as positions.
 ghost use Rattle.std.specs.Prelude.{◌≡◌};
-ghost use Rattle.rpg_effect.specs.Entries as named;
+ghost use Rattle.rpg_program.specs.Entries as named;
 
 /// A number as a position, where it is one of the entries.
 pub fn in_range(entries: u16, n: i64) -> Option<u16>

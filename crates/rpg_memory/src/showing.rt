@@ -1,10 +1,10 @@
 //! Resulting indicators.
 ghost use Rattle.std.specs.Prelude.{◌≡◌};
-ghost use Rattle.rpg_effect.specs.Showing as of;
+ghost use Rattle.rpg_program.specs.Showing as of;
 ghost use Rattle.rpg_memory.specs.Silent as silent;
 
 use crate::indicators::{Indicators, turn_off, turn_on};
-use rpg_effect::operation::Shows;
+use rpg_program::operation::Shows;
 use std::cmp::Ordering;
 
 /// The indicator for the order of a result relative to zero, or of factor 1 relative to factor 2.
@@ -27,7 +27,7 @@ pub fn names_none(shows: Shows) -> bool
 }
 
 /// Turns off all indicators that are named, and then on the one whose condition holds.
-#[tactic(auto, using(crate::proofs::Silent::nothing_shown), unfolding(rpg_effect::specs::Showing::shown))]
+#[tactic(auto, using(crate::proofs::Silent::nothing_shown), unfolding(rpg_program::specs::Showing::shown))]
 pub fn show(on: &mut Indicators, shows: Shows, order: Ordering)
     ensures { on.new ≡ of.shown shows order on.old }
 {
@@ -41,7 +41,7 @@ pub fn show(on: &mut Indicators, shows: Shows, order: Ordering)
 }
 
 /// Turns off all indicators that are named, and then on the one of the order of what was found.
-#[tactic(auto, unfolding(rpg_effect::specs::Showing::shown_if_any))]
+#[tactic(auto, unfolding(rpg_program::specs::Showing::shown_if_any))]
 pub fn show_if_any(on: &mut Indicators, shows: Shows, order: Option<Ordering>)
     ensures { on.new ≡ of.shown_if_any shows order on.old }
 {
@@ -68,7 +68,7 @@ fn all_on(on: &mut Indicators, named: Shows)
 }
 
 /// SETON and SETOF.
-#[tactic(auto, unfolding(rpg_effect::specs::Showing::set_to))]
+#[tactic(auto, unfolding(rpg_program::specs::Showing::set_to))]
 pub fn set(on: &mut Indicators, is_on: bool, named: Shows)
     ensures { on.new ≡ of.set_to is_on named on.old }
 {

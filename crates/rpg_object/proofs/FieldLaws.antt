@@ -2,17 +2,17 @@
 use Rattle.std.proofs.Common.{◌≡◌, ℕ, ◌*◌, ◌^◌, ◌<◌, ◌≤◌, Bool, true, false, cond, List, [], ◌∷◌, length, Ok, Err, refl, sym, subst, ◌∙◌, arith, inl, inr, leb}
 use Rattle.std.specs.Prelude.{All}
 use Rattle.std.proofs.lemmas.Bool.{leb-true, le-leb, and_parts, and_from}
-use Rattle.rpg_effect.specs.declared.form.Class.{Class}
-use Rattle.rpg_effect.specs.declared.form.Class.TheVariants as classes
-use Rattle.rpg_effect.specs.declared.form.FieldForm.{FieldForm}
-use Rattle.rpg_effect.specs.declared.form.Kind.{Kind}
-use Rattle.rpg_effect.specs.declared.form.Kind.TheVariants as kinds
+use Rattle.rpg_program.specs.declared.form.Class.{Class}
+use Rattle.rpg_program.specs.declared.form.Class.TheVariants as classes
+use Rattle.rpg_program.specs.declared.form.FieldForm.{FieldForm}
+use Rattle.rpg_program.specs.declared.form.Kind.{Kind}
+use Rattle.rpg_program.specs.declared.form.Kind.TheVariants as kinds
 use Rattle.rpg_object_format.specs.declared.fault.Code.TheVariants.{NotAllowed, PastLimit}
 use Rattle.rpg_object_format.specs.Format.{byte, two_bytes, pair, row, times_with, AllAlong}
 use Rattle.rpg_object_format.specs.Numbers.{flag_number}
 use Rattle.rpg_object_format.proofs.Laws.{IsFormat, IsRule, byte_law, two_law, pair_law, row_law, times_law}
 use Rattle.rpg_object_format.proofs.Rules.{chosen, stands_for, guarded, choice_rule, number_law, byte_where_law}
-use Rattle.rpg_object_program.specs.Kept.{may_have_entries, length_limit, AreDecimals, IsDateForm, IsFieldRow, storage_of}
+use Rattle.rpg_program.specs.Kept.{may_have_entries, length_limit, AreDecimals, IsDateForm, IsFieldRow, storage_of}
 use Rattle.rpg_text.specs.Texts.{is_between}
 use Rattle.rpg_object.specs.Fields.{kind_number, kind_by_number, class_number, classes_of, class_of, shortest, longest_field, most_decimals, is_decimals, sequences_of, sequence_of, most_entries, entries_within, field, storage_after, fields}
 use Rattle.rpg_object.specs.FirstValues.{HasLength}

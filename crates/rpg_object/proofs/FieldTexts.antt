@@ -1,6 +1,6 @@
 -- The text of a field doesn't depend on the storage that is left.
 use Rattle.std.proofs.Common.{◌≡◌, ℕ, List, [], ◌∷◌, ◌++◌, refl, ap}
-use Rattle.rpg_effect.specs.declared.form.FieldForm.{FieldForm}
+use Rattle.rpg_program.specs.declared.form.FieldForm.{FieldForm}
 use Rattle.rpg_object_format.specs.Format.{keep, spelled_along, times_with, byte, two_bytes, pair, row}
 use Rattle.rpg_object.specs.Fields.{field, fields, storage_after}
 

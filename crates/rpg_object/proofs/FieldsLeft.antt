@@ -1,8 +1,8 @@
 -- The fields whose values are still to come, and those whose values are still to be written.
 use Rattle.std.proofs.Common.{◌≡◌, ℕ, zero, suc, ◌+◌, ◌<◌, List, [], ◌∷◌, length, drop, get_or, refl, sym, ap, ◌∙◌, add-one, drop-cons, arith}
-use Rattle.rpg_effect.specs.declared.form.FieldForm.{FieldForm}
-use Rattle.rpg_effect.specs.Values.{Value}
-use Rattle.rpg_object_program.specs.Kept.{AreEntriesOf, AreValuesOf}
+use Rattle.rpg_program.specs.declared.form.FieldForm.{FieldForm}
+use Rattle.rpg_program.specs.Values.{Value}
+use Rattle.rpg_program.specs.Kept.{AreEntriesOf, AreValuesOf}
 use Rattle.rpg_object.specs.FirstValues.{entries_format, next_entries, later_fields}
 
 -- the values of the next field

@@ -7,9 +7,9 @@ use Rattle.rpg_object_format.specs.Format.{keep, two_bytes, pair, row, spelled_a
 use Rattle.rpg_object_format.specs.Numbers.{two}
 use Rattle.rpg_object_format.proofs.Laws.{IsFormat, IsRule, two_law, pair_law, row_law}
 use Rattle.rpg_object_format.proofs.Rules.{chosen, stands_for, value_is, guarded, number_law, count_law}
-use Rattle.rpg_object_program.specs.Kept.{IsOverflowIndicator}
-use Rattle.rpg_object_program.specs.declared.row.Version.{Version}
-use Rattle.rpg_object_program.specs.declared.row.Version.TheVariants as versions
+use Rattle.rpg_program.specs.Kept.{IsOverflowIndicator}
+use Rattle.rpg_program.specs.declared.rows.Version.{Version}
+use Rattle.rpg_program.specs.declared.rows.Version.TheVariants as versions
 use Rattle.rpg_object_instructions.specs.Shapes.{row_where, unused_number}
 use Rattle.rpg_object_rows.specs.Types.{is_two}
 use Rattle.rpg_object_instructions.proofs.ShapeLaws.{unused_number_law, where_used_law}
@@ -17,7 +17,7 @@ use Rattle.rpg_text.specs.Texts.{is_between}
 use Rattle.rpg_object.specs.declared.header.Counts.{Counts}
 use Rattle.rpg_object.specs.declared.header.Header.{Header}
 use Rattle.rpg_object.specs.declared.header.Settings.{Settings}
-use Rattle.rpg_object_program.specs.Object.{version_number}
+use Rattle.rpg_program.specs.Object.{version_number}
 use Rattle.rpg_object_instructions.specs.Indicators.{indicator_number}
 use Rattle.rpg_object.specs.Header.{overflow_of, settings, most_instructions, counts, header_format, secondary_length, version_of}
 use Rattle.rpg_object_instructions.proofs.Choices.{within, counted, between, few}

@@ -8,8 +8,8 @@ use Rattle.rpg_object_format.specs.declared.fault.Fault.{Fault}
 use Rattle.rpg_object_format.specs.Format.{◌>>=◌, fault_at, pair, times_with}
 use Rattle.rpg_object_format.proofs.Laws.{IsBytes, IsBytes-rest, IsFormat, further, bind_ok, bind_err, ok_is, pair_law, row_law, table_law}
 use Rattle.rpg_object_format.proofs.Rules.{chosen}
-use Rattle.rpg_object_program.specs.Object.{Object}
-use Rattle.rpg_object_program.specs.declared.row.Version.{Version}
+use Rattle.rpg_program.specs.Object.{Object}
+use Rattle.rpg_program.specs.declared.rows.Version.{Version}
 use Rattle.rpg_object_instructions.specs.Instructions.{instruction}
 use Rattle.rpg_object_rows.specs.Lines.{line}
 use Rattle.rpg_object_rows.specs.Types.{record_type_format}

@@ -1,9 +1,9 @@
 -- What the format of programs holds is a program in plain words, and back.
 use Rattle.std.proofs.Common.{◌≡◌, ◌-◌, length, arith}
 use Rattle.rpg_object_format.specs.Format.{pair, row, table}
-use Rattle.rpg_object_program.specs.Kept.{IsInstructionRow, IsLineRow, IsPlain, IsPlainType, IsProgram, IsTypeRow}
-use Rattle.rpg_object_program.specs.Object.{Object}
-use Rattle.rpg_object_program.specs.declared.row.Version.TheVariants as versions
+use Rattle.rpg_program.specs.Kept.{IsInstructionRow, IsLineRow, IsPlain, IsPlainType, IsProgram, IsTypeRow}
+use Rattle.rpg_program.specs.Object.{Object}
+use Rattle.rpg_program.specs.declared.rows.Version.TheVariants as versions
 use Rattle.rpg_object_instructions.specs.Instructions.{instruction}
 use Rattle.rpg_object_rows.specs.Lines.{line}
 use Rattle.rpg_object_rows.specs.Types.{record_type_format}

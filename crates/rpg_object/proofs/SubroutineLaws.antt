@@ -1,14 +1,14 @@
 -- The laws of the format of subroutines, and what subroutines keep in plain words.
 use Rattle.std.proofs.Common.{◌≡◌, ℕ, ◌≤◌, zero, suc, List, [], ◌∷◌, ◌++◌, length, refl, ap, ◌∙◌, append_assoc, arith}
 use Rattle.std.specs.Prelude.{All}
-use Rattle.rpg_effect.specs.declared.operation.Instruction.{Instruction}
+use Rattle.rpg_program.specs.declared.operation.Instruction.{Instruction}
 use Rattle.rpg_object_format.specs.Format.{two_bytes, pair, row, table, times_with, keep, spelled_along, AllAlong}
 use Rattle.rpg_object_format.specs.Numbers.{any_number, count, two}
 use Rattle.rpg_object_format.proofs.Laws.{IsFormat, pair_law, row_law, times_law, table_law}
 use Rattle.rpg_object_format.proofs.Rules.{any_number_law, count_law}
-use Rattle.rpg_object_program.specs.Kept.{IsInstructionRow, IsSubroutineRow}
-use Rattle.rpg_object_program.specs.Object.{SubroutineRow}
-use Rattle.rpg_object_program.specs.Sections.{instructions_in}
+use Rattle.rpg_program.specs.Kept.{IsInstructionRow, IsSubroutineRow}
+use Rattle.rpg_program.specs.Object.{SubroutineRow}
+use Rattle.rpg_program.specs.Sections.{instructions_in}
 use Rattle.rpg_object_instructions.specs.Instructions.{instruction}
 use Rattle.rpg_object_instructions.proofs.InstructionLaws.{instruction_law}
 use Rattle.rpg_object_instructions.proofs.InstructionKept.{instruction_kept, instruction_from}

@@ -10,17 +10,17 @@ use Rattle.std.specs.List.{list_all, AllPass}
 use Rattle.std.specs.Str.{bytes_eq}
 use Rattle.rpg_decimal_words.specs.Zoned.{number_in, zoned_text}
 use Rattle.rpg_decimal.proofs.LawLemmas.{length-zoned}
-use Rattle.rpg_effect.specs.declared.form.FieldForm.{FieldForm}
-use Rattle.rpg_effect.specs.declared.form.Kind.{Kind}
-use Rattle.rpg_effect.specs.declared.form.Kind.TheVariants as kind
-use Rattle.rpg_effect.specs.Values.{Value, Number, Text}
+use Rattle.rpg_program.specs.declared.form.FieldForm.{FieldForm}
+use Rattle.rpg_program.specs.declared.form.Kind.{Kind}
+use Rattle.rpg_program.specs.declared.form.Kind.TheVariants as kind
+use Rattle.rpg_program.specs.Values.{Value, Number, Text}
 use Rattle.rpg_object_format.specs.declared.fault.Code.{Code}
 use Rattle.rpg_object_format.specs.declared.fault.Code.TheVariants.{CutShort, NotAllowed}
 use Rattle.rpg_object_format.specs.declared.fault.Fault.{Fault}
 use Rattle.rpg_object_format.specs.Format.{ends_early, ruled, times_with, AllAlong}
 use Rattle.rpg_object_format.proofs.Laws.{IsBytes, Takes, IsFormat, IsBytes-rest, further, at_end, times_law, table_law, ruled_ok, ruled_err, ruled_stays, ruled_fails}
 use Rattle.rpg_object_format.proofs.Rules.{chosen, stands_for, value_is}
-use Rattle.rpg_object_program.specs.Kept.{IsCharacter, IsFieldRow, IsValueOf, AreEntriesOf, AreValuesOf}
+use Rattle.rpg_program.specs.Kept.{IsCharacter, IsFieldRow, IsValueOf, AreEntriesOf, AreValuesOf}
 use Rattle.rpg_text.specs.Texts.{is_character}
 use Rattle.rpg_object.specs.FirstValues.{as_written, as_value, first_value_in, read_value, value_text, IsWrittenValue, value, entries_format, next_entries, later_fields, values_format}
 use Rattle.rpg_object_instructions.proofs.Choices.{all_from_table, table_from_all}

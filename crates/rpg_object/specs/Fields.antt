@@ -1,16 +1,16 @@
 -- The format of fields, 8 bytes each.
 use Rattle.std.specs.Prelude.{ℕ, ◌-◌, ◌*◌, List, [], ◌∷◌, Bool, true, false, ◌&&◌, nat_le, if◌then◌else◌, Result, Ok, Err}
-use Rattle.rpg_effect.specs.Forms.{is_date, size_of}
-use Rattle.rpg_effect.specs.declared.form.Class.{Class}
-use Rattle.rpg_effect.specs.declared.form.Class.TheVariants as classes
-use Rattle.rpg_effect.specs.declared.form.FieldForm.{FieldForm}
-use Rattle.rpg_effect.specs.declared.form.Kind.{Kind}
-use Rattle.rpg_effect.specs.declared.form.Kind.TheVariants as kinds
+use Rattle.rpg_program.specs.Forms.{is_date, size_of}
+use Rattle.rpg_program.specs.declared.form.Class.{Class}
+use Rattle.rpg_program.specs.declared.form.Class.TheVariants as classes
+use Rattle.rpg_program.specs.declared.form.FieldForm.{FieldForm}
+use Rattle.rpg_program.specs.declared.form.Kind.{Kind}
+use Rattle.rpg_program.specs.declared.form.Kind.TheVariants as kinds
 use Rattle.rpg_object_format.specs.declared.fault.Code.{Code}
 use Rattle.rpg_object_format.specs.declared.fault.Code.TheVariants.{NotAllowed, PastLimit}
 use Rattle.rpg_object_format.specs.Format.{Format, byte, two_bytes, pair, row, times_with}
 use Rattle.rpg_object_format.specs.Numbers.{choice, flag_number, number_where, byte_where}
-use Rattle.rpg_object_program.specs.Kept.{length_limit, may_have_entries}
+use Rattle.rpg_program.specs.Kept.{length_limit, may_have_entries}
 use Rattle.rpg_text.specs.Texts.{is_between}
 
 -- the number of a kind of value

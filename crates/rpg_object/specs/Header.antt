@@ -4,9 +4,9 @@ use Rattle.rpg_object_format.specs.declared.fault.Code.{Code}
 use Rattle.rpg_object_format.specs.declared.fault.Code.TheVariants as faults
 use Rattle.rpg_object_format.specs.Format.{Format, two_bytes, pair, row}
 use Rattle.rpg_object_format.specs.Numbers.{number_where, count}
-use Rattle.rpg_object_program.specs.Object.{version_number}
-use Rattle.rpg_object_program.specs.declared.row.Version.{Version}
-use Rattle.rpg_object_program.specs.declared.row.Version.TheVariants as versions
+use Rattle.rpg_program.specs.Object.{version_number}
+use Rattle.rpg_program.specs.declared.rows.Version.{Version}
+use Rattle.rpg_program.specs.declared.rows.Version.TheVariants as versions
 use Rattle.rpg_object_instructions.specs.Indicators.{indicator_number}
 use Rattle.rpg_object_instructions.specs.Shapes.{unused_number, where_used}
 use Rattle.rpg_object_rows.specs.Types.{is_two}

@@ -3,8 +3,8 @@
 ghost use Rattle.std.specs.Prelude.{◌≡◌, IfOk, Some};
 ghost use Rattle.rpg_object_format.specs.Format.{fault_at};
 ghost use Rattle.rpg_object_format.specs.Reading.{Gives};
-ghost use Rattle.rpg_object_program.specs.Kept.{IsProgram};
-ghost use Rattle.rpg_object_program.specs.Object.{Object, seen};
+ghost use Rattle.rpg_program.specs.Kept.{IsProgram};
+ghost use Rattle.rpg_program.specs.Object.{Object, seen};
 ghost use Rattle.rpg_object.specs.Decoding.{fault_text, FaultIs, IsOkBarMemory};
 ghost use Rattle.rpg_object.specs.Program.{body, first_fault, reading, spelling};
 
@@ -14,9 +14,9 @@ use crate::header::{INSTRUCTIONS, header_at};
 use crate::subroutine::subroutines_at;
 use rpg_object_format::fault::{Code, ReadFault};
 use rpg_object_format::number::fault_at;
-use rpg_object_program::Program;
-use rpg_object_program::row::Rows;
 use rpg_object_rows::{instructions_at, lines_at, record_types_at};
+use rpg_program::Program;
+use rpg_program::rows::Rows;
 use std::alloc::Global;
 use std::error::Error;
 use std::fmt;

@@ -1,8 +1,8 @@
 //! An object program to bytes.
 
 ghost use Rattle.std.specs.Prelude.{◌≡◌, ◌++◌, IfOk, OnOk};
-ghost use Rattle.rpg_object_program.specs.Kept.{IsProgram};
-ghost use Rattle.rpg_object_program.specs.Object.{seen};
+ghost use Rattle.rpg_program.specs.Kept.{IsProgram};
+ghost use Rattle.rpg_program.specs.Object.{seen};
 ghost use Rattle.rpg_object.specs.Program.{body, spelling};
 ghost use Rattle.rpg_object.specs.Program as spec;
 
@@ -10,9 +10,9 @@ use crate::field::put_fields;
 use crate::first_value::put_values;
 use crate::header::{Counts, Header, Settings, put_header};
 use crate::subroutine::put_subroutines;
-use rpg_object_program::Program;
-use rpg_object_program::row::Rows;
 use rpg_object_rows::{put_instructions, put_lines, put_record_types};
+use rpg_program::Program;
+use rpg_program::rows::Rows;
 use std::alloc::{AllocError, Global};
 
 fn settings_of(rows: &Rows) -> Settings

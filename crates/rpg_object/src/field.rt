@@ -1,18 +1,18 @@
 //! Fields, 8 bytes each.
 
 ghost use Rattle.std.specs.Prelude.{◌≡◌, ◌++◌, All, length, Result, IfOk, OnOk};
-ghost use Rattle.rpg_effect.specs.Forms.{is_date};
+ghost use Rattle.rpg_program.specs.Forms.{is_date};
 ghost use Rattle.rpg_object_format.specs.declared.fault.Code.{Code};
 ghost use Rattle.rpg_object_format.specs.Format.{read_byte, read_two};
 ghost use Rattle.rpg_object_format.specs.Numbers.{allowed};
 ghost use Rattle.rpg_object_format.specs.Reading.{Gives};
-ghost use Rattle.rpg_object_program.specs.Kept.{may_have_entries};
+ghost use Rattle.rpg_program.specs.Kept.{may_have_entries};
 ghost use Rattle.rpg_object.specs.Fields.{class_number, class_of, entries_within, field, fields, is_decimals, kind_by_number, kind_number, longest_field, most_decimals, most_entries, sequence_of, shortest};
 ghost use Rattle.rpg_object.specs.FirstValues.{HasLength};
 
-use rpg_effect::form::{Class, FieldForm, Kind};
 use rpg_object_format::fault::{Code, ReadFault};
 use rpg_object_format::number::{byte_at, flag_number, high, low, number_at, number_between_at};
+use rpg_program::form::{Class, FieldForm, Kind};
 use std::alloc::{AllocError, Global};
 
 /// Bytes of storage in all.

@@ -2,18 +2,18 @@
 
 ghost use Rattle.std.specs.Prelude.{◌≡◌, ◌++◌, ◌≤◌, All, length, map, OnOk};
 ghost use Rattle.rpg_decimal_words.specs.Zoned.{number_in};
-ghost use Rattle.rpg_effect.specs.declared.form.Kind.TheVariants as kinds;
-ghost use Rattle.rpg_effect.specs.Values.{held};
+ghost use Rattle.rpg_program.specs.declared.form.Kind.TheVariants as kinds;
+ghost use Rattle.rpg_program.specs.Values.{held};
 ghost use Rattle.rpg_object_format.specs.Reading.{Gives};
-ghost use Rattle.rpg_object_program.specs.Kept.{AreEntriesOf, AreValuesOf, IsValueOf};
+ghost use Rattle.rpg_program.specs.Kept.{AreEntriesOf, AreValuesOf, IsValueOf};
 ghost use Rattle.rpg_object.specs.FirstValues as spec;
 ghost use Rattle.rpg_object.specs.FirstValues.{as_written, read_value, value, value_text, values_format, HasLength};
 
 use rpg_decimal::{read_zoned, write_zoned};
-use rpg_effect::form::{FieldForm, Kind};
-use rpg_effect::value::Value;
 use rpg_object_format::fault::{Code, ReadFault};
 use rpg_object_format::number::{ends_early, fault_at};
+use rpg_program::form::{FieldForm, Kind};
+use rpg_program::value::Value;
 use rpg_text::has_only_characters;
 use std::alloc::{AllocError, Global};
 

@@ -4,7 +4,7 @@ ghost use Rattle.std.specs.Prelude.{◌≡◌, ◌++◌, Result, OnOk};
 ghost use Rattle.rpg_object_format.specs.declared.fault.Code.{Code};
 ghost use Rattle.rpg_object_format.specs.Format.{read_two};
 ghost use Rattle.rpg_object_format.specs.Reading.{Gives};
-ghost use Rattle.rpg_object_program.specs.declared.row.Version.TheVariants as versions;
+ghost use Rattle.rpg_program.specs.declared.rows.Version.TheVariants as versions;
 ghost use Rattle.rpg_object.specs.Header as spec;
 ghost use Rattle.rpg_object.specs.Header.{overflow_of, version_of};
 
@@ -13,7 +13,7 @@ use rpg_object_format::number::{
     count_at, number_at, number_between_at, only_number_at, put_numbers,
 };
 use rpg_object_instructions::indicator::indicator_number;
-use rpg_object_program::row::Version;
+use rpg_program::rows::Version;
 use std::alloc::AllocError;
 
 /// The most instructions that a program has, of all its sections together.

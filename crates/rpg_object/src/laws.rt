@@ -1,8 +1,8 @@
 //! Laws about object programs. A function here does nothing: its contract is the law.
 
 ghost use Rattle.std.specs.Prelude.{◌≡◌, Ok};
-ghost use Rattle.rpg_object_program.specs.Kept.{IsProgram};
-ghost use Rattle.rpg_object_program.specs.Object.{Object};
+ghost use Rattle.rpg_program.specs.Kept.{IsProgram};
+ghost use Rattle.rpg_program.specs.Object.{Object};
 ghost use Rattle.rpg_object.specs.Program.{body, reading, spelling, FaultStays};
 
 /// Bytes after a fault change neither its offset nor its code, unless they may complete what is cut short.

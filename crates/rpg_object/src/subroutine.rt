@@ -2,15 +2,15 @@
 
 ghost use Rattle.std.specs.Prelude.{◌≡◌, ◌++◌, ◌≤◌, All, length, map, IfOk, OnOk};
 ghost use Rattle.rpg_object_format.specs.Reading.{Gives};
-ghost use Rattle.rpg_object_program.specs.Kept.{IsSubroutineRow};
-ghost use Rattle.rpg_object_program.specs.Object.{subroutine_row};
-ghost use Rattle.rpg_object_program.specs.Sections.{instructions_in};
+ghost use Rattle.rpg_program.specs.Kept.{IsSubroutineRow};
+ghost use Rattle.rpg_program.specs.Object.{subroutine_row};
+ghost use Rattle.rpg_program.specs.Sections.{instructions_in};
 ghost use Rattle.rpg_object.specs.Subroutines as spec;
 
 use rpg_object_format::fault::ReadFault;
 use rpg_object_format::number::{any_number_at, count_at, put_numbers};
-use rpg_object_program::row::Subroutine;
 use rpg_object_rows::{instructions_at, put_instructions};
+use rpg_program::rows::Subroutine;
 use std::alloc::{AllocError, Global};
 
 /// Reads a subroutine that takes its instructions from those that are left.

@@ -1,13 +1,13 @@
 -- The format of instructions on bytes of real programs, and on bytes that break a row.
 use Rattle.std.proofs.Common.{◌≡◌, ℕ, true, false, List, [], ◌∷◌, Some, None, Result, Ok, Err, refl}
-use Rattle.rpg_effect.specs.declared.condition.Condition.{Condition}
-use Rattle.rpg_effect.specs.declared.operation.Action.TheVariants as actions
-use Rattle.rpg_effect.specs.declared.operation.Index.TheVariants.{Blank, Literal, Field}
-use Rattle.rpg_effect.specs.declared.operation.Instruction.{Instruction}
-use Rattle.rpg_effect.specs.declared.operation.Instruction.TheVariants.{Act, Except, Branch, Call}
-use Rattle.rpg_effect.specs.declared.operation.Operand.{Operand}
-use Rattle.rpg_effect.specs.declared.operation.Operator.TheVariants as operators
-use Rattle.rpg_effect.specs.declared.operation.Shows.{Shows}
+use Rattle.rpg_program.specs.declared.condition.Condition.{Condition}
+use Rattle.rpg_program.specs.declared.operation.Action.TheVariants as actions
+use Rattle.rpg_program.specs.declared.operation.Index.TheVariants.{Blank, Literal, Field}
+use Rattle.rpg_program.specs.declared.operation.Instruction.{Instruction}
+use Rattle.rpg_program.specs.declared.operation.Instruction.TheVariants.{Act, Except, Branch, Call}
+use Rattle.rpg_program.specs.declared.operation.Operand.{Operand}
+use Rattle.rpg_program.specs.declared.operation.Operator.TheVariants as operators
+use Rattle.rpg_program.specs.declared.operation.Shows.{Shows}
 use Rattle.rpg_object_format.specs.declared.fault.Code.{Code}
 use Rattle.rpg_object_format.specs.declared.fault.Code.TheVariants.{CutShort, NotAllowed, Unused}
 use Rattle.rpg_object_format.specs.declared.fault.Fault.{Fault}

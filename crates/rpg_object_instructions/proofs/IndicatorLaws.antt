@@ -1,9 +1,9 @@
 -- The laws of indicators and of conditions.
 use Rattle.std.proofs.Common.{◌≡◌, ℕ, zero, suc, ◌+◌, ◌≤◌, Bool, true, false, cond, Option, Some, None, Err, refl, sym, ap, ◌∙◌, arith, inl, inr, eqb, leb, eqb-true}
 use Rattle.std.proofs.lemmas.Bool.{leb-true, and_parts}
-use Rattle.rpg_effect.specs.declared.condition.Condition.{Condition}
-use Rattle.rpg_effect.specs.declared.condition.Conditions.{Conditions}
-use Rattle.rpg_effect.specs.declared.operation.Shows.{Shows}
+use Rattle.rpg_program.specs.declared.condition.Condition.{Condition}
+use Rattle.rpg_program.specs.declared.condition.Conditions.{Conditions}
+use Rattle.rpg_program.specs.declared.operation.Shows.{Shows}
 use Rattle.rpg_object_format.specs.declared.fault.Code.TheVariants.{NotAllowed}
 use Rattle.rpg_object_format.specs.Format.{byte, pair}
 use Rattle.rpg_object_format.proofs.Laws.{IsFormat, IsRule, byte_law, pair_law, row_law}

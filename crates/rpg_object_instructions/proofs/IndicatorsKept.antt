@@ -2,14 +2,14 @@
 use Rattle.std.proofs.Common.{◌≡◌, ℕ, ◌<◌, Bool, true, not, cond, List, length, Option, Some, None, Ok, Err, refl, ap, arith, inl, inr, eqb, leb, ne_eqb}
 use Rattle.std.specs.Option.{ForSome}
 use Rattle.std.proofs.lemmas.Bool.{and_from, eqb-false, le-leb, leb-true}
-use Rattle.rpg_effect.specs.declared.condition.Condition.{Condition}
-use Rattle.rpg_effect.specs.declared.condition.Conditions.{Conditions}
-use Rattle.rpg_effect.specs.declared.operation.Shows.{Shows}
+use Rattle.rpg_program.specs.declared.condition.Condition.{Condition}
+use Rattle.rpg_program.specs.declared.condition.Conditions.{Conditions}
+use Rattle.rpg_program.specs.declared.operation.Shows.{Shows}
 use Rattle.rpg_object_format.specs.declared.fault.Code.TheVariants.{NotAllowed}
 use Rattle.rpg_object_format.specs.Format.{byte, pair, row, two_bytes}
 use Rattle.rpg_object_format.specs.Numbers.{allowed}
 use Rattle.rpg_object_format.proofs.Rules.{chosen, stands_for}
-use Rattle.rpg_object_program.specs.Kept.{AreConditions, AreIndicators, IsAlternativeRow, IsConditionRow, IsIndicator}
+use Rattle.rpg_program.specs.Kept.{AreConditions, AreIndicators, IsAlternativeRow, IsConditionRow, IsIndicator}
 use Rattle.rpg_object_instructions.specs.Indicators.{alternative, are_negations, condition_format, conditions_format, has_bit, indicator_by_number, indicator_format, indicator_in, indicators_of, is_negation, may_negate, negations_of, shows_format}
 use Rattle.rpg_object_instructions.proofs.Choices.{all_from_table, between, counted, few, flag_from, some_is, table_from_all, taken, within}
 use Rattle.rpg_object_instructions.proofs.IndicatorLaws.{has_bits}

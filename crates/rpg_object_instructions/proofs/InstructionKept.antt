@@ -1,16 +1,16 @@
 -- What instructions keep, in plain words, and back.
 use Rattle.std.proofs.Common.{◌≡◌, ℕ, ◌<◌, ◌^◌, Bool, true, false, Option, Some, None, Ok, refl, arith}
 use Rattle.std.specs.Option.{ForSome}
-use Rattle.rpg_effect.specs.declared.condition.Conditions.{Conditions}
-use Rattle.rpg_effect.specs.declared.operation.Action.TheVariants as actions
-use Rattle.rpg_effect.specs.declared.operation.Instruction.{Instruction}
-use Rattle.rpg_effect.specs.declared.operation.Instruction.TheVariants.{Act, Except, Branch, Call, Return}
-use Rattle.rpg_effect.specs.declared.operation.Operand.{Operand}
-use Rattle.rpg_effect.specs.declared.operation.Operator.TheVariants as operators
-use Rattle.rpg_effect.specs.declared.operation.Shows.{Shows}
-use Rattle.rpg_effect.specs.declared.operation.Side.TheVariants as sides
+use Rattle.rpg_program.specs.declared.condition.Conditions.{Conditions}
+use Rattle.rpg_program.specs.declared.operation.Action.TheVariants as actions
+use Rattle.rpg_program.specs.declared.operation.Instruction.{Instruction}
+use Rattle.rpg_program.specs.declared.operation.Instruction.TheVariants.{Act, Except, Branch, Call, Return}
+use Rattle.rpg_program.specs.declared.operation.Operand.{Operand}
+use Rattle.rpg_program.specs.declared.operation.Operator.TheVariants as operators
+use Rattle.rpg_program.specs.declared.operation.Shows.{Shows}
+use Rattle.rpg_program.specs.declared.operation.Side.TheVariants as sides
 use Rattle.rpg_object_format.specs.Format.{byte, pair, row, two_bytes}
-use Rattle.rpg_object_program.specs.Kept.{AreConditions, AreIndicators, IsAnOperand, IsInstructionRow, IsOperandRow, IsOptionalRow, IsTwoBytes}
+use Rattle.rpg_program.specs.Kept.{AreConditions, AreIndicators, IsAnOperand, IsInstructionRow, IsOperandRow, IsOptionalRow, IsTwoBytes}
 use Rattle.rpg_object_instructions.specs.declared.operation.Columns.{Columns}
 use Rattle.rpg_object_instructions.specs.declared.operation.Numbers.{Numbers}
 use Rattle.rpg_object_instructions.specs.declared.operation.Operation.{Operation}

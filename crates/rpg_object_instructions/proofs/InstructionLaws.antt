@@ -1,13 +1,13 @@
 -- The law of instructions.
 use Rattle.std.proofs.Common.{◌≡◌, ℕ, Bool, true, false, Option, refl, ap, ◌∙◌}
-use Rattle.rpg_effect.specs.declared.condition.Conditions.{Conditions}
-use Rattle.rpg_effect.specs.declared.operation.Action.TheVariants as actions
-use Rattle.rpg_effect.specs.declared.operation.Instruction.{Instruction}
-use Rattle.rpg_effect.specs.declared.operation.Instruction.TheVariants.{Act, Except, Branch, Call, Return}
-use Rattle.rpg_effect.specs.declared.operation.Operand.{Operand}
-use Rattle.rpg_effect.specs.declared.operation.Operator.TheVariants as operators
-use Rattle.rpg_effect.specs.declared.operation.Shows.{Shows}
-use Rattle.rpg_effect.specs.declared.operation.Side.TheVariants as sides
+use Rattle.rpg_program.specs.declared.condition.Conditions.{Conditions}
+use Rattle.rpg_program.specs.declared.operation.Action.TheVariants as actions
+use Rattle.rpg_program.specs.declared.operation.Instruction.{Instruction}
+use Rattle.rpg_program.specs.declared.operation.Instruction.TheVariants.{Act, Except, Branch, Call, Return}
+use Rattle.rpg_program.specs.declared.operation.Operand.{Operand}
+use Rattle.rpg_program.specs.declared.operation.Operator.TheVariants as operators
+use Rattle.rpg_program.specs.declared.operation.Shows.{Shows}
+use Rattle.rpg_program.specs.declared.operation.Side.TheVariants as sides
 use Rattle.rpg_object_format.specs.Format.{byte, pair, row}
 use Rattle.rpg_object_format.specs.Numbers.{any_number, byte_where, yes_or_no}
 use Rattle.rpg_object_format.proofs.Laws.{IsFormat, byte_law, pair_law, row_law}

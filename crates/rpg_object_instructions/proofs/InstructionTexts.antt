@@ -1,15 +1,15 @@
 -- The numbers of instructions, and the bytes that spell them.
 use Rattle.std.proofs.Common.{◌≡◌, ℕ, Bool, true, false, Option, Some, None, refl}
-use Rattle.rpg_effect.specs.declared.operation.Action.{Action}
-use Rattle.rpg_effect.specs.declared.operation.Action.TheVariants as actions
-use Rattle.rpg_effect.specs.declared.operation.Instruction.{Instruction}
-use Rattle.rpg_effect.specs.declared.operation.Instruction.TheVariants.{Act, Except, Branch, Call, Return}
-use Rattle.rpg_effect.specs.declared.operation.Operand.{Operand}
-use Rattle.rpg_effect.specs.declared.operation.Operator.TheVariants as operators
-use Rattle.rpg_effect.specs.declared.operation.Shows.{Shows}
-use Rattle.rpg_effect.specs.declared.operation.Side.TheVariants as sides
+use Rattle.rpg_program.specs.declared.operation.Action.{Action}
+use Rattle.rpg_program.specs.declared.operation.Action.TheVariants as actions
+use Rattle.rpg_program.specs.declared.operation.Instruction.{Instruction}
+use Rattle.rpg_program.specs.declared.operation.Instruction.TheVariants.{Act, Except, Branch, Call, Return}
+use Rattle.rpg_program.specs.declared.operation.Operand.{Operand}
+use Rattle.rpg_program.specs.declared.operation.Operator.TheVariants as operators
+use Rattle.rpg_program.specs.declared.operation.Shows.{Shows}
+use Rattle.rpg_program.specs.declared.operation.Side.TheVariants as sides
 use Rattle.rpg_object_format.specs.Format.{byte, two_bytes, pair, row}
-use Rattle.rpg_object_program.specs.Kept.{IsIndexRow, IsInstructionRow, IsOptionalRow}
+use Rattle.rpg_program.specs.Kept.{IsIndexRow, IsInstructionRow, IsOptionalRow}
 use Rattle.rpg_object_instructions.specs.declared.operation.Numbers.{Numbers}
 use Rattle.rpg_object_instructions.specs.declared.operation.Operation.{Operation}
 use Rattle.rpg_object_instructions.specs.Indicators.{shows_format}

@@ -2,13 +2,13 @@
 use Rattle.std.proofs.Common.{◌≡◌, ℕ, ◌+◌, ◌-◌, ◌<◌, cond, Option, Some, None, Ok, refl, sym, ap, ◌∙◌, arith, inl, inr, eqb, leb, eqb-true, ne_eqb}
 use Rattle.std.specs.Option.{ForSome}
 use Rattle.std.proofs.lemmas.Bool.{leb-false, leb-true, le-leb, lt-leb, eqb-false}
-use Rattle.rpg_effect.specs.declared.operation.Index.{Index}
-use Rattle.rpg_effect.specs.declared.operation.Index.TheVariants.{Blank, Literal, Field}
-use Rattle.rpg_effect.specs.declared.operation.Operand.{Operand}
+use Rattle.rpg_program.specs.declared.operation.Index.{Index}
+use Rattle.rpg_program.specs.declared.operation.Index.TheVariants.{Blank, Literal, Field}
+use Rattle.rpg_program.specs.declared.operation.Operand.{Operand}
 use Rattle.rpg_object_format.specs.Format.{pair, row, two_bytes}
 use Rattle.rpg_object_format.proofs.Laws.{IsFormat, IsRule, pair_law, row_law, two_law}
 use Rattle.rpg_object_format.proofs.Rules.{any_number_law, value_is}
-use Rattle.rpg_object_program.specs.Kept.{IsAnOperand, IsIndexRow, IsOperandRow}
+use Rattle.rpg_program.specs.Kept.{IsAnOperand, IsIndexRow, IsOperandRow}
 use Rattle.rpg_object_instructions.specs.Operands.{if_operand, index_by_number, index_number, index_rule, no_operand, operand, operand_or_none, optional_of, unused_operand}
 use Rattle.rpg_object_instructions.proofs.Choices.{decided, some_is}
 use Rattle.rpg_object_instructions.proofs.ShapeLaws.{unused_number_law}

@@ -7,10 +7,10 @@ ghost use Rattle.rpg_object_format.specs.Reading.{Gives};
 ghost use Rattle.rpg_object_instructions.specs.Indicators.{are_negations, bit, condition_with, conditions_format, conditions_of, has_bit, indicator_in, indicators_of, is_negation, may_negate, negations_of};
 
 use crate::indicator::shows_at;
-use rpg_effect::condition::{Condition, Conditions};
-use rpg_effect::operation::Shows;
 use rpg_object_format::fault::{Code, ReadFault};
 use rpg_object_format::number::byte_at;
+use rpg_program::condition::{Condition, Conditions};
+use rpg_program::operation::Shows;
 
 // ---- N bits
 

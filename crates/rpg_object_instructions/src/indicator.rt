@@ -5,9 +5,9 @@ ghost use Rattle.rpg_object_format.specs.Format.{read_byte};
 ghost use Rattle.rpg_object_format.specs.Reading.{Gives};
 ghost use Rattle.rpg_object_instructions.specs.Indicators.{indicator_by_number, indicator_number, shows_format};
 
-use rpg_effect::operation::Shows;
 use rpg_object_format::fault::{Code, ReadFault};
 use rpg_object_format::number::byte_at;
+use rpg_program::operation::Shows;
 
 fn indicator_of(n: u8) -> Result<Option<u8>, Code>
     ensures { result ≡ indicator_by_number n }

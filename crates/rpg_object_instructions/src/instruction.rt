@@ -2,7 +2,7 @@
 
 ghost use Rattle.std.specs.Prelude.{◌≡◌, ◌++◌, OnOk};
 ghost use Rattle.rpg_object_format.specs.Reading.{Gives};
-ghost use Rattle.rpg_object_program.specs.Kept.{IsInstructionRow, IsIndexRow};
+ghost use Rattle.rpg_program.specs.Kept.{IsInstructionRow, IsIndexRow};
 ghost use Rattle.rpg_object_instructions.specs.Instructions as rows;
 
 use crate::condition::{conditions_of, indicators_of, negations_of};
@@ -10,9 +10,9 @@ use crate::indicator::indicator_number;
 use crate::numbers::{NO_SHOWS, numbers_at};
 use crate::operand::{NO_OPERAND, index_number, operand_or_none, optional_of};
 use crate::operation::{Numbers, Operation, operation_number};
-use rpg_effect::operation::{Action, Instruction, Operand, Operator, Shows, Side};
 use rpg_object_format::fault::ReadFault;
 use rpg_object_format::number::{flag_number, high, low};
+use rpg_program::operation::{Action, Instruction, Operand, Operator, Shows, Side};
 use std::alloc::AllocError;
 
 // ---- from numbers

@@ -1,8 +1,8 @@
 //! A law of the format. A function here does nothing: its contract is the law.
 
 ghost use Rattle.std.specs.Prelude.{ℕ};
-ghost use Rattle.rpg_effect.specs.declared.operation.Instruction.{Instruction};
-ghost use Rattle.rpg_object_program.specs.Kept.{IsInstructionRow};
+ghost use Rattle.rpg_program.specs.declared.operation.Instruction.{Instruction};
+ghost use Rattle.rpg_program.specs.Kept.{IsInstructionRow};
 ghost use Rattle.rpg_object_instructions.specs.Instructions.{instruction};
 
 /// What an instruction keeps, in plain words, and back.

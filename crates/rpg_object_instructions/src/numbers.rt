@@ -9,9 +9,9 @@ use crate::condition::negations_at;
 use crate::indicator::shows_at;
 use crate::operand::{NO_OPERAND, operand_at, unused_operand_at};
 use crate::operation::{Columns, Numbers, Operation, columns_of, operation_of};
-use rpg_effect::operation::{Operand, Shows};
 use rpg_object_format::fault::{Code, ReadFault};
 use rpg_object_format::number::{any_number_at, byte_at, flag_at, only_byte_at, only_number_at};
+use rpg_program::operation::{Operand, Shows};
 
 /// No indicator.
 pub const NO_SHOWS: Shows = Shows {

@@ -3,12 +3,12 @@
 ghost use Rattle.std.specs.Prelude.{◌≡◌, ◌<◌, ◌+◌, ◌^◌};
 ghost use Rattle.rpg_object_format.specs.Format.{read_two};
 ghost use Rattle.rpg_object_format.specs.Reading.{Gives};
-ghost use Rattle.rpg_object_program.specs.Kept.{IsIndexRow};
+ghost use Rattle.rpg_program.specs.Kept.{IsIndexRow};
 ghost use Rattle.rpg_object_instructions.specs.Operands as rows;
 
-use rpg_effect::operation::{Index, Operand};
 use rpg_object_format::fault::{Code, ReadFault};
 use rpg_object_format::number::{any_number_at, number_at, only_number_at};
+use rpg_program::operation::{Index, Operand};
 
 /// What is added to the number of an index field.
 const FIELDS: u16 = 10_000;

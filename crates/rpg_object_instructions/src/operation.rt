@@ -3,8 +3,8 @@
 ghost use Rattle.std.specs.Prelude.{◌≡◌};
 ghost use Rattle.rpg_object_instructions.specs.Instructions as rows;
 
-use rpg_effect::operation::{Operand, Shows};
 use rpg_object_format::fault::Code;
+use rpg_program::operation::{Operand, Shows};
 
 /// What an instruction does, apart from its operands.
 #[derive(Clone, Copy)]

@@ -5,8 +5,8 @@ use Rattle.rpg_edit_marks.specs.Code.{code_of, table_of_codes}
 use Rattle.rpg_edit_marks.specs.declared.code.EditCode.{EditCode}
 use Rattle.rpg_edit_marks.specs.declared.code.EditCode.TheVariants.{Combination, X, Y, Z}
 use Rattle.rpg_edit_marks.specs.declared.code.Ending.TheVariants.{Unsigned, Credit, Minus}
-use Rattle.rpg_effect.specs.declared.line.Editing.{Editing}
-use Rattle.rpg_effect.specs.declared.line.Editing.TheVariants as editings
+use Rattle.rpg_program.specs.declared.line.Editing.{Editing}
+use Rattle.rpg_program.specs.declared.line.Editing.TheVariants as editings
 use Rattle.rpg_object_format.proofs.Laws.{IsRule}
 use Rattle.rpg_object_format.proofs.Rules.{chosen, stands_for, value_is}
 use Rattle.rpg_object_rows.specs.declared.letter.Letter.{Letter}

@@ -3,23 +3,23 @@ use Rattle.std.proofs.Common.{◌≡◌, ℕ, ◌<◌, ◌≤◌, ◌^◌, [], �
 use Rattle.std.proofs.lemmas.Bool.{lt-ltb, ltb-true}
 use Rattle.rpg_edit_marks.specs.declared.code.Fill.{Fill}
 use Rattle.rpg_edit_marks.specs.declared.code.Fill.TheVariants as fills
-use Rattle.rpg_effect.specs.declared.line.Editing.{Editing}
-use Rattle.rpg_effect.specs.declared.line.Editing.TheVariants as editings
-use Rattle.rpg_effect.specs.declared.line.File.{File}
-use Rattle.rpg_effect.specs.declared.line.File.TheVariants.{Printer, Disk}
-use Rattle.rpg_effect.specs.declared.line.LineField.{LineField}
-use Rattle.rpg_effect.specs.declared.line.Source.{Source}
-use Rattle.rpg_effect.specs.declared.line.Source.TheVariants as sources
-use Rattle.rpg_effect.specs.declared.line.Spacing.{Spacing}
-use Rattle.rpg_effect.specs.declared.line.Time.{Time}
-use Rattle.rpg_effect.specs.declared.line.Time.TheVariants as times
+use Rattle.rpg_program.specs.declared.line.Editing.{Editing}
+use Rattle.rpg_program.specs.declared.line.Editing.TheVariants as editings
+use Rattle.rpg_program.specs.declared.line.File.{File}
+use Rattle.rpg_program.specs.declared.line.File.TheVariants.{Printer, Disk}
+use Rattle.rpg_program.specs.declared.line.LineField.{LineField}
+use Rattle.rpg_program.specs.declared.line.Source.{Source}
+use Rattle.rpg_program.specs.declared.line.Source.TheVariants as sources
+use Rattle.rpg_program.specs.declared.line.Spacing.{Spacing}
+use Rattle.rpg_program.specs.declared.line.Time.{Time}
+use Rattle.rpg_program.specs.declared.line.Time.TheVariants as times
 use Rattle.rpg_object_format.specs.declared.fault.Code.TheVariants.{NotAllowed}
 use Rattle.rpg_object_format.specs.Format.{byte, pair, row, times_with, two_bytes}
 use Rattle.rpg_object_format.specs.Numbers.{up_to}
 use Rattle.rpg_object_format.proofs.Laws.{IsFormat, IsRule, byte_law, pair_law, row_law, table_law, two_law}
 use Rattle.rpg_object_format.proofs.Rules.{any_number_law, choice_rule, chosen, count_law, number_law, stands_for, up_to_rule, yes_or_no_law}
-use Rattle.rpg_object_program.specs.Kept.{IsAlternativeRow, IsEditingRow, IsLineFieldRow, IsLineRow, IsSpacingRow}
-use Rattle.rpg_object_program.specs.Object.{LineRow}
+use Rattle.rpg_program.specs.Kept.{IsAlternativeRow, IsEditingRow, IsLineFieldRow, IsLineRow, IsSpacingRow}
+use Rattle.rpg_program.specs.Object.{LineRow}
 use Rattle.rpg_object_rows.specs.declared.letter.Letter.{Letter}
 use Rattle.rpg_object_instructions.specs.Indicators.{alternative}
 use Rattle.rpg_object_rows.specs.Lines.{LineFieldParts, LineParts, allowed_alternatives, editing_by_letter, file_by_number, file_number, fill_by_number, fill_number, is_word_field, letter_in, line, line_field, line_field_parts, line_parts, source_by_number, source_number, spacing, time_by_number, time_number, word_in}

@@ -2,23 +2,23 @@
 use Rattle.std.proofs.Common.{◌≡◌, ℕ, true, false, List, [], ◌∷◌, Some, None, Result, Ok, Err, refl}
 use Rattle.rpg_edit_marks.specs.declared.code.EditCode.TheVariants as codes
 use Rattle.rpg_edit_marks.specs.declared.code.Fill.TheVariants as fills
-use Rattle.rpg_effect.specs.Input.{TypeRow}
-use Rattle.rpg_effect.specs.declared.condition.Condition.{Condition}
-use Rattle.rpg_effect.specs.declared.condition.Conditions.{Conditions}
-use Rattle.rpg_effect.specs.declared.input.InputFile.TheVariants.{Primary, Secondary}
-use Rattle.rpg_effect.specs.declared.line.Editing.TheVariants as editings
-use Rattle.rpg_effect.specs.declared.line.File.TheVariants.{Printer}
-use Rattle.rpg_effect.specs.declared.line.LineField.{LineField}
-use Rattle.rpg_effect.specs.declared.line.Source.TheVariants as sources
-use Rattle.rpg_effect.specs.declared.line.Time.TheVariants as times
-use Rattle.rpg_effect.specs.declared.operation.Index.TheVariants.{Blank}
-use Rattle.rpg_effect.specs.declared.operation.Operand.{Operand}
+use Rattle.rpg_program.specs.Input.{TypeRow}
+use Rattle.rpg_program.specs.declared.condition.Condition.{Condition}
+use Rattle.rpg_program.specs.declared.condition.Conditions.{Conditions}
+use Rattle.rpg_program.specs.declared.input.InputFile.TheVariants.{Primary, Secondary}
+use Rattle.rpg_program.specs.declared.line.Editing.TheVariants as editings
+use Rattle.rpg_program.specs.declared.line.File.TheVariants.{Printer}
+use Rattle.rpg_program.specs.declared.line.LineField.{LineField}
+use Rattle.rpg_program.specs.declared.line.Source.TheVariants as sources
+use Rattle.rpg_program.specs.declared.line.Time.TheVariants as times
+use Rattle.rpg_program.specs.declared.operation.Index.TheVariants.{Blank}
+use Rattle.rpg_program.specs.declared.operation.Operand.{Operand}
 use Rattle.rpg_object_format.specs.declared.fault.Code.{Code}
 use Rattle.rpg_object_format.specs.declared.fault.Code.TheVariants.{NotAllowed, PastLimit, Unused}
 use Rattle.rpg_object_format.specs.declared.fault.Fault.{Fault}
 use Rattle.rpg_object_format.specs.Format.{byte, pair, read_byte, read_times, read_two, row, times_with, two_bytes}
-use Rattle.rpg_object_program.specs.Object.{LineRow}
-use Rattle.rpg_object_program.specs.declared.row.Version.TheVariants.{One, Two}
+use Rattle.rpg_program.specs.Object.{LineRow}
+use Rattle.rpg_program.specs.declared.rows.Version.TheVariants.{One, Two}
 use Rattle.rpg_object_instructions.specs.Indicators.{alternative, condition_format, conditions_format, shows_format}
 use Rattle.rpg_object_instructions.specs.Operands.{operand}
 use Rattle.rpg_object_rows.specs.Lines.{line, line_field, line_field_parts, line_parts, spacing}

@@ -1,12 +1,12 @@
 -- The bytes of record types and lines: their numbers, then their tables.
 use Rattle.std.proofs.Common.{◌≡◌, ℕ, List, ◌++◌, map, refl, sym, ap, ◌∙◌, append_assoc}
 use Rattle.std.proofs.lemmas.List.{map-id}
-use Rattle.rpg_effect.specs.Input.{TypeRow}
+use Rattle.rpg_program.specs.Input.{TypeRow}
 use Rattle.rpg_object_format.specs.Format.{byte, keep, pair, row, spelled_along, times_with, two_bytes}
-use Rattle.rpg_object_program.specs.Kept.{IsPlainType}
-use Rattle.rpg_object_program.specs.Object.{LineRow}
-use Rattle.rpg_object_program.specs.declared.row.Version.{Version}
-use Rattle.rpg_object_program.specs.declared.row.Version.TheVariants as versions
+use Rattle.rpg_program.specs.Kept.{IsPlainType}
+use Rattle.rpg_program.specs.Object.{LineRow}
+use Rattle.rpg_program.specs.declared.rows.Version.{Version}
+use Rattle.rpg_program.specs.declared.rows.Version.TheVariants as versions
 use Rattle.rpg_object_instructions.specs.Indicators.{alternative}
 use Rattle.rpg_object_rows.specs.Lines.{line, line_field, line_head, line_parts, spacing}
 use Rattle.rpg_object_instructions.specs.Shapes.{no_number, row_where}

@@ -1,17 +1,17 @@
 -- The law of record types, and what they keep in plain words, and back.
 use Rattle.std.proofs.Common.{◌≡◌, ℕ, ◌<◌, ◌≤◌, ◌^◌, List, [], ◌∷◌, length, Ok, refl, ap, ◌∙◌, arith}
-use Rattle.rpg_effect.specs.Input.{TypeRow}
-use Rattle.rpg_effect.specs.declared.input.ControlField.{ControlField}
-use Rattle.rpg_effect.specs.declared.input.InputField.{InputField}
-use Rattle.rpg_effect.specs.declared.input.InputFile.{InputFile}
-use Rattle.rpg_effect.specs.declared.input.InputFile.TheVariants.{Primary, Secondary}
-use Rattle.rpg_effect.specs.declared.input.RecordCode.{RecordCode}
+use Rattle.rpg_program.specs.Input.{TypeRow}
+use Rattle.rpg_program.specs.declared.input.ControlField.{ControlField}
+use Rattle.rpg_program.specs.declared.input.InputField.{InputField}
+use Rattle.rpg_program.specs.declared.input.InputFile.{InputFile}
+use Rattle.rpg_program.specs.declared.input.InputFile.TheVariants.{Primary, Secondary}
+use Rattle.rpg_program.specs.declared.input.RecordCode.{RecordCode}
 use Rattle.rpg_object_format.specs.Format.{byte, pair, row, times_with, two_bytes}
 use Rattle.rpg_object_format.proofs.Laws.{IsFormat, pair_law, row_law, table_law}
 use Rattle.rpg_object_format.proofs.Rules.{any_number_law, byte_where_law, count_law, one_of_law, yes_or_no_law}
-use Rattle.rpg_object_program.specs.Kept.{IsCodeRow, IsControlRow, IsInputRow, IsPlainType, IsTypeRow}
-use Rattle.rpg_object_program.specs.declared.row.Version.{Version}
-use Rattle.rpg_object_program.specs.declared.row.Version.TheVariants as versions
+use Rattle.rpg_program.specs.Kept.{IsCodeRow, IsControlRow, IsInputRow, IsPlainType, IsTypeRow}
+use Rattle.rpg_program.specs.declared.rows.Version.{Version}
+use Rattle.rpg_program.specs.declared.rows.Version.TheVariants as versions
 use Rattle.rpg_text.specs.Texts.{is_between}
 use Rattle.rpg_object_rows.specs.Types.{TypeParts, control_field_format, input_field_format, input_file, input_file_by_number, input_file_number, is_two, match_count, record_code_format, record_type_format, type_parts}
 use Rattle.rpg_object_instructions.proofs.Choices.{all_from_table, between, counted, few, flag_from, table_from_all, within}

@@ -1,16 +1,16 @@
 -- Record types.
 use Rattle.std.specs.Prelude.{ℕ, ◌/◌, ◌%◌, List, [], ◌∷◌, ◌++◌, length, Bool, true, false, Option, Result}
-use Rattle.rpg_effect.specs.Input.{TypeRow}
-use Rattle.rpg_effect.specs.declared.input.ControlField.{ControlField}
-use Rattle.rpg_effect.specs.declared.input.InputField.{InputField}
-use Rattle.rpg_effect.specs.declared.input.InputFile.{InputFile}
-use Rattle.rpg_effect.specs.declared.input.InputFile.TheVariants.{Primary, Secondary}
-use Rattle.rpg_effect.specs.declared.input.RecordCode.{RecordCode}
+use Rattle.rpg_program.specs.Input.{TypeRow}
+use Rattle.rpg_program.specs.declared.input.ControlField.{ControlField}
+use Rattle.rpg_program.specs.declared.input.InputField.{InputField}
+use Rattle.rpg_program.specs.declared.input.InputFile.{InputFile}
+use Rattle.rpg_program.specs.declared.input.InputFile.TheVariants.{Primary, Secondary}
+use Rattle.rpg_program.specs.declared.input.RecordCode.{RecordCode}
 use Rattle.rpg_object_format.specs.declared.fault.Code.{Code}
 use Rattle.rpg_object_format.specs.Format.{Format, byte, pair, row, table}
 use Rattle.rpg_object_format.specs.Numbers.{any_number, byte_where, choice, yes_or_no, count}
-use Rattle.rpg_object_program.specs.declared.row.Version.{Version}
-use Rattle.rpg_object_program.specs.declared.row.Version.TheVariants as versions
+use Rattle.rpg_program.specs.declared.rows.Version.{Version}
+use Rattle.rpg_program.specs.declared.rows.Version.TheVariants as versions
 use Rattle.rpg_text.specs.Texts.{is_between}
 use Rattle.rpg_object_instructions.specs.Indicators.{indicator_format, indicator_number, shows_format}
 use Rattle.rpg_object_instructions.specs.Shapes.{no_number, unused_byte, where_used}

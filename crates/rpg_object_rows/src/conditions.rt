@@ -1,15 +1,15 @@
 //! The conditions of an alternative.
 
 ghost use Rattle.std.specs.Prelude.{◌≡◌, ◌++◌};
-ghost use Rattle.rpg_effect.specs.declared.condition.Condition as spec;
+ghost use Rattle.rpg_program.specs.declared.condition.Condition as spec;
 ghost use Rattle.rpg_object_format.specs.Reading.{Gives};
-ghost use Rattle.rpg_object_program.specs.Kept.{IsConditionRow};
+ghost use Rattle.rpg_program.specs.Kept.{IsConditionRow};
 ghost use Rattle.rpg_object_instructions.specs.Indicators.{condition_format};
 
 use crate::table::Row;
-use rpg_effect::condition::Condition;
 use rpg_object_format::fault::ReadFault;
 use rpg_object_format::number::{byte_between_at, flag_at, flag_number};
+use rpg_program::condition::Condition;
 use std::alloc::{AllocError, Global};
 
 #[tactic(auto, unfolding(rpg_object_format::specs::Format::byte, rpg_object_format::specs::Format::pair, rpg_object_format::specs::Format::row, rpg_object_instructions::specs::Indicators::condition_format))]

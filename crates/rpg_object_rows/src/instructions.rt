@@ -1,16 +1,16 @@
 //! Tables of instructions.
 
 ghost use Rattle.std.specs.Prelude.{◌≡◌, ℕ, ◌++◌, All, length, OnOk};
-ghost use Rattle.rpg_effect.specs.declared.operation.Instruction as spec;
+ghost use Rattle.rpg_program.specs.declared.operation.Instruction as spec;
 ghost use Rattle.rpg_object_format.specs.Format.{table};
 ghost use Rattle.rpg_object_format.specs.Reading.{Gives};
-ghost use Rattle.rpg_object_program.specs.Kept.{IsInstructionRow};
+ghost use Rattle.rpg_program.specs.Kept.{IsInstructionRow};
 ghost use Rattle.rpg_object_instructions.specs.Instructions as rows;
 
 use crate::table::{Row, put_rows, rows_at};
-use rpg_effect::operation::Instruction;
 use rpg_object_format::fault::ReadFault;
 use rpg_object_instructions::{instruction_at, put_instruction};
+use rpg_program::operation::Instruction;
 use std::alloc::{AllocError, Global};
 
 impl Row for Instruction<u16> {

@@ -7,9 +7,9 @@ ghost use Rattle.rpg_object_format.specs.Reading.{Gives};
 ghost use Rattle.rpg_object_rows.specs.Lines as rows;
 
 use rpg_edit_marks::{EditCode, Ending};
-use rpg_effect::line::Editing;
 use rpg_object_format::fault::{Code, ReadFault};
 use rpg_object_format::number::{byte_at, number_at};
+use rpg_program::line::Editing;
 
 /// Not edited, an edit code, or `W` for an edit word.
 #[derive(Clone, Copy)]

@@ -1,21 +1,21 @@
 //! The fields of output lines, 16 bytes each.
 
 ghost use Rattle.std.specs.Prelude.{◌≡◌, ℕ, ◌++◌};
-ghost use Rattle.rpg_effect.specs.declared.line.LineField as spec;
+ghost use Rattle.rpg_program.specs.declared.line.LineField as spec;
 ghost use Rattle.rpg_object_format.specs.Format.{read_byte};
 ghost use Rattle.rpg_object_format.specs.Reading.{Gives};
-ghost use Rattle.rpg_object_program.specs.Kept.{IsLineFieldRow};
+ghost use Rattle.rpg_program.specs.Kept.{IsLineFieldRow};
 ghost use Rattle.rpg_object_rows.specs.Lines as rows;
 
 use crate::letter::{editing_of, letter_at, letter_in, letter_number, word_field_at, word_in};
 use crate::table::Row;
 use rpg_edit_marks::Fill;
-use rpg_effect::line::{LineField, Source};
 use rpg_object_format::fault::{Code, ReadFault};
 use rpg_object_format::number::{any_number_at, byte_at, flag_at, flag_number, high, low};
 use rpg_object_instructions::condition::{conditions_at, indicators_of, negations_of};
 use rpg_object_instructions::indicator::indicator_number;
 use rpg_object_instructions::operand::{index_number, operand_at};
+use rpg_program::line::{LineField, Source};
 use std::alloc::{AllocError, Global};
 
 fn source_of(n: u8) -> Result<Source, Code>

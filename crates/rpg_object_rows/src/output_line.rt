@@ -1,21 +1,21 @@
 //! Output lines, with their alternatives and fields.
 
 ghost use Rattle.std.specs.Prelude.{◌≡◌, ℕ, List, ◌++◌, ◌≤◌, All, length, map, OnOk};
-ghost use Rattle.rpg_effect.specs.declared.condition.Condition as spec;
+ghost use Rattle.rpg_program.specs.declared.condition.Condition as spec;
 ghost use Rattle.rpg_object_format.specs.Format.{read_byte, read_two, table};
 ghost use Rattle.rpg_object_format.specs.Numbers.{allowed, is_any_number};
 ghost use Rattle.rpg_object_format.specs.Reading.{Gives};
-ghost use Rattle.rpg_object_program.specs.Kept.{IsAlternativeRow, IsLineRow};
-ghost use Rattle.rpg_object_program.specs.Object.{LineRow, line_row};
+ghost use Rattle.rpg_program.specs.Kept.{IsAlternativeRow, IsLineRow};
+ghost use Rattle.rpg_program.specs.Object.{LineRow, line_row};
 ghost use Rattle.rpg_object_instructions.specs.Indicators.{alternative};
 ghost use Rattle.rpg_object_rows.specs.Lines as rows;
 
 use crate::table::{Row, put_rows, rows_at};
-use rpg_effect::condition::Condition;
-use rpg_effect::line::{File, Spacing, Time};
 use rpg_object_format::fault::{Code, ReadFault};
 use rpg_object_format::number::{byte_at, count_at, high, low, number_at, only_number_at};
-use rpg_object_program::row::Line;
+use rpg_program::condition::Condition;
+use rpg_program::line::{File, Spacing, Time};
+use rpg_program::rows::Line;
 use std::alloc::{AllocError, Global};
 
 fn file_of(n: u8) -> Result<File, Code>

@@ -1,26 +1,26 @@
 //! Record types, with their codes, control fields and input fields.
 
 ghost use Rattle.std.specs.Prelude.{◌≡◌, ℕ, ◌++◌, All, length, map, OnOk};
-ghost use Rattle.rpg_effect.specs.declared.input.ControlField as control;
-ghost use Rattle.rpg_effect.specs.declared.input.InputField as input;
-ghost use Rattle.rpg_effect.specs.declared.input.RecordCode as code;
+ghost use Rattle.rpg_program.specs.declared.input.ControlField as control;
+ghost use Rattle.rpg_program.specs.declared.input.InputField as input;
+ghost use Rattle.rpg_program.specs.declared.input.RecordCode as code;
 ghost use Rattle.rpg_object_format.specs.Format.{table};
 ghost use Rattle.rpg_object_format.specs.Reading.{Gives};
-ghost use Rattle.rpg_object_program.specs.Kept.{IsCodeRow, IsControlRow, IsInputRow, IsPlainType, IsTypeRow};
-ghost use Rattle.rpg_object_program.specs.Object.{type_row};
-ghost use Rattle.rpg_object_program.specs.declared.row.Version.TheVariants as versions;
+ghost use Rattle.rpg_program.specs.Kept.{IsCodeRow, IsControlRow, IsInputRow, IsPlainType, IsTypeRow};
+ghost use Rattle.rpg_program.specs.Object.{type_row};
+ghost use Rattle.rpg_program.specs.declared.rows.Version.TheVariants as versions;
 ghost use Rattle.rpg_object_rows.specs.Types as rows;
 ghost use Rattle.rpg_object_rows.specs.Types.{control_field_format, input_field_format, record_code_format};
 
 use crate::table::{Row, put_rows, rows_at};
-use rpg_effect::input::{ControlField, InputField, InputFile, RecordCode};
 use rpg_object_format::fault::{Code, ReadFault};
 use rpg_object_format::number::{
     any_number_at, byte_at, byte_between_at, count_at, flag_at, flag_number, high, low,
     only_byte_at, put_numbers,
 };
 use rpg_object_instructions::indicator::{indicator_at, indicator_number, shows_at};
-use rpg_object_program::row::{RecordType, Version};
+use rpg_program::input::{ControlField, InputField, InputFile, RecordCode};
+use rpg_program::rows::{RecordType, Version};
 use std::alloc::{AllocError, Global};
 
 #[tactic(auto, unfolding(rpg_object_format::specs::Format::byte, rpg_object_format::specs::Format::two_bytes, rpg_object_format::specs::Format::pair, rpg_object_format::specs::Format::row, crate::specs::Types::record_code_format))]

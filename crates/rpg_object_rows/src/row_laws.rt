@@ -1,11 +1,11 @@
 //! Laws of the formats. A function here does nothing: its contract is the law.
 
 ghost use Rattle.std.specs.Prelude.{◌≡◌, ℕ};
-ghost use Rattle.rpg_effect.specs.Input.{TypeRow};
-ghost use Rattle.rpg_object_program.specs.Kept.{IsLineRow, IsPlainType, IsTypeRow};
-ghost use Rattle.rpg_object_program.specs.Object.{LineRow};
-ghost use Rattle.rpg_object_program.specs.declared.row.Version.{Version};
-ghost use Rattle.rpg_object_program.specs.declared.row.Version.TheVariants as versions;
+ghost use Rattle.rpg_program.specs.Input.{TypeRow};
+ghost use Rattle.rpg_program.specs.Kept.{IsLineRow, IsPlainType, IsTypeRow};
+ghost use Rattle.rpg_program.specs.Object.{LineRow};
+ghost use Rattle.rpg_program.specs.declared.rows.Version.{Version};
+ghost use Rattle.rpg_program.specs.declared.rows.Version.TheVariants as versions;
 ghost use Rattle.rpg_object_rows.specs.Lines.{line};
 ghost use Rattle.rpg_object_rows.specs.Types.{record_type_format};
 

@@ -2,8 +2,8 @@
 use Rattle.std.proofs.Common.{◌≡◌, ℕ, List, map, Option, Some, None, slice_get, refl, ap, ◌∙◌}
 use Rattle.std.proofs.lemmas.Option.{slice_get-map}
 use Rattle.std.specs.Option.{option_map}
-use Rattle.rpg_object_program.specs.Object.{SubroutineRow, subroutine_row}
-use Rattle.rpg_object_program.specs.declared.row.Subroutine.{Subroutine}
+use Rattle.rpg_program.specs.Object.{SubroutineRow, subroutine_row}
+use Rattle.rpg_program.specs.declared.rows.Subroutine.{Subroutine}
 use Rattle.rpg_refusal_causes.specs.First.{cause_of_row}
 
 mapped : {X Y C : Type 0} (cause : Y → Option C) (f : X → Y) (o : Option X) → cause_of_row cause (option_map f o) ≡ cause_of_row (λ x. cause (f x)) o

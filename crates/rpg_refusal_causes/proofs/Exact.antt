@@ -3,7 +3,7 @@ use Rattle.std.proofs.Common.{◌≡◌, ℕ, zero, suc, Bool, true, false, [], 
 use Rattle.std.proofs.lemmas.Bool.{and_parts, false≢true}
 use Rattle.std.specs.Option.{is_some, unwrap_or}
 use Rattle.std.specs.Prelude.{IsSome, ◌↔◌}
-use Rattle.rpg_object_program.specs.Object.{Object}
+use Rattle.rpg_program.specs.Object.{Object}
 use Rattle.rpg_refusal_causes.proofs.First.{some_at, some_mapped}
 use Rattle.rpg_refusal_causes.proofs.HasLine.{line_has}
 use Rattle.rpg_refusal_causes.proofs.HasPlace.{judged, place_has, places_are}

@@ -2,7 +2,7 @@
 use Rattle.std.proofs.Common.{◌≡◌, true, refl}
 use Rattle.std.specs.List.{list_all}
 use Rattle.std.specs.Option.{is_some}
-use Rattle.rpg_object_program.specs.Object.{LineRow, Object, file_length}
+use Rattle.rpg_program.specs.Object.{LineRow, Object, file_length}
 use Rattle.rpg_refusal_causes.proofs.First.{some_any, some_if, some_not_all, some_unless}
 use Rattle.rpg_refusal_causes.specs.LineCauses.{alternative_cause, field_cause, line_cause}
 use Rattle.rpg_refusal_causes.specs.declared.cause.RefusalCause.TheVariants as causes

@@ -4,19 +4,19 @@ use Rattle.std.proofs.lemmas.Bool.{false≢true}
 use Rattle.std.proofs.lemmas.List.{map-append}
 use Rattle.std.specs.Option.{is_some, option_or}
 use Rattle.std.specs.Prelude.{◌||◌, nat_le}
-use Rattle.rpg_effect.specs.Forms.{entries_of, form_at}
-use Rattle.rpg_effect.specs.Rows.{all_of, all_used, can_hold, field_of, holds_all, holds_position, holds_positions, is_current_table, is_good_operand, is_searched, is_two_sided, is_writable_use}
-use Rattle.rpg_effect.specs.declared.row.Marks.{Marks}
-use Rattle.rpg_effect.specs.declared.operation.Instruction.{Instruction}
-use Rattle.rpg_effect.specs.declared.operation.Instruction.TheVariants.{Act, Except, Branch, Call, Return}
-use Rattle.rpg_effect.specs.declared.operation.Operand.{Operand}
-use Rattle.rpg_effect.specs.declared.row.Row.{Row}
-use Rattle.rpg_effect.specs.declared.row.Use.{Use}
-use Rattle.rpg_object_program.specs.Instructions.{columns}
-use Rattle.rpg_object_program.specs.Object.{Object, SubroutineRow}
-use Rattle.rpg_object_program.specs.declared.section.Section.{Section}
-use Rattle.rpg_object_program.specs.declared.section.Section.TheVariants.{Detail, Total, Subroutine}
-use Rattle.rpg_object_program.specs.declared.spans.Span.{Span}
+use Rattle.rpg_program.specs.Forms.{entries_of, form_at}
+use Rattle.rpg_program.specs.Rows.{all_of, all_used, can_hold, field_of, holds_all, holds_position, holds_positions, is_current_table, is_good_operand, is_searched, is_two_sided, is_writable_use}
+use Rattle.rpg_program.specs.declared.row.Marks.{Marks}
+use Rattle.rpg_program.specs.declared.operation.Instruction.{Instruction}
+use Rattle.rpg_program.specs.declared.operation.Instruction.TheVariants.{Act, Except, Branch, Call, Return}
+use Rattle.rpg_program.specs.declared.operation.Operand.{Operand}
+use Rattle.rpg_program.specs.declared.row.Row.{Row}
+use Rattle.rpg_program.specs.declared.row.Use.{Use}
+use Rattle.rpg_program.specs.ObjectInstructions.{columns}
+use Rattle.rpg_program.specs.Object.{Object, SubroutineRow}
+use Rattle.rpg_program.specs.declared.section.Section.{Section}
+use Rattle.rpg_program.specs.declared.section.Section.TheVariants.{Detail, Total, Subroutine}
+use Rattle.rpg_program.specs.declared.spans.Span.{Span}
 use Rattle.rpg_refusal_causes.proofs.First.{one_of_two, some_front, some_if, some_later, some_unless}
 use Rattle.rpg_refusal_causes.specs.First.{cause_if}
 use Rattle.rpg_refusal_causes.specs.PlaceCauses.{all_placed, call_cause, column_cause, entries_cause, found_cause, marked_cause, marks_cause, operand_cause, place_cause, placed_after_detail, placed_in, placed_in_subroutines, search_cause, short_cause, target_cause, unordered_cause}

@@ -4,8 +4,8 @@ use Rattle.std.proofs.lemmas.Bool.{false≢true}
 use Rattle.std.specs.List.{list_any}
 use Rattle.std.specs.Option.{is_some, option_or, unwrap_or}
 use Rattle.std.specs.Prelude.{◌==◌, if◌then◌else◌}
-use Rattle.rpg_effect.specs.declared.operation.Instruction.{Instruction}
-use Rattle.rpg_object_program.specs.Object.{Object, SubroutineRow}
+use Rattle.rpg_program.specs.declared.operation.Instruction.{Instruction}
+use Rattle.rpg_program.specs.Object.{Object, SubroutineRow}
 use Rattle.rpg_refusal_causes.proofs.First.{some_any, some_at, some_front, some_if, some_later}
 use Rattle.rpg_refusal_causes.specs.First.{cause_of_row, first_cause}
 use Rattle.rpg_refusal_causes.specs.SubroutineCauses.{body_cause, foreign_cause, level_cause, return_cause, stray_cause, subroutine_cause}

@@ -7,9 +7,9 @@ use Rattle.std.specs.Cmp.Lexicographic.{pointwise}
 use Rattle.std.specs.List.{list_all, list_any, sum}
 use Rattle.std.specs.Option.{is_some, option_map, option_or}
 use Rattle.std.specs.Prelude.{◌==◌, nat_le}
-use Rattle.rpg_effect.specs.Input.{TypeRow}
-use Rattle.rpg_effect.specs.declared.input.ControlField.{ControlField}
-use Rattle.rpg_object_program.specs.Object.{Object, input_length}
+use Rattle.rpg_program.specs.Input.{TypeRow}
+use Rattle.rpg_program.specs.declared.input.ControlField.{ControlField}
+use Rattle.rpg_program.specs.Object.{Object, input_length}
 use Rattle.rpg_refusal_causes.proofs.First.{one_of_two, some_any, some_front, some_if, some_later, some_not_all, some_unless}
 use Rattle.rpg_refusal_causes.specs.First.{cause_if, first_cause}
 use Rattle.rpg_refusal_causes.specs.TypeCauses.{code_cause, control_cause, input_cause, level_cause, levels_cause, match_cause, matches_cause, shown_cause, twice_cause, type_cause, widths_cause}

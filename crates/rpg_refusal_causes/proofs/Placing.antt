@@ -2,12 +2,12 @@
 use Rattle.std.proofs.Common.{◌≡◌, ℕ, zero, suc, ◌+◌, ◌-◌, ◌<◌, List, [], ◌∷◌, ◌++◌, map, length, get_or, Option, slice_get, refl, sym, ap, ◌∙◌, arith}
 use Rattle.std.proofs.lemmas.Option.{slice_get-map}
 use Rattle.std.specs.Option.{option_map, option_or}
-use Rattle.rpg_effect.specs.declared.operation.Instruction.{Instruction}
-use Rattle.rpg_object_program.specs.Object.{Object}
-use Rattle.rpg_object_program.specs.Spans.{IsSpan}
-use Rattle.rpg_object_program.specs.declared.row.Subroutine.{Subroutine}
-use Rattle.rpg_object_program.specs.declared.section.Section.TheVariants as sections
-use Rattle.rpg_object_program.specs.declared.spans.Span.{Span}
+use Rattle.rpg_program.specs.declared.operation.Instruction.{Instruction}
+use Rattle.rpg_program.specs.Object.{Object}
+use Rattle.rpg_program.specs.Spans.{IsSpan}
+use Rattle.rpg_program.specs.declared.rows.Subroutine.{Subroutine}
+use Rattle.rpg_program.specs.declared.section.Section.TheVariants as sections
+use Rattle.rpg_program.specs.declared.spans.Span.{Span}
 use Rattle.rpg_refusal_causes.specs.PlaceCauses.{placed_in, placed_in_subroutines, span_of}
 use Rattle.rpg_refusal_causes.specs.declared.cause.Placed.{Placed}
 use Rattle.rpg_verify_rules.proofs.Sectioning.{left, one_left}

@@ -1,7 +1,7 @@
 -- The cause of a refusal: what in a row breaks a rule.
 use Rattle.std.specs.Prelude.{◌≡◌, ℕ, Bool, false, Option, None, Some, slice_get, if◌then◌else◌}
 use Rattle.std.specs.Option.{option_map, unwrap_or}
-use Rattle.rpg_object_program.specs.Object.{Object}
+use Rattle.rpg_program.specs.Object.{Object}
 use Rattle.rpg_refusal_causes.specs.First.{cause_of_row}
 use Rattle.rpg_refusal_causes.specs.LineCauses.{line_cause}
 use Rattle.rpg_refusal_causes.specs.PlaceCauses.{place_cause, placed_at}

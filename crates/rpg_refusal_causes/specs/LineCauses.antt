@@ -1,10 +1,10 @@
 -- What in an output line breaks V2 and V8 to V15.
 use Rattle.std.specs.Prelude.{ℕ, Bool, false, not, List, Option, Some}
 use Rattle.std.specs.List.{list_all}
-use Rattle.rpg_effect.specs.declared.condition.Condition.{Condition}
-use Rattle.rpg_effect.specs.declared.line.LineField.{LineField}
-use Rattle.rpg_object_program.specs.Object.{LineRow, Object, file_length}
-use Rattle.rpg_object_program.specs.declared.row.Version.{Version}
+use Rattle.rpg_program.specs.declared.condition.Condition.{Condition}
+use Rattle.rpg_program.specs.declared.line.LineField.{LineField}
+use Rattle.rpg_program.specs.Object.{LineRow, Object, file_length}
+use Rattle.rpg_program.specs.declared.rows.Version.{Version}
 use Rattle.rpg_refusal_causes.specs.First.{cause_if, first_cause}
 use Rattle.rpg_refusal_causes.specs.declared.cause.RefusalCause.{RefusalCause}
 use Rattle.rpg_refusal_causes.specs.declared.cause.RefusalCause.TheVariants as causes

@@ -1,9 +1,9 @@
 -- What in a subroutine breaks V23 and V24.
 use Rattle.std.specs.Prelude.{ℕ, not, ◌==◌, length, Option, None, Some, slice_get, if◌then◌else◌}
 use Rattle.std.specs.Option.{option_or}
-use Rattle.rpg_effect.specs.declared.operation.Instruction.{Instruction}
-use Rattle.rpg_effect.specs.declared.operation.Instruction.TheVariants.{Return}
-use Rattle.rpg_object_program.specs.Object.{Object, SubroutineRow}
+use Rattle.rpg_program.specs.declared.operation.Instruction.{Instruction}
+use Rattle.rpg_program.specs.declared.operation.Instruction.TheVariants.{Return}
+use Rattle.rpg_program.specs.Object.{Object, SubroutineRow}
 use Rattle.rpg_refusal_causes.specs.First.{cause_if, cause_of_row, first_cause}
 use Rattle.rpg_refusal_causes.specs.declared.cause.RefusalCause.{RefusalCause}
 use Rattle.rpg_refusal_causes.specs.declared.cause.RefusalCause.TheVariants as causes

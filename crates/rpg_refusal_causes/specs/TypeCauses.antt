@@ -2,11 +2,11 @@
 use Rattle.std.specs.Prelude.{ℕ, ◌+◌, ◌==◌, not, nat_le, List, [], ◌∷◌, take, Option, None, Some, if◌then◌else◌}
 use Rattle.std.specs.List.{list_any, sum}
 use Rattle.std.specs.Option.{option_map, option_or}
-use Rattle.rpg_effect.specs.Input.{TypeRow}
-use Rattle.rpg_effect.specs.declared.input.ControlField.{ControlField}
-use Rattle.rpg_effect.specs.declared.input.InputField.{InputField}
-use Rattle.rpg_effect.specs.declared.input.RecordCode.{RecordCode}
-use Rattle.rpg_object_program.specs.Object.{Object, input_length}
+use Rattle.rpg_program.specs.Input.{TypeRow}
+use Rattle.rpg_program.specs.declared.input.ControlField.{ControlField}
+use Rattle.rpg_program.specs.declared.input.InputField.{InputField}
+use Rattle.rpg_program.specs.declared.input.RecordCode.{RecordCode}
+use Rattle.rpg_program.specs.Object.{Object, input_length}
 use Rattle.rpg_refusal_causes.specs.First.{cause_if, first_cause}
 use Rattle.rpg_refusal_causes.specs.declared.cause.RefusalCause.{RefusalCause}
 use Rattle.rpg_refusal_causes.specs.declared.cause.RefusalCause.TheVariants as causes

@@ -1,11 +1,11 @@
 //! What in a row breaks a rule, as a value.
 
-use rpg_effect::condition::Conditions;
-use rpg_effect::input::{ControlField, InputField};
-use rpg_effect::line::{LineField, Spacing};
-use rpg_effect::operation::{Instruction, Operand};
-use rpg_effect::row::{Marks, Use};
-use rpg_object_program::spans::Span;
+use rpg_program::condition::Conditions;
+use rpg_program::input::{ControlField, InputField};
+use rpg_program::line::{LineField, Spacing};
+use rpg_program::operation::{Instruction, Operand};
+use rpg_program::row::{Marks, Use};
+use rpg_program::spans::Span;
 use rpg_verify_rules::BrokenRule;
 
 /// A column of an instruction.

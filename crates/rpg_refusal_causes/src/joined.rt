@@ -4,7 +4,7 @@ ghost use Rattle.std.specs.Prelude.{◌≡◌};
 ghost use Rattle.rpg_refusal_causes.specs.TypeCauses as words;
 
 use crate::cause::RefusalCause;
-use rpg_effect::input::ControlField;
+use rpg_program::input::ControlField;
 use rpg_verify_rules::matches::joined_in_all;
 use rpg_verify_rules::types::{is_measured, joined};
 

@@ -1,7 +1,7 @@
 //! When a row has a cause.
 
 ghost use Rattle.std.specs.Prelude.{ℕ, ◌↔◌, IsSome};
-ghost use Rattle.rpg_object_program.specs.Object.{Object};
+ghost use Rattle.rpg_program.specs.Object.{Object};
 ghost use Rattle.rpg_refusal_causes.specs.Causes.{cause_of};
 ghost use Rattle.rpg_verify_rules.specs.Least.{IsBroken};
 ghost use Rattle.rpg_verify_rules.specs.Rules.{broken, rule_number};

@@ -1,15 +1,15 @@
 //! What in an output line breaks V2 and V8 to V15.
 
 ghost use Rattle.std.specs.Prelude.{◌≡◌, map, slice_get};
-ghost use Rattle.rpg_object_program.specs.Kept.{IsProgram};
-ghost use Rattle.rpg_object_program.specs.Object.{seen, line_row};
+ghost use Rattle.rpg_program.specs.Kept.{IsProgram};
+ghost use Rattle.rpg_program.specs.Object.{seen, line_row};
 ghost use Rattle.rpg_refusal_causes.specs.First.{cause_of_row, first_cause};
 ghost use Rattle.rpg_refusal_causes.specs.LineCauses as words;
 
 use crate::cause::RefusalCause;
-use rpg_effect::condition::Condition;
-use rpg_effect::line::LineField;
-use rpg_object_program::row::{Line, Rows, Version};
+use rpg_program::condition::Condition;
+use rpg_program::line::LineField;
+use rpg_program::rows::{Line, Rows, Version};
 use rpg_verify_rules::LineRule;
 use rpg_verify_rules::lines::{
     are_all_asked, asks_wrongly, blanks_wrongly, is_field_there, lacks_editing, lacks_room,

@@ -1,22 +1,22 @@
 //! Which instruction stands at a place, and what in it breaks V16 to V19, V21 and V22.
 
 ghost use Rattle.std.specs.Prelude.{◌≡◌, ◌+◌, length, map, slice_get};
-ghost use Rattle.rpg_object_program.specs.Kept.{IsProgram};
-ghost use Rattle.rpg_object_program.specs.Object.{seen, subroutine_row};
-ghost use Rattle.rpg_object_program.specs.Spans.{IsSpan};
+ghost use Rattle.rpg_program.specs.Kept.{IsProgram};
+ghost use Rattle.rpg_program.specs.Object.{seen, subroutine_row};
+ghost use Rattle.rpg_program.specs.Spans.{IsSpan};
 ghost use Rattle.rpg_refusal_causes.specs.First.{cause_of_row};
 ghost use Rattle.rpg_refusal_causes.specs.PlaceCauses as words;
 
 use crate::cause::{Column, Placed, RefusalCause};
 use crate::searches::{found_cause, shows_cause};
-use rpg_effect::condition::Conditions;
-use rpg_effect::operation::{Instruction, Operand};
-use rpg_effect::row::{Row, Use};
-use rpg_object_program::Program;
-use rpg_object_program::columns::{columns_of, is_current_table, is_good, is_writable_use};
-use rpg_object_program::row::Rows;
-use rpg_object_program::section::Section;
-use rpg_object_program::spans::Span;
+use rpg_program::Program;
+use rpg_program::columns::{columns_of, is_current_table, is_good, is_writable_use};
+use rpg_program::condition::Conditions;
+use rpg_program::operation::{Instruction, Operand};
+use rpg_program::row::{Row, Use};
+use rpg_program::rows::Rows;
+use rpg_program::section::Section;
+use rpg_program::spans::Span;
 use rpg_verify_rules::PlaceRule;
 use rpg_verify_rules::places::{has_known_kind, written_columns};
 

@@ -1,8 +1,8 @@
 //! The least broken rule with its cause.
 
 ghost use Rattle.std.specs.Prelude.{◌≡◌, MatchOption};
-ghost use Rattle.rpg_object_program.specs.Kept.{IsProgram};
-ghost use Rattle.rpg_object_program.specs.Object.{seen};
+ghost use Rattle.rpg_program.specs.Kept.{IsProgram};
+ghost use Rattle.rpg_program.specs.Object.{seen};
 ghost use Rattle.rpg_refusal_causes.specs.Causes.{IsRefusalOf, cause_in};
 ghost use Rattle.rpg_verify_rules.specs.Accepted.{IsAccepted, IsLeastBroken};
 
@@ -11,8 +11,8 @@ use crate::lines::line_cause;
 use crate::places::place_cause;
 use crate::subroutines::subroutine_cause;
 use crate::types::type_cause;
-use rpg_object_program::Program;
-use rpg_object_program::row::Rows;
+use rpg_program::Program;
+use rpg_program::rows::Rows;
 use rpg_verify::first_broken;
 use rpg_verify_rules::{BrokenRule, Rule};
 

@@ -1,17 +1,17 @@
 //! V19 and V20: the indicators of an operation, and what LOKUP searches.
 
 ghost use Rattle.std.specs.Prelude.{◌≡◌, true};
-ghost use Rattle.rpg_effect.specs.Forms as forms;
-ghost use Rattle.rpg_effect.specs.Rows as rows_words;
-ghost use Rattle.rpg_object_program.specs.Object.{seen};
+ghost use Rattle.rpg_program.specs.Forms as forms;
+ghost use Rattle.rpg_program.specs.Rows as rows_words;
+ghost use Rattle.rpg_program.specs.Object.{seen};
 ghost use Rattle.rpg_refusal_causes.specs.PlaceCauses as words;
 
 use crate::cause::RefusalCause;
-use rpg_effect::operation::{Instruction, Operand};
-use rpg_effect::row::{Marks, Row, Shape, Use};
-use rpg_object_program::columns::holds_positions;
-use rpg_object_program::forms::{entries_of, form_at};
-use rpg_object_program::row::Rows;
+use rpg_program::columns::holds_positions;
+use rpg_program::forms::{entries_of, form_at};
+use rpg_program::operation::{Instruction, Operand};
+use rpg_program::row::{Marks, Row, Shape, Use};
+use rpg_program::rows::Rows;
 use rpg_verify_rules::places::{are_marked, columns_of_kind, is_ascending_if_any, is_two_sided};
 
 // ---- V19
@@ -46,7 +46,7 @@ pub(crate) fn shows_cause(rows: &Rows, instruction: Instruction<u16>) -> Option<
 // ---- V20
 
 /// Whether the index of what is searched can hold the number of its entries.
-#[tactic(auto, unfolding(rpg_effect::specs::Rows::holds_positions))]
+#[tactic(auto, unfolding(rpg_program::specs::Rows::holds_positions))]
 fn can_hold(rows: &Rows, used: Use<Operand<u16>>) -> bool
     requires { rows_words.is_searched (forms.form_at rows.now.fields.items) used.shape ≡ true }
     ensures { result ≡ rows_words.can_hold (forms.form_at rows.now.fields.items) used.operand.index (words.entries_named (seen rows.now) used) }

@@ -1,14 +1,14 @@
 //! What in a subroutine breaks V23 and V24.
 
 ghost use Rattle.std.specs.Prelude.{◌≡◌, ◌+◌, ◌≤◌, ◌==◌, length, map, slice_get, None, if◌then◌else◌};
-ghost use Rattle.rpg_object_program.specs.Kept.{IsProgram};
-ghost use Rattle.rpg_object_program.specs.Object.{seen, subroutine_row};
+ghost use Rattle.rpg_program.specs.Kept.{IsProgram};
+ghost use Rattle.rpg_program.specs.Object.{seen, subroutine_row};
 ghost use Rattle.rpg_refusal_causes.specs.First.{cause_of_row, first_cause};
 ghost use Rattle.rpg_refusal_causes.specs.SubroutineCauses as words;
 
 use crate::cause::RefusalCause;
-use rpg_effect::operation::Instruction;
-use rpg_object_program::row::{Rows, Subroutine};
+use rpg_program::operation::Instruction;
+use rpg_program::rows::{Rows, Subroutine};
 use rpg_verify_rules::SubroutineRule;
 use rpg_verify_rules::subroutines::is_return;
 

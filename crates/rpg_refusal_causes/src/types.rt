@@ -1,14 +1,14 @@
 //! What in a record type breaks V3 to V7, V25 and V26.
 
 ghost use Rattle.std.specs.Prelude.{◌≡◌, map, slice_get};
-ghost use Rattle.rpg_object_program.specs.Object.{seen, type_row};
+ghost use Rattle.rpg_program.specs.Object.{seen, type_row};
 ghost use Rattle.rpg_refusal_causes.specs.First.{cause_of_row, first_cause};
 ghost use Rattle.rpg_refusal_causes.specs.TypeCauses as words;
 
 use crate::cause::RefusalCause;
 use crate::joined::{levels_cause, matches_cause};
-use rpg_effect::input::{ControlField, InputField, RecordCode};
-use rpg_object_program::row::{RecordType, Rows};
+use rpg_program::input::{ControlField, InputField, RecordCode};
+use rpg_program::rows::{RecordType, Rows};
 use rpg_verify_rules::TypeRule;
 use rpg_verify_rules::matches::{first_widths, has_level};
 use rpg_verify_rules::types::{is_code_in, is_control_in, is_input_in, measures, shows_wrongly};

@@ -6,8 +6,8 @@ use Rattle.std.proofs.lemmas.Option.{same_Some, some_pair_parts}
 use Rattle.std.specs.Cmp.{IsTotalOrder, nat_cmp_total, on_total, then_total, unsigned_tied}
 use Rattle.std.specs.FinMap as maps
 use Rattle.std.specs.Ordering.{eq_by_cmp, is_eq, ordering_then}
-use Rattle.rpg_effect.specs.Values.{Value, entry_cmp}
-use Rattle.rpg_effect.specs.declared.form.FieldForm.{FieldForm}
+use Rattle.rpg_program.specs.Values.{Value, entry_cmp}
+use Rattle.rpg_program.specs.declared.form.FieldForm.{FieldForm}
 use Rattle.rpg_store.specs.Contents.{by_entry, entries_from, positions_from}
 
 -- ---- the order of entries

@@ -5,12 +5,12 @@ use Rattle.std.proofs.lemmas.List.{length-map}
 use Rattle.std.proofs.lemmas.Option.{same_Some, slice_get-map, slice_get_within}
 use Rattle.std.specs.FinMap as maps
 use Rattle.std.specs.Option.{option_map}
-use Rattle.rpg_effect.specs.Forms.{form_at, length_of}
+use Rattle.rpg_program.specs.Forms.{form_at, length_of}
 use Rattle.rpg_store.specs.Contents.{by_entry, entries_from, positions_from}
-use Rattle.rpg_effect.specs.Values.{Value, Number, Text}
-use Rattle.rpg_effect.specs.declared.form.FieldForm.{FieldForm}
-use Rattle.rpg_effect.specs.declared.form.Kind.{Kind}
-use Rattle.rpg_effect.specs.declared.form.Kind.TheVariants as kinds
+use Rattle.rpg_program.specs.Values.{Value, Number, Text}
+use Rattle.rpg_program.specs.declared.form.FieldForm.{FieldForm}
+use Rattle.rpg_program.specs.declared.form.Kind.{Kind}
+use Rattle.rpg_program.specs.declared.form.Kind.TheVariants as kinds
 use Rattle.rpg_store.specs.Area.{AreaPart, bytes_in, field_parts, length_in, parts, start, text_value, part_value, IsArea}
 use Rattle.rpg_store.specs.Written.{IsWritten}
 use Rattle.rpg_store.specs.Flat.{flat_contents, written_at}

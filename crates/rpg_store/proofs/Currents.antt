@@ -5,7 +5,7 @@ use Rattle.std.proofs.lemmas.Option.{slice_get-map}
 use Rattle.std.specs.Cmp.{nat_cmp_total, unsigned_tied}
 use Rattle.std.specs.FinMap as maps
 use Rattle.std.specs.Option.{option_map}
-use Rattle.rpg_effect.specs.Forms.{form_at, is_table, is_table_form}
+use Rattle.rpg_program.specs.Forms.{form_at, is_table, is_table_form}
 use Rattle.rpg_store.specs.Slots.{currents, currents_from, forms_of}
 use Rattle.rpg_store.specs.declared.slot.Slot.{Slot}
 

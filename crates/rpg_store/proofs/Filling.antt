@@ -4,9 +4,9 @@ use Rattle.std.proofs.Math.ListN.{set}
 use Rattle.std.proofs.lemmas.Option.{same_Some, slice_get-map, slice_get-get_or}
 use Rattle.std.specs.FinMap as maps
 use Rattle.std.specs.Option.{option_map}
-use Rattle.rpg_effect.specs.Values.{Value}
-use Rattle.rpg_effect.specs.declared.form.FieldForm.{FieldForm}
-use Rattle.rpg_object_program.specs.Kept.{AreValuesOf}
+use Rattle.rpg_program.specs.Values.{Value}
+use Rattle.rpg_program.specs.declared.form.FieldForm.{FieldForm}
+use Rattle.rpg_program.specs.Kept.{AreValuesOf}
 use Rattle.rpg_store.specs.Contents.{by_entry, entries_from, positions_from}
 use Rattle.rpg_store.specs.Filling.{with_fields, with_positions}
 use Rattle.rpg_store.specs.First.{joined_values}

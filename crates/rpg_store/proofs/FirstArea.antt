@@ -5,11 +5,11 @@ use Rattle.std.proofs.lemmas.Grind.{common_steps}
 use Rattle.std.proofs.lemmas.List.Elements.{All-head, All-tail}
 use Rattle.std.proofs.lemmas.Option.{same_Some}
 use Rattle.std.specs.List.{All}
-use Rattle.rpg_effect.specs.Forms.{size_of}
-use Rattle.rpg_effect.specs.declared.form.FieldForm.{FieldForm}
-use Rattle.rpg_effect.specs.declared.form.Kind.{Kind}
-use Rattle.rpg_effect.specs.declared.form.Kind.TheVariants as kinds
-use Rattle.rpg_object_program.specs.Kept.{IsFieldRow, length_limit, storage_of}
+use Rattle.rpg_program.specs.Forms.{size_of}
+use Rattle.rpg_program.specs.declared.form.FieldForm.{FieldForm}
+use Rattle.rpg_program.specs.declared.form.Kind.{Kind}
+use Rattle.rpg_program.specs.declared.form.Kind.TheVariants as kinds
+use Rattle.rpg_program.specs.Kept.{IsFieldRow, length_limit, storage_of}
 use Rattle.rpg_store.specs.Area.{AreaPart, all_text_bytes, all_number_bytes, area_slots, by_kind, text_bytes, number_bytes, field_parts, parts, zeros, AreApart, IsArea}
 use Rattle.rpg_store.specs.Written.{IsWritten}
 use Rattle.rpg_store.proofs.ByEntry.{cut}

@@ -4,10 +4,10 @@ use Rattle.std.proofs.Math.Nat.{mul-le-mul_right}
 use Rattle.std.proofs.lemmas.List.Elements.{All-head, All-tail}
 use Rattle.std.specs.FinMap as maps
 use Rattle.std.specs.List.{All}
-use Rattle.rpg_effect.specs.declared.form.FieldForm.{FieldForm}
-use Rattle.rpg_effect.specs.Forms.{is_table}
-use Rattle.rpg_object_program.specs.Kept.{IsFieldRow, storage_of}
-use Rattle.rpg_object_program.specs.Object.{Object}
+use Rattle.rpg_program.specs.declared.form.FieldForm.{FieldForm}
+use Rattle.rpg_program.specs.Forms.{is_table}
+use Rattle.rpg_program.specs.Kept.{IsFieldRow, storage_of}
+use Rattle.rpg_program.specs.Object.{Object}
 use Rattle.rpg_store.specs.First.{first_currents, tables_from}
 use Rattle.rpg_store.specs.Slots.{currents, currents_from, entries_count, forms_of, slots_from, AreInOrder}
 

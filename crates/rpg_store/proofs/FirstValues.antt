@@ -5,13 +5,13 @@ use Rattle.std.proofs.lemmas.Option.{get_or_from_slice_get, same_Some, slice_get
 use Rattle.std.specs.FinMap as maps
 use Rattle.std.specs.List.{All}
 use Rattle.std.specs.Option.{option_map}
-use Rattle.rpg_effect.specs.Forms.{form_at, is_table, length_of, size_of}
-use Rattle.rpg_effect.specs.Values.{Value, Number, Text}
-use Rattle.rpg_effect.specs.declared.form.FieldForm.{FieldForm}
-use Rattle.rpg_effect.specs.declared.form.Kind.{Kind}
-use Rattle.rpg_effect.specs.declared.form.Kind.TheVariants as kinds
-use Rattle.rpg_object_program.specs.Kept.{AreEntriesOf, AreValuesOf, IsFieldRow, IsValueOf, storage_of}
-use Rattle.rpg_object_program.specs.Object.{Object}
+use Rattle.rpg_program.specs.Forms.{form_at, is_table, length_of, size_of}
+use Rattle.rpg_program.specs.Values.{Value, Number, Text}
+use Rattle.rpg_program.specs.declared.form.FieldForm.{FieldForm}
+use Rattle.rpg_program.specs.declared.form.Kind.{Kind}
+use Rattle.rpg_program.specs.declared.form.Kind.TheVariants as kinds
+use Rattle.rpg_program.specs.Kept.{AreEntriesOf, AreValuesOf, IsFieldRow, IsValueOf, storage_of}
+use Rattle.rpg_program.specs.Object.{Object}
 use Rattle.rpg_store.specs.Area.{AreaPart, all_number_bytes, area_slots, by_kind, bytes_in, text_bytes, number_bytes, field_parts, parts, text_value, part_value, zeros, IsArea}
 use Rattle.rpg_store.specs.Contents.{by_entry, entries_from, positions_from}
 use Rattle.rpg_store.specs.Filling.{with_fields, IsLike, MayTakeFields}

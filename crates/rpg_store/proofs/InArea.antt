@@ -3,9 +3,9 @@ use Rattle.std.proofs.Common.{◌≡◌, ℕ, ℤ, ◌+◌, ◌-◌, ◌≤◌, 
 use Rattle.std.specs.FinMap as maps
 use Rattle.rpg_decimal_words.specs.Zoned.{spelled_number, zoned_text, Spells}
 use Rattle.rpg_store.specs.Contents.{IsEntry}
-use Rattle.rpg_effect.specs.Values.{Value, Number, Text, characters_of, number_of}
-use Rattle.rpg_effect.specs.declared.form.Kind.{Kind}
-use Rattle.rpg_effect.specs.declared.form.Kind.TheVariants as kinds
+use Rattle.rpg_program.specs.Values.{Value, Number, Text, characters_of, number_of}
+use Rattle.rpg_program.specs.declared.form.Kind.{Kind}
+use Rattle.rpg_program.specs.declared.form.Kind.TheVariants as kinds
 use Rattle.rpg_store.specs.Area.{AreaPart, bytes_in, length_in, parts, start, text_value, IsArea}
 use Rattle.rpg_store.specs.Written.{IsWritten}
 use Rattle.rpg_store.specs.Flat.{Flat, flat_contents, written_at}

@@ -9,11 +9,11 @@ use Rattle.std.specs.FinMap as maps
 use Rattle.std.specs.List.{All, flat_map}
 use Rattle.std.specs.Option.{option_map}
 use Rattle.std.specs.Vec.{with_items}
-use Rattle.rpg_effect.specs.Values.{Value, Number, Text, characters_of}
-use Rattle.rpg_effect.specs.declared.form.FieldForm.{FieldForm}
-use Rattle.rpg_effect.specs.declared.form.Kind.{Kind}
-use Rattle.rpg_effect.specs.declared.form.Kind.TheVariants as kinds
-use Rattle.rpg_object_program.specs.Kept.{AreValuesOf, IsFieldRow, IsValueOf}
+use Rattle.rpg_program.specs.Values.{Value, Number, Text, characters_of}
+use Rattle.rpg_program.specs.declared.form.FieldForm.{FieldForm}
+use Rattle.rpg_program.specs.declared.form.Kind.{Kind}
+use Rattle.rpg_program.specs.declared.form.Kind.TheVariants as kinds
+use Rattle.rpg_program.specs.Kept.{AreValuesOf, IsFieldRow, IsValueOf}
 use Rattle.rpg_store.specs.Contents.{IsEntry, IsEntryAt, by_entry, entries_from}
 use Rattle.rpg_store.specs.First.{joined_values}
 use Rattle.rpg_store.specs.Store.{IsNumber, IsText}

@@ -1,10 +1,10 @@
 -- The bytes of numbers and of texts.
 use Rattle.std.proofs.Common.{◌≡◌, ℕ, ◌+◌, List, [], ◌∷◌, arith}
-use Rattle.rpg_effect.specs.Forms.{size_of}
-use Rattle.rpg_effect.specs.declared.form.FieldForm.{FieldForm}
-use Rattle.rpg_effect.specs.declared.form.Kind.{Kind}
-use Rattle.rpg_effect.specs.declared.form.Kind.TheVariants as kinds
-use Rattle.rpg_object_program.specs.Kept.{storage_of}
+use Rattle.rpg_program.specs.Forms.{size_of}
+use Rattle.rpg_program.specs.declared.form.FieldForm.{FieldForm}
+use Rattle.rpg_program.specs.declared.form.Kind.{Kind}
+use Rattle.rpg_program.specs.declared.form.Kind.TheVariants as kinds
+use Rattle.rpg_program.specs.Kept.{storage_of}
 use Rattle.rpg_store.specs.Area.{all_number_bytes, all_text_bytes, number_bytes, text_bytes}
 
 pub either : (k : Kind) (n : ℕ) → number_bytes k n + text_bytes k n ≡ n

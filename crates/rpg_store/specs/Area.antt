@@ -1,11 +1,11 @@
 -- An area of bytes that has the entries of all fields in parts of it.
 use Rattle.std.specs.Prelude.{◌≡◌, ◌≢◌, ℕ, zero, suc, ◌+◌, ◌-◌, ◌*◌, ◌≤◌, ◌⊎◌, List, [], ◌∷◌, ◌++◌, take, drop, length, replicate, slice_get, Option, None, Some}
 use Rattle.rpg_decimal_words.specs.Zoned.{spelled_number}
-use Rattle.rpg_effect.specs.Forms.{size_of}
-use Rattle.rpg_effect.specs.Values.{Value, Number, Text}
-use Rattle.rpg_effect.specs.declared.form.FieldForm.{FieldForm}
-use Rattle.rpg_effect.specs.declared.form.Kind.{Kind}
-use Rattle.rpg_effect.specs.declared.form.Kind.TheVariants as kinds
+use Rattle.rpg_program.specs.Forms.{size_of}
+use Rattle.rpg_program.specs.Values.{Value, Number, Text}
+use Rattle.rpg_program.specs.declared.form.FieldForm.{FieldForm}
+use Rattle.rpg_program.specs.declared.form.Kind.{Kind}
+use Rattle.rpg_program.specs.declared.form.Kind.TheVariants as kinds
 use Rattle.rpg_store.specs.Written.{IsWritten}
 use Rattle.rpg_store.specs.Slots.{slot_at, slot_start}
 use Rattle.rpg_store.specs.declared.slot.Slot.{Slot}

@@ -1,8 +1,8 @@
 -- Values in the order of the entries.
 use Rattle.std.specs.Prelude.{◌≡◌, ℕ, zero, suc, ◌+◌, List, [], ◌∷◌, ◌++◌, zip, slice_get, Some}
 use Rattle.std.specs.FinMap as map
-use Rattle.rpg_effect.specs.Values.{Value}
-use Rattle.rpg_effect.specs.declared.form.FieldForm.{FieldForm}
+use Rattle.rpg_program.specs.Values.{Value}
+use Rattle.rpg_program.specs.declared.form.FieldForm.{FieldForm}
 use Rattle.rpg_store.specs.Store.{Values}
 
 -- so many positions of a field, from that one on

@@ -1,9 +1,9 @@
 -- Entries that take values one after another.
 use Rattle.std.specs.Prelude.{◌≡◌, ℕ, ◌+◌, ◌<◌, ◌≤◌, ◌^◌, unsigned_abs, List, [], ◌∷◌, length, slice_get, Option, None, Some}
 use Rattle.std.specs.FinMap as map
-use Rattle.rpg_effect.specs.Forms.{form_at, length_of}
-use Rattle.rpg_effect.specs.Values.{Value, Number, Text}
-use Rattle.rpg_effect.specs.declared.form.FieldForm.{FieldForm}
+use Rattle.rpg_program.specs.Forms.{form_at, length_of}
+use Rattle.rpg_program.specs.Values.{Value, Number, Text}
+use Rattle.rpg_program.specs.declared.form.FieldForm.{FieldForm}
 use Rattle.rpg_store.specs.Store.{Values}
 
 -- the positions of a field take values, from that one on

@@ -2,10 +2,10 @@
 use Rattle.std.specs.Prelude.{ℕ, ◌+◌, List, [], ◌∷◌, if◌then◌else◌}
 use Rattle.std.specs.List.{flat_map}
 use Rattle.std.specs.FinMap as map
-use Rattle.rpg_effect.specs.Forms.{is_table}
-use Rattle.rpg_effect.specs.Values.{Value}
-use Rattle.rpg_effect.specs.declared.form.FieldForm.{FieldForm}
-use Rattle.rpg_object_program.specs.Object.{Object}
+use Rattle.rpg_program.specs.Forms.{is_table}
+use Rattle.rpg_program.specs.Values.{Value}
+use Rattle.rpg_program.specs.declared.form.FieldForm.{FieldForm}
+use Rattle.rpg_program.specs.Object.{Object}
 use Rattle.rpg_store.specs.Contents.{by_entry}
 use Rattle.rpg_store.specs.Store.{Currents, Values}
 

@@ -1,6 +1,6 @@
 -- A store that lists its values.
 use Rattle.std.specs.Prelude.{ℕ, ℤ, List, [], ◌∷◌, ◌++◌, take, drop, length, Some, slice_get, slice_set}
-use Rattle.rpg_effect.specs.Values.{Value, Number, Text, characters_of, number_of}
+use Rattle.rpg_program.specs.Values.{Value, Number, Text, characters_of, number_of}
 use Rattle.rpg_store.specs.Contents.{by_entry}
 use Rattle.rpg_store.specs.Slots.{forms_of, spot}
 use Rattle.rpg_store.specs.Store.{Values}

@@ -2,8 +2,8 @@
 use Rattle.std.specs.Prelude.{◌≡◌, ℕ, zero, suc, slice_get, Option, None, Some, ◌+◌, ◌-◌, List, [], ◌∷◌, map as along, if◌then◌else◌}
 use Rattle.std.specs.FinMap as map
 use Rattle.std.specs.Ordering.{nat_cmp}
-use Rattle.rpg_effect.specs.declared.form.FieldForm.{FieldForm}
-use Rattle.rpg_effect.specs.Forms.{is_table}
+use Rattle.rpg_program.specs.declared.form.FieldForm.{FieldForm}
+use Rattle.rpg_program.specs.Forms.{is_table}
 use Rattle.rpg_store.specs.declared.slot.Slot.{Slot}
 
 -- the forms of all fields

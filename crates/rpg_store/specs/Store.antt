@@ -2,7 +2,7 @@
 use Rattle.std.specs.Prelude.{◌≡◌, ℕ, List, length, Option, None, Some}
 use Rattle.std.specs.FinMap as map
 use Rattle.std.specs.Ordering.{nat_cmp}
-use Rattle.rpg_effect.specs.Values.{Value, Number, Text, entry_cmp}
+use Rattle.rpg_program.specs.Values.{Value, Number, Text, entry_cmp}
 
 -- the values of all entries: a field's number, and a position
 abbrev pub Values : Type 0

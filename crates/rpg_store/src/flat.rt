@@ -1,8 +1,8 @@
 //! A store in one area of bytes.
 ghost use Rattle.std.specs.Prelude.{◌≡◌, ◌+◌, ◌≤◌, All, length, map as along, slice_range, IfOk};
 ghost use Rattle.std.specs.FinMap as map;
-ghost use Rattle.rpg_effect.specs.Values.{held};
-ghost use Rattle.rpg_object_program.specs.Kept.{IsFieldRow, storage_of};
+ghost use Rattle.rpg_program.specs.Values.{held};
+ghost use Rattle.rpg_program.specs.Kept.{IsFieldRow, storage_of};
 ghost use Rattle.rpg_store.specs.Area.{all_number_bytes, area_slots, length_in, start, zeros};
 ghost use Rattle.rpg_store.specs.Contents.{IsEntry};
 ghost use Rattle.rpg_store.specs.Filling.{with_fields, with_positions, MayTake, MayTakeAll, MayTakeFields};
@@ -14,9 +14,9 @@ use crate::slot::Slot;
 use crate::store::Store;
 use crate::written::read_written;
 use rpg_decimal::write_zoned;
-use rpg_effect::form::{FieldForm, Kind};
-use rpg_effect::value::Value;
-use rpg_object_program::Program;
+use rpg_program::Program;
+use rpg_program::form::{FieldForm, Kind};
+use rpg_program::value::Value;
 use std::alloc::{AllocError, Global};
 use std::marker::Model;
 

@@ -1,15 +1,15 @@
 //! A store that lists its values.
 ghost use Rattle.std.specs.Prelude.{◌≡◌, ◌++◌, map as along, IfOk, OnOk};
 ghost use Rattle.std.specs.List.{flat_map};
-ghost use Rattle.rpg_effect.specs.Values.{held};
+ghost use Rattle.rpg_program.specs.Values.{held};
 ghost use Rattle.rpg_store.specs.First.{first_contents, first_currents};
 ghost use Rattle.rpg_store.specs.Listed.{listed_contents, listed_with_text, number_part, text_part};
 ghost use Rattle.rpg_store.specs.Slots.{AreInOrder, currents, entries_count, forms_of};
 
 use crate::slot::{Slot, place, slots_of};
 use crate::store::Store;
-use rpg_effect::value::Value;
-use rpg_object_program::Program;
+use rpg_program::Program;
+use rpg_program::value::Value;
 use std::alloc::{AllocError, Global};
 use std::marker::Model;
 

@@ -1,11 +1,11 @@
 //! The places of entries among all entries of a program, for those that are found once.
 ghost use Rattle.std.specs.Prelude.{◌≡◌, IfOk};
-ghost use Rattle.rpg_object_program.specs.Kept.{IsProgram};
-ghost use Rattle.rpg_object_program.specs.Object.{seen};
+ghost use Rattle.rpg_program.specs.Kept.{IsProgram};
+ghost use Rattle.rpg_program.specs.Object.{seen};
 ghost use Rattle.rpg_store.specs.Contents.{IsEntry, IsEntryAt};
 
 use crate::slot::{Slot, place, slots_of};
-use rpg_object_program::row::Rows;
+use rpg_program::rows::Rows;
 use std::alloc::{AllocError, Global};
 use std::marker::Model;
 
@@ -17,7 +17,7 @@ pub struct EntryPlaces {
 
 impl Model for EntryPlaces {
     ghost use Rattle.std.specs.Prelude.{List};
-    ghost use Rattle.rpg_effect.specs.declared.form.FieldForm.{FieldForm};
+    ghost use Rattle.rpg_program.specs.declared.form.FieldForm.{FieldForm};
     ghost use Rattle.rpg_store.specs.Slots.{AreInOrder, forms_of};
 
     ghost Value = { List FieldForm };

@@ -3,7 +3,7 @@ ghost use Rattle.std.specs.Prelude.{◌≡◌, ◌≤◌, IfOk};
 ghost use Rattle.rpg_store.specs.Contents.{IsEntry};
 ghost use Rattle.rpg_store.specs.Slots.{entries_count, forms_of, slots_from, spot};
 
-use rpg_effect::form::FieldForm;
+use rpg_program::form::FieldForm;
 use std::alloc::{AllocError, Global};
 
 /// A field, with the place of its first entry (the others follow it) and, of a table, its current entry.

@@ -2,9 +2,9 @@
 ghost use Rattle.std.specs.Prelude.{◌≡◌, ◌≤◌, ◌<◌, ◌^◌, ℕ, List, length, Some, unwrap_or, true, unsigned_abs};
 ghost use Rattle.std.specs.Borrow.{sem, Lends, Array, u8 as byte};
 ghost use Rattle.std.specs.FinMap as map;
-ghost use Rattle.rpg_effect.specs.Forms.{entries_of, form_at, is_table_form, length_of};
-ghost use Rattle.rpg_effect.specs.Values.{Number, Text};
-ghost use Rattle.rpg_effect.specs.declared.form.FieldForm.{FieldForm};
+ghost use Rattle.rpg_program.specs.Forms.{entries_of, form_at, is_table_form, length_of};
+ghost use Rattle.rpg_program.specs.Values.{Number, Text};
+ghost use Rattle.rpg_program.specs.declared.form.FieldForm.{FieldForm};
 ghost use Rattle.rpg_store.specs.Contents.{IsEntryAt};
 ghost use Rattle.rpg_store.specs.Store.{Values, Currents, IsNumber, IsText, WritesText};
 

@@ -3,11 +3,11 @@ use denote.Enum.Bare.{same_true}
 use mathlib.Core.Bool.{beq}
 use Rattle.std.proofs.Common.{◌≡◌, Bool, true, false, ℕ, refl}
 use Rattle.std.proofs.lemmas.Bool.{and_parts, eqb-true}
-use Rattle.rpg_effect.specs.contracts.form.Class as class
-use Rattle.rpg_effect.specs.contracts.form.Kind as kind
-use Rattle.rpg_effect.specs.declared.form.Class.{Class}
-use Rattle.rpg_effect.specs.declared.form.FieldForm.{FieldForm}
-use Rattle.rpg_effect.specs.declared.form.Kind.{Kind}
+use Rattle.rpg_program.specs.contracts.form.Class as class
+use Rattle.rpg_program.specs.contracts.form.Kind as kind
+use Rattle.rpg_program.specs.declared.form.Class.{Class}
+use Rattle.rpg_program.specs.declared.form.FieldForm.{FieldForm}
+use Rattle.rpg_program.specs.declared.form.Kind.{Kind}
 use Rattle.rpg_symbols.specs.Fields.{same_form}
 
 flag_equal : (a b : Bool) → beq a b ≡ true → a ≡ b

@@ -5,13 +5,13 @@ use Rattle.std.specs.Prelude.{◌≡◌, ◌≢◌, ℕ, ◌+◌, ◌≤◌, ◌
 use Rattle.std.specs.Option.{option_map}
 use Rattle.std.specs.Map.{lookup, keys_of}
 use Rattle.std.specs.Cmp.Lexicographic.{pointwise}
-use Rattle.rpg_effect.specs.Forms.{size_of}
-use Rattle.rpg_effect.specs.contracts.form.Class as classes
-use Rattle.rpg_effect.specs.contracts.form.Kind as kinds
-use Rattle.rpg_effect.specs.declared.form.FieldForm.{FieldForm}
-use Rattle.rpg_effect.specs.declared.form.Kind.TheVariants as kind
-use Rattle.rpg_effect.specs.declared.form.Class.{Class}
-use Rattle.rpg_effect.specs.declared.form.Class.TheVariants as class
+use Rattle.rpg_program.specs.Forms.{size_of}
+use Rattle.rpg_program.specs.contracts.form.Class as classes
+use Rattle.rpg_program.specs.contracts.form.Kind as kinds
+use Rattle.rpg_program.specs.declared.form.FieldForm.{FieldForm}
+use Rattle.rpg_program.specs.declared.form.Kind.TheVariants as kind
+use Rattle.rpg_program.specs.declared.form.Class.{Class}
+use Rattle.rpg_program.specs.declared.form.Class.TheVariants as class
 use Rattle.rpg_symbols.specs.declared.symbols.DefineFault.{DefineFault}
 use Rattle.rpg_symbols.specs.declared.symbols.DefineFault.TheVariants.{Other, Full, NoMemory}
 

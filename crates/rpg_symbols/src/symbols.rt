@@ -6,7 +6,7 @@ ghost use Rattle.rpg_symbols.specs.Fields.{defined_form, given, number_form, num
 ghost use Rattle.rpg_symbols.specs.declared.symbols.DefineFault.TheVariants.{NoMemory};
 
 use indexmap::IndexMap;
-use rpg_effect::form::{Class, FieldForm, Kind};
+use rpg_program::form::{Class, FieldForm, Kind};
 use rpg_sheet_specs::Word;
 use std::alloc::{AllocFailed, Global};
 use std::marker::Model;

@@ -1,6 +1,6 @@
 -- All rules, in the order of their numbers.
 use Rattle.std.proofs.Common.{inl, inr, Bool, List, MatchOption, refl, arith}
-use Rattle.rpg_object_program.specs.Object.{Object}
+use Rattle.rpg_program.specs.Object.{Object}
 use Rattle.rpg_verify_rules.specs.Accepted.{IsAccepted}
 use Rattle.rpg_verify_rules.specs.Least.{IsLeast, first_broken}
 use Rattle.rpg_verify_rules.specs.Rules.{broken, rule_number, all_rules}

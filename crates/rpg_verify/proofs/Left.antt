@@ -1,11 +1,11 @@
 -- Rows of which some are left.
 use Rattle.std.proofs.Common.{◌≡◌, ℕ, suc, ◌+◌, ◌<◌, Bool, not, cond, List, ◌∷◌, map, drop, length, get_or, refl, sym, ap, ◌∙◌, add-one, drop-cons}
-use Rattle.rpg_effect.specs.Weights.{is_exception, is_in_cycle, lines_weight, type_weight, types_weight}
-use Rattle.rpg_effect.specs.declared.line.Time.{Time}
-use Rattle.rpg_effect.specs.declared.line.Time.TheVariants as times
-use Rattle.rpg_object_program.specs.Object.{Object, line_row, program_line, type_row}
-use Rattle.rpg_object_program.specs.declared.row.Line.{Line}
-use Rattle.rpg_object_program.specs.declared.row.RecordType.{RecordType}
+use Rattle.rpg_program.specs.Weights.{is_exception, is_in_cycle, lines_weight, type_weight, types_weight}
+use Rattle.rpg_program.specs.declared.line.Time.{Time}
+use Rattle.rpg_program.specs.declared.line.Time.TheVariants as times
+use Rattle.rpg_program.specs.Object.{Object, line_row, program_line, type_row}
+use Rattle.rpg_program.specs.declared.rows.Line.{Line}
+use Rattle.rpg_program.specs.declared.rows.RecordType.{RecordType}
 
 left_of : {X Y : Type 0} (f : X → Y) (xs : List X) (i : ℕ) (x : X) → i < length xs → x ≡ get_or xs i x → map f (drop i xs) ≡ f x ∷ map f (drop (i + 1) xs)
 left_of f xs i x h e = ap (map f) (drop-cons xs i x h ∙ ap (λ y. y ∷ drop (suc i) xs) (sym e) ∙ ap (λ k. x ∷ drop k xs) (sym (add-one i)))

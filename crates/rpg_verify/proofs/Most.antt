@@ -2,16 +2,16 @@
 use Rattle.std.proofs.Common.{◌≡◌, ℕ, zero, suc, ◌+◌, ◌-◌, ◌≤◌, Bool, true, false, cond, List, [], ◌∷◌, length, Some, slice_get, refl, sym, ap, ◌∙◌, subst, arith}
 use Rattle.std.specs.Prelude.{nat_le, slice_index}
 use Rattle.std.proofs.lemmas.Bool.{le-leb}
-use Rattle.rpg_effect.specs.declared.condition.Conditions.{Conditions}
-use Rattle.rpg_effect.specs.declared.operation.Instruction.{Instruction}
-use Rattle.rpg_effect.specs.declared.operation.Instruction.TheVariants.{Branch}
-use Rattle.rpg_object_program.specs.Instructions.{weight}
-use Rattle.rpg_object_program.specs.Kept.{IsProgram}
-use Rattle.rpg_object_program.specs.Object.{Object, SubroutineRow}
-use Rattle.rpg_object_program.specs.Sections.{body_of, first_in, first_place, instruction_at, section_instructions}
-use Rattle.rpg_object_program.specs.declared.section.Place.{Place}
-use Rattle.rpg_object_program.specs.declared.section.Section.{Section}
-use Rattle.rpg_object_program.specs.declared.section.Section.TheVariants.{Detail, Total, Subroutine}
+use Rattle.rpg_program.specs.declared.condition.Conditions.{Conditions}
+use Rattle.rpg_program.specs.declared.operation.Instruction.{Instruction}
+use Rattle.rpg_program.specs.declared.operation.Instruction.TheVariants.{Branch}
+use Rattle.rpg_program.specs.ObjectInstructions.{weight}
+use Rattle.rpg_program.specs.Kept.{IsProgram}
+use Rattle.rpg_program.specs.Object.{Object, SubroutineRow}
+use Rattle.rpg_program.specs.Sections.{body_of, first_in, first_place, instruction_at, section_instructions}
+use Rattle.rpg_program.specs.declared.section.Place.{Place}
+use Rattle.rpg_program.specs.declared.section.Section.{Section}
+use Rattle.rpg_program.specs.declared.section.Section.TheVariants.{Detail, Total, Subroutine}
 use Rattle.rpg_verify_rules.specs.Sound.{IsAt}
 use Rattle.rpg_verify.proofs.PathCosts.{costs_are}
 use Rattle.rpg_verify.proofs.Placing.{cost_there}

@@ -3,13 +3,13 @@ use Rattle.std.proofs.Common.{◌≡◌, ℕ, zero, suc, ◌+◌, ◌-◌, ◌<�
 use Rattle.std.specs.Prelude.{nat_le, slice_index}
 use Rattle.std.proofs.lemmas.Bool.{le-leb}
 use Rattle.std.proofs.lemmas.List.{get_or_append_left, get_or-append_right}
-use Rattle.rpg_effect.specs.declared.operation.Instruction.{Instruction}
-use Rattle.rpg_object_program.specs.Instructions.{weight}
-use Rattle.rpg_object_program.specs.Object.{Object, SubroutineRow}
-use Rattle.rpg_object_program.specs.Sections.{body_of, first_in, first_place, instructions_in, place_behind, places_of, section_instructions}
-use Rattle.rpg_object_program.specs.declared.section.Place.{Place}
-use Rattle.rpg_object_program.specs.declared.section.Section.{Section}
-use Rattle.rpg_object_program.specs.declared.section.Section.TheVariants.{Detail, Total, Subroutine}
+use Rattle.rpg_program.specs.declared.operation.Instruction.{Instruction}
+use Rattle.rpg_program.specs.ObjectInstructions.{weight}
+use Rattle.rpg_program.specs.Object.{Object, SubroutineRow}
+use Rattle.rpg_program.specs.Sections.{body_of, first_in, first_place, instructions_in, place_behind, places_of, section_instructions}
+use Rattle.rpg_program.specs.declared.section.Place.{Place}
+use Rattle.rpg_program.specs.declared.section.Section.{Section}
+use Rattle.rpg_program.specs.declared.section.Section.TheVariants.{Detail, Total, Subroutine}
 use Rattle.rpg_verify.specs.Bound.{cost, costs, costs_at, costs_in, main_costs}
 use Rattle.rpg_verify.specs.Paths.{costs_from}
 

@@ -2,21 +2,21 @@
 use Rattle.std.proofs.Common.{◌≡◌, ℕ, zero, suc, ◌+◌, ◌-◌, ◌*◌, ◌^◌, ◌<◌, ◌≤◌, max, Bool, true, false, cond, List, [], ◌∷◌, map, Option, Some, None, All, slice_get, length, arith}
 use Rattle.std.specs.Prelude.{is_some, nat_lt, nat_le, slice_index}
 use Rattle.std.proofs.lemmas.Nat.{mul-le}
-use Rattle.rpg_effect.specs.Control.{always_goes}
-use Rattle.rpg_effect.specs.Forms.{entries_of, form_at}
-use Rattle.rpg_effect.specs.Input.{TypeRow}
-use Rattle.rpg_effect.specs.Instructions.{columns_of}
-use Rattle.rpg_effect.specs.Weights.{exceptions_of, exceptions_weight, goes_through, instruction_weight, is_exception, is_in_cycle, lines_weight, overflow_weight, row_weight, types_weight, use_weight}
-use Rattle.rpg_effect.specs.declared.form.FieldForm.{FieldForm}
-use Rattle.rpg_effect.specs.declared.line.Time.{Time}
-use Rattle.rpg_effect.specs.declared.operation.Instruction.{Instruction}
-use Rattle.rpg_effect.specs.declared.operation.Instruction.TheVariants.{Act, Except, Branch, Call, Return}
-use Rattle.rpg_effect.specs.declared.operation.Operand.{Operand}
-use Rattle.rpg_effect.specs.declared.row.Use.{Use}
-use Rattle.rpg_object_program.specs.Instructions.{weight}
-use Rattle.rpg_object_program.specs.Kept.{IsFieldRow, IsLineRow, IsProgram, IsTypeRow}
-use Rattle.rpg_object_program.specs.Object.{LineRow, Object, SubroutineRow, lines_of, program_line}
-use Rattle.rpg_object_program.specs.Sections.{instructions_in}
+use Rattle.rpg_program.specs.Control.{always_goes}
+use Rattle.rpg_program.specs.Forms.{entries_of, form_at}
+use Rattle.rpg_program.specs.Input.{TypeRow}
+use Rattle.rpg_program.specs.Instructions.{columns_of}
+use Rattle.rpg_program.specs.Weights.{exceptions_of, exceptions_weight, goes_through, instruction_weight, is_exception, is_in_cycle, lines_weight, overflow_weight, row_weight, types_weight, use_weight}
+use Rattle.rpg_program.specs.declared.form.FieldForm.{FieldForm}
+use Rattle.rpg_program.specs.declared.line.Time.{Time}
+use Rattle.rpg_program.specs.declared.operation.Instruction.{Instruction}
+use Rattle.rpg_program.specs.declared.operation.Instruction.TheVariants.{Act, Except, Branch, Call, Return}
+use Rattle.rpg_program.specs.declared.operation.Operand.{Operand}
+use Rattle.rpg_program.specs.declared.row.Use.{Use}
+use Rattle.rpg_program.specs.ObjectInstructions.{weight}
+use Rattle.rpg_program.specs.Kept.{IsFieldRow, IsLineRow, IsProgram, IsTypeRow}
+use Rattle.rpg_program.specs.Object.{LineRow, Object, SubroutineRow, lines_of, program_line}
+use Rattle.rpg_program.specs.Sections.{instructions_in}
 use Rattle.rpg_verify.specs.Bound.{back_cost, bound, cost_in, costs_at, most, most_at, most_back, most_in, once}
 use Rattle.rpg_verify.specs.Paths.{cost_onward, with_cost, costs_from}
 use Rattle.rpg_verify.specs.Weighing.{all_outputs_weight}

@@ -1,12 +1,12 @@
 -- What path costs and the bound are, place by place.
 use Rattle.std.specs.Prelude.{ℕ, Bool, ◌<◌, ◌≤◌, ◌^◌}
-use Rattle.rpg_effect.specs.declared.condition.Conditions.{Conditions}
-use Rattle.rpg_effect.specs.declared.operation.Instruction.TheVariants.{Branch}
-use Rattle.rpg_object_program.specs.Instructions.{weight}
-use Rattle.rpg_object_program.specs.Object.{Object}
-use Rattle.rpg_object_program.specs.Sections.{first_place}
-use Rattle.rpg_object_program.specs.declared.section.Place.{Place}
-use Rattle.rpg_object_program.specs.declared.section.Section.TheVariants.{Subroutine}
+use Rattle.rpg_program.specs.declared.condition.Conditions.{Conditions}
+use Rattle.rpg_program.specs.declared.operation.Instruction.TheVariants.{Branch}
+use Rattle.rpg_program.specs.ObjectInstructions.{weight}
+use Rattle.rpg_program.specs.Object.{Object}
+use Rattle.rpg_program.specs.Sections.{first_place}
+use Rattle.rpg_program.specs.declared.section.Place.{Place}
+use Rattle.rpg_program.specs.declared.section.Section.TheVariants.{Subroutine}
 use Rattle.rpg_verify_rules.specs.Sound.{IsAt}
 use Rattle.rpg_verify.specs.Bound.{bound, cost, most, stretch}
 use Rattle.rpg_verify.specs.Paths.{IsCost}

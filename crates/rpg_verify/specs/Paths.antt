@@ -1,8 +1,8 @@
 -- Forward paths inside a section, and the cost of a place: the greatest sum of weights along one.
 use Rattle.std.specs.Prelude.{◌≡◌, ℕ, ◌+◌, ◌-◌, ◌<◌, ◌≤◌, ◌⊎◌, Bool, false, List, [], ◌∷◌, Option, None, Some, max, nat_le, nat_lt, slice_get, slice_index, if◌then◌else◌}
-use Rattle.rpg_effect.specs.declared.operation.Instruction.{Instruction}
-use Rattle.rpg_effect.specs.declared.operation.Instruction.TheVariants.{Act, Except, Branch, Call, Return}
-use Rattle.rpg_effect.specs.Control.{always_goes}
+use Rattle.rpg_program.specs.declared.operation.Instruction.{Instruction}
+use Rattle.rpg_program.specs.declared.operation.Instruction.TheVariants.{Act, Except, Branch, Call, Return}
+use Rattle.rpg_program.specs.Control.{always_goes}
 
 -- a section with its place: its first place, and its instructions
 pub record Stretch : Type 0 where

@@ -1,8 +1,8 @@
 -- Subroutines while their instructions are judged.
 use Rattle.std.specs.Prelude.{ℕ, ◌+◌, length}
-use Rattle.rpg_object_program.specs.declared.row.Subroutine.{Subroutine}
-use Rattle.rpg_object_program.specs.declared.section.Section.TheVariants as sections
-use Rattle.rpg_object_program.specs.declared.spans.Span.{Span}
+use Rattle.rpg_program.specs.declared.rows.Subroutine.{Subroutine}
+use Rattle.rpg_program.specs.declared.section.Section.TheVariants as sections
+use Rattle.rpg_program.specs.declared.spans.Span.{Span}
 
 -- a subroutine with its number and its first place
 abbrev pub span_of : (number first : ℕ) → Subroutine → Span

@@ -1,7 +1,7 @@
 -- What a verified program keeps besides its rows, and what a refusal reports.
 use Rattle.std.specs.Prelude.{◌≡◌, ℕ, List}
-use Rattle.rpg_object_program.specs.Kept.{IsProgram}
-use Rattle.rpg_object_program.specs.Object.{Object}
+use Rattle.rpg_program.specs.Kept.{IsProgram}
+use Rattle.rpg_program.specs.Object.{Object}
 use Rattle.rpg_verify_rules.specs.Accepted.{IsAccepted}
 use Rattle.rpg_verify_rules.specs.Least.{IsLeast}
 use Rattle.rpg_verify_rules.specs.Rules.{broken, rule_number}

@@ -1,7 +1,7 @@
 -- What all output lines of a program weigh.
 use Rattle.std.specs.Prelude.{ℕ, ◌+◌, is_some, if◌then◌else◌}
-use Rattle.rpg_effect.specs.Weights.{overflow_weight}
-use Rattle.rpg_object_program.specs.Object.{Object, lines_of}
+use Rattle.rpg_program.specs.Weights.{overflow_weight}
+use Rattle.rpg_program.specs.Object.{Object, lines_of}
 
 -- the H, D and T lines, once more where the program has an overflow indicator
 abbrev pub all_outputs_weight : Object → ℕ

@@ -1,15 +1,15 @@
 //! The most steps that a cycle can take.
 
 ghost use Rattle.std.specs.Prelude.{◌≡◌, ◌+◌, ◌++◌, ◌≤◌, length, max, IfOk, OnOk};
-ghost use Rattle.rpg_effect.specs.Weights.{exceptions_weight, overflow_weight};
-ghost use Rattle.rpg_object_program.specs.Kept.{IsProgram};
-ghost use Rattle.rpg_object_program.specs.Object.{lines_of, seen};
+ghost use Rattle.rpg_program.specs.Weights.{exceptions_weight, overflow_weight};
+ghost use Rattle.rpg_program.specs.Kept.{IsProgram};
+ghost use Rattle.rpg_program.specs.Object.{lines_of, seen};
 ghost use Rattle.rpg_verify.specs.Bound as words;
 
 use crate::costs::{cost_in, costs_of};
 use crate::weights::{LineWeights, line_weights, output_weight, types_weight};
-use rpg_effect::operation::Instruction;
-use rpg_object_program::row::Rows;
+use rpg_program::operation::Instruction;
+use rpg_program::rows::Rows;
 use std::alloc::{AllocError, Global};
 
 /// The costs of places one after another.

@@ -1,16 +1,16 @@
 //! The cost of each place: the greatest sum of weights along a forward path from it.
 
 ghost use Rattle.std.specs.Prelude.{◌≡◌, ℕ, ◌+◌, ◌≤◌, length, drop, All, IfOk, slice_index};
-ghost use Rattle.rpg_effect.specs.Control as control;
-ghost use Rattle.rpg_effect.specs.Forms.{form_at};
-ghost use Rattle.rpg_effect.specs.Weights.{instruction_weight};
-ghost use Rattle.rpg_object_program.specs.Kept.{IsFieldRow};
+ghost use Rattle.rpg_program.specs.Control as control;
+ghost use Rattle.rpg_program.specs.Forms.{form_at};
+ghost use Rattle.rpg_program.specs.Weights.{instruction_weight};
+ghost use Rattle.rpg_program.specs.Kept.{IsFieldRow};
 ghost use Rattle.rpg_verify.specs.Paths as paths;
 
 use crate::weights::weight_of;
-use rpg_effect::condition::{Conditions, has_conditions};
-use rpg_effect::operation::Instruction;
-use rpg_object_program::row::Rows;
+use rpg_program::condition::{Conditions, has_conditions};
+use rpg_program::operation::Instruction;
+use rpg_program::rows::Rows;
 use std::alloc::{AllocError, Global};
 
 /// JUMP without conditions.

@@ -1,8 +1,8 @@
 //! The least rule that is broken, with its first row.
 
 ghost use Rattle.std.specs.Prelude.{◌≡◌, MatchOption, option_map};
-ghost use Rattle.rpg_object_program.specs.Kept.{IsProgram};
-ghost use Rattle.rpg_object_program.specs.Object.{seen};
+ghost use Rattle.rpg_program.specs.Kept.{IsProgram};
+ghost use Rattle.rpg_program.specs.Object.{seen};
 ghost use Rattle.rpg_verify_rules.specs.Accepted.{IsAccepted, IsLeastBroken};
 ghost use Rattle.rpg_verify_rules.specs.Least.{first_true};
 ghost use Rattle.rpg_verify_rules.specs.Least as leasts;
@@ -10,7 +10,7 @@ ghost use Rattle.rpg_verify_rules.specs.Rules as rules;
 
 use crate::places::first_place;
 use crate::tables::{first_line, first_subroutine, first_type};
-use rpg_object_program::row::Rows;
+use rpg_program::rows::Rows;
 use rpg_verify_rules::{BrokenRule, LineRule, PlaceRule, Rule, SubroutineRule, TypeRule};
 
 /// All rules in the order of their numbers.

@@ -2,20 +2,20 @@
 
 ghost use Rattle.std.specs.Prelude.{◌≡◌, ◌+◌, ◌≤◌, ◌<◌, length, map, IfSome};
 ghost use Rattle.std.specs.List.{position};
-ghost use Rattle.rpg_object_program.specs.Kept.{IsProgram};
-ghost use Rattle.rpg_object_program.specs.Object.{seen, subroutine_row};
-ghost use Rattle.rpg_object_program.specs.Spans.{IsSpan};
-ghost use Rattle.rpg_object_program.specs.declared.section.Section.TheVariants as section_names;
+ghost use Rattle.rpg_program.specs.Kept.{IsProgram};
+ghost use Rattle.rpg_program.specs.Object.{seen, subroutine_row};
+ghost use Rattle.rpg_program.specs.Spans.{IsSpan};
+ghost use Rattle.rpg_program.specs.declared.section.Section.TheVariants as section_names;
 ghost use Rattle.rpg_verify.specs.Spans.{span_of};
 ghost use Rattle.rpg_verify_rules.specs.Least.{first_true};
 ghost use Rattle.rpg_verify_rules.specs.PlaceRules as words;
 ghost use Rattle.rpg_verify_rules.specs.Rules.{broken};
 ghost use Rattle.rpg_verify_rules.specs.declared.rule.Rule.TheVariants as rule_names;
 
-use rpg_effect::operation::Instruction;
-use rpg_object_program::row::{Rows, Subroutine};
-use rpg_object_program::section::Section;
-use rpg_object_program::spans::Span;
+use rpg_program::operation::Instruction;
+use rpg_program::rows::{Rows, Subroutine};
+use rpg_program::section::Section;
+use rpg_program::spans::Span;
 use rpg_verify_rules::PlaceRule;
 use rpg_verify_rules::places::breaks;
 

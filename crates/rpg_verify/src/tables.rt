@@ -2,8 +2,8 @@
 
 ghost use Rattle.std.specs.Prelude.{◌≡◌, map};
 ghost use Rattle.std.specs.List.{position};
-ghost use Rattle.rpg_object_program.specs.Kept.{IsProgram};
-ghost use Rattle.rpg_object_program.specs.Object.{seen, line_row, subroutine_row, type_row};
+ghost use Rattle.rpg_program.specs.Kept.{IsProgram};
+ghost use Rattle.rpg_program.specs.Object.{seen, line_row, subroutine_row, type_row};
 ghost use Rattle.rpg_verify_rules.specs.Least.{first_true};
 ghost use Rattle.rpg_verify_rules.specs.LineRules as line_words;
 ghost use Rattle.rpg_verify_rules.specs.PlaceRules as place_words;
@@ -12,7 +12,7 @@ ghost use Rattle.rpg_verify_rules.specs.TypeRules as type_words;
 ghost use Rattle.rpg_verify_rules.specs.declared.rule.Rule.TheVariants as rule_names;
 ghost use Rattle.rpg_verify_rules.specs.declared.rule.SubroutineRule.TheVariants as rule_kinds;
 
-use rpg_object_program::row::{Rows, Subroutine};
+use rpg_program::rows::{Rows, Subroutine};
 use rpg_verify_rules::matches::first_widths;
 use rpg_verify_rules::subroutines::{has_return, is_body};
 use rpg_verify_rules::types::measures;

@@ -1,9 +1,9 @@
 //! Programs that may be run.
 
 ghost use Rattle.std.specs.Prelude.{◌≡◌, ◌<◌, ◌≤◌, ◌^◌, IfErr, IfOk};
-ghost use Rattle.rpg_object_program.specs.Instructions.{weight};
-ghost use Rattle.rpg_object_program.specs.Kept.{IsProgram};
-ghost use Rattle.rpg_object_program.specs.Sections.{first_place, place_behind};
+ghost use Rattle.rpg_program.specs.ObjectInstructions.{weight};
+ghost use Rattle.rpg_program.specs.Kept.{IsProgram};
+ghost use Rattle.rpg_program.specs.Sections.{first_place, place_behind};
 ghost use Rattle.rpg_verify_rules.specs.Accepted.{IsAccepted};
 ghost use Rattle.rpg_verify_rules.specs.Sound.{IsSound};
 ghost use Rattle.rpg_verify.specs.Bound as words;
@@ -13,8 +13,8 @@ ghost use Rattle.rpg_verify.specs.Verified.{IsRefusal};
 
 use crate::bound::{Measured, measure};
 use crate::least::first_broken;
-use rpg_object_program::Program;
-use rpg_object_program::section::Place;
+use rpg_program::Program;
+use rpg_program::section::Place;
 use rpg_verify_rules::Rule;
 use std::alloc::Global;
 use std::marker::Model;
@@ -28,7 +28,7 @@ pub struct Verified {
 }
 
 impl Model for Verified {
-    ghost use Rattle.rpg_object_program.specs.Object.{Object};
+    ghost use Rattle.rpg_program.specs.Object.{Object};
     ghost use Rattle.rpg_verify.specs.Verified.{IsVerified};
 
     ghost Value = { Object };

@@ -1,18 +1,18 @@
 //! What instructions, lines and record types weigh.
 
 ghost use Rattle.std.specs.Prelude.{◌≡◌, ◌≤◌, map};
-ghost use Rattle.rpg_effect.specs.Forms.{form_at};
-ghost use Rattle.rpg_effect.specs.Weights as words;
-ghost use Rattle.rpg_object_program.specs.Kept.{IsProgram};
-ghost use Rattle.rpg_object_program.specs.Object.{lines_of, seen, type_row};
+ghost use Rattle.rpg_program.specs.Forms.{form_at};
+ghost use Rattle.rpg_program.specs.Weights as words;
+ghost use Rattle.rpg_program.specs.Kept.{IsProgram};
+ghost use Rattle.rpg_program.specs.Object.{lines_of, seen, type_row};
 ghost use Rattle.rpg_verify.specs.Weighing as weighing;
 
-use rpg_effect::line::Time;
-use rpg_effect::operation::{Instruction, Operand};
-use rpg_effect::row::{Shape, Use};
-use rpg_object_program::columns::columns_of;
-use rpg_object_program::forms;
-use rpg_object_program::row::{RecordType, Rows};
+use rpg_program::columns::columns_of;
+use rpg_program::forms;
+use rpg_program::line::Time;
+use rpg_program::operation::{Instruction, Operand};
+use rpg_program::row::{Shape, Use};
+use rpg_program::rows::{RecordType, Rows};
 
 fn goes_through(shape: Shape) -> bool
     ensures { result ≡ words.goes_through shape }
@@ -53,7 +53,7 @@ fn exceptions_of(exceptions: u64, instruction: Instruction<u16>) -> u64
 }
 
 /// The weight of an instruction, where all exception lines weigh so much.
-#[tactic(auto, unfolding(rpg_effect::specs::Weights::instruction_weight, rpg_effect::specs::Weights::row_weight))]
+#[tactic(auto, unfolding(rpg_program::specs::Weights::instruction_weight, rpg_program::specs::Weights::row_weight))]
 pub(crate) fn weight_of(rows: &Rows, exceptions: u64, instruction: Instruction<u16>) -> u64
     requires { exceptions ≤ 201000 }
     ensures value { result ≡ words.instruction_weight (form_at rows.now.fields.items) exceptions instruction }

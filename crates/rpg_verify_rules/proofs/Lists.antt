@@ -4,9 +4,9 @@ use Rattle.std.specs.Prelude.{nat_lt}
 use Rattle.std.specs.List.{list_all, position, position_or_len}
 use borrow.Author.Tests.{ltb-true, ltb-false}
 use Rattle.std.specs.Global.{Vec}
-use Rattle.rpg_effect.specs.declared.condition.Condition.{Condition}
-use Rattle.rpg_object_program.specs.Object.{subroutine_row}
-use Rattle.rpg_object_program.specs.declared.row.Subroutine.{Subroutine}
+use Rattle.rpg_program.specs.declared.condition.Condition.{Condition}
+use Rattle.rpg_program.specs.Object.{subroutine_row}
+use Rattle.rpg_program.specs.declared.rows.Subroutine.{Subroutine}
 use Rattle.rpg_verify_rules.specs.Least.{first_true}
 use Rattle.rpg_verify_rules.specs.PlaceRules.{is_off_level}
 

@@ -1,6 +1,6 @@
 -- Levels whose joined length is measured, one after the other.
 use Rattle.std.proofs.Common.{◌≡◌, ℕ, ◌+◌, true, false, ◌&&◌, List, [], ◌∷◌, ap}
-use Rattle.rpg_effect.specs.declared.input.ControlField.{ControlField}
+use Rattle.rpg_program.specs.declared.input.ControlField.{ControlField}
 use Rattle.rpg_verify_rules.specs.TypeRules.{all_measured, is_measured, joined_width}
 
 pub measured_on : (level m : ℕ) (ms : List ℕ) (cs : List ControlField) → is_measured m (joined_width level cs) ≡ true → all_measured level (m ∷ ms) cs ≡ all_measured (level + 1) ms cs

@@ -1,13 +1,13 @@
 -- Whether a field lacks room is asked before whether its word fits.
 use Rattle.std.proofs.Common.{◌≡◌, ℕ, Bool, true, false, not, ◌&&◌, refl, sym, ap, ◌∙◌}
 use Rattle.std.proofs.lemmas.Bool.{and_parts, false≢true}
-use Rattle.rpg_effect.specs.Forms.{form_at, length_of}
-use Rattle.rpg_effect.specs.LineFaults.{has_room}
-use Rattle.rpg_effect.specs.declared.line.Editing.{Editing}
-use Rattle.rpg_effect.specs.declared.line.Editing.TheVariants.{Plain, Code, Word}
-use Rattle.rpg_effect.specs.declared.line.LineField.{LineField}
-use Rattle.rpg_object_program.specs.Constants.{word_at}
-use Rattle.rpg_object_program.specs.Object.{Object}
+use Rattle.rpg_program.specs.Forms.{form_at, length_of}
+use Rattle.rpg_program.specs.LineFaults.{has_room}
+use Rattle.rpg_program.specs.declared.line.Editing.{Editing}
+use Rattle.rpg_program.specs.declared.line.Editing.TheVariants.{Plain, Code, Word}
+use Rattle.rpg_program.specs.declared.line.LineField.{LineField}
+use Rattle.rpg_program.specs.Constants.{word_at}
+use Rattle.rpg_program.specs.Object.{Object}
 use Rattle.rpg_verify_rules.specs.LineRules.{form_put_out, has_width, is_field_edited, is_field_there, is_field_worded, is_word_for, lacks_room, may_have_width, names_text}
 
 -- a word that fits is a text constant

@@ -1,10 +1,10 @@
 -- The first instruction that breaks a rule, section by section.
 use Rattle.std.proofs.Common.{◌≡◌, ℕ, suc, ◌+◌, ◌<◌, Bool, List, ◌∷◌, ◌++◌, map, length, drop, get_or, Some, None, sym, ap, ◌∙◌, add-one, drop-cons}
 use Rattle.std.specs.List.{position}
-use Rattle.rpg_object_program.specs.declared.row.Subroutine.{Subroutine}
-use Rattle.rpg_object_program.specs.Object.{Object, SubroutineRow, subroutine_row}
-use Rattle.rpg_object_program.specs.Sections.{instructions_in}
-use Rattle.rpg_object_program.specs.declared.section.Section.TheVariants as sections
+use Rattle.rpg_program.specs.declared.rows.Subroutine.{Subroutine}
+use Rattle.rpg_program.specs.Object.{Object, SubroutineRow, subroutine_row}
+use Rattle.rpg_program.specs.Sections.{instructions_in}
+use Rattle.rpg_program.specs.declared.section.Section.TheVariants as sections
 use Rattle.rpg_verify_rules.specs.Least.{first_true}
 use Rattle.rpg_verify_rules.specs.PlaceRules.{place_breaks, subroutines_judged}
 use Rattle.rpg_verify_rules.specs.declared.rule.PlaceRule.{PlaceRule}

@@ -5,28 +5,28 @@ use Rattle.std.proofs.lemmas.Bool.{and_from, and_parts, eqb-true, le-leb, leb-tr
 use Rattle.std.proofs.lemmas.Option.{slice_get-get_or, slice_get_within}
 use Rattle.std.specs.List.{list_all, list_any}
 use Rattle.rpg_edit_marks.specs.declared.code.Fill.{Fill}
-use Rattle.rpg_effect.proofs.Rules.{right_field, right_row}
-use Rattle.rpg_effect.specs.Ends.{Fault, Storage}
-use Rattle.rpg_effect.specs.Forms.{form_at, kind_of, length_of}
-use Rattle.rpg_effect.specs.Input.{TypeRow, fits_shows, input_fault}
-use Rattle.rpg_effect.specs.LineFaults.{field_fault, fits_editing, is_spacing, line_fault}
-use Rattle.rpg_effect.specs.Rows.{all_used, is_writable_use}
-use Rattle.rpg_effect.specs.declared.form.FieldForm.{FieldForm}
-use Rattle.rpg_effect.specs.declared.input.InputField.{InputField}
-use Rattle.rpg_effect.specs.declared.line.Editing.{Editing}
-use Rattle.rpg_effect.specs.declared.line.Editing.TheVariants as editings
-use Rattle.rpg_effect.specs.declared.line.File.{File}
-use Rattle.rpg_effect.specs.declared.line.File.TheVariants.{Printer, Disk}
-use Rattle.rpg_effect.specs.declared.line.LineField.{LineField}
-use Rattle.rpg_effect.specs.declared.line.Spacing.{Spacing}
-use Rattle.rpg_effect.specs.declared.operation.Instruction.{Instruction}
-use Rattle.rpg_effect.specs.declared.operation.Instruction.TheVariants.{Act, Except, Branch, Call, Return}
-use Rattle.rpg_object_program.specs.Constants.{word_at}
-use Rattle.rpg_object_program.specs.Object.{LineRow, Object, SubroutineRow, file_length, input_length}
-use Rattle.rpg_object_program.specs.Sections.{body_of, first_place, has_subroutine, instruction_at, level_in, section_instructions}
-use Rattle.rpg_object_program.specs.declared.section.Place.{Place}
-use Rattle.rpg_object_program.specs.declared.section.Section.{Section}
-use Rattle.rpg_object_program.specs.declared.section.Section.TheVariants.{Detail, Total, Subroutine}
+use Rattle.rpg_program.proofs.Rules.{right_field, right_row}
+use Rattle.rpg_program.specs.Ends.{Fault, Storage}
+use Rattle.rpg_program.specs.Forms.{form_at, kind_of, length_of}
+use Rattle.rpg_program.specs.Input.{TypeRow, fits_shows, input_fault}
+use Rattle.rpg_program.specs.LineFaults.{field_fault, fits_editing, is_spacing, line_fault}
+use Rattle.rpg_program.specs.Rows.{all_used, is_writable_use}
+use Rattle.rpg_program.specs.declared.form.FieldForm.{FieldForm}
+use Rattle.rpg_program.specs.declared.input.InputField.{InputField}
+use Rattle.rpg_program.specs.declared.line.Editing.{Editing}
+use Rattle.rpg_program.specs.declared.line.Editing.TheVariants as editings
+use Rattle.rpg_program.specs.declared.line.File.{File}
+use Rattle.rpg_program.specs.declared.line.File.TheVariants.{Printer, Disk}
+use Rattle.rpg_program.specs.declared.line.LineField.{LineField}
+use Rattle.rpg_program.specs.declared.line.Spacing.{Spacing}
+use Rattle.rpg_program.specs.declared.operation.Instruction.{Instruction}
+use Rattle.rpg_program.specs.declared.operation.Instruction.TheVariants.{Act, Except, Branch, Call, Return}
+use Rattle.rpg_program.specs.Constants.{word_at}
+use Rattle.rpg_program.specs.Object.{LineRow, Object, SubroutineRow, file_length, input_length}
+use Rattle.rpg_program.specs.Sections.{body_of, first_place, has_subroutine, instruction_at, level_in, section_instructions}
+use Rattle.rpg_program.specs.declared.section.Place.{Place}
+use Rattle.rpg_program.specs.declared.section.Section.{Section}
+use Rattle.rpg_program.specs.declared.section.Section.TheVariants.{Detail, Total, Subroutine}
 use Rattle.rpg_verify_rules.proofs.Columns.{columns_same, kinds_same, written_same}
 use Rattle.rpg_verify_rules.proofs.Kept.{body_kept, line_kept, no_stray, place_kept, type_kept}
 use Rattle.rpg_verify_rules.specs.Accepted.{IsAccepted}

@@ -2,11 +2,11 @@
 use Rattle.std.proofs.Common.{◌≡◌, ℕ, zero, suc, ◌+◌, ◌<◌, List, [], ◌∷◌, map, length, get_or, Some, slice_get, refl, sym, ap, ◌∙◌, arith, add-one}
 use Rattle.std.proofs.lemmas.Option.{slice_get-get_or, slice_get-map}
 use Rattle.std.specs.Option.{option_map}
-use Rattle.rpg_object_program.specs.Object.{Object, SubroutineRow, subroutine_row}
-use Rattle.rpg_object_program.specs.Sections.{body_of, first_in, first_place, level_in, place_behind}
-use Rattle.rpg_object_program.specs.declared.row.Subroutine.{Subroutine}
-use Rattle.rpg_object_program.specs.declared.section.Section.TheVariants as sections
-use Rattle.rpg_object_program.specs.Spans.{IsSpan}
+use Rattle.rpg_program.specs.Object.{Object, SubroutineRow, subroutine_row}
+use Rattle.rpg_program.specs.Sections.{body_of, first_in, first_place, level_in, place_behind}
+use Rattle.rpg_program.specs.declared.rows.Subroutine.{Subroutine}
+use Rattle.rpg_program.specs.declared.section.Section.TheVariants as sections
+use Rattle.rpg_program.specs.Spans.{IsSpan}
 
 pub detail_span : (p : Object) (n : ℕ) → n ≡ length p.detail → IsSpan p (record { section = sections.Detail; level = 0; first = 0; end = n })
 unfolding first_place place_behind

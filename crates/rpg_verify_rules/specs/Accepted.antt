@@ -1,5 +1,5 @@
 -- Programs that keep all rules.
-use Rattle.rpg_object_program.specs.Object.{Object}
+use Rattle.rpg_program.specs.Object.{Object}
 use Rattle.rpg_verify_rules.specs.Least.{IsFaultless, IsLeast}
 use Rattle.rpg_verify_rules.specs.Rules.{broken, rule_number}
 use Rattle.rpg_verify_rules.specs.declared.rule.BrokenRule.{BrokenRule}

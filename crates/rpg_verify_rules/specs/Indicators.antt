@@ -1,10 +1,10 @@
 -- Which indicators are allowed where: 1 to 99, L0 (100), L1 to LR (101 to 110), 1P (111), overflow (112 to 119), H1 to H9 (120 to 128), MR (129).
 use Rattle.std.specs.Prelude.{ℕ, Bool, true, ◌&&◌, ◌||◌, nat_le, Option, None, Some, is_some}
-use Rattle.rpg_effect.specs.declared.condition.Condition.{Condition}
-use Rattle.rpg_effect.specs.declared.condition.Conditions.{Conditions}
-use Rattle.rpg_effect.specs.declared.operation.Shows.{Shows}
-use Rattle.rpg_object_program.specs.declared.row.Version.{Version}
-use Rattle.rpg_object_program.specs.declared.row.Version.TheVariants.{One, Two}
+use Rattle.rpg_program.specs.declared.condition.Condition.{Condition}
+use Rattle.rpg_program.specs.declared.condition.Conditions.{Conditions}
+use Rattle.rpg_program.specs.declared.operation.Shows.{Shows}
+use Rattle.rpg_program.specs.declared.rows.Version.{Version}
+use Rattle.rpg_program.specs.declared.rows.Version.TheVariants.{One, Two}
 use Rattle.rpg_text.specs.Texts.{is_between}
 
 -- all but L0, 1P and MR

@@ -2,20 +2,20 @@
 use Rattle.std.specs.Prelude.{ℕ, Bool, true, not, ◌&&◌, ◌==◌, Option}
 use Rattle.std.specs.List.{list_all, list_any}
 use Rattle.rpg_edit_marks.specs.declared.code.Fill.{Fill}
-use Rattle.rpg_effect.specs.Forms.{decimals_of, form_at, is_text_constant, kind_of, length_of, same_kind}
-use Rattle.rpg_effect.specs.LineFaults.{blanks_writable, fits_code, fits_source, fits_word, has_room, is_blank_fill, is_spacing}
-use Rattle.rpg_effect.specs.Rows.{has_entry, is_one_entry}
-use Rattle.rpg_effect.specs.declared.form.FieldForm.{FieldForm}
-use Rattle.rpg_effect.specs.declared.form.Kind.TheVariants as kinds
-use Rattle.rpg_effect.specs.declared.line.Editing.{Editing}
-use Rattle.rpg_effect.specs.declared.line.Editing.TheVariants.{Plain, Code, Word}
-use Rattle.rpg_effect.specs.declared.line.File.{File}
-use Rattle.rpg_effect.specs.declared.line.File.TheVariants.{Printer, Disk}
-use Rattle.rpg_effect.specs.declared.line.LineField.{LineField}
-use Rattle.rpg_effect.specs.declared.line.Spacing.{Spacing}
-use Rattle.rpg_object_program.specs.Constants.{word_at}
-use Rattle.rpg_object_program.specs.Object.{LineRow, Object, file_length}
-use Rattle.rpg_object_program.specs.declared.row.Version.{Version}
+use Rattle.rpg_program.specs.Forms.{decimals_of, form_at, is_text_constant, kind_of, length_of, same_kind}
+use Rattle.rpg_program.specs.LineFaults.{blanks_writable, fits_code, fits_source, fits_word, has_room, is_blank_fill, is_spacing}
+use Rattle.rpg_program.specs.Rows.{has_entry, is_one_entry}
+use Rattle.rpg_program.specs.declared.form.FieldForm.{FieldForm}
+use Rattle.rpg_program.specs.declared.form.Kind.TheVariants as kinds
+use Rattle.rpg_program.specs.declared.line.Editing.{Editing}
+use Rattle.rpg_program.specs.declared.line.Editing.TheVariants.{Plain, Code, Word}
+use Rattle.rpg_program.specs.declared.line.File.{File}
+use Rattle.rpg_program.specs.declared.line.File.TheVariants.{Printer, Disk}
+use Rattle.rpg_program.specs.declared.line.LineField.{LineField}
+use Rattle.rpg_program.specs.declared.line.Spacing.{Spacing}
+use Rattle.rpg_program.specs.Constants.{word_at}
+use Rattle.rpg_program.specs.Object.{LineRow, Object, file_length}
+use Rattle.rpg_program.specs.declared.rows.Version.{Version}
 use Rattle.rpg_verify_rules.specs.Indicators.{all_asked, may_be_asked}
 use Rattle.rpg_verify_rules.specs.declared.rule.LineRule.{LineRule}
 use Rattle.rpg_verify_rules.specs.declared.rule.LineRule.TheVariants.{V2, V8, V9, V10, V11, V12, V13, V14, V15}

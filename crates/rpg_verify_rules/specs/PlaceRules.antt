@@ -1,24 +1,24 @@
 -- The rules of instructions, and of the subroutines that they are in.
 use Rattle.std.specs.Prelude.{ℕ, ◌+◌, ◌-◌, Bool, true, false, not, ◌&&◌, ◌||◌, ◌==◌, nat_lt, List, [], ◌∷◌, ◌++◌, map, length, Option, None, Some, is_some, slice_get, if◌then◌else◌}
 use Rattle.std.specs.List.{list_all, list_any}
-use Rattle.rpg_effect.specs.Control.{has_conditions}
-use Rattle.rpg_effect.specs.Forms.{form_at}
-use Rattle.rpg_effect.specs.Rows.{all_of, all_used, has_kind, holds_positions, is_current_table, is_good_operand, is_two_sided, is_writable_use}
-use Rattle.rpg_effect.specs.declared.form.FieldForm.{FieldForm}
-use Rattle.rpg_effect.specs.declared.operation.Action.TheVariants.{Compare, LookUp}
-use Rattle.rpg_effect.specs.declared.operation.Instruction.{Instruction}
-use Rattle.rpg_effect.specs.declared.operation.Instruction.TheVariants.{Act, Branch, Call, Return}
-use Rattle.rpg_effect.specs.declared.operation.Operand.{Operand}
-use Rattle.rpg_effect.specs.declared.row.Marks.{Marks}
-use Rattle.rpg_effect.specs.declared.row.Marks.TheVariants.{Unmarked, Shown, Wanted, Sought}
-use Rattle.rpg_effect.specs.declared.row.Row.{Row}
-use Rattle.rpg_effect.specs.declared.row.Use.{Use}
-use Rattle.rpg_object_program.specs.Instructions.{columns}
-use Rattle.rpg_object_program.specs.Object.{Object, SubroutineRow}
-use Rattle.rpg_object_program.specs.Sections.{is_place, level_of, section_instructions}
-use Rattle.rpg_object_program.specs.declared.row.Version.{Version}
-use Rattle.rpg_object_program.specs.declared.section.Section.{Section}
-use Rattle.rpg_object_program.specs.declared.section.Section.TheVariants.{Detail, Total, Subroutine}
+use Rattle.rpg_program.specs.Control.{has_conditions}
+use Rattle.rpg_program.specs.Forms.{form_at}
+use Rattle.rpg_program.specs.Rows.{all_of, all_used, has_kind, holds_positions, is_current_table, is_good_operand, is_two_sided, is_writable_use}
+use Rattle.rpg_program.specs.declared.form.FieldForm.{FieldForm}
+use Rattle.rpg_program.specs.declared.operation.Action.TheVariants.{Compare, LookUp}
+use Rattle.rpg_program.specs.declared.operation.Instruction.{Instruction}
+use Rattle.rpg_program.specs.declared.operation.Instruction.TheVariants.{Act, Branch, Call, Return}
+use Rattle.rpg_program.specs.declared.operation.Operand.{Operand}
+use Rattle.rpg_program.specs.declared.row.Marks.{Marks}
+use Rattle.rpg_program.specs.declared.row.Marks.TheVariants.{Unmarked, Shown, Wanted, Sought}
+use Rattle.rpg_program.specs.declared.row.Row.{Row}
+use Rattle.rpg_program.specs.declared.row.Use.{Use}
+use Rattle.rpg_program.specs.ObjectInstructions.{columns}
+use Rattle.rpg_program.specs.Object.{Object, SubroutineRow}
+use Rattle.rpg_program.specs.Sections.{is_place, level_of, section_instructions}
+use Rattle.rpg_program.specs.declared.rows.Version.{Version}
+use Rattle.rpg_program.specs.declared.section.Section.{Section}
+use Rattle.rpg_program.specs.declared.section.Section.TheVariants.{Detail, Total, Subroutine}
 use Rattle.rpg_text.specs.Texts.{is_between}
 use Rattle.rpg_verify_rules.specs.Indicators.{all_asked, are_settable, has_shows}
 use Rattle.rpg_verify_rules.specs.declared.places.OperandTest.{OperandTest}

@@ -2,7 +2,7 @@
 -- apply to an operand, a line's field or an input field that a smaller rule refuses. The least broken rule is returned, and a
 -- program is accepted if no rule is broken.
 use Rattle.std.specs.Prelude.{ℕ, Bool, ◌&&◌, ◌==◌, List, [], ◌∷◌, ◌++◌, map, is_some, codes, decimal}
-use Rattle.rpg_object_program.specs.Object.{Object}
+use Rattle.rpg_program.specs.Object.{Object}
 use Rattle.rpg_verify_rules.specs.LineRules.{line_breaks}
 use Rattle.rpg_verify_rules.specs.PlaceRules.{bodies_judged, has_stray_return, is_off_level, places_judged, with_first}
 use Rattle.rpg_verify_rules.specs.TypeRules.{type_breaks}

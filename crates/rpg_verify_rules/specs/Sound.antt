@@ -1,19 +1,19 @@
 -- What the rules give to whoever runs an accepted program.
 use Rattle.std.specs.Prelude.{◌≡◌, ℕ, ◌<◌, ◌≤◌, true, All, None, Some}
 use Rattle.std.specs.List.{sum}
-use Rattle.rpg_effect.specs.Forms.{form_at}
-use Rattle.rpg_effect.specs.Input.{TypeRow, input_fault}
-use Rattle.rpg_effect.specs.LineFaults.{AreRight, line_fault}
-use Rattle.rpg_effect.specs.Right.{IsRightRow}
-use Rattle.rpg_effect.specs.declared.operation.Instruction.{Instruction}
-use Rattle.rpg_effect.specs.declared.operation.Instruction.TheVariants.{Act, Except, Branch, Call, Return}
-use Rattle.rpg_object_program.specs.Constants.{word_at}
-use Rattle.rpg_object_program.specs.Instructions.{columns}
-use Rattle.rpg_object_program.specs.Object.{LineRow, Object, file_length, has_file, input_length}
-use Rattle.rpg_object_program.specs.Sections.{first_place, has_subroutine, instruction_at, is_place, level_of, section_instructions}
-use Rattle.rpg_object_program.specs.declared.section.Place.{Place}
-use Rattle.rpg_object_program.specs.declared.section.Section.{Section}
-use Rattle.rpg_object_program.specs.declared.section.Section.TheVariants.{Subroutine}
+use Rattle.rpg_program.specs.Forms.{form_at}
+use Rattle.rpg_program.specs.Input.{TypeRow, input_fault}
+use Rattle.rpg_program.specs.LineFaults.{AreRight, line_fault}
+use Rattle.rpg_program.specs.Right.{IsRightRow}
+use Rattle.rpg_program.specs.declared.operation.Instruction.{Instruction}
+use Rattle.rpg_program.specs.declared.operation.Instruction.TheVariants.{Act, Except, Branch, Call, Return}
+use Rattle.rpg_program.specs.Constants.{word_at}
+use Rattle.rpg_program.specs.ObjectInstructions.{columns}
+use Rattle.rpg_program.specs.Object.{LineRow, Object, file_length, has_file, input_length}
+use Rattle.rpg_program.specs.Sections.{first_place, has_subroutine, instruction_at, is_place, level_of, section_instructions}
+use Rattle.rpg_program.specs.declared.section.Place.{Place}
+use Rattle.rpg_program.specs.declared.section.Section.{Section}
+use Rattle.rpg_program.specs.declared.section.Section.TheVariants.{Subroutine}
 use Rattle.rpg_verify_rules.specs.Indicators.{if_any, is_of_type}
 use Rattle.rpg_verify_rules.specs.LineRules.{is_spaced_on}
 use Rattle.rpg_verify_rules.specs.PlaceRules.{are_asked, are_marked, ends_in_return}

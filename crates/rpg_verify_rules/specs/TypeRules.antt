@@ -2,12 +2,12 @@
 use Rattle.std.specs.Prelude.{ℕ, ◌+◌, ◌-◌, Bool, true, not, ◌&&◌, ◌||◌, ◌==◌, nat_le, List, [], ◌∷◌, length, if◌then◌else◌}
 use Rattle.std.specs.List.{list_all, list_any, sum}
 use Rattle.std.specs.Cmp.Lexicographic.{pointwise}
-use Rattle.rpg_effect.specs.Forms.{form_at, kind_of}
-use Rattle.rpg_effect.specs.Input.{TypeRow, fits_columns, fits_shows}
-use Rattle.rpg_effect.specs.declared.input.ControlField.{ControlField}
-use Rattle.rpg_effect.specs.declared.input.InputField.{InputField}
-use Rattle.rpg_effect.specs.declared.input.RecordCode.{RecordCode}
-use Rattle.rpg_object_program.specs.Object.{Object, has_file, input_length}
+use Rattle.rpg_program.specs.Forms.{form_at, kind_of}
+use Rattle.rpg_program.specs.Input.{TypeRow, fits_columns, fits_shows}
+use Rattle.rpg_program.specs.declared.input.ControlField.{ControlField}
+use Rattle.rpg_program.specs.declared.input.InputField.{InputField}
+use Rattle.rpg_program.specs.declared.input.RecordCode.{RecordCode}
+use Rattle.rpg_program.specs.Object.{Object, has_file, input_length}
 use Rattle.rpg_text.specs.Texts.{is_between}
 use Rattle.rpg_verify_rules.specs.Indicators.{are_settable, if_any, is_of_type}
 use Rattle.rpg_verify_rules.specs.declared.rule.TypeRule.{TypeRule}

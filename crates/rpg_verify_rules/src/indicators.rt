@@ -3,9 +3,9 @@
 ghost use Rattle.std.specs.Prelude.{◌≡◌};
 ghost use Rattle.rpg_verify_rules.specs.Indicators as marks;
 
-use rpg_effect::condition::{Condition, Conditions};
-use rpg_effect::operation::Shows;
-use rpg_object_program::row::Version;
+use rpg_program::condition::{Condition, Conditions};
+use rpg_program::operation::Shows;
+use rpg_program::rows::Version;
 
 fn is_settable(n: u8) -> bool
     ensures { result ≡ marks.is_settable n }

@@ -1,6 +1,6 @@
 //! What the rules give to whoever runs an accepted program.
 
-ghost use Rattle.rpg_object_program.specs.Object.{Object};
+ghost use Rattle.rpg_program.specs.Object.{Object};
 ghost use Rattle.rpg_verify_rules.specs.Accepted.{IsAccepted};
 ghost use Rattle.rpg_verify_rules.specs.Sound.{IsSound};
 

@@ -4,12 +4,12 @@ ghost use Rattle.std.specs.Prelude.{◌≡◌, true, map, Some};
 ghost use Rattle.std.specs.List.{list_all, list_any};
 ghost use Rattle.std.specs.Global.{Vec};
 ghost use Rattle.rpg_edit_marks.specs.How.{width_of};
-ghost use Rattle.rpg_effect.specs.Editing as edits;
-ghost use Rattle.rpg_effect.specs.Forms as forms;
-ghost use Rattle.rpg_effect.specs.LineFaults as faults;
-ghost use Rattle.rpg_object_program.specs.Constants.{word_at};
-ghost use Rattle.rpg_object_program.specs.Kept.{IsFieldRow, IsProgram};
-ghost use Rattle.rpg_object_program.specs.Object.{seen, line_row};
+ghost use Rattle.rpg_program.specs.Editing as edits;
+ghost use Rattle.rpg_program.specs.Forms as forms;
+ghost use Rattle.rpg_program.specs.LineFaults as faults;
+ghost use Rattle.rpg_program.specs.Constants.{word_at};
+ghost use Rattle.rpg_program.specs.Kept.{IsFieldRow, IsProgram};
+ghost use Rattle.rpg_program.specs.Object.{seen, line_row};
 ghost use Rattle.rpg_verify_rules.specs.Indicators as marks;
 ghost use Rattle.rpg_verify_rules.specs.LineRules as words;
 
@@ -18,14 +18,14 @@ use crate::rule::LineRule;
 use crate::words::{edit_word_width, is_edit_word};
 use rpg_edit_marks::Fill;
 use rpg_edit_widths::{How, width};
-use rpg_effect::condition::Condition;
-use rpg_effect::form::{FieldForm, Kind, same_kind};
-use rpg_effect::line::{Editing, File, LineField, Source, Spacing, fits_code, is_blank_fill};
-use rpg_object_program::columns::{has_entry, is_one_entry};
-use rpg_object_program::forms::{
+use rpg_program::columns::{has_entry, is_one_entry};
+use rpg_program::condition::Condition;
+use rpg_program::form::{FieldForm, Kind, same_kind};
+use rpg_program::forms::{
     decimals_of, form_at, is_index_form, is_text_constant, kind_of, length_of, may_write,
 };
-use rpg_object_program::row::{Line, Rows, Version};
+use rpg_program::line::{Editing, File, LineField, Source, Spacing, fits_code, is_blank_fill};
+use rpg_program::rows::{Line, Rows, Version};
 
 /// Whether a line breaks a rule.
 #[tactic(auto, unfolding(crate::specs::LineRules::line_breaks))]

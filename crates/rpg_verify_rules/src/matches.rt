@@ -2,12 +2,12 @@
 
 ghost use Rattle.std.specs.Prelude.{◌≡◌, map};
 ghost use Rattle.std.specs.List.{list_any, sum};
-ghost use Rattle.rpg_object_program.specs.Object.{type_row};
+ghost use Rattle.rpg_program.specs.Object.{type_row};
 ghost use Rattle.rpg_verify_rules.specs.TypeRules as words;
 
 use crate::types::{are_controls_in, joined};
-use rpg_effect::input::ControlField;
-use rpg_object_program::row::RecordType;
+use rpg_program::input::ControlField;
+use rpg_program::rows::RecordType;
 
 /// The joined lengths of levels 1 to 9.
 fn joined_widths(fields: &[ControlField]) -> [u128; 9]

@@ -1,23 +1,23 @@
 //! V16 to V22: instructions.
 
 ghost use Rattle.std.specs.Prelude.{◌≡◌};
-ghost use Rattle.rpg_object_program.specs.Spans.{IsSpan};
-ghost use Rattle.rpg_effect.specs.Forms as forms;
-ghost use Rattle.rpg_effect.specs.Rows as rows_words;
-ghost use Rattle.rpg_object_program.specs.Object.{seen};
+ghost use Rattle.rpg_program.specs.Spans.{IsSpan};
+ghost use Rattle.rpg_program.specs.Forms as forms;
+ghost use Rattle.rpg_program.specs.Rows as rows_words;
+ghost use Rattle.rpg_program.specs.Object.{seen};
 ghost use Rattle.rpg_verify_rules.specs.PlaceRules as words;
 
 use crate::indicators::{all_asked, are_settable, has_shows};
 use crate::rule::PlaceRule;
-use rpg_effect::condition::has_conditions;
-use rpg_effect::operation::{Action, Instruction, Operand};
-use rpg_effect::row::{Marks, Row, Use};
-use rpg_object_program::columns::{
+use rpg_program::columns::{
     columns_of, has_kind, holds_positions, is_current_table, is_good, is_writable_use,
 };
-use rpg_object_program::forms::form_at;
-use rpg_object_program::row::{Rows, Version};
-use rpg_object_program::spans::{Span, is_higher, is_place};
+use rpg_program::condition::has_conditions;
+use rpg_program::forms::form_at;
+use rpg_program::operation::{Action, Instruction, Operand};
+use rpg_program::row::{Marks, Row, Use};
+use rpg_program::rows::{Rows, Version};
+use rpg_program::spans::{Span, is_higher, is_place};
 
 /// Whether an instruction of a section breaks a rule.
 #[tactic(auto, unfolding(crate::specs::PlaceRules::place_breaks))]

@@ -4,7 +4,7 @@ ghost use Rattle.std.specs.Prelude.{◌≡◌};
 ghost use Rattle.std.specs.List.{list_all, list_any};
 ghost use Rattle.rpg_verify_rules.specs.PlaceRules as words;
 
-use rpg_effect::operation::Instruction;
+use rpg_program::operation::Instruction;
 
 /// Whether it is RET, which ends a subroutine.
 pub fn is_return(instruction: Instruction<u16>) -> bool

@@ -2,18 +2,18 @@
 
 ghost use Rattle.std.specs.Prelude.{◌≡◌, ◌≤◌, ◌^◌, map};
 ghost use Rattle.std.specs.List.{list_all, list_any};
-ghost use Rattle.rpg_effect.specs.Input as inputs;
-ghost use Rattle.rpg_object_program.specs.Object.{seen, type_row};
+ghost use Rattle.rpg_program.specs.Input as inputs;
+ghost use Rattle.rpg_program.specs.Object.{seen, type_row};
 ghost use Rattle.rpg_verify_rules.specs.TypeRules as words;
 
 use crate::indicators::{are_settable, is_of_type};
 use crate::matches::are_matches;
 use crate::rule::TypeRule;
-use rpg_effect::form::{Kind, is_plain};
-use rpg_effect::input::{ControlField, InputField, RecordCode};
-use rpg_effect::operation::Shows;
-use rpg_object_program::forms::{form_at, kind_of};
-use rpg_object_program::row::{RecordType, Rows};
+use rpg_program::form::{Kind, is_plain};
+use rpg_program::forms::{form_at, kind_of};
+use rpg_program::input::{ControlField, InputField, RecordCode};
+use rpg_program::operation::Shows;
+use rpg_program::rows::{RecordType, Rows};
 
 /// Whether a record type breaks a rule, given the lengths of levels and of match fields in the first types that have some.
 #[tactic(auto, unfolding(crate::specs::TypeRules::type_breaks))]

@@ -2,15 +2,15 @@
 
 ghost use Rattle.std.specs.Prelude.{◌≡◌, ◌&&◌, length, true};
 ghost use Rattle.rpg_edit_marks.specs.Word.{word_marks};
-ghost use Rattle.rpg_effect.specs.Forms as forms;
-ghost use Rattle.rpg_effect.specs.LineFaults.{fits_word};
-ghost use Rattle.rpg_object_program.specs.Constants as constants;
-ghost use Rattle.rpg_object_program.specs.Object.{seen};
+ghost use Rattle.rpg_program.specs.Forms as forms;
+ghost use Rattle.rpg_program.specs.LineFaults.{fits_word};
+ghost use Rattle.rpg_program.specs.Constants as constants;
+ghost use Rattle.rpg_program.specs.Object.{seen};
 
 use rpg_edit_widths::{EditWord, word_width};
-use rpg_object_program::forms::{form_at, is_text_constant};
-use rpg_object_program::row::Rows;
-use rpg_object_program::words::word_at;
+use rpg_program::forms::{form_at, is_text_constant};
+use rpg_program::rows::Rows;
+use rpg_program::words::word_at;
 
 /// Whether a word has 1 to 24 characters and fits a number of so many digits.
 fn fits_word(word: &[u8], digits: u8) -> bool

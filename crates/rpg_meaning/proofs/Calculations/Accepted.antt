@@ -1,8 +1,8 @@
 -- What the machine of an accepted program gives: nothing is wrong, and control is where the rules let it go.
 use Rattle.std.proofs.Common.{◌≡◌, ◌≢◌, ◌<◌, ℕ, true, false, ◌&&◌, cond, eqb, Some, None, subst, ap, ◌∙◌}
-use Rattle.rpg_effect.specs.Ends.{Fault, Halt, Wrong}
-use Rattle.rpg_effect.specs.declared.operation.Instruction.{Instruction}
-use Rattle.rpg_effect.specs.declared.operation.Instruction.TheVariants.{Call, Return}
+use Rattle.rpg_program.specs.Ends.{Fault, Halt, Wrong}
+use Rattle.rpg_program.specs.declared.operation.Instruction.{Instruction}
+use Rattle.rpg_program.specs.declared.operation.Instruction.TheVariants.{Call, Return}
 use Rattle.rpg_machine.proofs.NeverWrong.{no_step_wrong}
 use Rattle.rpg_machine.proofs.Orderly.{orderly}
 use Rattle.rpg_machine.proofs.Ranges.{more_there, place_first}
@@ -13,13 +13,13 @@ use Rattle.rpg_machine.specs.Config.{Config, Output, charged, here, no_output}
 use Rattle.rpg_machine.specs.Control.{control, spends}
 use Rattle.rpg_machine.specs.Laws.{IsRightOutcome}
 use Rattle.rpg_machine.specs.Step.{Next, Stop, arrived, control_in, destination, effect, fault, outcome_of, step, went}
-use Rattle.rpg_object_program.specs.Instructions.{weight}
+use Rattle.rpg_program.specs.ObjectInstructions.{weight}
 use Rattle.rpg_meaning.specs.Calculations.Agreement.{IsRunnable}
 use Rattle.rpg_memory.proofs.Programs.{program_forms}
-use Rattle.rpg_object_program.specs.Kept.{IsProgram}
-use Rattle.rpg_object_program.specs.Object.{Object}
-use Rattle.rpg_object_program.specs.Sections.{instruction_at, is_place, level_of}
-use Rattle.rpg_object_program.specs.declared.section.Section.TheVariants as sections
+use Rattle.rpg_program.specs.Kept.{IsProgram}
+use Rattle.rpg_program.specs.Object.{Object}
+use Rattle.rpg_program.specs.Sections.{instruction_at, is_place, level_of}
+use Rattle.rpg_program.specs.declared.section.Section.TheVariants as sections
 use Rattle.rpg_verify_rules.proofs.Soundness.{sound}
 use Rattle.rpg_verify_rules.specs.Accepted.{IsAccepted}
 use Rattle.rpg_verify.proofs.Most.{greatest}

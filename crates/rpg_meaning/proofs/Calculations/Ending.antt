@@ -5,8 +5,8 @@ use Rattle.std.proofs.lemmas.Option.{slice_get_within}
 use Rattle.rpg_cards.specs.Deeds.{Acts, Begins, Calculation, Deed, Ends, Executes, GoesTo, Marks, Nothing, PutsOut}
 use Rattle.rpg_cards.specs.Keys.{Key, key_cmp}
 use Rattle.rpg_cards.specs.Sections.{Sections}
-use Rattle.rpg_effect.specs.Ends.{End, GoesOn, Halt, Wrong}
-use Rattle.rpg_effect.specs.World.{World}
+use Rattle.rpg_program.specs.Ends.{End, GoesOn, Halt, Wrong}
+use Rattle.rpg_program.specs.World.{World}
 use Rattle.rpg_machine.specs.Config.{Output, no_output}
 use Rattle.rpg_meaning.proofs.Calculations.Counted.{cards_run, followed}
 use Rattle.rpg_meaning.proofs.Calculations.Placed.{not_own}

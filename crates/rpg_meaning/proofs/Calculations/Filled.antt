@@ -10,7 +10,7 @@ use Rattle.rpg_cards.specs.Sections.{Subroutine, begun_by, is_detail, is_same_na
 use Rattle.rpg_cards.specs.Cards.{calculation_on}
 use Rattle.rpg_cards.specs.Groups.{joins}
 use Rattle.rpg_cards.specs.declared.spec_card.SpecCard.{SpecCard}
-use Rattle.rpg_effect.specs.declared.condition.Conditions.{Conditions}
+use Rattle.rpg_program.specs.declared.condition.Conditions.{Conditions}
 use Rattle.rpg_faults_flow.proofs.Facts.{or_first}
 use Rattle.rpg_faults_flow.proofs.Walk.{EachSplit, Walk, each_calculation}
 use Rattle.rpg_faults_flow.specs.Columns.{bad_calculation, bad_calculation_columns, bad_conditions, may_depend}

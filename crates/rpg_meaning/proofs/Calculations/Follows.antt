@@ -6,24 +6,24 @@ use Rattle.rpg_cards.specs.Keys.{Key, Name, key_cmp}
 use Rattle.rpg_compile_program.proofs.Counts.{level_length, tests_length}
 use Rattle.rpg_compile_program.specs.Code.{group_code, jump, label_place, level_code, no_conditions, section_code, step_code, tests_code, waits}
 use Rattle.rpg_compile_program.specs.Whole.{called_number}
-use Rattle.rpg_effect.specs.Effect.{Effect}
-use Rattle.rpg_effect.specs.Ended.{on_data}
-use Rattle.rpg_effect.specs.Ends.{End, GoesOn, Halt, Wrong}
-use Rattle.rpg_effect.specs.Forms.{form_at}
-use Rattle.rpg_effect.specs.Instructions.{instruction_effect}
-use Rattle.rpg_effect.specs.Lines.{exception_output}
-use Rattle.rpg_effect.specs.Operate.{operate}
-use Rattle.rpg_effect.specs.declared.line.Pass.TheVariants as passes
-use Rattle.rpg_effect.specs.declared.operation.Action.{Action}
-use Rattle.rpg_effect.specs.declared.operation.Instruction.{Instruction}
-use Rattle.rpg_effect.specs.declared.operation.Instruction.TheVariants.{Act, Except}
-use Rattle.rpg_effect.specs.declared.operation.Operand.{Operand}
+use Rattle.rpg_program.specs.Effect.{Effect}
+use Rattle.rpg_program.specs.Ended.{on_data}
+use Rattle.rpg_program.specs.Ends.{End, GoesOn, Halt, Wrong}
+use Rattle.rpg_program.specs.Forms.{form_at}
+use Rattle.rpg_program.specs.Instructions.{instruction_effect}
+use Rattle.rpg_program.specs.Lines.{exception_output}
+use Rattle.rpg_program.specs.Operate.{operate}
+use Rattle.rpg_program.specs.declared.line.Pass.TheVariants as passes
+use Rattle.rpg_program.specs.declared.operation.Action.{Action}
+use Rattle.rpg_program.specs.declared.operation.Instruction.{Instruction}
+use Rattle.rpg_program.specs.declared.operation.Instruction.TheVariants.{Act, Except}
+use Rattle.rpg_program.specs.declared.operation.Operand.{Operand}
 use Rattle.rpg_machine.specs.Accepted.{IsOrderly}
 use Rattle.rpg_machine.specs.Config.{Config, Output, charged, no_output}
 use Rattle.rpg_machine.specs.Control.{branch, control, spends}
 use Rattle.rpg_machine.specs.Step.{Next, Stop, effect, outcome_of, step}
 use Rattle.rpg_machine.specs.declared.control.Control.TheVariants.{Goes, GoesBack}
-use Rattle.rpg_object_program.specs.Instructions.{weight}
+use Rattle.rpg_program.specs.ObjectInstructions.{weight}
 use Rattle.rpg_meaning.proofs.Calculations.Accepted.{fit_after, never_ends}
 use Rattle.rpg_meaning.proofs.Calculations.Leads.{HasAt, Reaches, at, has_back, here_is, level_leads, one_step, one_stop, stands, step_of, stop_behind, then_comes}
 use Rattle.rpg_meaning.proofs.Calculations.Named.{all_at, lines_named, uses_at}
@@ -34,9 +34,9 @@ use Rattle.rpg_meaning.specs.Calculations.Laws.{stays_in_part}
 use Rattle.rpg_meaning.specs.Calculations.Meaning.{On, Source, State, Stops, affected, after_effect, at_next, calculation_done, cards_step, deed_done, gone_to, is_done}
 use Rattle.rpg_meaning.specs.Calculations.Parts.{bears, calculations_in, label_position}
 use Rattle.rpg_meaning.specs.Calculations.Translation.{IsFilled, IsTranslation}
-use Rattle.rpg_object_program.specs.Constants.{word_at}
-use Rattle.rpg_object_program.specs.Object.{Object}
-use Rattle.rpg_object_program.specs.Sections.{first_place, instruction_at, section_instructions}
+use Rattle.rpg_program.specs.Constants.{word_at}
+use Rattle.rpg_program.specs.Object.{Object}
+use Rattle.rpg_program.specs.Sections.{first_place, instruction_at, section_instructions}
 use Rattle.rpg_effect_renaming.proofs.Lines.{data_same, lines_same}
 use Rattle.rpg_effect_renaming.proofs.Operations.{operate_same}
 use Rattle.rpg_effect_renaming.specs.Naming.{SameEffect, renamed_action, renamed_line}

@@ -3,8 +3,8 @@ use Rattle.std.proofs.Common.{◌≡◌, ℕ, zero, suc, Bool, true, false, cond
 use Rattle.std.proofs.lemmas.Bool.{eq-eqb, false≢true}
 use Rattle.std.proofs.lemmas.Option.{same_Some}
 use Rattle.std.specs.Ordering.{nat_cmp}
-use Rattle.rpg_effect.specs.Forms.{has_field}
-use Rattle.rpg_effect.specs.World.{World}
+use Rattle.rpg_program.specs.Forms.{has_field}
+use Rattle.rpg_program.specs.World.{World}
 use Rattle.rpg_effect_renaming.proofs.Worlds.{by_names, names_agree}
 use Rattle.rpg_effect_renaming.specs.Naming.{Agree}
 use Rattle.rpg_compile_program.proofs.Numbers.{Missing, Standing, There, all_keys, numbers_rename, standing}

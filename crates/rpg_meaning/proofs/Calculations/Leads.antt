@@ -5,12 +5,12 @@ use Rattle.std.specs.FinSet as set
 use Rattle.rpg_cards.specs.Deeds.{tests}
 use Rattle.rpg_compile_program.proofs.Counts.{alternative_length}
 use Rattle.rpg_compile_program.specs.Code.{alternative_code, jump, level_code, on_level, skip_code, tests_code, waits}
-use Rattle.rpg_effect.specs.Ends.{GoesOn, Halt}
-use Rattle.rpg_effect.specs.Instructions.{instruction_effect}
-use Rattle.rpg_effect.specs.World.{three_hold}
-use Rattle.rpg_effect.specs.declared.condition.Conditions.{Conditions}
-use Rattle.rpg_effect.specs.declared.operation.Instruction.{Instruction}
-use Rattle.rpg_effect.specs.declared.operation.Instruction.TheVariants.{Branch}
+use Rattle.rpg_program.specs.Ends.{GoesOn, Halt}
+use Rattle.rpg_program.specs.Instructions.{instruction_effect}
+use Rattle.rpg_program.specs.World.{three_hold}
+use Rattle.rpg_program.specs.declared.condition.Conditions.{Conditions}
+use Rattle.rpg_program.specs.declared.operation.Instruction.{Instruction}
+use Rattle.rpg_program.specs.declared.operation.Instruction.TheVariants.{Branch}
 use Rattle.rpg_machine.proofs.Ranges.{more_there}
 use Rattle.rpg_machine.proofs.Steps.{step_right}
 use Rattle.rpg_machine.specs.Accepted.{IsOrderly}
@@ -20,13 +20,13 @@ use Rattle.rpg_machine.specs.Run.{onward, put_before, run}
 use Rattle.rpg_machine.specs.Step.{Outcome, Next, Stop, arrived, control_in, destination, effect, step, went}
 use Rattle.rpg_machine.specs.declared.control.Control.{Control}
 use Rattle.rpg_machine.specs.declared.control.Control.TheVariants.{Goes, GoesBack}
-use Rattle.rpg_object_program.specs.Instructions.{weight}
+use Rattle.rpg_program.specs.ObjectInstructions.{weight}
 use Rattle.rpg_meaning.proofs.Calculations.Accepted.{fit_after, right}
 use Rattle.rpg_meaning.specs.Calculations.Agreement.{Comes, IsRunnable}
 use Rattle.rpg_meaning.specs.Calculations.Meaning.{all_cards_hold, level_holds}
 use Rattle.rpg_meaning.specs.Calculations.Translation.{AreFilled}
-use Rattle.rpg_object_program.specs.Object.{Object}
-use Rattle.rpg_object_program.specs.Sections.{instruction_at}
+use Rattle.rpg_program.specs.Object.{Object}
+use Rattle.rpg_program.specs.Sections.{instruction_at}
 
 -- ---- outputs
 

@@ -12,7 +12,7 @@ use Rattle.rpg_meaning.specs.Calculations.Meaning.{CardsCome, MeantOutcome, On, 
 use Rattle.rpg_meaning.specs.Calculations.Parts.{InDetail, InSubroutine, InTotal, Part, body_named, calculations_in}
 use Rattle.rpg_meaning.specs.Calculations.Sections.{AreOpen, Meets}
 use Rattle.rpg_meaning.specs.Calculations.Translation.{IsTranslation}
-use Rattle.rpg_object_program.specs.Object.{Object}
+use Rattle.rpg_program.specs.Object.{Object}
 
 -- no part has more calculations than all parts together
 abbrev all_in : List (Subroutine Key) → ℕ

@@ -6,13 +6,13 @@ use Rattle.std.specs.Prelude.{is_some, unwrap_or}
 use Rattle.rpg_cards.specs.Calculations.{CalculationGroup, alone, alternatives, awaited_level, calculation_of, calculations, calculations_from, completed, goes_on, group_with, is_or, joined_group, open_with, tests_on}
 use Rattle.rpg_cards.specs.Cards.{calculation_on}
 use Rattle.rpg_cards.specs.Deeds.{Acts, Begins, Calculation, Ends, Executes, GoesTo, Marks, deed_from, shows_of}
-use Rattle.rpg_effect.specs.declared.operation.Action.TheVariants.{Assign, Compare, Compute, CrossFoot, Divide, LookUp, Move, TakeRemainder}
-use Rattle.rpg_effect.specs.declared.operation.Operator.TheVariants as operator
-use Rattle.rpg_effect.specs.declared.operation.Side.TheVariants.{Left, Right}
+use Rattle.rpg_program.specs.declared.operation.Action.TheVariants.{Assign, Compare, Compute, CrossFoot, Divide, LookUp, Move, TakeRemainder}
+use Rattle.rpg_program.specs.declared.operation.Operator.TheVariants as operator
+use Rattle.rpg_program.specs.declared.operation.Side.TheVariants.{Left, Right}
 use Rattle.rpg_cards.specs.Groups.{joins}
 use Rattle.rpg_cards.specs.Keys.{Key, entry_operand, factor_operand, nowhere, plain_name}
 use Rattle.rpg_cards.specs.declared.spec_card.SpecCard.{SpecCard}
-use Rattle.rpg_effect.specs.declared.condition.Conditions.{Conditions}
+use Rattle.rpg_program.specs.declared.condition.Conditions.{Conditions}
 use Rattle.rpg_sheet_specs.specs.declared.calculation.CalculationSpec.{CalculationSpec}
 use Rattle.rpg_sheet_specs.specs.declared.calculation.ControlLevel.{ControlLevel}
 use Rattle.rpg_sheet_specs.specs.declared.calculation.ControlLevel.TheVariants as control

@@ -5,9 +5,9 @@ use Rattle.std.specs.Option.{option_map_or}
 use Rattle.rpg_cards.specs.Files.{file_by, file_for, files, same_use, use_by}
 use Rattle.rpg_cards.specs.declared.files.FileUse.TheVariants as uses
 use Rattle.rpg_cards.specs.declared.spec_card.SpecCard.{SpecCard}
-use Rattle.rpg_effect.specs.declared.input.InputFile.TheVariants as input
-use Rattle.rpg_effect.specs.declared.line.File.{File}
-use Rattle.rpg_effect.specs.declared.line.File.TheVariants as output
+use Rattle.rpg_program.specs.declared.input.InputFile.TheVariants as input
+use Rattle.rpg_program.specs.declared.line.File.{File}
+use Rattle.rpg_program.specs.declared.line.File.TheVariants as output
 use Rattle.rpg_sheet_specs.specs.declared.file.Device.{Device}
 use Rattle.rpg_sheet_specs.specs.declared.file.Device.TheVariants as device
 use Rattle.rpg_sheet_specs.specs.declared.file.FileRole.{FileRole}

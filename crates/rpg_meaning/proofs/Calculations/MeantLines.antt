@@ -9,9 +9,9 @@ use Rattle.rpg_cards.specs.Groups.{followers, following, groups_from, opening, o
 use Rattle.rpg_cards.specs.Keys.{Named, key_index}
 use Rattle.rpg_cards.specs.Times.{time_of}
 use Rattle.rpg_cards.specs.declared.spec_card.SpecCard.{SpecCard}
-use Rattle.rpg_effect.specs.declared.condition.Condition.{Condition}
-use Rattle.rpg_effect.specs.declared.line.File.{File}
-use Rattle.rpg_effect.specs.declared.line.File.TheVariants as files
+use Rattle.rpg_program.specs.declared.condition.Condition.{Condition}
+use Rattle.rpg_program.specs.declared.line.File.{File}
+use Rattle.rpg_program.specs.declared.line.File.TheVariants as files
 use Rattle.rpg_edit_marks.specs.declared.code.EditCode.{EditCode}
 use Rattle.rpg_sheet_specs.specs.declared.entry.Entry.{Entry}
 use Rattle.rpg_sheet_specs.specs.declared.entry.EntryIndex.{EntryIndex}

@@ -3,21 +3,21 @@ use Rattle.std.proofs.Common.{◌≡◌, ◌≤◌, ℕ, zero, suc, List, [], �
 use Rattle.std.proofs.lemmas.List.Elements.{All-cons, All-head, All-map, All-nil, All-tail, All-weaker}
 use Rattle.std.specs.Prelude.{All}
 use Rattle.rpg_cards.specs.Keys.{Key}
-use Rattle.rpg_effect.specs.Forms.{form_at}
-use Rattle.rpg_effect.specs.LineFaults.{AreRight, field_fault}
-use Rattle.rpg_effect.specs.Lines.{Line}
-use Rattle.rpg_effect.specs.declared.line.LineField.{LineField}
-use Rattle.rpg_effect.specs.declared.operation.Action.{Action}
-use Rattle.rpg_effect.specs.declared.operation.Instruction.TheVariants.{Act}
-use Rattle.rpg_effect.specs.declared.operation.Operand.{Operand}
+use Rattle.rpg_program.specs.Forms.{form_at}
+use Rattle.rpg_program.specs.LineFaults.{AreRight, field_fault}
+use Rattle.rpg_program.specs.Lines.{Line}
+use Rattle.rpg_program.specs.declared.line.LineField.{LineField}
+use Rattle.rpg_program.specs.declared.operation.Action.{Action}
+use Rattle.rpg_program.specs.declared.operation.Instruction.TheVariants.{Act}
+use Rattle.rpg_program.specs.declared.operation.Operand.{Operand}
 use Rattle.rpg_machine_lines.specs.Right.{IsRightLine}
 use Rattle.rpg_machine.specs.Accepted.{IsOrderly}
 use Rattle.rpg_meaning.specs.Calculations.Meaning.{Source}
 use Rattle.rpg_meaning.specs.Calculations.Translation.{IsTranslation}
-use Rattle.rpg_object_program.specs.Constants.{word_at}
-use Rattle.rpg_object_program.specs.Object.{Object, program_line}
-use Rattle.rpg_object_program.specs.Sections.{first_place, instruction_at}
-use Rattle.rpg_object_program.specs.declared.section.Place.{Place}
+use Rattle.rpg_program.specs.Constants.{word_at}
+use Rattle.rpg_program.specs.Object.{Object, program_line}
+use Rattle.rpg_program.specs.Sections.{first_place, instruction_at}
+use Rattle.rpg_program.specs.declared.section.Place.{Place}
 use Rattle.rpg_effect_renaming.proofs.Lines.{fault_same}
 use Rattle.rpg_effect_renaming.proofs.Rows.{right_before}
 use Rattle.rpg_effect_renaming.proofs.Used.{field_named, right_uses}

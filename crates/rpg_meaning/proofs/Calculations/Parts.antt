@@ -8,8 +8,8 @@ use Rattle.rpg_compile_program.specs.Code.{code_from, label_place, section_code,
 use Rattle.rpg_compile_program.specs.Whole.{IsCodeOf, called_number}
 use Rattle.rpg_meaning.specs.Calculations.Agreement.{part_section}
 use Rattle.rpg_meaning.specs.Calculations.Parts.{InDetail, InSubroutine, InTotal, Part, body_named, calculations_in}
-use Rattle.rpg_object_program.specs.Object.{Object, SubroutineRow}
-use Rattle.rpg_object_program.specs.Sections.{body_of, first_in, first_place, section_instructions}
+use Rattle.rpg_program.specs.Object.{Object, SubroutineRow}
+use Rattle.rpg_program.specs.Sections.{body_of, first_in, first_place, section_instructions}
 
 -- the number of the part's own subroutine
 abbrev pub own_number : Sections Key → Part → ℕ

@@ -5,7 +5,7 @@ use Rattle.rpg_cards.specs.Deeds.{Calculation, has_instruction, tests}
 use Rattle.rpg_cards.specs.Keys.{Key, Name}
 use Rattle.rpg_compile_program.proofs.Counts.{group_length}
 use Rattle.rpg_compile_program.specs.Code.{code_from, group_code, label_place, level_code, size, step_code, tests_code, waits}
-use Rattle.rpg_effect.specs.declared.operation.Instruction.{Instruction}
+use Rattle.rpg_program.specs.declared.operation.Instruction.{Instruction}
 use Rattle.rpg_meaning.specs.Calculations.Agreement.{place_at}
 use Rattle.rpg_meaning.specs.Calculations.Parts.{bears, label_position}
 

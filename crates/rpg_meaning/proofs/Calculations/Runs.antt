@@ -4,8 +4,8 @@ use Rattle.std.proofs.lemmas.Bool.{false≢true}
 use Rattle.std.specs.FinMap as map
 use Rattle.rpg_cards.specs.Keys.{Key, key_cmp}
 use Rattle.rpg_cards.specs.Sections.{Sections}
-use Rattle.rpg_effect.specs.Ends.{End, GoesOn, Halt}
-use Rattle.rpg_effect.specs.World.{World}
+use Rattle.rpg_program.specs.Ends.{End, GoesOn, Halt}
+use Rattle.rpg_program.specs.World.{World}
 use Rattle.rpg_machine.proofs.OneRun.{runs_are_one}
 use Rattle.rpg_machine.proofs.Starting.{safe_start}
 use Rattle.rpg_machine.specs.Accepted.{IsOrderly}
@@ -21,10 +21,10 @@ use Rattle.rpg_meaning.specs.Calculations.Meaning.{MeantOutcome, On, Over, Sourc
 use Rattle.rpg_meaning.specs.Calculations.Parts.{InDetail, InSubroutine, InTotal, Part, calculations_in}
 use Rattle.rpg_meaning.specs.Calculations.Sections.{Meets}
 use Rattle.rpg_meaning.specs.Calculations.Translation.{IsTranslation}
-use Rattle.rpg_object_program.specs.Object.{Object}
-use Rattle.rpg_object_program.specs.Sections as places
-use Rattle.rpg_object_program.specs.Sections.{first_place}
-use Rattle.rpg_object_program.specs.declared.section.Section.{Section}
+use Rattle.rpg_program.specs.Object.{Object}
+use Rattle.rpg_program.specs.Sections as places
+use Rattle.rpg_program.specs.Sections.{first_place}
+use Rattle.rpg_program.specs.declared.section.Section.{Section}
 use Rattle.rpg_effect_renaming.specs.Naming.{Agree}
 
 same_end : (c : Sections Key) (part : Part) → part_has_end part ≡ true → places.has_end (part_section c part) ≡ true

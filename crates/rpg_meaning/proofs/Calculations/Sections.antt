@@ -7,16 +7,16 @@ use Rattle.rpg_cards.specs.Deeds.{Acts, Begins, Calculation, Deed, Ends, Execute
 use Rattle.rpg_cards.specs.Keys.{Key, Name}
 use Rattle.rpg_cards.specs.Sections.{callee}
 use Rattle.rpg_compile_program.specs.Code.{size, sizes, step_code}
-use Rattle.rpg_effect.specs.Ends.{End, GoesOn, Halt, Wrong}
-use Rattle.rpg_effect.specs.Instructions.{instruction_effect}
-use Rattle.rpg_effect.specs.declared.operation.Instruction.TheVariants.{Call, Return}
+use Rattle.rpg_program.specs.Ends.{End, GoesOn, Halt, Wrong}
+use Rattle.rpg_program.specs.Instructions.{instruction_effect}
+use Rattle.rpg_program.specs.declared.operation.Instruction.TheVariants.{Call, Return}
 use Rattle.rpg_machine.specs.Accepted.{IsOrderly}
 use Rattle.rpg_machine.specs.Config.{Config, Output, charged, no_output, with_more}
 use Rattle.rpg_machine.specs.Control.{control}
 use Rattle.rpg_machine.specs.Run.{onward, put_before, run}
 use Rattle.rpg_machine.specs.Step.{Next, Outcome, Stop, arrived, effect, step, went}
 use Rattle.rpg_machine.specs.declared.control.Control.TheVariants.{Calls, Returns}
-use Rattle.rpg_object_program.specs.Instructions.{weight}
+use Rattle.rpg_program.specs.ObjectInstructions.{weight}
 use Rattle.rpg_meaning.proofs.Calculations.Counted.{cards_run, followed}
 use Rattle.rpg_meaning.proofs.Calculations.Accepted.{fit_after, calls_up, returns_own}
 use Rattle.rpg_meaning.proofs.Calculations.Follows.{IsReached, calculation_follows, callee_of, own, own_label, passed, reached}
@@ -29,11 +29,11 @@ use Rattle.rpg_meaning.specs.Calculations.Meaning.{MeantOutcome, On, Over, Sourc
 use Rattle.rpg_meaning.specs.Calculations.Parts.{InDetail, InSubroutine, InTotal, Part, calculations_in, label_position}
 use Rattle.rpg_meaning.specs.Calculations.Sections.{AreOpen, return_place}
 use Rattle.rpg_meaning.specs.Calculations.Translation.{IsTranslation}
-use Rattle.rpg_object_program.specs.Object.{Object}
-use Rattle.rpg_object_program.specs.Sections as places
-use Rattle.rpg_object_program.specs.Sections.{first_place, is_place, level_of, place_behind, section_instructions}
-use Rattle.rpg_object_program.specs.declared.section.Place.{Place}
-use Rattle.rpg_object_program.specs.declared.section.Section.TheVariants as sections
+use Rattle.rpg_program.specs.Object.{Object}
+use Rattle.rpg_program.specs.Sections as places
+use Rattle.rpg_program.specs.Sections.{first_place, is_place, level_of, place_behind, section_instructions}
+use Rattle.rpg_program.specs.declared.section.Place.{Place}
+use Rattle.rpg_program.specs.declared.section.Section.TheVariants as sections
 
 get_inserted : (cells : map.FinMap nat_cmp Place) (n m : ℕ) (x : Place) → m ≢ n → map.get (map.insert cells n x) m ≡ map.get cells m
 get_inserted cells n m x h = map.get-insert nat_cmp_total cells n x m ∙ ap (λ b. cond b (Some x) (map.get cells m)) (unsigned_tied m n ∙ ne_eqb m n h)

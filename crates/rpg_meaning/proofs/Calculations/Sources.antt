@@ -14,7 +14,7 @@ use Rattle.rpg_compile_program.specs.Lines.{lines_on}
 use Rattle.rpg_compile_program.specs.Program.{key_numbers, program_of, sections}
 use Rattle.rpg_compile_program.specs.Table.{key_form, key_word, table_of}
 use Rattle.rpg_effect_renaming.specs.Naming.{Agree}
-use Rattle.rpg_effect.specs.World.{World}
+use Rattle.rpg_program.specs.World.{World}
 use Rattle.rpg_faults_flow.specs.Columns.{bad_calculation_columns}
 use Rattle.rpg_faults_flow.specs.Kept.{KeepsRule}
 use Rattle.rpg_job.specs.Calculations.{meant_calculations}

@@ -10,8 +10,8 @@ use Rattle.rpg_meaning.specs.Jobs.Meant.{DoesAsMeant}
 use Rattle.rpg_meaning.proofs.Calculations.Accepted.{orderly_of}
 use Rattle.rpg_meaning.proofs.Calculations.Runs.{meaning_kept}
 use Rattle.rpg_meaning.proofs.Calculations.Sources.{meant_world, translates}
-use Rattle.rpg_object_program.specs.Kept.{IsProgram}
-use Rattle.rpg_object_program.specs.Object.{Object}
+use Rattle.rpg_program.specs.Kept.{IsProgram}
+use Rattle.rpg_program.specs.Object.{Object}
 use Rattle.rpg_verify_rules.specs.Accepted.{IsAccepted}
 use Rattle.rpg_faults.specs.Source.{cards_in}
 use Rattle.rpg_compile_program.specs.Program.{program_of}

@@ -13,10 +13,10 @@ use Rattle.rpg_cycle.specs.Starting.{job_first_world, job_start}
 use Rattle.rpg_cycle_safety.proofs.Dating.{start_holds}
 use Rattle.rpg_cycle_safety.proofs.Starting.{first_holds}
 use Rattle.rpg_cycle_safety.specs.Holding.{Holds}
-use Rattle.rpg_effect.specs.Forms.{form_at, has_field, is_constant}
-use Rattle.rpg_effect.specs.Values.{Number}
-use Rattle.rpg_effect.specs.World.{World}
-use Rattle.rpg_effect.specs.declared.form.FieldForm.{FieldForm}
+use Rattle.rpg_program.specs.Forms.{form_at, has_field, is_constant}
+use Rattle.rpg_program.specs.Values.{Number}
+use Rattle.rpg_program.specs.World.{World}
+use Rattle.rpg_program.specs.declared.form.FieldForm.{FieldForm}
 use Rattle.rpg_effect_renaming.specs.Naming.{Agree}
 use Rattle.rpg_job.specs.FirstValues.{meant_constant}
 use Rattle.rpg_job.specs.Forms.{form_of_constant, meant_forms, stands_on}
@@ -25,7 +25,7 @@ use Rattle.rpg_meaning.proofs.Jobs.MeantStart.{start_agrees}
 use Rattle.rpg_meaning.specs.Jobs.Start.{ConstantsStand, IsStart, takes_date}
 use Rattle.rpg_meaning.proofs.Calculations.MeantForms.{form_same}
 use Rattle.rpg_memory.specs.Fits.{KeepsConstants}
-use Rattle.rpg_object_program.specs.Kept.{IsProgram}
+use Rattle.rpg_program.specs.Kept.{IsProgram}
 
 -- the form of a constant that stands on the cards
 form_there : (cards : List SpecCard) (c : Constant) → stands_on cards c ≡ true → meant_forms cards (Fixed c) ≡ Some (form_of_constant c)

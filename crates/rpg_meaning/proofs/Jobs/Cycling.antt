@@ -9,11 +9,11 @@ use Rattle.rpg_cycle.specs.Indicators.{halt_indicators, last_record}
 use Rattle.rpg_cycle.specs.Phases as machine
 use Rattle.rpg_cycle.specs.Phases.{UnderWay, ◌before◌}
 use Rattle.rpg_cycle.specs.Runs as runs
-use Rattle.rpg_effect.specs.World.{World}
+use Rattle.rpg_program.specs.World.{World}
 use Rattle.rpg_cycle_safety.specs.Holding.{Holds}
 use Rattle.rpg_cycle_safety.specs.Waiting.{AreWaiting}
-use Rattle.rpg_effect.specs.declared.input.InputFile.{InputFile}
-use Rattle.rpg_effect.specs.declared.input.InputFile.TheVariants.{Primary, Secondary}
+use Rattle.rpg_program.specs.declared.input.InputFile.{InputFile}
+use Rattle.rpg_program.specs.declared.input.InputFile.TheVariants.{Primary, Secondary}
 use Rattle.rpg_meaning.proofs.Jobs.Following.{Followed, Follows, Same, Selection, follows_then, follows_unless}
 use Rattle.rpg_meaning.proofs.Jobs.Selecting.{IsNone, control_same, fields_same, match_follows, selection_follows, takes_same}
 use Rattle.rpg_meaning.proofs.Jobs.Steps.{any_same, details_follow, ending_follows, filling_follows, halting_follows, off_follows, overflows_follow, section_follows, totals_follow}
@@ -22,13 +22,13 @@ use Rattle.rpg_meaning.proofs.Jobs.ProgramOf.{IsProgramOf}
 use Rattle.rpg_meaning.specs.Jobs.Job.{Job, JobState}
 use Rattle.rpg_meaning.specs.Jobs.Phases.{MeantPhase, any_on_in, by_effect, calculated, ◌andthen◌}
 use Rattle.rpg_meaning.specs.Jobs.Runs.{AtEndOfJob, AtHalt, MeantCourse, MeantRuns, Then, last_cycle, meant_begun, meant_left, meant_needs, meant_next, with_cycle}
-use Rattle.rpg_effect.specs.Lines.{total_output}
+use Rattle.rpg_program.specs.Lines.{total_output}
 use Rattle.rpg_machine.specs.Accepted.{IsOrderly}
 use Rattle.rpg_machine.specs.Config.{Config, Output, with_more}
 use Rattle.rpg_machine.specs.declared.time.OutputTime.TheVariants as times
 use Rattle.rpg_meaning.specs.Calculations.Parts.{InDetail, InTotal}
-use Rattle.rpg_object_program.specs.Object.{Object}
-use Rattle.rpg_object_program.specs.declared.section.Section.TheVariants as sections
+use Rattle.rpg_program.specs.Object.{Object}
+use Rattle.rpg_program.specs.declared.section.Section.TheVariants as sections
 use Rattle.rpg_cycle_records.specs.Earlier.{Selected, is_any, left_by, with_record}
 use Rattle.rpg_cycle_records.specs.Waiting.{Inputs, has_match}
 use Rattle.rpg_effect_renaming.specs.Naming.{Agree}

@@ -5,16 +5,16 @@ use Rattle.rpg_cards.specs.Keys.{Key, key_cmp}
 use Rattle.rpg_cycle.specs.Ends.{PhaseEnd, GoesOn, EndOfJob, Halt, Wrong, phase_end}
 use Rattle.rpg_cycle.specs.Phases as machine
 use Rattle.rpg_cycle.specs.Phases.{Done, UnderWay, ◌before◌}
-use Rattle.rpg_effect.specs.Effect.{Effect}
-use Rattle.rpg_effect.specs.Ends as effects
-use Rattle.rpg_effect.specs.World.{World}
+use Rattle.rpg_program.specs.Effect.{Effect}
+use Rattle.rpg_program.specs.Ends as effects
+use Rattle.rpg_program.specs.World.{World}
 use Rattle.rpg_cycle_safety.specs.Holding.{Holds, IsEffectEnd, Keeps}
 use Rattle.rpg_cycle_safety.specs.Waiting.{AreWaiting}
 use Rattle.rpg_meaning.specs.Jobs.Job.{Job, JobState}
 use Rattle.rpg_meaning.specs.Jobs.Phases.{MeantPhase, by_effect, meant_does, meant_either, meant_passes, meant_unless, ◌andthen◌}
 use Rattle.rpg_machine.specs.Config.{Config, Output}
 use Rattle.rpg_machine.specs.Outputs.{ByEffect}
-use Rattle.rpg_object_program.specs.Object.{Object}
+use Rattle.rpg_program.specs.Object.{Object}
 use Rattle.rpg_cycle_records.specs.Earlier.{Selected}
 use Rattle.rpg_effect_renaming.specs.Naming.{Agree, SameEffect}
 

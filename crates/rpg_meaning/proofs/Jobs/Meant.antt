@@ -5,7 +5,7 @@ use Rattle.rpg_cards.specs.declared.spec_card.SpecCard.{SpecCard}
 use Rattle.rpg_cycle.specs.Job.{first_fields}
 use Rattle.rpg_cycle.specs.Runs as machine
 use Rattle.rpg_cycle.specs.Starting.{date_in, job_first_world, job_start}
-use Rattle.rpg_effect.specs.World.{World}
+use Rattle.rpg_program.specs.World.{World}
 use Rattle.rpg_effect_renaming.specs.Naming.{renamed_type}
 use Rattle.rpg_faults_flow.specs.Columns.{bad_calculation_columns}
 use Rattle.rpg_faults_flow.specs.Kept.{KeepsRule}
@@ -23,7 +23,7 @@ use Rattle.rpg_meaning.specs.Jobs.Sources.{RunsAreMeant, job_of}
 use Rattle.rpg_meaning.specs.Jobs.Start.{IsStart}
 use Rattle.rpg_meaning.proofs.Calculations.MeantFiles.{primary_is_meant, secondary_is_meant}
 use Rattle.rpg_meaning.proofs.Calculations.Sources.{meant_world, translates}
-use Rattle.rpg_object_program.specs.Kept.{IsProgram}
+use Rattle.rpg_program.specs.Kept.{IsProgram}
 use Rattle.rpg_verify_rules.specs.Accepted.{IsAccepted}
 use Rattle.rpg_cycle_safety.proofs.Dating.{date_small, start_holds}
 use Rattle.rpg_compile_program.specs.Program.{key_numbers, program_of}

@@ -15,10 +15,10 @@ use Rattle.rpg_cards.specs.declared.constants.Constant.{Constant}
 use Rattle.rpg_cards.specs.declared.constants.Constant.TheVariants as constant
 use Rattle.rpg_cards.specs.declared.spec_card.SpecCard.{SpecCard}
 use Rattle.rpg_decimal_words.specs.Zoned.{number_in}
-use Rattle.rpg_effect.specs.Values.{Number, Text, Value}
-use Rattle.rpg_effect.specs.declared.form.FieldForm.{FieldForm}
-use Rattle.rpg_effect.specs.declared.form.Kind.{Kind}
-use Rattle.rpg_effect.specs.declared.form.Kind.TheVariants as kind
+use Rattle.rpg_program.specs.Values.{Number, Text, Value}
+use Rattle.rpg_program.specs.declared.form.FieldForm.{FieldForm}
+use Rattle.rpg_program.specs.declared.form.Kind.{Kind}
+use Rattle.rpg_program.specs.declared.form.Kind.TheVariants as kind
 use Rattle.rpg_sheet_specs.specs.declared.data.DataSpec.TheVariants as deck
 use Rattle.rpg_sheet_specs.specs.declared.extension.ExtensionSpec.{ExtensionSpec}
 use Rattle.rpg_sheet_specs.specs.declared.extension.TableSpec.{TableSpec}

@@ -12,10 +12,10 @@ use Rattle.rpg_cycle.specs.Indicators.{first_page, level_zero}
 use Rattle.rpg_cycle.specs.Job.{first_fields}
 use Rattle.rpg_cycle.specs.Starting.{job_start}
 use Rattle.rpg_decimal_words.specs.Fraction.{with_decimals}
-use Rattle.rpg_effect.specs.Forms.{has_field, is_table_form}
-use Rattle.rpg_effect.specs.Values.{Number, Value}
-use Rattle.rpg_effect.specs.World.{World, value_in}
-use Rattle.rpg_effect.specs.declared.form.FieldForm.{FieldForm}
+use Rattle.rpg_program.specs.Forms.{has_field, is_table_form}
+use Rattle.rpg_program.specs.Values.{Number, Value}
+use Rattle.rpg_program.specs.World.{World, value_in}
+use Rattle.rpg_program.specs.declared.form.FieldForm.{FieldForm}
 use Rattle.rpg_effect_renaming.specs.Naming.{Agree}
 use Rattle.rpg_job.specs.FirstValues.{meant_named_value}
 use Rattle.rpg_job.specs.Forms.{meant_forms}
@@ -24,7 +24,7 @@ use Rattle.rpg_meaning.proofs.Jobs.Starting.{agrees_taken, taken_agrees}
 use Rattle.rpg_meaning.proofs.Jobs.TakenStart.{IsTakenStart, first_value_at, first_values, taken_value, takes_date}
 use Rattle.rpg_meaning.specs.Jobs.Start.{IsStart, meant_first_value, start_value}
 use Rattle.rpg_meaning.proofs.Calculations.MeantForms.{form_same}
-use Rattle.rpg_object_program.specs.Kept.{AreValuesOf}
+use Rattle.rpg_program.specs.Kept.{AreValuesOf}
 
 first_same : (cards : List SpecCard) (k : Key) (n : ℕ) → first_value_at (first_values cards k) n ≡ meant_first_value cards k n
 first_same cards k zero = refl

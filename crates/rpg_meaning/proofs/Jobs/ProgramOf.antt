@@ -4,7 +4,7 @@ use Rattle.rpg_cards.specs.Keys.{Key}
 use Rattle.rpg_effect_renaming.specs.Naming.{renamed_type}
 use Rattle.rpg_meaning.specs.Jobs.Job.{Job}
 use Rattle.rpg_meaning.specs.Calculations.Translation.{IsTranslation}
-use Rattle.rpg_object_program.specs.Object.{Object}
+use Rattle.rpg_program.specs.Object.{Object}
 
 -- the program is what the cards stand for
 pub record IsProgramOf (p : Object) (job : Job) (number : Key → ℕ) : Type 0 where

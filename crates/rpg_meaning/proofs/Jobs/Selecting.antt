@@ -10,11 +10,11 @@ use Rattle.rpg_cycle.specs.Indicators as indicators
 use Rattle.rpg_cycle.specs.Indicators.{last_record, level_indicators, matching_record, with_all, with_levels, with_one, with_type}
 use Rattle.rpg_cycle.specs.Phases as machine
 use Rattle.rpg_cycle.specs.Phases.{Done, UnderWay, done, type_indicator, with_config, with_inputs, ◌before◌}
-use Rattle.rpg_effect.specs.Ends as effects
-use Rattle.rpg_effect.specs.Input.{TypeRow}
-use Rattle.rpg_effect.specs.World.{with_data}
-use Rattle.rpg_effect.specs.declared.input.InputFile.{InputFile}
-use Rattle.rpg_effect.specs.declared.input.InputFile.TheVariants.{Primary, Secondary}
+use Rattle.rpg_program.specs.Ends as effects
+use Rattle.rpg_program.specs.Input.{TypeRow}
+use Rattle.rpg_program.specs.World.{with_data}
+use Rattle.rpg_program.specs.declared.input.InputFile.{InputFile}
+use Rattle.rpg_program.specs.declared.input.InputFile.TheVariants.{Primary, Secondary}
 use Rattle.rpg_text.specs.Texts.{is_character}
 use Rattle.rpg_meaning.proofs.Jobs.Following.{Alike, Follows, IsFine, IsSettled, Same, Selection, follows_both, follows_does, follows_then}
 use Rattle.rpg_meaning.proofs.Jobs.Steps.{all_turned, on_agrees}
@@ -24,7 +24,7 @@ use Rattle.rpg_meaning.specs.Jobs.Job.{Job, JobState}
 use Rattle.rpg_meaning.specs.Jobs.Phases.{meant_does, meant_either, turned_all, with_turned, ◌andthen◌}
 use Rattle.rpg_machine.specs.Accepted.{IsOrderly}
 use Rattle.rpg_machine.specs.Config.{Config, charged}
-use Rattle.rpg_object_program.specs.Object.{Object, input_length}
+use Rattle.rpg_program.specs.Object.{Object, input_length}
 use Rattle.rpg_cycle_records.specs.Earlier as records
 use Rattle.rpg_cycle_records.specs.Earlier.{Selected, any_agrees, control_fields, file_of, is_any, last_of_file, last_value, left_by, levels_of, match_fields, match_value, matches_of, or_before, value_from, with_record}
 use Rattle.rpg_cycle_records.specs.Identifying.{IsOf, IsOfNone, Misplaced, Trial, code_holds, has_position, identified, is_good_record, padded, same_file, trial_weight}

@@ -13,13 +13,13 @@ use Rattle.rpg_cards.specs.declared.constants.Constant.{Constant}
 use Rattle.rpg_cards.specs.declared.spec_card.SpecCard.{SpecCard}
 use Rattle.rpg_cycle.specs.Job.{first_fields}
 use Rattle.rpg_cycle.specs.Starting.{dated, job_start}
-use Rattle.rpg_effect.specs.Forms.{has_field, is_date, is_table, is_table_form}
-use Rattle.rpg_effect.specs.Values.{Number, Value}
-use Rattle.rpg_effect.specs.World.{Fields, World, value_in, with_value}
-use Rattle.rpg_effect.specs.declared.form.FieldForm.{FieldForm}
+use Rattle.rpg_program.specs.Forms.{has_field, is_date, is_table, is_table_form}
+use Rattle.rpg_program.specs.Values.{Number, Value}
+use Rattle.rpg_program.specs.World.{Fields, World, value_in, with_value}
+use Rattle.rpg_program.specs.declared.form.FieldForm.{FieldForm}
 use Rattle.rpg_meaning.proofs.Jobs.TakenStart.{IsTakenStart, first_value_at, first_values, taken_value, takes_date}
-use Rattle.rpg_object_program.specs.Kept.{AreValuesOf}
-use Rattle.rpg_object_program.specs.Object.{Object}
+use Rattle.rpg_program.specs.Kept.{AreValuesOf}
+use Rattle.rpg_program.specs.Object.{Object}
 use Rattle.rpg_effect_renaming.specs.Naming.{Agree}
 use Rattle.rpg_store.proofs.ByEntry.{before, entries_total, same_entry, stands, there, value_here}
 use Rattle.rpg_store.proofs.Places.{entry_place, in_first, in_second}

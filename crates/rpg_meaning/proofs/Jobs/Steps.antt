@@ -11,13 +11,13 @@ use Rattle.rpg_cycle.specs.Indicators as indicators
 use Rattle.rpg_cycle.specs.Indicators.{first_page, halt_indicators, indicators_turned, last_record, level_indicators, with_all, with_one, without_type, without_types}
 use Rattle.rpg_cycle.specs.Phases as machine
 use Rattle.rpg_cycle.specs.Phases.{UnderWay}
-use Rattle.rpg_effect.specs.Ends as effects
-use Rattle.rpg_effect.specs.Forms.{form_at}
-use Rattle.rpg_effect.specs.Ended.{Ended, on_data}
-use Rattle.rpg_effect.specs.Input.{TypeRow, input_fault, record_in}
-use Rattle.rpg_effect.specs.Lines.{Line, detail_output, overflow_output, total_output}
-use Rattle.rpg_effect.specs.World.{Data, World, with_data}
-use Rattle.rpg_effect.specs.declared.form.FieldForm.{FieldForm}
+use Rattle.rpg_program.specs.Ends as effects
+use Rattle.rpg_program.specs.Forms.{form_at}
+use Rattle.rpg_program.specs.Ended.{Ended, on_data}
+use Rattle.rpg_program.specs.Input.{TypeRow, input_fault, record_in}
+use Rattle.rpg_program.specs.Lines.{Line, detail_output, overflow_output, total_output}
+use Rattle.rpg_program.specs.World.{Data, World, with_data}
+use Rattle.rpg_program.specs.declared.form.FieldForm.{FieldForm}
 use Rattle.rpg_cycle_safety.proofs.Accepting.{inputs_right}
 use Rattle.rpg_cycle_safety.proofs.Filling.{record_keeps}
 use Rattle.rpg_cycle_safety.proofs.Instructing.{output_keeps}
@@ -41,9 +41,9 @@ use Rattle.rpg_meaning.specs.Calculations.Agreement.{part_section}
 use Rattle.rpg_meaning.specs.Calculations.Laws.{EndsAs, part_begun}
 use Rattle.rpg_meaning.specs.Calculations.Meaning.{CardsCome, MeantOutcome, On, Over, Stops, part_has_end}
 use Rattle.rpg_meaning.specs.Calculations.Parts.{InDetail, InSubroutine, InTotal, Part}
-use Rattle.rpg_object_program.specs.Constants.{word_at}
-use Rattle.rpg_object_program.specs.Object.{Object, lines_of}
-use Rattle.rpg_object_program.specs.Sections as places
+use Rattle.rpg_program.specs.Constants.{word_at}
+use Rattle.rpg_program.specs.Object.{Object, lines_of}
+use Rattle.rpg_program.specs.Sections as places
 use Rattle.rpg_cycle_records.specs.Earlier.{Selected}
 use Rattle.rpg_effect_renaming.proofs.Inputs.{record_same}
 use Rattle.rpg_effect_renaming.proofs.Lines.{data_same}

@@ -6,10 +6,10 @@ use Rattle.std.specs.Option.{option_map_or}
 use Rattle.rpg_cards.specs.Keys.{Fixed, Key, Named, Nowhere, key_cmp}
 use Rattle.rpg_cards.specs.declared.spec_card.SpecCard.{SpecCard}
 use Rattle.rpg_cycle.specs.Indicators.{first_page, level_zero}
-use Rattle.rpg_effect.specs.Forms.{has_field, is_date, is_table_form}
-use Rattle.rpg_effect.specs.Values.{Number, Value}
-use Rattle.rpg_effect.specs.World.{World, value_in}
-use Rattle.rpg_effect.specs.declared.form.FieldForm.{FieldForm}
+use Rattle.rpg_program.specs.Forms.{has_field, is_date, is_table_form}
+use Rattle.rpg_program.specs.Values.{Number, Value}
+use Rattle.rpg_program.specs.World.{World, value_in}
+use Rattle.rpg_program.specs.declared.form.FieldForm.{FieldForm}
 use Rattle.rpg_decimal_words.specs.Fraction.{with_decimals}
 use Rattle.rpg_symbols.specs.Fields.{defined_form}
 use Rattle.rpg_compile_program.specs.Data.{constant_values, field_values, loaded}

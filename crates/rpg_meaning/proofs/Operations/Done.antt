@@ -6,23 +6,23 @@ use Rattle.std.specs.Option.{option_map, option_to_list}
 use Rattle.rpg_cards.specs.Keys.{Key, Named, key_cmp}
 use Rattle.rpg_decimal_words.specs.Fraction.{over}
 use Rattle.rpg_decimal_words.specs.Move.{number_moved_left, number_moved_right, overlay_left, overlay_right}
-use Rattle.rpg_effect.specs.Act.{act, field_of_entry, found_shown, looked_up, moved, position_fault, remainder_after, store, stored_value, with_found, order_by}
-use Rattle.rpg_effect.specs.Ended.{Ended, Gives, if_right, on_data, or_halt}
-use Rattle.rpg_effect.specs.Ends.{Storage}
-use Rattle.rpg_effect.specs.Entries.{entry_of, position_of}
-use Rattle.rpg_effect.specs.Operate.{has_entries, names_entry, operate, resolved}
-use Rattle.rpg_effect.specs.Rows.{all_used, form_of, row_of, table_use}
-use Rattle.rpg_effect.specs.Showing.{set_to, shown, shown_if_any}
-use Rattle.rpg_effect.specs.World.{set_value}
-use Rattle.rpg_effect.specs.Values.{Number}
-use Rattle.rpg_effect.specs.declared.form.Kind.{Kind}
-use Rattle.rpg_effect.specs.declared.form.Kind.TheVariants as kinds
-use Rattle.rpg_effect.specs.declared.operation.Action.{Action}
-use Rattle.rpg_effect.specs.declared.operation.Entry.{Entry}
-use Rattle.rpg_effect.specs.declared.operation.Found.{Found}
-use Rattle.rpg_effect.specs.declared.operation.Operand.{Operand}
-use Rattle.rpg_effect.specs.declared.operation.Side.{Side}
-use Rattle.rpg_effect.specs.declared.operation.Side.TheVariants.{Left, Right}
+use Rattle.rpg_program.specs.Act.{act, field_of_entry, found_shown, looked_up, moved, position_fault, remainder_after, store, stored_value, with_found, order_by}
+use Rattle.rpg_program.specs.Ended.{Ended, Gives, if_right, on_data, or_halt}
+use Rattle.rpg_program.specs.Ends.{Storage}
+use Rattle.rpg_program.specs.Entries.{entry_of, position_of}
+use Rattle.rpg_program.specs.Operate.{has_entries, names_entry, operate, resolved}
+use Rattle.rpg_program.specs.Rows.{all_used, form_of, row_of, table_use}
+use Rattle.rpg_program.specs.Showing.{set_to, shown, shown_if_any}
+use Rattle.rpg_program.specs.World.{set_value}
+use Rattle.rpg_program.specs.Values.{Number}
+use Rattle.rpg_program.specs.declared.form.Kind.{Kind}
+use Rattle.rpg_program.specs.declared.form.Kind.TheVariants as kinds
+use Rattle.rpg_program.specs.declared.operation.Action.{Action}
+use Rattle.rpg_program.specs.declared.operation.Entry.{Entry}
+use Rattle.rpg_program.specs.declared.operation.Found.{Found}
+use Rattle.rpg_program.specs.declared.operation.Operand.{Operand}
+use Rattle.rpg_program.specs.declared.operation.Side.{Side}
+use Rattle.rpg_program.specs.declared.operation.Side.TheVariants.{Left, Right}
 use Rattle.rpg_machine.specs.Config.{no_output}
 use Rattle.rpg_meaning.specs.Calculations.Meaning.{MeantOutcome, On, Source, State, Stops, affected, at_next, come_back}
 use Rattle.rpg_meaning.specs.Operations as is

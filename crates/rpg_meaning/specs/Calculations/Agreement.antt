@@ -4,7 +4,7 @@ use Rattle.rpg_cards.specs.Deeds.{Calculation}
 use Rattle.rpg_cards.specs.Keys.{Key}
 use Rattle.rpg_cards.specs.Sections.{Sections, callee}
 use Rattle.rpg_compile_program.specs.Code.{size}
-use Rattle.rpg_effect.specs.Ends.{Halt}
+use Rattle.rpg_program.specs.Ends.{Halt}
 use Rattle.rpg_machine.specs.Chain.{IsSafe}
 use Rattle.rpg_machine.specs.Config.{Config, Output}
 use Rattle.rpg_machine.specs.Laws.{FitsIn}
@@ -12,10 +12,10 @@ use Rattle.rpg_machine.specs.Run.{put_before, run}
 use Rattle.rpg_machine.specs.Step.{Stop}
 use Rattle.rpg_meaning.specs.Calculations.Meaning.{MeantOutcome, On, Over, Source, State, Stops}
 use Rattle.rpg_meaning.specs.Calculations.Parts.{InDetail, InSubroutine, InTotal, Part, calculations_in}
-use Rattle.rpg_object_program.specs.Object.{Object}
-use Rattle.rpg_object_program.specs.Sections.{first_place}
-use Rattle.rpg_object_program.specs.declared.section.Section.{Section}
-use Rattle.rpg_object_program.specs.declared.section.Section.TheVariants as sections
+use Rattle.rpg_program.specs.Object.{Object}
+use Rattle.rpg_program.specs.Sections.{first_place}
+use Rattle.rpg_program.specs.declared.section.Section.{Section}
+use Rattle.rpg_program.specs.declared.section.Section.TheVariants as sections
 use Rattle.rpg_effect_renaming.specs.Naming.{Agree}
 
 -- the section that a part becomes

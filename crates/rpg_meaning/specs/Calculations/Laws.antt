@@ -3,8 +3,8 @@ use Rattle.std.specs.Prelude.{◌≡◌, ℕ, Bool, true, false, [], Some, slice
 use Rattle.std.specs.FinMap as map
 use Rattle.rpg_cards.specs.Deeds.{Acts, Begins, Calculation, Deed, Ends, Executes, GoesTo, Marks, Nothing, PutsOut}
 use Rattle.rpg_cards.specs.Keys.{Key, key_cmp}
-use Rattle.rpg_effect.specs.Ends.{End, GoesOn, Halt}
-use Rattle.rpg_effect.specs.World.{World}
+use Rattle.rpg_program.specs.Ends.{End, GoesOn, Halt}
+use Rattle.rpg_program.specs.World.{World}
 use Rattle.rpg_machine.specs.Config.{Config, Output}
 use Rattle.rpg_machine.specs.Laws.{FitsIn}
 use Rattle.rpg_machine.specs.Run.{RunsTo}
@@ -12,7 +12,7 @@ use Rattle.rpg_meaning.specs.Calculations.Agreement.{AgreeAt, AgreeEnded, Machin
 use Rattle.rpg_meaning.specs.Calculations.Meaning.{CardsCome, MeantOutcome, On, Over, Source, State, Stops, cards_step, part_has_end}
 use Rattle.rpg_meaning.specs.Calculations.Parts.{Part, calculations_in}
 use Rattle.rpg_meaning.specs.Calculations.Sections.{AreOpen, Meets}
-use Rattle.rpg_object_program.specs.Object.{Object}
+use Rattle.rpg_program.specs.Object.{Object}
 use Rattle.rpg_effect_renaming.specs.Naming.{Agree}
 
 -- every deed but EXSR and ENDSR

@@ -6,14 +6,14 @@ use Rattle.std.specs.Ordering.{nat_cmp}
 use Rattle.rpg_cards.specs.Deeds.{Acts, Begins, Calculation, Deed, Ends, Executes, GoesTo, Marks, Nothing, PutsOut}
 use Rattle.rpg_cards.specs.Keys.{Key, key_cmp}
 use Rattle.rpg_cards.specs.Sections.{Sections}
-use Rattle.rpg_effect.specs.Effect.{Effect}
-use Rattle.rpg_effect.specs.Ended.{on_data}
-use Rattle.rpg_effect.specs.Ends.{End, GoesOn, Halt}
-use Rattle.rpg_effect.specs.Lines.{Line, exception_output}
-use Rattle.rpg_effect.specs.Operate.{operate}
-use Rattle.rpg_effect.specs.World.{World, three_hold}
-use Rattle.rpg_effect.specs.declared.condition.Conditions.{Conditions}
-use Rattle.rpg_effect.specs.declared.form.FieldForm.{FieldForm}
+use Rattle.rpg_program.specs.Effect.{Effect}
+use Rattle.rpg_program.specs.Ended.{on_data}
+use Rattle.rpg_program.specs.Ends.{End, GoesOn, Halt}
+use Rattle.rpg_program.specs.Lines.{Line, exception_output}
+use Rattle.rpg_program.specs.Operate.{operate}
+use Rattle.rpg_program.specs.World.{World, three_hold}
+use Rattle.rpg_program.specs.declared.condition.Conditions.{Conditions}
+use Rattle.rpg_program.specs.declared.form.FieldForm.{FieldForm}
 use Rattle.rpg_machine.specs.Config.{Output, no_output, with_more}
 use Rattle.rpg_meaning.specs.Calculations.Parts.{InDetail, InSubroutine, InTotal, Part, calculations_in, label_position}
 

@@ -4,17 +4,17 @@ use Rattle.std.specs.FinMap as map
 use Rattle.std.specs.Ordering.{nat_cmp}
 use Rattle.rpg_cards.specs.Keys.{Key}
 use Rattle.rpg_cards.specs.Sections.{Sections}
-use Rattle.rpg_effect.specs.Ends.{GoesOn, Halt}
+use Rattle.rpg_program.specs.Ends.{GoesOn, Halt}
 use Rattle.rpg_machine.specs.Config.{Config}
 use Rattle.rpg_machine.specs.Run.{run}
 use Rattle.rpg_machine.specs.Step.{Stop}
 use Rattle.rpg_meaning.specs.Calculations.Agreement.{AgreeAt, AgreeEnded, part_section, place_in}
 use Rattle.rpg_meaning.specs.Calculations.Meaning.{MeantOutcome, On, Over, Source, Stops, is_finished, part_has_end}
 use Rattle.rpg_meaning.specs.Calculations.Parts.{Part}
-use Rattle.rpg_object_program.specs.Object.{Object}
-use Rattle.rpg_object_program.specs.Sections.{level_of}
-use Rattle.rpg_object_program.specs.declared.section.Place.{Place}
-use Rattle.rpg_object_program.specs.declared.section.Section.TheVariants as sections
+use Rattle.rpg_program.specs.Object.{Object}
+use Rattle.rpg_program.specs.Sections.{level_of}
+use Rattle.rpg_program.specs.declared.section.Place.{Place}
+use Rattle.rpg_program.specs.declared.section.Section.TheVariants as sections
 
 -- where an EXSR comes back to
 abbrev pub return_place : Object → Sections Key → Part × ℕ → Place

@@ -4,12 +4,12 @@ use Rattle.std.specs.Ordering.{nat_cmp}
 use Rattle.rpg_cards.specs.Deeds.{Calculation}
 use Rattle.rpg_cards.specs.Keys.{Key, key_cmp}
 use Rattle.rpg_compile_program.specs.Whole.{IsCodeOf}
-use Rattle.rpg_effect.specs.Forms.{form_at}
-use Rattle.rpg_effect.specs.declared.condition.Conditions.{Conditions}
+use Rattle.rpg_program.specs.Forms.{form_at}
+use Rattle.rpg_program.specs.declared.condition.Conditions.{Conditions}
 use Rattle.rpg_meaning.specs.Calculations.Meaning.{Source}
 use Rattle.rpg_meaning.specs.Calculations.Parts.{Part, calculations_in}
-use Rattle.rpg_object_program.specs.Constants.{word_at}
-use Rattle.rpg_object_program.specs.Object.{Object, lines_of}
+use Rattle.rpg_program.specs.Constants.{word_at}
+use Rattle.rpg_program.specs.Object.{Object, lines_of}
 use Rattle.rpg_effect_renaming.specs.Naming.{IsRenaming, renamed_line}
 
 -- there is an alternative, and each before the last has conditions

@@ -6,13 +6,13 @@ use Rattle.rpg_cards.specs.Keys.{Key}
 use Rattle.rpg_cycle.specs.Ends.{PhaseEnd, GoesOn, EndOfJob, Halt}
 use Rattle.rpg_cycle.specs.Indicators.{first_page, halt_indicators, last_record, level_indicators, matching_record}
 use Rattle.rpg_cycle.specs.Phases.{if_selected}
-use Rattle.rpg_effect.specs.Ended.{on_data}
-use Rattle.rpg_effect.specs.Input.{TypeRow, record_in}
-use Rattle.rpg_effect.specs.Lines.{detail_output, overflow_output, total_output}
-use Rattle.rpg_effect.specs.declared.input.ControlField.{ControlField}
-use Rattle.rpg_effect.specs.declared.input.InputField.{InputField}
-use Rattle.rpg_effect.specs.declared.input.InputFile.{InputFile}
-use Rattle.rpg_effect.specs.declared.input.InputFile.TheVariants.{Primary, Secondary}
+use Rattle.rpg_program.specs.Ended.{on_data}
+use Rattle.rpg_program.specs.Input.{TypeRow, record_in}
+use Rattle.rpg_program.specs.Lines.{detail_output, overflow_output, total_output}
+use Rattle.rpg_program.specs.declared.input.ControlField.{ControlField}
+use Rattle.rpg_program.specs.declared.input.InputField.{InputField}
+use Rattle.rpg_program.specs.declared.input.InputFile.{InputFile}
+use Rattle.rpg_program.specs.declared.input.InputFile.TheVariants.{Primary, Secondary}
 use Rattle.rpg_text.specs.Texts.{is_character}
 use Rattle.rpg_meaning.specs.Jobs.Job.{Job, JobState}
 use Rattle.rpg_meaning.specs.Jobs.Phases.{MeantPhase, any_on_in, by_effect, calculated, is_on_in, meant_does, meant_either, meant_passes, meant_unless, with_turned, ◌andthen◌}

@@ -1,8 +1,8 @@
 -- What a whole job stands on: what the cards of a source say by names.
 use Rattle.std.specs.Prelude.{ℕ, List, Option}
 use Rattle.rpg_cards.specs.Keys.{Key, key_cmp}
-use Rattle.rpg_effect.specs.Input.{TypeRow}
-use Rattle.rpg_effect.specs.World.{World}
+use Rattle.rpg_program.specs.Input.{TypeRow}
+use Rattle.rpg_program.specs.World.{World}
 use Rattle.rpg_meaning.specs.Calculations.Meaning.{Source}
 use Rattle.rpg_cycle_records.specs.Earlier.{Selected}
 use Rattle.rpg_cycle_records.specs.Waiting.{Inputs}

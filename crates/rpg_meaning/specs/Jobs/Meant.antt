@@ -6,14 +6,14 @@ use Rattle.rpg_cards.specs.declared.spec_card.SpecCard.{SpecCard}
 use Rattle.rpg_cycle.specs.Job.{first_fields}
 use Rattle.rpg_cycle.specs.Runs as machine
 use Rattle.rpg_cycle.specs.Starting.{date_in}
-use Rattle.rpg_effect.specs.Put.{Bytes}
-use Rattle.rpg_effect.specs.World.{World}
+use Rattle.rpg_program.specs.Put.{Bytes}
+use Rattle.rpg_program.specs.World.{World}
 use Rattle.rpg_meaning.specs.Jobs.Sources.{IsMeant}
 use Rattle.rpg_meaning.specs.Jobs.Start.{ConstantsStand, IsStart}
 use Rattle.rpg_meaning.specs.Calculations.Laws.{KeepsMeaning}
 use Rattle.rpg_meaning.specs.Calculations.Sources.{source_of}
 use Rattle.rpg_memory.specs.Fits.{KeepsConstants}
-use Rattle.rpg_object_program.specs.Object.{Object}
+use Rattle.rpg_program.specs.Object.{Object}
 use Rattle.rpg_effect_renaming.specs.Naming.{Agree}
 use Rattle.rpg_compile_program.specs.Program.{key_numbers}
 

@@ -6,8 +6,8 @@ use Rattle.std.specs.Ordering.{nat_cmp}
 use Rattle.rpg_cards.specs.Keys.{key_cmp}
 use Rattle.rpg_cycle.specs.Ends.{PhaseEnd, GoesOn, EndOfJob, Halt, phase_end}
 use Rattle.rpg_cycle.specs.Indicators.{indicators_turned}
-use Rattle.rpg_effect.specs.Effect.{Effect}
-use Rattle.rpg_effect.specs.World.{World, with_data}
+use Rattle.rpg_program.specs.Effect.{Effect}
+use Rattle.rpg_program.specs.World.{World, with_data}
 use Rattle.rpg_meaning.specs.Jobs.Job.{JobState}
 use Rattle.rpg_machine.specs.Config.{Output, no_output, with_more}
 use Rattle.rpg_meaning.specs.Calculations.Laws as calculations

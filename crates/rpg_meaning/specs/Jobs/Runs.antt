@@ -4,10 +4,10 @@ use Rattle.rpg_cards.specs.Keys.{key_cmp}
 use Rattle.rpg_cycle.specs.Ends.{PhaseEnd, GoesOn, EndOfJob, Halt}
 use Rattle.rpg_cycle.specs.Indicators.{halt_indicators, last_record}
 use Rattle.rpg_cycle.specs.Runs.{Records, next_of, printed, rest_where_needed, stored}
-use Rattle.rpg_effect.specs.Put.{Bytes}
-use Rattle.rpg_effect.specs.World.{World}
-use Rattle.rpg_effect.specs.declared.input.InputFile.{InputFile}
-use Rattle.rpg_effect.specs.declared.input.InputFile.TheVariants.{Primary, Secondary}
+use Rattle.rpg_program.specs.Put.{Bytes}
+use Rattle.rpg_program.specs.World.{World}
+use Rattle.rpg_program.specs.declared.input.InputFile.{InputFile}
+use Rattle.rpg_program.specs.declared.input.InputFile.TheVariants.{Primary, Secondary}
 use Rattle.rpg_meaning.specs.Jobs.Cycle.{MeantCycle, meant_takes_in}
 use Rattle.rpg_meaning.specs.Jobs.Job.{Job, JobState}
 use Rattle.rpg_meaning.specs.Jobs.Phases.{any_on_in, is_on_in}

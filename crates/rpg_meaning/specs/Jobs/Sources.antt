@@ -4,8 +4,8 @@ use Rattle.rpg_cards.specs.Keys.{key_cmp}
 use Rattle.rpg_cards.specs.declared.spec_card.SpecCard.{SpecCard}
 use Rattle.rpg_cycle.specs.Job.{first_fields}
 use Rattle.rpg_cycle.specs.Runs as machine
-use Rattle.rpg_effect.specs.Put.{Bytes}
-use Rattle.rpg_effect.specs.World.{World}
+use Rattle.rpg_program.specs.Put.{Bytes}
+use Rattle.rpg_program.specs.World.{World}
 use Rattle.rpg_job.specs.Files.{is_primary, is_secondary, length_of, the_file}
 use Rattle.rpg_job.specs.RecordTypes.{meant_types}
 use Rattle.rpg_meaning.specs.Jobs.Job.{Job}

@@ -8,10 +8,10 @@ use Rattle.rpg_cards.specs.declared.constants.Constant.{Constant}
 use Rattle.rpg_cards.specs.declared.spec_card.SpecCard.{SpecCard}
 use Rattle.rpg_cycle.specs.Indicators.{first_page, level_zero}
 use Rattle.rpg_decimal_words.specs.Fraction.{with_decimals}
-use Rattle.rpg_effect.specs.Forms.{has_field, is_date, is_table_form}
-use Rattle.rpg_effect.specs.Values.{Number, Value}
-use Rattle.rpg_effect.specs.World.{World, value_in}
-use Rattle.rpg_effect.specs.declared.form.FieldForm.{FieldForm}
+use Rattle.rpg_program.specs.Forms.{has_field, is_date, is_table_form}
+use Rattle.rpg_program.specs.Values.{Number, Value}
+use Rattle.rpg_program.specs.World.{World, value_in}
+use Rattle.rpg_program.specs.declared.form.FieldForm.{FieldForm}
 use Rattle.rpg_job.specs.FirstValues.{meant_constant, meant_named_value}
 use Rattle.rpg_job.specs.Forms.{meant_forms, stands_on}
 

@@ -1,7 +1,7 @@
 use Rattle.std.proofs.Common.{inl, inr}
 use Rattle.rpg_engine.proofs.Flushing.{run_kept}
 use Rattle.rpg_faults.specs.Source.{cards_in}
-use Rattle.rpg_source_run.proofs.Kept.{prints_kept}
+use Rattle.rpg_meaning.proofs.Sources.Kept.{prints_kept}
 use Rattle.rpg_cli_run.proofs.Flushing.{ended, faults_told}
 use Rattle.rpg_cli_run.proofs.running.run_source_over.Goals as goal
 

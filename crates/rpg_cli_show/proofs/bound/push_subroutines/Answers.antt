@@ -1,7 +1,7 @@
 use Rattle.std.proofs.Common.{rules, ◌≡◌, ◌+◌, ◌<◌, ◌≤◌, map, length, get_or, refl, sym, ap, ◌∙◌, subst, arith}
-use Rattle.rpg_object_program.specs.Object.{seen, subroutine_row}
-use Rattle.rpg_object_program.specs.Sections.{first_in, first_place, instructions_in, place_behind}
-use Rattle.rpg_object_program.specs.declared.section.Section.TheVariants as sections
+use Rattle.rpg_program.specs.Object.{seen, subroutine_row}
+use Rattle.rpg_program.specs.Sections.{first_in, first_place, instructions_in, place_behind}
+use Rattle.rpg_program.specs.declared.section.Section.TheVariants as sections
 use Rattle.rpg_verify_rules.proofs.Sectioning.{left, fewer_left}
 use Rattle.rpg_verify_rules.proofs.Spanning.{at_zero, first_behind, subroutine_at, subroutine_span}
 use Rattle.rpg_cli_show.proofs.bound.push_subroutines.Goals as goal

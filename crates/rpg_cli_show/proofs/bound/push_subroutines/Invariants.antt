@@ -1,6 +1,6 @@
 use Rattle.std.proofs.Common.{◌≡◌, ◌+◌, ◌≤◌, map, drop}
-use Rattle.rpg_object_program.specs.Object.{subroutine_row}
-use Rattle.rpg_object_program.specs.Sections.{first_in, instructions_in}
+use Rattle.rpg_program.specs.Object.{subroutine_row}
+use Rattle.rpg_program.specs.Sections.{first_in, instructions_in}
 use Rattle.rpg_cli_show.proofs.bound.push_subroutines.Given as goal
 
 abbrev pub invariant-loop-subroutine : goal.invariant-loop-subroutine

@@ -1,6 +1,6 @@
 use Rattle.std.proofs.Common.{◌≡◌, drop, map}
 use Rattle.std.specs.List.{list_any}
-use Rattle.rpg_object_program.specs.Object.{line_row}
+use Rattle.rpg_program.specs.Object.{line_row}
 use Rattle.rpg_cli_show_fields.specs.DateUse.{line_uses}
 use Rattle.rpg_cli_show_fields.proofs.date_use.any_line.Given as goal
 

@@ -5,13 +5,13 @@ use Rattle.rpg_cards.specs.Calculations.{calculations}
 use Rattle.rpg_cards.specs.Sections.{sections_of}
 use Rattle.rpg_compile_program.specs.Levels.{subroutine_level}
 use Rattle.rpg_compile_program.specs.Whole as whole
-use Rattle.rpg_effect.specs.Input.{TypeRow}
-use Rattle.rpg_effect.specs.declared.operation.Instruction.{Instruction}
+use Rattle.rpg_program.specs.Input.{TypeRow}
+use Rattle.rpg_program.specs.declared.operation.Instruction.{Instruction}
 use Rattle.rpg_compile.specs.Marked.{IsMarked, IsMarkedRow}
 use Rattle.rpg_compile.specs.Walk.{subroutines_in}
 use Rattle.rpg_compile_layouts.specs.Rows.{rows_of}
-use Rattle.rpg_object_program.specs.Kept.{IsLineRow, IsProgram, IsTypeRow}
-use Rattle.rpg_object_program.specs.Object.{LineRow, SubroutineRow}
+use Rattle.rpg_program.specs.Kept.{IsLineRow, IsProgram, IsTypeRow}
+use Rattle.rpg_program.specs.Object.{LineRow, SubroutineRow}
 use Rattle.rpg_effect_renaming.specs.Naming.{renamed_type}
 use Rattle.rpg_compile_program.specs.Lines.{record_length_of}
 use Rattle.rpg_compile_program.specs.Program.{version_with}

@@ -8,8 +8,8 @@ use Rattle.rpg_compile_layouts.proofs.Rows.{one_more_row}
 use Rattle.rpg_compile_layouts.proofs.alternatives.alternatives_from.Goals as goal
 use Rattle.rpg_compile_layouts.proofs.alternatives.alternatives_from.Goals.{in-None, in-Some-And+in_ok-push_conditions-in-Some-And, in-Some-Field, in-Some-Or+in_ok-push-in-Some-Or+in_ok-open-in-Some-Or}
 use Rattle.rpg_compile_layouts.specs.Rows.{alternatives_behind}
-use Rattle.rpg_effect.specs.declared.condition.Condition.{Condition}
-use Rattle.rpg_object_program.specs.Kept.{IsConditionRow}
+use Rattle.rpg_program.specs.declared.condition.Condition.{Condition}
+use Rattle.rpg_program.specs.Kept.{IsConditionRow}
 use Rattle.rpg_sheet_specs.specs.declared.output.OutputSpec.TheVariants as output
 
 abbrev AreRows : List (Vec Condition Global) → Type 0

@@ -1,7 +1,7 @@
 use Rattle.std.proofs.Common.{◌≡◌, ◌++◌, drop, map}
 use Rattle.std.specs.Prelude.{All}
 use Rattle.rpg_compile_layouts.specs.Rows.{alternatives_behind}
-use Rattle.rpg_object_program.specs.Kept.{IsConditionRow}
+use Rattle.rpg_program.specs.Kept.{IsConditionRow}
 use Rattle.rpg_compile_layouts.proofs.alternatives.alternatives_from.Given as goal
 
 abbrev pub invariant-loop-card : goal.invariant-loop-card

@@ -1,7 +1,7 @@
 use Rattle.std.proofs.Common.{◌≡◌, ◌++◌, drop}
 use Rattle.std.specs.Prelude.{All}
 use Rattle.rpg_compile_layouts.specs.Parts.{codes_behind}
-use Rattle.rpg_object_program.specs.Kept.{IsCodeRow}
+use Rattle.rpg_program.specs.Kept.{IsCodeRow}
 use Rattle.rpg_compile_layouts.proofs.codes.push_further.Given as goal
 
 abbrev pub invariant-loop-card : goal.invariant-loop-card

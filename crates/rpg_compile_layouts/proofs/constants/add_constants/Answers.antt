@@ -2,7 +2,7 @@ use Rattle.std.proofs.Common.{ap, map, subst, sym}
 use Rattle.std.proofs.lemmas.List.Elements.{All-cons}
 use Rattle.std.specs.Prelude.{All}
 use Rattle.rpg_cards.specs.Constants as known
-use Rattle.rpg_effect.specs.Values.{held}
+use Rattle.rpg_program.specs.Values.{held}
 use Rattle.rpg_compile_layouts.proofs.RowLemmas.{one_more, one_more_row}
 use Rattle.rpg_compile_layouts.proofs.constants.add_constants.Goals as goal
 use Rattle.rpg_compile_program.specs.Data.{constant_values}

@@ -1,7 +1,7 @@
 use Rattle.std.proofs.Common.{◌≡◌, ◌++◌, length, map}
 use Rattle.std.specs.Prelude.{All}
 use Rattle.rpg_cards.specs.Constants as known
-use Rattle.rpg_effect.specs.Values.{held}
+use Rattle.rpg_program.specs.Values.{held}
 use Rattle.rpg_compile_program.specs.Data.{constant_values}
 use Rattle.rpg_compile_layouts.proofs.constants.add_constants.Given as goal
 

@@ -2,7 +2,7 @@ use Rattle.std.proofs.Common.{◌≡◌, ◌++◌, drop}
 use Rattle.std.specs.Prelude.{All}
 use Rattle.rpg_cards.specs.Levels.{match_level}
 use Rattle.rpg_compile_layouts.specs.Parts.{levels_behind}
-use Rattle.rpg_object_program.specs.Kept.{IsControlRow}
+use Rattle.rpg_program.specs.Kept.{IsControlRow}
 use Rattle.rpg_compile_layouts.proofs.levels.matches_of.Given as goal
 
 abbrev pub invariant-loop-card : goal.invariant-loop-card

@@ -2,7 +2,7 @@ use Rattle.std.proofs.lemmas.List.Elements.{All-map}
 use Rattle.std.specs.Prelude.{All}
 use Rattle.rpg_compile_layouts.proofs.LineFollowers.{line_kept, line_same}
 use Rattle.rpg_compile_layouts.proofs.lines.line_of.Goals as goal
-use Rattle.rpg_object_program.specs.Kept.{IsConditionRow}
+use Rattle.rpg_program.specs.Kept.{IsConditionRow}
 use Rattle.std.proofs.Common.{map}
 
 pub fields_of-requires : goal.fields_of-requires

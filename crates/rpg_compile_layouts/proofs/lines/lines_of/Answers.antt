@@ -3,8 +3,8 @@ use Rattle.rpg_compile_layouts.proofs.Rows.{all_head, all_tail, all_with_one_mor
 use Rattle.rpg_compile_layouts.proofs.lines.lines_of.Goals as goal
 use Rattle.rpg_compile_layouts.specs.Rows.{row_behind, rows_from, rows_of}
 use Rattle.rpg_compile_layouts.specs.Within.{IsLineWithin}
-use Rattle.rpg_object_program.specs.Kept.{IsLineRow}
-use Rattle.rpg_object_program.specs.Object.{line_row}
+use Rattle.rpg_program.specs.Kept.{IsLineRow}
+use Rattle.rpg_program.specs.Object.{line_row}
 
 pub line_of-requires : goal.line_of-requires
 line_of-requires c =

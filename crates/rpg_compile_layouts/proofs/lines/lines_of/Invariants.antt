@@ -2,8 +2,8 @@ use Rattle.std.proofs.Common.{◌≡◌, ◌++◌, map, length}
 use Rattle.std.specs.Prelude.{All}
 use Rattle.rpg_compile_layouts.specs.Rows.{rows_from, rows_of}
 use Rattle.rpg_compile_layouts.specs.Within.{IsLineWithin}
-use Rattle.rpg_object_program.specs.Kept.{IsLineRow}
-use Rattle.rpg_object_program.specs.Object.{line_row}
+use Rattle.rpg_program.specs.Kept.{IsLineRow}
+use Rattle.rpg_program.specs.Object.{line_row}
 use Rattle.rpg_compile_layouts.proofs.lines.lines_of.Given as goal
 
 abbrev pub invariant-loop-card : goal.invariant-loop-card

@@ -7,7 +7,7 @@ use Rattle.rpg_compile_layouts.proofs.Rows.{all_head, all_tail, one_more}
 use Rattle.rpg_compile_layouts.proofs.output_fields.fields_of.Goals as goal
 use Rattle.rpg_compile_layouts.specs.Rows.{field_row, output_rows_behind}
 use Rattle.rpg_compile_layouts.specs.Within.{HasIndexRow}
-use Rattle.rpg_object_program.specs.Kept.{IsLineFieldRow}
+use Rattle.rpg_program.specs.Kept.{IsLineFieldRow}
 use Rattle.rpg_sheet_specs.specs.declared.output.OutputSpec.TheVariants as output
 
 pub field_of-requires : goal.field_of-requires

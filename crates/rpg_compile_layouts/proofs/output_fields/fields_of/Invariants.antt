@@ -2,7 +2,7 @@ use Rattle.std.proofs.Common.{◌≡◌, ◌++◌, drop}
 use Rattle.std.specs.Prelude.{All}
 use Rattle.rpg_compile_layouts.specs.Rows.{output_rows_behind}
 use Rattle.rpg_compile_layouts.specs.Within.{HasIndexRow}
-use Rattle.rpg_object_program.specs.Kept.{IsLineFieldRow}
+use Rattle.rpg_program.specs.Kept.{IsLineFieldRow}
 use Rattle.rpg_compile_layouts.proofs.output_fields.fields_of.Given as goal
 
 abbrev pub invariant-loop-card : goal.invariant-loop-card

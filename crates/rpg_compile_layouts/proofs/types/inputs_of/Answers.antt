@@ -9,7 +9,7 @@ use Rattle.rpg_compile_layouts.specs.Parts.{inputs_behind}
 use Rattle.rpg_compile_program.specs.Table.{key_number}
 use Rattle.rpg_compile_program.specs.Types.{input_row}
 use Rattle.rpg_effect_renaming.specs.Naming.{renamed_input}
-use Rattle.rpg_object_program.specs.Kept.{IsInputRow}
+use Rattle.rpg_program.specs.Kept.{IsInputRow}
 use Rattle.rpg_sheet_specs.specs.declared.input.InputSpec.TheVariants as input
 
 pub loop-card-preserved : goal.loop-card-preserved

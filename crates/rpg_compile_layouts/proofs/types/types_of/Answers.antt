@@ -4,8 +4,8 @@ use Rattle.rpg_compile_layouts.proofs.Rows.{all_head, all_tail, all_with_one_mor
 use Rattle.rpg_compile_layouts.proofs.types.types_of.Goals as goal
 use Rattle.rpg_compile_layouts.specs.Parts.{type_behind, types_from}
 use Rattle.rpg_compile_layouts.specs.Within.{IsTypeWithin}
-use Rattle.rpg_object_program.specs.Kept.{IsTypeRow}
-use Rattle.rpg_object_program.specs.Object.{type_row}
+use Rattle.rpg_program.specs.Kept.{IsTypeRow}
+use Rattle.rpg_program.specs.Object.{type_row}
 use Rattle.rpg_effect_renaming.specs.Naming.{renamed_type}
 use Rattle.rpg_compile_program.specs.Table.{key_number}
 use Rattle.rpg_compile_program.specs.Types.{types_on}

@@ -2,8 +2,8 @@ use Rattle.std.proofs.Common.{◌≡◌, ◌++◌, map, length}
 use Rattle.std.specs.Prelude.{All}
 use Rattle.rpg_compile_layouts.specs.Parts.{types_from}
 use Rattle.rpg_compile_layouts.specs.Within.{IsTypeWithin}
-use Rattle.rpg_object_program.specs.Kept.{IsTypeRow}
-use Rattle.rpg_object_program.specs.Object.{type_row}
+use Rattle.rpg_program.specs.Kept.{IsTypeRow}
+use Rattle.rpg_program.specs.Object.{type_row}
 use Rattle.rpg_effect_renaming.specs.Naming.{renamed_type}
 use Rattle.rpg_compile_program.specs.Table.{key_number}
 use Rattle.rpg_compile_program.specs.Types.{types_on}

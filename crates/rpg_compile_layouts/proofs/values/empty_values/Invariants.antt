@@ -1,5 +1,5 @@
 use Rattle.std.proofs.Common.{◌≡◌, map, replicate}
-use Rattle.rpg_effect.specs.Values.{held}
+use Rattle.rpg_program.specs.Values.{held}
 use Rattle.rpg_compile_program.specs.Data.{first_of_kind}
 use Rattle.rpg_compile_layouts.proofs.values.empty_values.Given as goal
 

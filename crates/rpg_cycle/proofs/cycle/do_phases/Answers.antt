@@ -14,9 +14,9 @@ use Rattle.rpg_cycle.specs.Stages.{job_end}
 use Rattle.rpg_cycle.specs.Staging.{KeepsSelected, after_selection}
 use Rattle.rpg_cycle_records.specs.Holding.{inputs_of, text_in}
 use Rattle.rpg_cycle_records.specs.Keeping.{left_of}
-use Rattle.rpg_effect.specs.Weights.{types_weight}
-use Rattle.rpg_object_program.specs.Object.{Object}
-use Rattle.rpg_object_program.specs.declared.section.Section.TheVariants as sections
+use Rattle.rpg_program.specs.Weights.{types_weight}
+use Rattle.rpg_program.specs.Object.{Object}
+use Rattle.rpg_program.specs.declared.section.Section.TheVariants as sections
 use Rattle.rpg_cycle.proofs.cycle.do_phases.Goals as goal
 
 -- what the phases from the selection on weigh

@@ -5,8 +5,8 @@ use Rattle.rpg_cycle.specs.Doing.{holding_kept, match_by}
 use Rattle.rpg_cycle.specs.Spending.{detail_time_weight, reach, record_weight}
 use Rattle.rpg_cycle.specs.Staging.{DoesStage, KeepsSelected, detail_time}
 use Rattle.rpg_cycle_records.specs.Holding.{inputs_of, text_in}
-use Rattle.rpg_effect.proofs.Fronts.{grows_not}
-use Rattle.rpg_object_program.specs.Object.{Object}
+use Rattle.rpg_program.proofs.Fronts.{grows_not}
+use Rattle.rpg_program.specs.Object.{Object}
 use Rattle.rpg_cycle.proofs.cycle.follow_selection.Goals as goal
 
 pub take_total_time-requires : goal.take_total_time-requires

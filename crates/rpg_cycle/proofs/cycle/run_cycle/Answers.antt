@@ -4,7 +4,7 @@ use Rattle.rpg_cycle.proofs.Spending.{full_reach, phases_bounded, phases_few}
 use Rattle.rpg_cycle.specs.Cycled.{DoesPhases, KeepsWell}
 use Rattle.rpg_cycle.specs.Spending.{phases_weight, reach}
 use Rattle.rpg_machine.specs.Running.{Running, refilled}
-use Rattle.rpg_object_program.specs.Object.{Object}
+use Rattle.rpg_program.specs.Object.{Object}
 use Rattle.rpg_verify.specs.Bound.{bound}
 use Rattle.rpg_cycle.proofs.cycle.run_cycle.Goals as goal
 

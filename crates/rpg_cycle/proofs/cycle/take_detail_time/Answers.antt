@@ -7,8 +7,8 @@ use Rattle.rpg_cycle.specs.Phases as spec
 use Rattle.rpg_cycle.specs.Spending.{detail_time_weight, fields_weight, section_cost}
 use Rattle.rpg_cycle.specs.Staging.{DoesStage, KeepsSelected}
 use Rattle.rpg_cycle_records.specs.Holding.{HoldsSelected, inputs_of}
-use Rattle.rpg_object_program.specs.Object.{Object}
-use Rattle.rpg_object_program.specs.declared.section.Section.TheVariants as sections
+use Rattle.rpg_program.specs.Object.{Object}
+use Rattle.rpg_program.specs.declared.section.Section.TheVariants as sections
 use Rattle.rpg_cycle.proofs.cycle.take_detail_time.Goals as goal
 
 pub put_out_overflow-requires : goal.put_out_overflow-requires

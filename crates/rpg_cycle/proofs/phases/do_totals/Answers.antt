@@ -4,7 +4,7 @@ use Rattle.rpg_cycle.specs.Phases.{output}
 use Rattle.rpg_cycle.specs.Spending.{cycle_weight}
 use Rattle.rpg_machine.specs.Outputs.{output_weight}
 use Rattle.rpg_machine.specs.declared.time.OutputTime.TheVariants as times
-use Rattle.rpg_object_program.specs.Object.{Object}
+use Rattle.rpg_program.specs.Object.{Object}
 use Rattle.rpg_verify.specs.Bound.{bound}
 use Rattle.rpg_cycle.proofs.Composing.{same_program}
 use Rattle.rpg_cycle.proofs.phases.do_totals.Goals as goal

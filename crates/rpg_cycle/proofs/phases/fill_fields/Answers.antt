@@ -10,10 +10,10 @@ use Rattle.rpg_cycle_records.specs.Holding.{text_in}
 use Rattle.rpg_cycle.specs.Ends.{GoesOn, phase_end}
 use Rattle.rpg_cycle.specs.Spending.{Spends, fields_weight}
 use Rattle.rpg_cycle.specs.Stages.{job_end}
-use Rattle.rpg_effect.proofs.Fronts.{grows_not}
-use Rattle.rpg_effect.specs.Ends as effects
-use Rattle.rpg_object_program.specs.Object.{Object}
-use Rattle.rpg_effect.specs.declared.outcome.End as answers
+use Rattle.rpg_program.proofs.Fronts.{grows_not}
+use Rattle.rpg_program.specs.Ends as effects
+use Rattle.rpg_program.specs.Object.{Object}
+use Rattle.rpg_program.specs.declared.outcome.End as answers
 use Rattle.rpg_cycle.proofs.phases.fill_fields.Goals as goal
 
 pub text-text-requires : goal.text-text-requires

@@ -3,7 +3,7 @@ use Rattle.rpg_cycle.proofs.Spending.{page_spends}
 use Rattle.rpg_cycle.proofs.Staging.{leaves_in, leaves_out, weighs}
 use Rattle.rpg_cycle.proofs.Turning.{overflow_on}
 use Rattle.rpg_cycle.specs.Phases as spec
-use Rattle.rpg_object_program.specs.Object.{Object}
+use Rattle.rpg_program.specs.Object.{Object}
 use Rattle.rpg_cycle.proofs.phases.put_out_overflow.Goals as goal
 
 pub returns-then-has_no_overflow : goal.returns-then-has_no_overflow

@@ -1,5 +1,5 @@
 use Rattle.std.proofs.Common.{ap, subst, sym, ◌∙◌}
-use Rattle.rpg_object_program.specs.Object.{Object}
+use Rattle.rpg_program.specs.Object.{Object}
 use Rattle.rpg_cycle.proofs.Growing.{does_grow}
 use Rattle.rpg_cycle.proofs.Spending.{turns_free}
 use Rattle.rpg_cycle.proofs.Turning.{shows}

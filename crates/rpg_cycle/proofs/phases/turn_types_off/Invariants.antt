@@ -1,5 +1,5 @@
 use Rattle.std.proofs.Common.{◌≡◌, drop, map}
-use Rattle.rpg_object_program.specs.Object.{type_row}
+use Rattle.rpg_program.specs.Object.{type_row}
 use Rattle.rpg_cycle.specs.Indicators as spec
 use Rattle.rpg_machine.specs.Ready.{IsReady}
 use Rattle.rpg_cycle.proofs.phases.turn_types_off.Given as goal

@@ -1,7 +1,7 @@
 use Rattle.std.proofs.Common.{Option, ℕ, ap, sym, subst, arith}
 use Rattle.std.specs.Option.{ForSome}
-use Rattle.rpg_object_program.specs.Kept.{IsIndicator, IsOverflowIndicator}
-use Rattle.rpg_object_program.specs.Object.{Object}
+use Rattle.rpg_program.specs.Kept.{IsIndicator, IsOverflowIndicator}
+use Rattle.rpg_program.specs.Object.{Object}
 use Rattle.rpg_cycle.proofs.program.overflow_of.Goals as goal
 
 -- the overflow indicator is one

@@ -1,6 +1,6 @@
 use Rattle.std.proofs.Common.{◌+◌, max, ℕ, ap, sym, ◌∙◌, subst, arith}
 use Rattle.std.specs.Option.{option_map}
-use Rattle.rpg_effect.specs.declared.input.InputFile.TheVariants.{Primary, Secondary}
+use Rattle.rpg_program.specs.declared.input.InputFile.TheVariants.{Primary, Secondary}
 use Rattle.rpg_cycle.proofs.Courses.{IsUnderWay, begins, ended_so, fewer_left, next_is, one_more, rest_is, still_low}
 use Rattle.rpg_cycle.specs.RunAnswers.{records_in}
 use Rattle.rpg_cycle.specs.Runs.{Records}

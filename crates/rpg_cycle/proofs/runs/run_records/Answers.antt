@@ -7,7 +7,7 @@ use Rattle.rpg_cycle.specs.Stages.{is_going}
 use Rattle.rpg_cycle.specs.declared.runs.Run.{Run}
 use Rattle.rpg_cycle.specs.declared.runs.Summary.{Summary}
 use Rattle.rpg_machine.specs.Running.{config_on}
-use Rattle.rpg_object_program.specs.Object.{Object}
+use Rattle.rpg_program.specs.Object.{Object}
 use Rattle.rpg_cycle_records.specs.Earlier.{left_by}
 use Rattle.rpg_cycle_records.specs.Waiting.{unread}
 use Rattle.rpg_verify.specs.Bound.{bound}

@@ -1,6 +1,6 @@
 use Rattle.std.proofs.Common.{◌∙◌, ℕ, true, false, List, length, sym, ap, subst, refl}
-use Rattle.rpg_effect.specs.declared.input.ControlField.{ControlField}
-use Rattle.rpg_effect.specs.declared.halt.Halt.TheVariants as halts
+use Rattle.rpg_program.specs.declared.input.ControlField.{ControlField}
+use Rattle.rpg_program.specs.declared.halt.Halt.TheVariants as halts
 use Rattle.rpg_cycle.specs.Selecting.{TakesType}
 use Rattle.rpg_cycle.specs.declared.ends.JobEnd.TheVariants as jobs
 use Rattle.rpg_cycle.proofs.Composing.{passed_map}

@@ -8,7 +8,7 @@ use Rattle.rpg_cycle.specs.Stages.{job_end}
 use Rattle.rpg_cycle_records.specs.Holding.{input_state_of, inputs_of, text_in}
 use Rattle.rpg_cycle_records.specs.Keeping.{left_of}
 use Rattle.rpg_cycle_records.specs.Waiting.{with_input}
-use Rattle.rpg_effect.specs.declared.input.InputFile.TheVariants.{Primary}
+use Rattle.rpg_program.specs.declared.input.InputFile.TheVariants.{Primary}
 use Rattle.rpg_cycle.proofs.selection.select_record.Goals as goal
 
 pub returns-then-indicator-clause-goes : goal.returns-then-indicator-clause-goes

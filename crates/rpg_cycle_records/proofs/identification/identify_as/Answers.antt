@@ -1,6 +1,6 @@
 use Rattle.std.proofs.Common.{◌≡◌, length, map, slice_get, sym, ap, ◌∙◌, subst, arith}
 use Rattle.rpg_cycle_records.specs.Earlier.{file_of}
-use Rattle.rpg_object_program.specs.Object.{type_row}
+use Rattle.rpg_program.specs.Object.{type_row}
 use Rattle.rpg_cycle_records.proofs.Trying.{file_at, same_own, type_at, taken_at, passed_at, weight_at}
 use Rattle.rpg_cycle_records.proofs.identification.identify_as.Goals as goal
 

@@ -1,5 +1,5 @@
 use Rattle.std.proofs.Common.{◌≡◌, ◌≤◌, ◌+◌, ◌*◌, drop, map}
-use Rattle.rpg_object_program.specs.Object.{type_row}
+use Rattle.rpg_program.specs.Object.{type_row}
 use Rattle.rpg_cycle_records.specs.Identifying as spec
 use Rattle.rpg_cycle_records.proofs.identification.identify_as.Given as goal
 

@@ -1,5 +1,5 @@
 use Rattle.std.proofs.Common.{◌<◌, ◌≤◌, ℕ, get_or}
-use Rattle.rpg_effect.specs.declared.input.ControlField.{ControlField}
+use Rattle.rpg_program.specs.declared.input.ControlField.{ControlField}
 use Rattle.rpg_cycle_records.proofs.levels.highest_level.Given as goal
 
 abbrev pub invariant-loop-field : goal.invariant-loop-field

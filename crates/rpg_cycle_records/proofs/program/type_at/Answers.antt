@@ -1,9 +1,9 @@
 use Rattle.std.proofs.Common.{◌<◌, List, ℕ, length, ap, sym, subst, ◌∙◌}
 use Rattle.std.proofs.lemmas.List.{length-map}
 use Rattle.rpg_cycle_records.specs.Fitting.{IsTypeFit}
-use Rattle.rpg_effect.specs.Input.{TypeRow}
-use Rattle.rpg_object_program.specs.Object.{type_row}
-use Rattle.rpg_object_program.specs.declared.row.RecordType.{RecordType}
+use Rattle.rpg_program.specs.Input.{TypeRow}
+use Rattle.rpg_program.specs.Object.{type_row}
+use Rattle.rpg_program.specs.declared.rows.RecordType.{RecordType}
 use Rattle.rpg_cycle_records.proofs.Trying.{fits_at}
 use Rattle.rpg_cycle_records.proofs.program.type_at.Goals as goal
 

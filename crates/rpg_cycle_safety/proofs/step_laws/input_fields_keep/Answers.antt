@@ -1,7 +1,7 @@
 use Rattle.std.proofs.Common.{◌≡◌, ℕ, None, subst, sym}
 use Rattle.std.specs.Prelude.{All}
-use Rattle.rpg_effect.specs.Forms.{form_at}
-use Rattle.rpg_effect.specs.Input.{input_fault}
+use Rattle.rpg_program.specs.Forms.{form_at}
+use Rattle.rpg_program.specs.Input.{input_fault}
 use Rattle.rpg_machine.specs.Outputs.{inputs_at}
 use Rattle.rpg_cycle_safety.proofs.Accepting.{inputs_right}
 use Rattle.rpg_cycle_safety.proofs.Filling.{record_keeps}

@@ -1,6 +1,6 @@
 use Rattle.std.proofs.Common.{◌≡◌, ℕ, Bool, true, false, List, Option, Ok, refl, sym, subst}
 use Rattle.rpg_cycle.specs.Doing.{IsSeen, next_text}
-use Rattle.rpg_effect.proofs.Fronts.{grows_not}
+use Rattle.rpg_program.proofs.Fronts.{grows_not}
 use Rattle.rpg_engine.proofs.Refusing.{on_err, on_ok}
 use Rattle.rpg_engine.proofs.Seen.{seen_record}
 use Rattle.rpg_engine.proofs.Stopping.{failed_ask}

@@ -1,5 +1,5 @@
 use Rattle.std.proofs.Common.{◌∙◌, subst, sym}
-use Rattle.rpg_object_program.specs.Object.{Object}
+use Rattle.rpg_program.specs.Object.{Object}
 use Rattle.rpg_engine.specs.Objects.{SpellsProgram}
 use Rattle.rpg_engine.proofs.Refusing.{on_err, on_ok, refused_bytes}
 use Rattle.rpg_engine.proofs.object.accepted_object.Goals as goal

@@ -2,9 +2,9 @@ use Rattle.std.proofs.Common.{◌≡◌, ◌∙◌, sym, ap, subst, is_some, len
 use Rattle.std.proofs.lemmas.Result.{err_from_is_err_and}
 use Rattle.rpg_cycle.specs.Job.{AtWork}
 use Rattle.rpg_cycle.specs.Stages.{is_going}
-use Rattle.rpg_effect.specs.Put.{Bytes}
+use Rattle.rpg_program.specs.Put.{Bytes}
 use Rattle.rpg_machine.specs.Run.{running_place}
-use Rattle.rpg_object_program.specs.Object.{Object}
+use Rattle.rpg_program.specs.Object.{Object}
 use Rattle.rpg_files.specs.Counting.{faults_of}
 use Rattle.rpg_paper.specs.Paper.{last_position}
 use Rattle.rpg_engine.specs.Streaming.{ended_stage}

@@ -2,7 +2,7 @@ use Rattle.std.proofs.Common.{[], arith, ◌∙◌, ap}
 use Rattle.rpg_cards.specs.Constants.{is_same}
 use Rattle.rpg_cards.specs.SameConstants.{is_same_equiv}
 use Rattle.rpg_cards.specs.declared.constants.Constant.{Constant}
-use Rattle.rpg_effect.specs.Forms.{size_of}
+use Rattle.rpg_program.specs.Forms.{size_of}
 use Rattle.rpg_faults_limits.proofs.TotalLemmas.{one_more}
 use Rattle.rpg_faults_limits.specs.Limits.{constant_size}
 use Rattle.rpg_faults_limits.proofs.totals.with_constant.Goals as goal

@@ -1,13 +1,13 @@
 use Rattle.std.proofs.Common.{◌≡◌, ℕ, List, IfOk, ap, ◌∙◌, sym, subst}
-use Rattle.rpg_effect.specs.Ends.{GoesOn, end_of}
-use Rattle.rpg_effect.specs.Weights.{total_weight}
+use Rattle.rpg_program.specs.Ends.{GoesOn, end_of}
+use Rattle.rpg_program.specs.Weights.{total_weight}
 use Rattle.rpg_machine_lines.proofs.Weightless.{no_totals}
 use Rattle.rpg_machine_lines.specs.Outputs.{Puts, output_of}
 use Rattle.rpg_machine_lines.specs.Right.{HasLineRoom}
 use Rattle.rpg_machine.specs.Outputs.{output_effect, output_weight}
 use Rattle.rpg_machine.specs.declared.time.OutputTime.{OutputTime}
 use Rattle.rpg_machine.proofs.output.put_out.Goals as goal
-use Rattle.rpg_object_program.specs.Object.{lines_of}
+use Rattle.rpg_program.specs.Object.{lines_of}
 use Rattle.rpg_memory.specs.Memory.{held_of}
 
 pub put_details-requires-clause-room : goal.put_details-requires-clause-room

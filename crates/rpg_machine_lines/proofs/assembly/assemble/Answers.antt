@@ -1,14 +1,14 @@
 use Rattle.std.proofs.Common.{◌≡◌, None, ◌≤◌, ◌∙◌, ap, arith, length, refl, subst}
 use Rattle.std.proofs.lemmas.List.Elements.{All-rest}
-use Rattle.rpg_effect.specs.Ends.{end_of}
-use Rattle.rpg_effect.specs.LineFaults.{field_fault}
+use Rattle.rpg_program.specs.Ends.{end_of}
+use Rattle.rpg_program.specs.LineFaults.{field_fault}
 use Rattle.rpg_machine_lines.proofs.Assembling.{field_next, plan_after_first}
 use Rattle.rpg_machine_lines.proofs.Reaching.{ends_in_reach, first_after_reach}
 use Rattle.rpg_machine_lines.specs.Drafts.{fields_replaced}
 use Rattle.rpg_machine_lines.specs.Entries.{AreFieldEntries}
 use Rattle.rpg_machine_lines.specs.Plans.{reach_of}
-use Rattle.rpg_object_program.specs.Constants.{word_at}
-use Rattle.rpg_object_program.specs.Object.{Object}
+use Rattle.rpg_program.specs.Constants.{word_at}
+use Rattle.rpg_program.specs.Object.{Object}
 use Rattle.rpg_memory.specs.Memory.{Working, forms_in}
 use Rattle.rpg_machine_lines.proofs.assembly.assemble.Goals as goal
 

@@ -1,10 +1,10 @@
 use Rattle.std.proofs.Common.{◌≡◌, ◌≤◌, ◌+◌, length, drop}
-use Rattle.rpg_effect.specs.LineFaults.{AreRight}
+use Rattle.rpg_program.specs.LineFaults.{AreRight}
 use Rattle.rpg_machine_lines.proofs.Reaching.{EndWithin}
 use Rattle.rpg_machine_lines.specs.Drafts.{draft_in, fields_drafted, fields_replaced}
 use Rattle.rpg_machine_lines.specs.Entries.{AreFieldEntries}
 use Rattle.rpg_machine_lines.specs.Plans.{AreFieldPlans, reach_of}
-use Rattle.rpg_object_program.specs.Constants.{word_at}
+use Rattle.rpg_program.specs.Constants.{word_at}
 use Rattle.rpg_memory.specs.Memory.{forms_in}
 use Rattle.rpg_machine_lines.proofs.assembly.assemble.Given as goal
 

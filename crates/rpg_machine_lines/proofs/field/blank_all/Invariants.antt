@@ -1,5 +1,5 @@
 use Rattle.std.proofs.Common.{◌≡◌, drop}
-use Rattle.rpg_effect.specs.Lines.{blanked_all}
+use Rattle.rpg_program.specs.Lines.{blanked_all}
 use Rattle.rpg_machine_lines.specs.Drafts.{fields_replaced}
 use Rattle.rpg_machine_lines.proofs.field.blank_all.Given as goal
 

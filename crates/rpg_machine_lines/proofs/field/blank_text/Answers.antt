@@ -1,7 +1,7 @@
 use Rattle.std.proofs.Common.{◌≡◌, ℕ, List, ap, ◌∙◌, length, replicate, rules, sym}
-use Rattle.rpg_effect.specs.Forms.{length_of}
-use Rattle.rpg_effect.specs.Values.{Text}
-use Rattle.rpg_effect.specs.World.{Fields, with_value}
+use Rattle.rpg_program.specs.Forms.{length_of}
+use Rattle.rpg_program.specs.Values.{Text}
+use Rattle.rpg_program.specs.World.{Fields, with_value}
 use Rattle.std.specs.Ordering.{nat_cmp}
 use Rattle.rpg_machine_lines.specs.Drafts.{fields_replaced}
 use Rattle.rpg_memory.specs.Memory.{forms_in}

@@ -1,7 +1,7 @@
 use Rattle.std.proofs.Common.{◌≡◌, refl, sym, ap, ◌∙◌, rules, to_z, of_z, w64}
-use Rattle.rpg_effect.specs.Forms.{form_at}
-use Rattle.rpg_effect.specs.LineFaults.{fits_source}
-use Rattle.rpg_effect.specs.Lines.{next_page}
+use Rattle.rpg_program.specs.Forms.{form_at}
+use Rattle.rpg_program.specs.LineFaults.{fits_source}
+use Rattle.rpg_program.specs.Lines.{next_page}
 use Rattle.rpg_machine_lines.proofs.Keeping.{page_below, page_room}
 use Rattle.rpg_machine_lines.proofs.field.count_page.Goals as goal
 

@@ -1,13 +1,13 @@
 use Rattle.std.proofs.Common.{ℕ, ap, ◌∙◌, sym}
 use Rattle.std.proofs.lemmas.Int.{to_z-of_z}
 use Rattle.rpg_edit_marks.specs.declared.how.How.TheVariants as hows
-use Rattle.rpg_effect.specs.Editing.{how_of}
-use Rattle.rpg_effect.specs.declared.line.Editing.{Editing}
+use Rattle.rpg_program.specs.Editing.{how_of}
+use Rattle.rpg_program.specs.declared.line.Editing.{Editing}
 use Rattle.rpg_machine_lines.proofs.Fields.{number_at_end}
 use Rattle.rpg_machine_lines.proofs.field.lay_number.Goals as goal
 use Rattle.rpg_machine_lines.specs.Drafts.{how_in}
-use Rattle.rpg_object_program.specs.Constants.{word_at}
-use Rattle.rpg_object_program.specs.Object.{seen}
+use Rattle.rpg_program.specs.Constants.{word_at}
+use Rattle.rpg_program.specs.Object.{seen}
 
 pub returns-in-Plain : goal.returns-in-Plain
 returns-in-Plain c =

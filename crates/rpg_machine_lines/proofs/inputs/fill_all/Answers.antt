@@ -1,6 +1,6 @@
 use Rattle.std.proofs.Common.{◌≡◌, None, ◌∙◌, ap, length, refl}
 use Rattle.std.proofs.lemmas.List.Elements.{All-rest}
-use Rattle.rpg_effect.specs.Input.{input_fault}
+use Rattle.rpg_program.specs.Input.{input_fault}
 use Rattle.rpg_machine_lines.proofs.Filling.{field_next}
 use Rattle.rpg_machine_lines.proofs.InputEntries.{inputs_after_first}
 use Rattle.rpg_memory.specs.Memory.{data_put, forms_in}

@@ -1,5 +1,5 @@
 use Rattle.std.proofs.Common.{◌∙◌, sym, length}
-use Rattle.rpg_effect.specs.declared.form.Kind.TheVariants as kinds
+use Rattle.rpg_program.specs.declared.form.Kind.TheVariants as kinds
 use Rattle.rpg_machine_lines.proofs.Filling.{field_filled, fits_field, long_there, value_there}
 use Rattle.rpg_machine_lines.proofs.inputs.fill_one.Goals as goal
 

@@ -1,16 +1,16 @@
 use Rattle.std.proofs.Common.{ℕ, List, ap, ◌∙◌, replicate, subst, sym}
-use Rattle.rpg_effect.proofs.Fronts.{grows_not}
-use Rattle.rpg_effect.specs.Ends.{GoesOn, Halt, end_of}
-use Rattle.rpg_effect.specs.Forms.{form_at}
-use Rattle.rpg_effect.specs.Halts.{halt_number}
-use Rattle.rpg_effect.specs.Lines.{blanked_all, put_on}
-use Rattle.rpg_effect.specs.Put.{IsDone}
+use Rattle.rpg_program.proofs.Fronts.{grows_not}
+use Rattle.rpg_program.specs.Ends.{GoesOn, Halt, end_of}
+use Rattle.rpg_program.specs.Forms.{form_at}
+use Rattle.rpg_program.specs.Halts.{halt_number}
+use Rattle.rpg_program.specs.Lines.{blanked_all, put_on}
+use Rattle.rpg_program.specs.Put.{IsDone}
 use Rattle.rpg_machine_lines.proofs.OneLine.{assembled_from, line_halted, line_placed, right_moves}
 use Rattle.rpg_machine_lines.proofs.Reaching.{blank_after_reach, reach_in_line}
 use Rattle.rpg_machine_lines.specs.Drafts.{draft_in, fields_replaced}
 use Rattle.rpg_machine_lines.specs.Outputs.{output_of}
-use Rattle.rpg_object_program.specs.Constants.{word_at}
-use Rattle.rpg_object_program.specs.Object.{file_length, line_row, program_line}
+use Rattle.rpg_program.specs.Constants.{word_at}
+use Rattle.rpg_program.specs.Object.{file_length, line_row, program_line}
 use Rattle.rpg_machine_lines.specs.Ready.{IsNear}
 use Rattle.rpg_memory.specs.Memory.{Working, held_of}
 use Rattle.rpg_machine_lines.proofs.line.put_line.Goals as goal

@@ -1,11 +1,11 @@
 use Rattle.std.proofs.Common.{subst}
-use Rattle.rpg_effect.proofs.Fronts.{grows_on}
-use Rattle.rpg_effect.specs.Ends.{end_of}
-use Rattle.rpg_effect.specs.Put.{IsDone}
-use Rattle.rpg_effect.specs.declared.line.Pass.TheVariants as passes
+use Rattle.rpg_program.proofs.Fronts.{grows_on}
+use Rattle.rpg_program.specs.Ends.{end_of}
+use Rattle.rpg_program.specs.Put.{IsDone}
+use Rattle.rpg_program.specs.declared.line.Pass.TheVariants as passes
 use Rattle.rpg_machine_lines.proofs.Following.{halted, ok_each, went_on}
 use Rattle.rpg_machine_lines.specs.Outputs.{output_of, overflow_detail_effect, passage_effect}
-use Rattle.rpg_object_program.specs.Object.{Object}
+use Rattle.rpg_program.specs.Object.{Object}
 use Rattle.rpg_memory.specs.Memory.{held_of}
 use Rattle.rpg_machine_lines.proofs.outputs.put_overflow.Goals as goal
 

@@ -1,10 +1,10 @@
 use Rattle.std.proofs.Common.{ap}
-use Rattle.rpg_effect.proofs.Putting.{quiet_done}
-use Rattle.rpg_effect.specs.Effect.{Leaves}
-use Rattle.rpg_effect.specs.Ends.{GoesOn}
-use Rattle.rpg_effect.specs.Lines.{movements_watched}
-use Rattle.rpg_effect.specs.Put.{on_paper}
-use Rattle.rpg_effect.specs.declared.line.Pass.TheVariants as passes
+use Rattle.rpg_program.proofs.Putting.{quiet_done}
+use Rattle.rpg_program.specs.Effect.{Leaves}
+use Rattle.rpg_program.specs.Ends.{GoesOn}
+use Rattle.rpg_program.specs.Lines.{movements_watched}
+use Rattle.rpg_program.specs.Put.{on_paper}
+use Rattle.rpg_program.specs.declared.line.Pass.TheVariants as passes
 use Rattle.rpg_machine_lines.proofs.Following.{halted, went_on}
 use Rattle.rpg_machine_lines.specs.Outputs.{output_of, passage_effect}
 use Rattle.rpg_memory.specs.Memory.{Working, held_of}

@@ -1,6 +1,6 @@
 use Rattle.std.proofs.Common.{ap, ◌∙◌, sym}
-use Rattle.rpg_effect.proofs.Fronts.{grows_not}
-use Rattle.rpg_effect.specs.declared.line.Pass.TheVariants as passes
+use Rattle.rpg_program.proofs.Fronts.{grows_not}
+use Rattle.rpg_program.specs.declared.line.Pass.TheVariants as passes
 use Rattle.rpg_machine_lines.proofs.AllLines.{none_put}
 use Rattle.rpg_machine_lines.specs.Outputs.{output_of}
 use Rattle.rpg_machine_lines.specs.PassLines.{listed_at, may_ask}

@@ -1,7 +1,7 @@
 use Rattle.std.proofs.Common.{◌≡◌, drop, map}
 use Rattle.std.specs.Global.{Vec}
-use Rattle.rpg_effect.specs.Lines.{is_asked}
-use Rattle.rpg_effect.specs.declared.condition.Condition.{Condition}
+use Rattle.rpg_program.specs.Lines.{is_asked}
+use Rattle.rpg_program.specs.declared.condition.Condition.{Condition}
 use Rattle.rpg_machine_lines.proofs.passage.is_asked.Given as goal
 
 abbrev pub invariant-alternatives : goal.invariant-alternatives

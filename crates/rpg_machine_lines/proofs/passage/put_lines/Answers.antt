@@ -1,10 +1,10 @@
 use Rattle.std.proofs.Common.{◌≡◌, ◌<◌, ◌≤◌, false, None, refl, sym, ap, ◌∙◌, arith, length, get_or, subst}
-use Rattle.rpg_effect.proofs.Fronts.{grows_not, grows_on}
-use Rattle.rpg_effect.specs.Ends.{GoesOn, Halt, end_of}
-use Rattle.rpg_effect.specs.Halts.{halt_number}
-use Rattle.rpg_effect.specs.Put.{IsDone}
-use Rattle.rpg_effect.specs.World.{holds_if_any}
-use Rattle.rpg_effect.specs.declared.outcome.End.TheVariants as answers
+use Rattle.rpg_program.proofs.Fronts.{grows_not, grows_on}
+use Rattle.rpg_program.specs.Ends.{GoesOn, Halt, end_of}
+use Rattle.rpg_program.specs.Halts.{halt_number}
+use Rattle.rpg_program.specs.Put.{IsDone}
+use Rattle.rpg_program.specs.World.{holds_if_any}
+use Rattle.rpg_program.specs.declared.outcome.End.TheVariants as answers
 use Rattle.rpg_machine_lines.proofs.AllLines.{all_done, answered, asked, one, rest_end, rest_halts, rest_next, right_at, unasked, without_needed}
 use Rattle.rpg_machine_lines.proofs.PassLines.{listed_many, listed_of, names_next, next_is, next_listed, number_low}
 use Rattle.rpg_machine_lines.proofs.Planned.{plan_at, plans_many}
@@ -14,7 +14,7 @@ use Rattle.rpg_machine_lines.specs.Passages.{needed_at}
 use Rattle.rpg_machine_lines.specs.Plans.{IsPlannedLine}
 use Rattle.rpg_machine_lines.specs.Right.{HasLineRoom, IsRightLine}
 use Rattle.rpg_machine_lines.specs.declared.pass_lines.PassLine.{PassLine}
-use Rattle.rpg_object_program.specs.Object.{Object, line_row}
+use Rattle.rpg_program.specs.Object.{Object, line_row}
 use Rattle.rpg_memory.specs.Memory.{held_of}
 use Rattle.rpg_machine_lines.proofs.passage.put_lines.Goals as goal
 

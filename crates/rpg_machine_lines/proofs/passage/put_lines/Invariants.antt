@@ -1,7 +1,7 @@
 use Rattle.std.proofs.Common.{◌≡◌, drop}
-use Rattle.rpg_effect.specs.Ends.{End}
-use Rattle.rpg_effect.specs.Fronts.{OnlyGrows}
-use Rattle.rpg_effect.specs.Put.{Bytes, Held, IsDone}
+use Rattle.rpg_program.specs.Ends.{End}
+use Rattle.rpg_program.specs.Fronts.{OnlyGrows}
+use Rattle.rpg_program.specs.Put.{Bytes, Held, IsDone}
 use Rattle.rpg_machine_lines.proofs.AllLines.{rest}
 use Rattle.rpg_machine_lines.specs.Outputs.{output_of}
 use Rattle.rpg_machine_lines.specs.PassLines.{pass_lines}

@@ -2,13 +2,13 @@ use Rattle.std.proofs.Common.{◌≡◌, ℕ, List, ◌++◌, Some, Result, Ok, 
 use Rattle.rpg_machine_lines.specs.Ready.{IsNear}
 use Rattle.rpg_paper.specs.Form.{way_of}
 use Rattle.rpg_text.specs.Texts.{trimmed}
-use Rattle.rpg_effect.proofs.Fronts.{grows_same}
-use Rattle.rpg_effect.proofs.Printing.{from_line, print_done}
-use Rattle.rpg_effect.specs.Lines.{after_skip, after_space}
+use Rattle.rpg_program.proofs.Fronts.{grows_same}
+use Rattle.rpg_program.proofs.Printing.{from_line, print_done}
+use Rattle.rpg_program.specs.Lines.{after_skip, after_space}
 use Rattle.rpg_machine_lines.proofs.Growing.{grows_print}
 use Rattle.rpg_machine_lines.proofs.Trimming.{front_trimmed}
 use Rattle.rpg_machine_lines.specs.Outputs.{output_of}
-use Rattle.rpg_object_program.specs.Object.{Object}
+use Rattle.rpg_program.specs.Object.{Object}
 use Rattle.rpg_memory.specs.Memory.{Working, held_of, standing_of}
 use Rattle.rpg_machine_lines.proofs.printer.print_line.Goals as goal
 

@@ -1,5 +1,5 @@
 use Rattle.std.proofs.Common.{refl, append_assoc, ◌∙◌}
-use Rattle.rpg_effect.proofs.Printing.{record_done}
+use Rattle.rpg_program.proofs.Printing.{record_done}
 use Rattle.rpg_machine_lines.proofs.Growing.{grows_disk, grows_front}
 use Rattle.rpg_machine_lines.specs.Outputs.{output_of}
 use Rattle.rpg_memory.specs.Memory.{held_of}

@@ -1,8 +1,8 @@
 use Rattle.std.proofs.Common.{◌≡◌, ◌+◌, ◌<◌, cond, length, get_or, ap, ◌∙◌, subst, arith}
-use Rattle.rpg_effect.specs.Weights.{lines_weight}
+use Rattle.rpg_program.specs.Weights.{lines_weight}
 use Rattle.rpg_machine_lines.proofs.Weighing.{line_left, weight_few, weight_left}
 use Rattle.rpg_machine_lines.specs.Weighed.{weighed}
-use Rattle.rpg_object_program.specs.Object.{lines_of, seen}
+use Rattle.rpg_program.specs.Object.{lines_of, seen}
 use Rattle.rpg_machine_lines.proofs.weights.lines_weight.Goals as goal
 
 pub overflow_add-weight : goal.overflow_add-weight

@@ -1,8 +1,8 @@
 use Rattle.std.proofs.Common.{◌≡◌, ◌+◌}
-use Rattle.rpg_effect.specs.Weights.{lines_weight}
+use Rattle.rpg_program.specs.Weights.{lines_weight}
 use Rattle.rpg_machine_lines.proofs.Weighing.{weight_left}
 use Rattle.rpg_machine_lines.specs.Weighed.{weighed}
-use Rattle.rpg_object_program.specs.Object.{lines_of, seen}
+use Rattle.rpg_program.specs.Object.{lines_of, seen}
 use Rattle.rpg_machine_lines.proofs.weights.lines_weight.Given as goal
 
 abbrev pub invariant-loop-line : goal.invariant-loop-line

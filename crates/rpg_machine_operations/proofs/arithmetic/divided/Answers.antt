@@ -5,9 +5,9 @@ use Rattle.std.specs.Ordering.{int_eq}
 use Rattle.rpg_decimal_words.specs.Fraction.{Fraction, over, stored_number}
 use Rattle.rpg_decimal.specs.Num.{value_of}
 use Rattle.rpg_decimal.specs.declared.num.Target.{Target}
-use Rattle.rpg_effect.specs.Act.{divided, stored_value}
-use Rattle.rpg_effect.specs.Forms.{decimals_of, length_of}
-use Rattle.rpg_effect.specs.declared.form.FieldForm.{FieldForm}
+use Rattle.rpg_program.specs.Act.{divided, stored_value}
+use Rattle.rpg_program.specs.Forms.{decimals_of, length_of}
+use Rattle.rpg_program.specs.declared.form.FieldForm.{FieldForm}
 use Rattle.rpg_memory.specs.Memory.{forms_in}
 use Rattle.rpg_machine_operations.proofs.arithmetic.divided.Goals as goal
 

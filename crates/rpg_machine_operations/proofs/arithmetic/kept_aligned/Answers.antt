@@ -2,7 +2,7 @@ use Rattle.std.proofs.Common.{◌≡◌, ap, ◌∙◌, rules, to_z, of_z}
 use Rattle.std.specs.Int.{w64, w128}
 use Rattle.rpg_decimal_words.specs.Whole.{fit}
 use Rattle.rpg_decimal.proofs.WholeLemmas.{aligned_same, back_64}
-use Rattle.rpg_effect.specs.Act.{assigned}
+use Rattle.rpg_program.specs.Act.{assigned}
 use Rattle.rpg_machine_operations.proofs.arithmetic.kept_aligned.Goals as goal
 
 pub returns-clause-value : goal.returns-clause-value

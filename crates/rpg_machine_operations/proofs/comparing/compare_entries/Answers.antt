@@ -1,7 +1,7 @@
 use Rattle.std.proofs.Common.{refl, sym, subst, nat_cmp}
-use Rattle.rpg_effect.specs.Act.{act}
-use Rattle.rpg_effect.specs.Ended.{Ended}
-use Rattle.rpg_effect.specs.Ends.{GoesOn}
+use Rattle.rpg_program.specs.Act.{act}
+use Rattle.rpg_program.specs.Ended.{Ended}
+use Rattle.rpg_program.specs.Ends.{GoesOn}
 use Rattle.rpg_memory.specs.Doing.{DidData}
 use Rattle.rpg_machine_operations.proofs.Named.{compare_named}
 use Rattle.rpg_machine_operations.proofs.Rights.{names_like}

@@ -1,8 +1,8 @@
 use Rattle.std.proofs.Common.{◌≡◌, Option, None, Some, refl, sym, ap, ◌∙◌, subst, unwrap_or}
-use Rattle.rpg_effect.specs.Ends.{End, end_of}
-use Rattle.rpg_effect.specs.declared.halt.Halt.TheVariants.{BadIndex}
-use Rattle.rpg_effect.specs.declared.outcome.End as rust
-use Rattle.rpg_effect.specs.declared.outcome.End.TheVariants as answers
+use Rattle.rpg_program.specs.Ends.{End, end_of}
+use Rattle.rpg_program.specs.declared.halt.Halt.TheVariants.{BadIndex}
+use Rattle.rpg_program.specs.declared.outcome.End as rust
+use Rattle.rpg_program.specs.declared.outcome.End.TheVariants as answers
 use Rattle.rpg_machine_operations.specs.Words.{end_if_in_range, operate_in}
 use Rattle.rpg_memory.specs.Doing.{DidData}
 use Rattle.rpg_machine_operations.proofs.operations.operate.Goals as goal

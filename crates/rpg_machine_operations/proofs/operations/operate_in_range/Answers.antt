@@ -1,4 +1,4 @@
-use Rattle.rpg_effect.specs.Rows.{row_of}
+use Rattle.rpg_program.specs.Rows.{row_of}
 use Rattle.rpg_machine_operations.proofs.Doing.{sought_positions}
 use Rattle.rpg_machine_operations.proofs.Rights.{resolvable_table, right_operands}
 use Rattle.rpg_machine_operations.proofs.operations.operate_in_range.Goals as goal

@@ -1,7 +1,7 @@
 use Rattle.std.proofs.Common.{ℕ, List, ap, ◌∙◌, length, subst, sym}
 use Rattle.std.specs.Prelude.{All}
 use Rattle.rpg_machine_operations.proofs.Characters.{over_characters}
-use Rattle.rpg_object_program.specs.Kept.{IsCharacter}
+use Rattle.rpg_program.specs.Kept.{IsCharacter}
 use Rattle.rpg_machine_operations.proofs.Overlays.{over_length}
 use Rattle.rpg_machine_operations.proofs.places.move_to_text.Goals as goal
 

@@ -1,8 +1,8 @@
 use Rattle.std.proofs.Common.{◌∙◌, sym, ◌-◌, ◌≤◌, arith}
-use Rattle.rpg_effect.specs.Act.{order_at}
-use Rattle.rpg_effect.proofs.Searches.{last_here, last_earlier, last_none}
+use Rattle.rpg_program.specs.Act.{order_at}
+use Rattle.rpg_program.proofs.Searches.{last_here, last_earlier, last_none}
 use Rattle.rpg_machine_operations.proofs.searching.last_one.Goals as goal
-use Rattle.rpg_effect.specs.Forms.{form_at}
+use Rattle.rpg_program.specs.Forms.{form_at}
 
 pub returns-then-stands : goal.returns-then-stands
 returns-then-stands g c =

@@ -1,8 +1,8 @@
 use Rattle.std.proofs.Common.{◌≡◌, ◌-◌}
-use Rattle.rpg_effect.specs.Act.{order_at}
-use Rattle.rpg_effect.specs.Search.{last_one, positions}
+use Rattle.rpg_program.specs.Act.{order_at}
+use Rattle.rpg_program.specs.Search.{last_one, positions}
 use Rattle.rpg_machine_operations.proofs.searching.last_one.Given as goal
-use Rattle.rpg_effect.specs.Forms.{form_at}
+use Rattle.rpg_program.specs.Forms.{form_at}
 
 abbrev pub invariant-positions : goal.invariant-positions
 invariant-positions g l =

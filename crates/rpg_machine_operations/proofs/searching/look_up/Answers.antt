@@ -1,6 +1,6 @@
 use Rattle.std.proofs.Common.{subst, sym, nat_cmp}
-use Rattle.rpg_effect.specs.Ended.{Ended}
-use Rattle.rpg_effect.specs.Ends.{end_of}
+use Rattle.rpg_program.specs.Ended.{Ended}
+use Rattle.rpg_program.specs.Ends.{end_of}
 use Rattle.rpg_machine_operations.proofs.Looking.{looked_up_named}
 use Rattle.rpg_machine_operations.proofs.Rights.{names_like}
 use Rattle.rpg_machine_operations.proofs.searching.look_up.Goals as goal

@@ -1,12 +1,12 @@
 use Rattle.std.proofs.Common.{◌≡◌, ◌∙◌, ap, refl, true}
-use Rattle.rpg_effect.specs.Act.{found_shown}
-use Rattle.rpg_effect.specs.Forms.{entries_of, kind_of}
-use Rattle.rpg_effect.specs.Rows.{holds_position}
-use Rattle.rpg_effect.specs.Showing.{shown_if_any}
+use Rattle.rpg_program.specs.Act.{found_shown}
+use Rattle.rpg_program.specs.Forms.{entries_of, kind_of}
+use Rattle.rpg_program.specs.Rows.{holds_position}
+use Rattle.rpg_program.specs.Showing.{shown_if_any}
 use Rattle.rpg_memory.specs.Memory.{Working, with_on}
 use Rattle.rpg_machine_operations.proofs.Finding.{found_fits, looked}
 use Rattle.rpg_machine_operations.proofs.searching.search_and_place.Goals as goal
-use Rattle.rpg_effect.specs.Forms.{form_at}
+use Rattle.rpg_program.specs.Forms.{form_at}
 
 pub place-requires-clause-fits : goal.place-requires-clause-fits
 place-requires-clause-fits g c =

@@ -1,6 +1,6 @@
 use Rattle.std.proofs.Common.{◌≡◌, ◌≤◌, rules, to_z, of_z}
 use Rattle.std.specs.Int.{w64, w128}
-use Rattle.rpg_effect.specs.World.{number_at}
+use Rattle.rpg_program.specs.World.{number_at}
 use Rattle.rpg_machine_operations.proofs.Sums.{sum_next}
 use Rattle.rpg_machine_operations.proofs.summing.sum.Goals as goal
 

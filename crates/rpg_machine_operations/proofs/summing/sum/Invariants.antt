@@ -1,6 +1,6 @@
 use Rattle.std.proofs.Common.{◌≡◌, ◌≤◌, ◌-◌, ◌*◌, ◌^◌, unsigned_abs}
-use Rattle.rpg_effect.specs.Act.{sum_to}
-use Rattle.rpg_effect.specs.World.{number_at}
+use Rattle.rpg_program.specs.Act.{sum_to}
+use Rattle.rpg_program.specs.World.{number_at}
 use Rattle.rpg_machine_operations.proofs.summing.sum.Given as goal
 
 abbrev pub invariant-entries : goal.invariant-entries

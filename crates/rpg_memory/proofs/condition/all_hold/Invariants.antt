@@ -1,5 +1,5 @@
 use Rattle.std.proofs.Common.{◌≡◌, drop}
-use Rattle.rpg_effect.specs.World.{all_hold}
+use Rattle.rpg_program.specs.World.{all_hold}
 use Rattle.rpg_memory.proofs.condition.all_hold.Given as goal
 
 abbrev pub invariant-conditions : goal.invariant-conditions

@@ -1,5 +1,5 @@
 use Rattle.std.proofs.Common.{refl, arith}
-use Rattle.rpg_object_program.specs.Object.{seen}
+use Rattle.rpg_program.specs.Object.{seen}
 use Rattle.rpg_object.specs.Program.{first_fault}
 use Rattle.rpg_object.proofs.ObjectLaws.{all_takes, all_within, only_one, no_fault}
 use Rattle.rpg_object.proofs.PlainPrograms.{program_kept, program_from}

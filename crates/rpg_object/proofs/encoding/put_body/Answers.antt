@@ -1,8 +1,8 @@
 use Rattle.std.proofs.Common.{arith, map}
 use Rattle.std.proofs.lemmas.List.{length-map}
-use Rattle.rpg_effect.specs.Values.{held}
+use Rattle.rpg_program.specs.Values.{held}
 use Rattle.rpg_object_format.specs.Format.{times_with}
-use Rattle.rpg_object_program.specs.Object.{seen}
+use Rattle.rpg_program.specs.Object.{seen}
 use Rattle.rpg_object.specs.Subroutines.{subroutines}
 use Rattle.rpg_object.proofs.FieldLaws.{lengths_kept}
 use Rattle.rpg_object.proofs.FieldsLeft.{as_many}

@@ -1,7 +1,7 @@
 use Rattle.std.proofs.Common.{[], ◌∷◌, map}
 use Rattle.std.proofs.lemmas.List.{map-append}
 use Rattle.std.proofs.lemmas.Result.{err_from_is_err_and}
-use Rattle.rpg_effect.specs.Values.{held}
+use Rattle.rpg_program.specs.Values.{held}
 use Rattle.rpg_object_format.specs.Format.{keep, times_with}
 use Rattle.rpg_object_format.proofs.Loop.{goes_on, ends, is_done}
 use Rattle.rpg_object.specs.FirstValues.{entries_format, value}

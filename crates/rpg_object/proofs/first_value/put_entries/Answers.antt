@@ -1,9 +1,9 @@
 use Rattle.std.proofs.Common.{map, arith, refl}
 use Rattle.std.proofs.lemmas.List.{length-map}
-use Rattle.rpg_effect.specs.Values.{held}
+use Rattle.rpg_program.specs.Values.{held}
 use Rattle.rpg_object_format.specs.Format.{keep, times_with}
 use Rattle.rpg_object_format.proofs.Loop.{writes_on, all_written, mapped-drop, mapped_keeps}
-use Rattle.rpg_object_program.specs.Kept.{IsValueOf}
+use Rattle.rpg_program.specs.Kept.{IsValueOf}
 use Rattle.rpg_object.specs.FirstValues.{entries_format, value}
 use Rattle.rpg_object.proofs.first_value.put_entries.Goals as goal
 

@@ -1,5 +1,5 @@
 use Rattle.std.proofs.Common.{◌≡◌, ◌++◌, drop, map}
-use Rattle.rpg_effect.specs.Values.{held}
+use Rattle.rpg_program.specs.Values.{held}
 use Rattle.rpg_object_format.specs.Format.{keep, spelled_along}
 use Rattle.rpg_object.specs.FirstValues.{value}
 use Rattle.rpg_object.proofs.first_value.put_entries.Given as goal

@@ -1,6 +1,6 @@
 use Rattle.std.proofs.Common.{◌<◌, length, drop, map, arith, ap, ◌+◌}
 use Rattle.std.proofs.lemmas.List.{length-map}
-use Rattle.rpg_effect.specs.Values.{held}
+use Rattle.rpg_program.specs.Values.{held}
 use Rattle.rpg_object_format.specs.Format.{times_with}
 use Rattle.rpg_object_format.proofs.Loop.{writes_on, all_written, mapped-at, mapped-drop}
 use Rattle.rpg_object.specs.FirstValues.{values_format, next_entries, later_fields}

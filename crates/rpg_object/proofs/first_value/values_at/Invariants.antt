@@ -1,5 +1,5 @@
 use Rattle.std.proofs.Common.{◌≡◌, ◌-◌, length, drop, map}
-use Rattle.rpg_effect.specs.Values.{held}
+use Rattle.rpg_program.specs.Values.{held}
 use Rattle.rpg_object_format.specs.Format.{read_times}
 use Rattle.rpg_object_format.proofs.Loop.{with_front}
 use Rattle.rpg_object.specs.FirstValues.{next_entries, later_fields}

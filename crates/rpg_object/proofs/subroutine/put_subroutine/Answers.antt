@@ -1,5 +1,5 @@
 use Rattle.std.proofs.Common.{◌≡◌, length, rules}
-use Rattle.rpg_object_program.specs.Object.{subroutine_row}
+use Rattle.rpg_program.specs.Object.{subroutine_row}
 use Rattle.rpg_object.proofs.SubroutineLaws.{subroutine_written}
 use Rattle.rpg_object.proofs.subroutine.put_subroutine.Goals as goal
 

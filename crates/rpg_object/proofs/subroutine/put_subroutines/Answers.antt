@@ -2,8 +2,8 @@ use Rattle.std.proofs.Common.{◌≤◌, length, map, arith, refl}
 use Rattle.std.proofs.lemmas.List.{length-map}
 use Rattle.rpg_object_format.specs.Format.{keep}
 use Rattle.rpg_object_format.proofs.Loop.{writes_on, all_written, mapped-drop, mapped_keeps}
-use Rattle.rpg_object_program.specs.Kept.{IsSubroutineRow}
-use Rattle.rpg_object_program.specs.Object.{subroutine_row}
+use Rattle.rpg_program.specs.Kept.{IsSubroutineRow}
+use Rattle.rpg_program.specs.Object.{subroutine_row}
 use Rattle.rpg_object.proofs.SubroutineLaws.{each_few, subroutine_text, subroutines_text}
 use Rattle.rpg_object.proofs.subroutine.put_subroutines.Goals as goal
 

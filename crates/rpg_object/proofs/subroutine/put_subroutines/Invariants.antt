@@ -1,6 +1,6 @@
 use Rattle.std.proofs.Common.{◌≡◌, ◌++◌, drop, map}
 use Rattle.rpg_object_format.specs.Format.{keep, spelled_along}
-use Rattle.rpg_object_program.specs.Object.{subroutine_row}
+use Rattle.rpg_program.specs.Object.{subroutine_row}
 use Rattle.rpg_object.proofs.SubroutineLaws.{subroutine_text}
 use Rattle.rpg_object.proofs.subroutine.put_subroutines.Given as goal
 

@@ -3,7 +3,7 @@ use Rattle.std.proofs.lemmas.List.{map-append}
 use Rattle.std.proofs.lemmas.Result.{err_from_is_err_and}
 use Rattle.rpg_object_format.specs.Format.{times_with}
 use Rattle.rpg_object_format.proofs.Loop.{goes_on, ends, is_done}
-use Rattle.rpg_object_program.specs.Object.{subroutine_row}
+use Rattle.rpg_program.specs.Object.{subroutine_row}
 use Rattle.rpg_object.specs.Subroutines.{subroutine, subroutines, left_after}
 use Rattle.rpg_object.proofs.subroutine.subroutines_at.Goals as goal
 

@@ -1,7 +1,7 @@
 use Rattle.std.proofs.Common.{◌≡◌, ◌-◌, map}
 use Rattle.rpg_object_format.specs.Format.{read_times}
 use Rattle.rpg_object_format.proofs.Loop.{with_front}
-use Rattle.rpg_object_program.specs.Object.{subroutine_row}
+use Rattle.rpg_program.specs.Object.{subroutine_row}
 use Rattle.rpg_object.specs.Subroutines.{subroutine, left_after}
 use Rattle.rpg_object.proofs.subroutine.subroutines_at.Given as goal
 

@@ -1,4 +1,4 @@
-use Rattle.rpg_object_program.specs.Object.{line_row}
+use Rattle.rpg_program.specs.Object.{line_row}
 use Rattle.rpg_object_rows.specs.Lines.{line_field}
 use Rattle.rpg_object_rows.proofs.TableTexts.{as_they_are, line_written}
 use Rattle.rpg_object_rows.proofs.output_line.put_line.Goals as goal

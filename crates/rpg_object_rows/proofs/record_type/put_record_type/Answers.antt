@@ -1,4 +1,4 @@
-use Rattle.rpg_object_program.specs.Object.{type_row}
+use Rattle.rpg_program.specs.Object.{type_row}
 use Rattle.rpg_object_rows.specs.Types.{control_field_format, input_field_format, record_code_format}
 use Rattle.rpg_object_rows.proofs.TableTexts.{as_they_are, type_written}
 use Rattle.rpg_object_rows.proofs.record_type.put_record_type.Goals as goal

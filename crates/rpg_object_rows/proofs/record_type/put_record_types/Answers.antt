@@ -2,8 +2,8 @@ use Rattle.std.proofs.Common.{map, arith, refl}
 use Rattle.std.proofs.lemmas.List.{length-map}
 use Rattle.rpg_object_format.specs.Format.{keep, times_with}
 use Rattle.rpg_object_format.proofs.Loop.{writes_on, all_written, mapped-drop, mapped_keeps}
-use Rattle.rpg_object_program.specs.Kept.{IsPlainType, IsTypeRow}
-use Rattle.rpg_object_program.specs.Object.{type_row}
+use Rattle.rpg_program.specs.Kept.{IsPlainType, IsTypeRow}
+use Rattle.rpg_program.specs.Object.{type_row}
 use Rattle.rpg_object_rows.specs.Types.{record_type_format}
 use Rattle.rpg_object_rows.proofs.record_type.put_record_types.Goals as goal
 

@@ -1,6 +1,6 @@
 use Rattle.std.proofs.Common.{◌≡◌, ◌++◌, drop, map}
 use Rattle.rpg_object_format.specs.Format.{keep, spelled_along}
-use Rattle.rpg_object_program.specs.Object.{type_row}
+use Rattle.rpg_program.specs.Object.{type_row}
 use Rattle.rpg_object_rows.specs.Types.{record_type_format}
 use Rattle.rpg_object_rows.proofs.record_type.put_record_types.Given as goal
 

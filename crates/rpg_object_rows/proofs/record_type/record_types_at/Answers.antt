@@ -3,7 +3,7 @@ use Rattle.std.proofs.lemmas.List.{map-append}
 use Rattle.std.proofs.lemmas.Result.{err_from_is_err_and}
 use Rattle.rpg_object_format.specs.Format.{keep, times_with}
 use Rattle.rpg_object_format.proofs.Loop.{goes_on, ends, is_done}
-use Rattle.rpg_object_program.specs.Object.{type_row}
+use Rattle.rpg_program.specs.Object.{type_row}
 use Rattle.rpg_object_rows.specs.Types.{record_type_format}
 use Rattle.rpg_object_rows.proofs.record_type.record_types_at.Goals as goal
 

@@ -1,7 +1,7 @@
 use Rattle.std.proofs.Common.{◌≡◌, ◌-◌, map}
 use Rattle.rpg_object_format.specs.Format.{keep, read_times}
 use Rattle.rpg_object_format.proofs.Loop.{with_front}
-use Rattle.rpg_object_program.specs.Object.{type_row}
+use Rattle.rpg_program.specs.Object.{type_row}
 use Rattle.rpg_object_rows.specs.Types.{record_type_format}
 use Rattle.rpg_object_rows.proofs.record_type.record_types_at.Given as goal
 

@@ -1,5 +1,5 @@
 use Rattle.std.proofs.Common.{refl}
-use Rattle.rpg_object_program.specs.declared.row.Version.TheVariants as versions
+use Rattle.rpg_program.specs.declared.rows.Version.TheVariants as versions
 use Rattle.rpg_object_rows.proofs.TypeLaws.{plain_kept, type_from, type_kept}
 use Rattle.rpg_object_rows.proofs.row_laws.record_types_are_plain.Goals as goal
 

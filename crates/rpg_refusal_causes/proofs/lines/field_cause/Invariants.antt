@@ -1,5 +1,5 @@
 use Rattle.std.proofs.Common.{◌≡◌, drop}
-use Rattle.rpg_object_program.specs.Object.{seen}
+use Rattle.rpg_program.specs.Object.{seen}
 use Rattle.rpg_refusal_causes.specs.First.{first_cause}
 use Rattle.rpg_refusal_causes.specs.LineCauses.{field_cause}
 use Rattle.rpg_refusal_causes.proofs.lines.field_cause.Given as goal

@@ -1,7 +1,7 @@
 use Rattle.std.proofs.Common.{rules, ◌≡◌, ◌-◌, length, map, slice_get, sym, ap, ◌∙◌}
 use Rattle.std.specs.Option.{option_or}
-use Rattle.rpg_object_program.specs.Object.{seen}
-use Rattle.rpg_object_program.specs.declared.section.Section.TheVariants.{Total}
+use Rattle.rpg_program.specs.Object.{seen}
+use Rattle.rpg_program.specs.declared.section.Section.TheVariants.{Total}
 use Rattle.rpg_refusal_causes.proofs.Placing.{either}
 use Rattle.rpg_refusal_causes.specs.PlaceCauses.{placed_in, placed_in_subroutines}
 use Rattle.rpg_verify_rules.proofs.Spanning.{total_span}

@@ -1,7 +1,7 @@
 use Rattle.std.proofs.Common.{rules, ◌≡◌, ◌-◌, length, map, slice_get, sym, ap, ◌∙◌}
 use Rattle.std.specs.Option.{option_or}
-use Rattle.rpg_object_program.specs.Object.{seen}
-use Rattle.rpg_object_program.specs.declared.section.Section.TheVariants.{Detail}
+use Rattle.rpg_program.specs.Object.{seen}
+use Rattle.rpg_program.specs.declared.section.Section.TheVariants.{Detail}
 use Rattle.rpg_refusal_causes.proofs.Placing.{either}
 use Rattle.rpg_refusal_causes.specs.PlaceCauses.{placed_at, placed_after_detail, placed_in}
 use Rattle.rpg_verify_rules.proofs.Spanning.{detail_span}

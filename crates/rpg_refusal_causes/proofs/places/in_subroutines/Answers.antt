@@ -1,9 +1,9 @@
 use Rattle.std.proofs.Common.{rules, ◌≡◌, ◌+◌, ◌-◌, ◌<◌, ◌≤◌, map, length, get_or, slice_get, refl, sym, ap, ◌∙◌, subst, arith}
 use Rattle.std.specs.Option.{option_or}
-use Rattle.rpg_object_program.specs.Object.{seen, subroutine_row}
-use Rattle.rpg_object_program.specs.Sections.{first_in, instructions_in}
-use Rattle.rpg_object_program.specs.Spans.{IsSpan}
-use Rattle.rpg_object_program.specs.declared.section.Section.TheVariants as sections
+use Rattle.rpg_program.specs.Object.{seen, subroutine_row}
+use Rattle.rpg_program.specs.Sections.{first_in, instructions_in}
+use Rattle.rpg_program.specs.Spans.{IsSpan}
+use Rattle.rpg_program.specs.declared.section.Section.TheVariants as sections
 use Rattle.rpg_refusal_causes.proofs.Placing.{either_left}
 use Rattle.rpg_refusal_causes.specs.PlaceCauses.{placed_in, placed_in_subroutines}
 use Rattle.rpg_verify_rules.proofs.Sectioning.{left, fewer_left}

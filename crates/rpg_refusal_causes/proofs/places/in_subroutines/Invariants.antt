@@ -1,6 +1,6 @@
 use Rattle.std.proofs.Common.{◌≡◌, ◌+◌, ◌≤◌, map, drop, slice_get}
-use Rattle.rpg_object_program.specs.Object.{seen, subroutine_row}
-use Rattle.rpg_object_program.specs.Sections.{first_in, instructions_in}
+use Rattle.rpg_program.specs.Object.{seen, subroutine_row}
+use Rattle.rpg_program.specs.Sections.{first_in, instructions_in}
 use Rattle.rpg_refusal_causes.specs.PlaceCauses.{placed_in_subroutines}
 use Rattle.rpg_refusal_causes.proofs.places.in_subroutines.Given as goal
 

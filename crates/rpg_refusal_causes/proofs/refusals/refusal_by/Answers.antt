@@ -1,5 +1,5 @@
 use Rattle.std.proofs.Common.{sym, ◌∙◌}
-use Rattle.rpg_object_program.specs.Object.{seen}
+use Rattle.rpg_program.specs.Object.{seen}
 use Rattle.rpg_refusal_causes.proofs.Exact.{cause_is, never_none}
 use Rattle.rpg_refusal_causes.proofs.refusals.refusal_by.Goals as goal
 

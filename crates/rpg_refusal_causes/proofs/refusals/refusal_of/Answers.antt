@@ -1,4 +1,4 @@
-use Rattle.rpg_object_program.specs.Object.{seen}
+use Rattle.rpg_program.specs.Object.{seen}
 use Rattle.rpg_refusal_causes.proofs.Exact.{found}
 use Rattle.rpg_refusal_causes.specs.Causes.{IsRefusalOf}
 use Rattle.rpg_verify_rules.specs.Accepted.{IsAccepted}

@@ -1,5 +1,5 @@
 use Rattle.std.proofs.Common.{◌≡◌, drop}
-use Rattle.rpg_object_program.specs.Object.{seen}
+use Rattle.rpg_program.specs.Object.{seen}
 use Rattle.rpg_refusal_causes.specs.First.{first_cause}
 use Rattle.rpg_refusal_causes.specs.TypeCauses.{shown_cause}
 use Rattle.rpg_refusal_causes.proofs.types.shown_cause.Given as goal

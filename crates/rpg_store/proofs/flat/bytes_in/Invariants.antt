@@ -1,5 +1,5 @@
 use Rattle.std.proofs.Common.{◌≡◌, ◌+◌, drop}
-use Rattle.rpg_object_program.specs.Kept.{storage_of}
+use Rattle.rpg_program.specs.Kept.{storage_of}
 use Rattle.rpg_store.proofs.flat.bytes_in.Given as goal
 
 abbrev pub invariant-loop-form : goal.invariant-loop-form

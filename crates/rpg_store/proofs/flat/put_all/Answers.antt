@@ -2,10 +2,10 @@ use Rattle.std.proofs.Common.{ℕ, ◌+◌, map, sym, ap, ◌∙◌, subst, arit
 use Rattle.std.proofs.lemmas.List.{length-map}
 use Rattle.std.specs.FinMap as maps
 use Rattle.std.specs.Global.{Vec}
-use Rattle.rpg_effect.specs.Forms.{form_at, length_of}
-use Rattle.rpg_effect.specs.Values.{Value, held}
-use Rattle.rpg_effect.specs.declared.form.FieldForm.{FieldForm}
-use Rattle.rpg_effect.specs.declared.value.Value as entry
+use Rattle.rpg_program.specs.Forms.{form_at, length_of}
+use Rattle.rpg_program.specs.Values.{Value, held}
+use Rattle.rpg_program.specs.declared.form.FieldForm.{FieldForm}
+use Rattle.rpg_program.specs.declared.value.Value as entry
 use Rattle.rpg_store.specs.Filling.{IsLike, MayTakeAll, with_positions}
 use Rattle.rpg_store.specs.Flat.{flat_contents}
 use Rattle.rpg_store.specs.Slots.{forms_of}

@@ -1,6 +1,6 @@
 use Rattle.std.proofs.Common.{◌≡◌, ℕ, ◌+◌, ◌≤◌, drop, map}
 use Rattle.std.specs.FinMap as maps
-use Rattle.rpg_effect.specs.Values.{held}
+use Rattle.rpg_program.specs.Values.{held}
 use Rattle.rpg_store.specs.Filling.{with_positions}
 use Rattle.rpg_store.specs.Flat.{flat_contents}
 use Rattle.rpg_store.specs.Slots.{currents, forms_of}

@@ -1,5 +1,5 @@
 use Rattle.std.proofs.Common.{◌≡◌, ◌∙◌, ℕ, List, ap, sym, subst, rules}
-use Rattle.rpg_object_program.specs.Kept.{storage_of}
+use Rattle.rpg_program.specs.Kept.{storage_of}
 use Rattle.rpg_store.specs.Area.{all_number_bytes, area_slots, parts, zeros, IsArea}
 use Rattle.rpg_store.specs.declared.slot.Slot.{Slot}
 use Rattle.rpg_store.proofs.FirstArea.{zeros_area}

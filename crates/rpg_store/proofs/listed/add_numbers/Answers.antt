@@ -1,8 +1,8 @@
 use Rattle.std.proofs.Common.{◌≡◌, ℤ, ◌++◌, [], ◌∷◌, List, take, map, sym, ap, ◌∙◌, append_assoc, rules, to_z, of_z}
 use Rattle.std.specs.Int.{w64}
 use Rattle.std.proofs.lemmas.List.{map_push, take_more}
-use Rattle.rpg_effect.specs.Values.{held}
-use Rattle.rpg_effect.specs.declared.value.Value as entry
+use Rattle.rpg_program.specs.Values.{held}
+use Rattle.rpg_program.specs.declared.value.Value as entry
 use Rattle.rpg_store.specs.Listed.{number_part}
 use Rattle.rpg_store.proofs.listed.add_numbers.Goals as goal
 

@@ -1,5 +1,5 @@
 use Rattle.std.proofs.Common.{◌≡◌, ◌++◌, map, take}
-use Rattle.rpg_effect.specs.Values.{held}
+use Rattle.rpg_program.specs.Values.{held}
 use Rattle.rpg_store.specs.Listed.{number_part}
 use Rattle.rpg_store.proofs.listed.add_numbers.Given as goal
 

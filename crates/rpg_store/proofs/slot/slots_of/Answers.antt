@@ -1,8 +1,8 @@
 use Rattle.std.proofs.Common.{◌+◌, ◌++◌, [], ◌∷◌, List, false, drop, get_or, sym, ap, ◌∙◌, append_assoc, arith}
 use Rattle.std.proofs.lemmas.List.{at_drop_more}
-use Rattle.rpg_effect.specs.declared.form.Class.TheVariants as classes
-use Rattle.rpg_effect.specs.declared.form.FieldForm.{FieldForm}
-use Rattle.rpg_effect.specs.declared.form.Kind.TheVariants as kinds
+use Rattle.rpg_program.specs.declared.form.Class.TheVariants as classes
+use Rattle.rpg_program.specs.declared.form.FieldForm.{FieldForm}
+use Rattle.rpg_program.specs.declared.form.Kind.TheVariants as kinds
 use Rattle.rpg_store.specs.Slots.{entries_count, slots_from}
 use Rattle.rpg_store.specs.declared.slot.Slot.{Slot}
 use Rattle.rpg_store.proofs.slot.slots_of.Goals as goal

@@ -1,6 +1,6 @@
 use Rattle.std.proofs.Common.{◌≡◌, ◌+◌, ◌≤◌, ◌++◌, max}
-use Rattle.rpg_object_program.specs.Object.{seen}
-use Rattle.rpg_object_program.specs.Sections.{instructions_in}
+use Rattle.rpg_program.specs.Object.{seen}
+use Rattle.rpg_program.specs.Sections.{instructions_in}
 use Rattle.rpg_verify_rules.proofs.Sectioning.{left}
 use Rattle.rpg_verify.specs.Bound.{costs, costs_in, most, most_in, once}
 use Rattle.rpg_verify.proofs.bound.all_costs.Given as goal

@@ -1,5 +1,5 @@
 use Rattle.std.proofs.Common.{◌≡◌, ◌*◌, ap, ◌∙◌, arith}
-use Rattle.rpg_object_program.specs.Object.{seen}
+use Rattle.rpg_program.specs.Object.{seen}
 use Rattle.rpg_verify.proofs.Sizes.{once_few, output_few, paid_by, types_light}
 use Rattle.rpg_verify.specs.Bound.{bound, most}
 use Rattle.rpg_verify.proofs.bound.bound_of.Goals as goal

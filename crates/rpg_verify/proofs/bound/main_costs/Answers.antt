@@ -1,5 +1,5 @@
 use Rattle.std.proofs.Common.{◌≡◌, ◌≤◌, length, ap, arith}
-use Rattle.rpg_object_program.specs.Object.{seen}
+use Rattle.rpg_program.specs.Object.{seen}
 use Rattle.rpg_verify.proofs.Sizes.{under}
 use Rattle.rpg_verify.proofs.bound.main_costs.Goals as goal
 

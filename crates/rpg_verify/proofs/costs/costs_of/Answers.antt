@@ -1,7 +1,7 @@
 use Rattle.std.proofs.Common.{◌≡◌, ◌+◌, ◌≤◌, length, drop, sym, ap, ◌∙◌, subst, arith, length-drop}
 use Rattle.std.specs.Prelude.{slice_index}
-use Rattle.rpg_effect.specs.Forms.{form_at}
-use Rattle.rpg_effect.specs.Weights.{instruction_weight}
+use Rattle.rpg_program.specs.Forms.{form_at}
+use Rattle.rpg_program.specs.Weights.{instruction_weight}
 use Rattle.rpg_verify.specs.Paths.{costs_from}
 use Rattle.rpg_verify.proofs.Sizes.{costs_under}
 use Rattle.rpg_verify.proofs.costs.costs_of.Goals as goal

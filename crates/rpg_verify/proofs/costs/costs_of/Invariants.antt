@@ -1,6 +1,6 @@
 use Rattle.std.proofs.Common.{◌≡◌, ◌+◌, ◌≤◌, length, drop}
-use Rattle.rpg_effect.specs.Forms.{form_at}
-use Rattle.rpg_effect.specs.Weights.{instruction_weight}
+use Rattle.rpg_program.specs.Forms.{form_at}
+use Rattle.rpg_program.specs.Weights.{instruction_weight}
 use Rattle.rpg_verify.specs.Paths.{costs_from}
 use Rattle.rpg_verify.proofs.costs.costs_of.Given as goal
 

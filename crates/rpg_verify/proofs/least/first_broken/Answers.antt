@@ -1,6 +1,6 @@
 use Rattle.std.proofs.Common.{◌≡◌, ℕ, Option, Some, None, MatchOption, sym, subst}
 use Rattle.std.specs.Option.{option_map}
-use Rattle.rpg_object_program.specs.Object.{Object, seen}
+use Rattle.rpg_program.specs.Object.{Object, seen}
 use Rattle.rpg_verify_rules.specs.Accepted.{IsAccepted, IsLeastBroken}
 use Rattle.rpg_verify_rules.specs.Least.{IsLeast}
 use Rattle.rpg_verify_rules.specs.Rules.{broken, rule_number}

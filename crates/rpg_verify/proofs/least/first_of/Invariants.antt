@@ -1,5 +1,5 @@
 use Rattle.std.proofs.Common.{◌≡◌, drop}
-use Rattle.rpg_object_program.specs.Object.{seen}
+use Rattle.rpg_program.specs.Object.{seen}
 use Rattle.rpg_verify_rules.specs.Least.{first_broken}
 use Rattle.rpg_verify_rules.specs.Rules.{rule_number, broken}
 use Rattle.rpg_verify.proofs.least.first_of.Given as goal

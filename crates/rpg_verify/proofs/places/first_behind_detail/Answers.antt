@@ -1,6 +1,6 @@
 use Rattle.std.proofs.Common.{rules, ◌≡◌, ◌+◌, length, Some, sym, ap, ◌∙◌}
-use Rattle.rpg_object_program.specs.Object.{seen}
-use Rattle.rpg_object_program.specs.declared.section.Section.TheVariants.{Total}
+use Rattle.rpg_program.specs.Object.{seen}
+use Rattle.rpg_program.specs.declared.section.Section.TheVariants.{Total}
 use Rattle.rpg_verify_rules.specs.Least.{first_true}
 use Rattle.rpg_verify_rules.specs.PlaceRules.{place_breaks, subroutines_judged}
 use Rattle.rpg_verify_rules.proofs.Sectioning.{in_first, in_later}

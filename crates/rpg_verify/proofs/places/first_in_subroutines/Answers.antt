@@ -1,10 +1,10 @@
 use Rattle.std.proofs.Common.{rules, ◌≡◌, ◌+◌, ◌<◌, ◌≤◌, map, length, get_or, refl, sym, ap, ◌∙◌, subst, arith}
-use Rattle.rpg_object_program.specs.Object.{seen, subroutine_row}
-use Rattle.rpg_object_program.specs.Sections.{first_in, instructions_in}
-use Rattle.rpg_object_program.specs.declared.section.Section.TheVariants as sections
+use Rattle.rpg_program.specs.Object.{seen, subroutine_row}
+use Rattle.rpg_program.specs.Sections.{first_in, instructions_in}
+use Rattle.rpg_program.specs.declared.section.Section.TheVariants as sections
 use Rattle.rpg_verify_rules.specs.Least.{first_true}
 use Rattle.rpg_verify_rules.specs.PlaceRules.{subroutines_judged}
-use Rattle.rpg_object_program.specs.Spans.{IsSpan}
+use Rattle.rpg_program.specs.Spans.{IsSpan}
 use Rattle.rpg_verify_rules.proofs.Sectioning.{left, found_here, found_later, fewer_left}
 use Rattle.rpg_verify_rules.proofs.Spanning.{at_zero, first_behind, subroutine_at, subroutine_span}
 use Rattle.rpg_verify.proofs.places.first_in_subroutines.Goals as goal

@@ -1,6 +1,6 @@
 use Rattle.std.proofs.Common.{◌≡◌, ◌+◌, ◌≤◌, map, drop}
-use Rattle.rpg_object_program.specs.Object.{seen, subroutine_row}
-use Rattle.rpg_object_program.specs.Sections.{first_in, instructions_in}
+use Rattle.rpg_program.specs.Object.{seen, subroutine_row}
+use Rattle.rpg_program.specs.Sections.{first_in, instructions_in}
 use Rattle.rpg_verify_rules.specs.Least.{first_true}
 use Rattle.rpg_verify_rules.specs.PlaceRules.{subroutines_judged}
 use Rattle.rpg_verify.proofs.places.first_in_subroutines.Given as goal

@@ -1,5 +1,5 @@
 use Rattle.std.proofs.Common.{rules, ◌≡◌, length}
-use Rattle.rpg_object_program.specs.Object.{seen}
+use Rattle.rpg_program.specs.Object.{seen}
 use Rattle.rpg_verify_rules.proofs.Spanning.{total_span}
 use Rattle.rpg_verify.proofs.places.first_in_total.Goals as goal
 

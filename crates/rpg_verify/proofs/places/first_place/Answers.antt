@@ -1,6 +1,6 @@
 use Rattle.std.proofs.Common.{Some, sym, ap, ◌∙◌, arith}
-use Rattle.rpg_object_program.specs.Object.{seen}
-use Rattle.rpg_object_program.specs.declared.section.Section.TheVariants.{Detail}
+use Rattle.rpg_program.specs.Object.{seen}
+use Rattle.rpg_program.specs.declared.section.Section.TheVariants.{Detail}
 use Rattle.rpg_verify_rules.specs.Least.{first_true}
 use Rattle.rpg_verify_rules.specs.PlaceRules.{judged_behind_detail, place_breaks}
 use Rattle.rpg_verify_rules.specs.Rules.{broken}

@@ -1,5 +1,5 @@
 use Rattle.std.proofs.Common.{◌≡◌, map, drop}
-use Rattle.rpg_object_program.specs.Object.{subroutine_row}
+use Rattle.rpg_program.specs.Object.{subroutine_row}
 use Rattle.rpg_verify_rules.specs.Least.{first_true}
 use Rattle.rpg_verify_rules.specs.PlaceRules.{bodies_judged}
 use Rattle.rpg_verify.proofs.tables.first_bad_body.Given as goal

@@ -1,6 +1,6 @@
 use Rattle.std.proofs.Common.{◌≡◌, ◌+◌, ◌<◌, not, cond, length, get_or, sym, ap, ◌∙◌, subst, arith}
-use Rattle.rpg_effect.specs.Weights.{exceptions_weight, is_exception, is_in_cycle, overflow_weight}
-use Rattle.rpg_object_program.specs.Object.{lines_of, seen}
+use Rattle.rpg_program.specs.Weights.{exceptions_weight, is_exception, is_in_cycle, overflow_weight}
+use Rattle.rpg_program.specs.Object.{lines_of, seen}
 use Rattle.rpg_verify.proofs.Left.{in_cycle, line_left, weight_left}
 use Rattle.rpg_verify.proofs.Sizes.{exceptions_few, others_few}
 use Rattle.rpg_verify.proofs.weights.line_weights.Goals as goal

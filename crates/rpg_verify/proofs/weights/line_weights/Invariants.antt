@@ -1,6 +1,6 @@
 use Rattle.std.proofs.Common.{◌≡◌, ◌+◌}
-use Rattle.rpg_effect.specs.Weights.{exceptions_weight, is_exception, is_in_cycle, overflow_weight}
-use Rattle.rpg_object_program.specs.Object.{lines_of, seen}
+use Rattle.rpg_program.specs.Weights.{exceptions_weight, is_exception, is_in_cycle, overflow_weight}
+use Rattle.rpg_program.specs.Object.{lines_of, seen}
 use Rattle.rpg_verify.proofs.Left.{weight_left}
 use Rattle.rpg_verify.proofs.weights.line_weights.Given as goal
 

@@ -1,6 +1,6 @@
 use Rattle.std.proofs.Common.{◌≡◌, ◌+◌, ◌<◌, map, drop, length, get_or, subst, arith}
-use Rattle.rpg_effect.specs.Weights.{types_weight}
-use Rattle.rpg_object_program.specs.Object.{seen, type_row}
+use Rattle.rpg_program.specs.Weights.{types_weight}
+use Rattle.rpg_program.specs.Object.{seen, type_row}
 use Rattle.rpg_verify.proofs.Left.{type_left}
 use Rattle.rpg_verify.proofs.Sizes.{types_light}
 use Rattle.rpg_verify.proofs.weights.types_weight.Goals as goal

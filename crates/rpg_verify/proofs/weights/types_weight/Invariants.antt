@@ -1,6 +1,6 @@
 use Rattle.std.proofs.Common.{◌≡◌, ◌+◌, map, drop}
-use Rattle.rpg_effect.specs.Weights.{types_weight}
-use Rattle.rpg_object_program.specs.Object.{type_row}
+use Rattle.rpg_program.specs.Weights.{types_weight}
+use Rattle.rpg_program.specs.Object.{type_row}
 use Rattle.rpg_verify.proofs.weights.types_weight.Given as goal
 
 abbrev pub invariant-loop-record_type : goal.invariant-loop-record_type

@@ -1,5 +1,5 @@
 use Rattle.std.proofs.Common.{sym, ◌∙◌}
-use Rattle.rpg_object_program.specs.Object.{seen}
+use Rattle.rpg_program.specs.Object.{seen}
 use Rattle.rpg_verify_rules.proofs.Rooms.{width_told}
 use Rattle.rpg_verify_rules.proofs.lines.fits_line.Goals as goal
 

@@ -1,6 +1,6 @@
 use Rattle.std.proofs.Common.{rules, ◌≡◌, false, sym, ◌∙◌}
 use Rattle.std.proofs.lemmas.Bool.{and_parts}
-use Rattle.rpg_object_program.specs.Object.{seen}
+use Rattle.rpg_program.specs.Object.{seen}
 use Rattle.rpg_verify_rules.proofs.Rooms.{lacking}
 use Rattle.rpg_verify_rules.proofs.lines.lacks_room.Goals as goal
 

@@ -1,5 +1,5 @@
 use Rattle.std.proofs.Common.{sym, ap, ◌∙◌, not}
-use Rattle.rpg_object_program.specs.Object.{seen}
+use Rattle.rpg_program.specs.Object.{seen}
 use Rattle.rpg_verify_rules.specs.PlaceRules.{holds_found, place_breaks}
 use Rattle.rpg_verify_rules.proofs.places.breaks.Goals as goal
 

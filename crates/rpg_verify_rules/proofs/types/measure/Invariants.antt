@@ -1,5 +1,5 @@
 use Rattle.std.proofs.Common.{◌≡◌, map, drop}
-use Rattle.rpg_object_program.specs.Object.{type_row}
+use Rattle.rpg_program.specs.Object.{type_row}
 use Rattle.rpg_verify_rules.specs.TypeRules.{measure}
 use Rattle.rpg_verify_rules.proofs.types.measure.Given as goal
 

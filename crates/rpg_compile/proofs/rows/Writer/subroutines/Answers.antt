@@ -10,7 +10,7 @@ use Rattle.rpg_compile.specs.Marked.{IsMarkedRow}
 use Rattle.rpg_compile.specs.Numbers.{body_sizes, number_by}
 use Rattle.rpg_compile.specs.Walk.{section_in, subroutines_in}
 use Rattle.rpg_compile.specs.declared.part.Part.TheVariants.{Body}
-use Rattle.rpg_object_program.specs.Object.{SubroutineRow, subroutine_row}
+use Rattle.rpg_program.specs.Object.{SubroutineRow, subroutine_row}
 use Rattle.rpg_compile_program.specs.Table.{key_number}
 
 pub loop-behind-preserved : goal.loop-behind-preserved

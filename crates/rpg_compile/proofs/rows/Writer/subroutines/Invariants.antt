@@ -6,7 +6,7 @@ use Rattle.rpg_compile.specs.Called.{level_at}
 use Rattle.rpg_compile.specs.Marked.{IsMarkedRow}
 use Rattle.rpg_compile.specs.Numbers.{body_sizes, number_by}
 use Rattle.rpg_compile.specs.Walk.{subroutines_in}
-use Rattle.rpg_object_program.specs.Object.{subroutine_row}
+use Rattle.rpg_program.specs.Object.{subroutine_row}
 use Rattle.rpg_compile_program.specs.Table.{key_number}
 
 abbrev pub invariant-loop-behind : goal.invariant-loop-behind

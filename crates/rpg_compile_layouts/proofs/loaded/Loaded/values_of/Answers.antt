@@ -1,6 +1,6 @@
 use Rattle.std.proofs.Common.{◌≡◌, List, None, Some, map, subst}
 use Rattle.std.specs.Prelude.{IfOk}
-use Rattle.rpg_effect.specs.Values.{Value, held}
+use Rattle.rpg_program.specs.Values.{Value, held}
 use Rattle.rpg_compile_layouts.proofs.LoadedLemmas.{field_found}
 use Rattle.rpg_compile_layouts.proofs.loaded.Loaded.values_of.Goals as goal
 

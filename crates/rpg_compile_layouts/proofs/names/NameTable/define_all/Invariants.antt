@@ -1,5 +1,5 @@
 use Rattle.std.proofs.Common.{◌≡◌, drop, map}
-use Rattle.rpg_effect.specs.Values.{held}
+use Rattle.rpg_program.specs.Values.{held}
 use Rattle.rpg_compile_program.specs.Data.{field_values}
 use Rattle.rpg_compile_program.specs.Table.{name_forms, with_definitions}
 use Rattle.rpg_compile_layouts.proofs.names.NameTable.define_all.Given as goal

@@ -1,5 +1,5 @@
 use Rattle.std.proofs.Common.{◌≡◌, drop, map}
-use Rattle.rpg_effect.specs.Values.{held}
+use Rattle.rpg_program.specs.Values.{held}
 use Rattle.rpg_compile_program.specs.Data.{field_values}
 use Rattle.rpg_cards.specs.Names.{definitions}
 use Rattle.rpg_compile_program.specs.Table.{defined_fields, name_forms, with_definitions}

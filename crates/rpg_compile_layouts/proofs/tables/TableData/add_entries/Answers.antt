@@ -1,6 +1,6 @@
 use Rattle.std.proofs.Common.{[], ◌∷◌, ◌∙◌, ap, map}
 use Rattle.std.proofs.lemmas.List.{map-append}
-use Rattle.rpg_effect.specs.Values.{held}
+use Rattle.rpg_program.specs.Values.{held}
 use Rattle.rpg_compile_layouts.proofs.TableLemmas.{values_on_card-more}
 use Rattle.rpg_compile_program.specs.Data.{entry_value}
 use Rattle.rpg_compile_layouts.proofs.tables.TableData.add_entries.Goals as goal

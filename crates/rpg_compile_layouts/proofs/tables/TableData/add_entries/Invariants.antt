@@ -1,5 +1,5 @@
 use Rattle.std.proofs.Common.{◌≡◌, ◌++◌, map}
-use Rattle.rpg_effect.specs.Values.{held}
+use Rattle.rpg_program.specs.Values.{held}
 use Rattle.rpg_compile_layouts.specs.Tables.{values_on_card}
 use Rattle.rpg_compile_layouts.proofs.tables.TableData.add_entries.Given as goal
 

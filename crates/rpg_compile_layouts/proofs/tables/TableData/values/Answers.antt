@@ -1,8 +1,8 @@
 use Rattle.std.proofs.Common.{◌≡◌, ◌∙◌, ◌+◌, ◌++◌, Global, Some, None, Vec, ap, drop, map, sym}
 use Rattle.rpg_cards.specs.Cards.{data_on}
 use Rattle.rpg_cards.specs.Groups.{data_role, followers}
-use Rattle.rpg_effect.specs.Values.{held}
-use Rattle.rpg_effect.specs.declared.value.Value.{Value}
+use Rattle.rpg_program.specs.Values.{held}
+use Rattle.rpg_program.specs.declared.value.Value.{Value}
 use Rattle.rpg_compile_layouts.proofs.TableLemmas.{at_card, values_in}
 use Rattle.rpg_faults_data.proofs.DeckLemmas.{texts-card, texts-other}
 use Rattle.rpg_sheet_specs.specs.declared.data.DataSpec.TheVariants as deck

@@ -1,6 +1,6 @@
 use Rattle.std.proofs.Common.{◌≡◌, ◌++◌, drop, map}
 use Rattle.rpg_cards.specs.Groups.{data_role, followers}
-use Rattle.rpg_effect.specs.Values.{held}
+use Rattle.rpg_program.specs.Values.{held}
 use Rattle.rpg_compile_layouts.proofs.TableLemmas.{values_in}
 use Rattle.rpg_compile_layouts.specs.Tables.{values_on}
 use Rattle.rpg_compile_layouts.proofs.tables.TableData.values.Given as goal

@@ -13,10 +13,10 @@ use Rattle.rpg_cycle_records.specs.Waiting.{Inputs}
 use Rattle.rpg_cycle.specs.Selecting.{RenewsLeft}
 use Rattle.rpg_cycle.specs.Stages.{Going, Ended, is_going, job_end, stage_of}
 use Rattle.rpg_machine.specs.Running.{refilled}
-use Rattle.rpg_object_program.specs.Object.{Object}
+use Rattle.rpg_program.specs.Object.{Object}
 use Rattle.rpg_verify.specs.Bound.{bound}
 use Rattle.rpg_cycle.proofs.Growing.{and_grows}
-use Rattle.rpg_effect.specs.Fronts.{OnlyGrows}
+use Rattle.rpg_program.specs.Fronts.{OnlyGrows}
 use Rattle.rpg_cycle.proofs.jobs.Job.cycle_on.Goals as goal
 
 pub returns-in-Ok-clause-done : goal.returns-in-Ok-clause-done

@@ -2,11 +2,11 @@ use Rattle.std.proofs.Common.{◌≡◌, ℕ, ◌+◌, ◌<◌, List, All, lengt
 use Rattle.std.proofs.lemmas.List.{length-map}
 use Rattle.std.proofs.lemmas.Option.{slice_get-get_or, slice_get-map}
 use Rattle.std.specs.Option.{option_map, option_map_or}
-use Rattle.rpg_effect.specs.Ends.{end_of}
-use Rattle.rpg_effect.specs.Forms.{form_at}
-use Rattle.rpg_effect.specs.Input.{TypeRow, input_fault, record_in}
-use Rattle.rpg_effect.specs.declared.input.InputField.{InputField}
-use Rattle.rpg_effect.specs.declared.input.InputFile.TheVariants.{Primary}
+use Rattle.rpg_program.specs.Ends.{end_of}
+use Rattle.rpg_program.specs.Forms.{form_at}
+use Rattle.rpg_program.specs.Input.{TypeRow, input_fault, record_in}
+use Rattle.rpg_program.specs.declared.input.InputField.{InputField}
+use Rattle.rpg_program.specs.declared.input.InputFile.TheVariants.{Primary}
 use Rattle.rpg_machine.proofs.Records.{record_filled}
 use Rattle.rpg_machine.specs.Ready.{IsReady}
 use Rattle.rpg_machine_lines.specs.Ready.{IsNear}
@@ -15,7 +15,7 @@ use Rattle.rpg_machine.specs.Outputs.{FillsFields, length_at}
 use Rattle.rpg_machine.specs.Running.{Did, Running}
 use Rattle.rpg_machine.specs.State.{running_of}
 use Rattle.rpg_memory.specs.Memory.{Working, held_of}
-use Rattle.rpg_object_program.specs.Object.{Object, input_length, seen, type_row}
+use Rattle.rpg_program.specs.Object.{Object, input_length, seen, type_row}
 use Rattle.rpg_verify_rules.proofs.Values.{one_of_all}
 use Rattle.rpg_verify_rules.specs.Sound.{IsSound, IsSoundType}
 use Rattle.rpg_machine.proofs.machine.Machine.fill_fields.Goals as goal

@@ -1,7 +1,7 @@
 use Rattle.std.proofs.Common.{[], ◌∷◌, ap, sym, ◌∙◌, subst, refl, append-nil}
-use Rattle.rpg_effect.proofs.Fronts.{grows_not}
-use Rattle.rpg_effect.specs.Fronts.{OnlyGrows}
-use Rattle.rpg_effect.specs.Put.{Bytes}
+use Rattle.rpg_program.proofs.Fronts.{grows_not}
+use Rattle.rpg_program.specs.Fronts.{OnlyGrows}
+use Rattle.rpg_program.specs.Put.{Bytes}
 use Rattle.rpg_machine.specs.Running.{Running}
 use Rattle.rpg_machine_lines.proofs.Growing.{grows_print}
 use Rattle.rpg_machine_lines.specs.Outputs.{output_of}

@@ -3,7 +3,7 @@ use Rattle.rpg_machine_lines.specs.Plans.{IsPlanOf}
 use Rattle.rpg_machine_lines.specs.Ready.{IsNear}
 use Rattle.rpg_machine_lines.specs.Right.{AreRightLines, HasLineRoom}
 use Rattle.rpg_machine.specs.Running.{Running}
-use Rattle.rpg_object_program.specs.Object.{Object}
+use Rattle.rpg_program.specs.Object.{Object}
 use Rattle.rpg_machine.proofs.machine.Machine.output.Goals as goal
 
 pub put_out-requires-clause-lines : goal.put_out-requires-clause-lines

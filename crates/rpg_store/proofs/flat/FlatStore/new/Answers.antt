@@ -1,8 +1,8 @@
 use Rattle.std.proofs.Common.{◌≡◌, List, map, length, sym, ap, ◌∙◌, subst, arith}
 use Rattle.std.proofs.lemmas.List.{length-map}
-use Rattle.rpg_effect.specs.Values.{Value, held}
-use Rattle.rpg_object_program.specs.Kept.{storage_of}
-use Rattle.rpg_object_program.specs.Object.{Object}
+use Rattle.rpg_program.specs.Values.{Value, held}
+use Rattle.rpg_program.specs.Kept.{storage_of}
+use Rattle.rpg_program.specs.Object.{Object}
 use Rattle.rpg_store.specs.Area.{all_number_bytes, area_slots, zeros}
 use Rattle.rpg_store.specs.Filling.{with_fields, MayTakeFields}
 use Rattle.rpg_store.specs.Flat.{Flat, flat_contents}

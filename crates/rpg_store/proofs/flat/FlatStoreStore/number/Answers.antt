@@ -1,6 +1,6 @@
 use Rattle.std.proofs.Common.{◌≡◌, length, slice_range, sym, ap, ◌∙◌, subst, arith, Some, rules}
 use Rattle.rpg_decimal_words.specs.Zoned.{spelled_number}
-use Rattle.rpg_effect.specs.Values.{Number}
+use Rattle.rpg_program.specs.Values.{Number}
 use Rattle.rpg_store.specs.Area.{bytes_in}
 use Rattle.rpg_store.specs.Written.{IsWritten}
 use Rattle.rpg_store.proofs.ByPart.{is_number}

@@ -1,8 +1,8 @@
 use Rattle.std.proofs.Common.{◌≡◌, ◌<◌, ◌^◌, ℕ, ℤ, length, sym, ap, ◌∙◌, subst, arith, unsigned_abs}
 use Rattle.std.proofs.Math.Facts.{to_z-of_z}
 use Rattle.std.specs.FinMap as maps
-use Rattle.rpg_effect.specs.Forms.{form_at, length_of}
-use Rattle.rpg_effect.specs.Values.{Value, Number}
+use Rattle.rpg_program.specs.Forms.{form_at, length_of}
+use Rattle.rpg_program.specs.Values.{Value, Number}
 use Rattle.rpg_store.specs.Area.{bytes_in, parts, IsArea}
 use Rattle.rpg_store.specs.Flat.{Flat, flat_contents}
 use Rattle.rpg_store.specs.Slots.{currents, forms_of}

@@ -1,5 +1,5 @@
 use Rattle.std.proofs.Common.{◌≡◌, length, slice_range, sym, ap, ◌∙◌, arith, Some}
-use Rattle.rpg_effect.specs.Values.{Text}
+use Rattle.rpg_program.specs.Values.{Text}
 use Rattle.rpg_store.specs.Area.{bytes_in}
 use Rattle.rpg_store.proofs.InArea.{found, is_entry, of_store, text_is}
 use Rattle.rpg_store.proofs.Listing.{text_there}

@@ -1,6 +1,6 @@
 use Rattle.std.proofs.Common.{◌≡◌, length, refl, sym, ap, ◌∙◌, subst, arith, Some}
 use Rattle.std.specs.FinMap as maps
-use Rattle.rpg_effect.specs.Values.{Value, Text}
+use Rattle.rpg_program.specs.Values.{Value, Text}
 use Rattle.rpg_store.specs.Area.{bytes_in, parts, start, IsArea}
 use Rattle.rpg_store.specs.Flat.{Flat, flat_contents, flat_with_text, written_at}
 use Rattle.rpg_store.proofs.ByPart.{is_text, text_keeps, written_there}

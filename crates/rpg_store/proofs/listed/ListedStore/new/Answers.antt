@@ -1,8 +1,8 @@
 use Rattle.std.proofs.Common.{◌≡◌, ◌≤◌, Global, List, Vec, map, sym, ap, ◌∙◌, subst, arith}
-use Rattle.rpg_effect.specs.Values.{held}
-use Rattle.rpg_effect.specs.declared.value.Value as entry
-use Rattle.rpg_effect.specs.declared.form.FieldForm.{FieldForm}
-use Rattle.rpg_object_program.specs.Object.{Object}
+use Rattle.rpg_program.specs.Values.{held}
+use Rattle.rpg_program.specs.declared.value.Value as entry
+use Rattle.rpg_program.specs.declared.form.FieldForm.{FieldForm}
+use Rattle.rpg_program.specs.Object.{Object}
 use Rattle.rpg_store.specs.Contents.{by_entry}
 use Rattle.rpg_store.specs.First.{joined_values}
 use Rattle.rpg_store.specs.Listed.{joined, number_part, text_part}

@@ -1,6 +1,6 @@
 use Rattle.std.proofs.Common.{◌≡◌, ℕ, List, Some, map, sym, ap, ◌∙◌, arith, rules}
 use Rattle.std.proofs.lemmas.Option.{get_or_from_slice_get, slice_get_within}
-use Rattle.rpg_effect.specs.Values.{Number}
+use Rattle.rpg_program.specs.Values.{Number}
 use Rattle.rpg_store.specs.Slots.{spot}
 use Rattle.rpg_store.proofs.Listing.{known_place, of_store, number_at, number_there}
 use Rattle.rpg_store.proofs.listed.ListedStoreStore.number_in.Goals as goal

@@ -2,7 +2,7 @@ use Rattle.std.proofs.Common.{◌≡◌, ℕ, List, map, sym, ap, ◌∙◌, sub
 use Rattle.std.proofs.Math.Facts.{to_z-of_z}
 use Rattle.std.proofs.lemmas.Option.{slice_get_within}
 use Rattle.std.specs.FinMap as maps
-use Rattle.rpg_effect.specs.Values.{Number}
+use Rattle.rpg_program.specs.Values.{Number}
 use Rattle.rpg_store.specs.Contents.{IsEntry}
 use Rattle.rpg_store.specs.Listed.{Listed, listed_contents}
 use Rattle.rpg_store.specs.Slots.{currents, forms_of, spot}

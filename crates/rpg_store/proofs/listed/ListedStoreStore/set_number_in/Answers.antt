@@ -2,7 +2,7 @@ use Rattle.std.proofs.Common.{◌≡◌, ℕ, List, map, ap, ◌∙◌, arith}
 use Rattle.std.proofs.Math.Facts.{to_z-of_z}
 use Rattle.std.proofs.lemmas.Option.{slice_get_within}
 use Rattle.std.specs.FinMap as maps
-use Rattle.rpg_effect.specs.Values.{Number}
+use Rattle.rpg_program.specs.Values.{Number}
 use Rattle.rpg_store.specs.Listed.{Listed, listed_contents}
 use Rattle.rpg_store.specs.Slots.{currents, forms_of, spot}
 use Rattle.rpg_store.proofs.Listing.{known_place, listed, of_store, number_at, number_there, put_number}

@@ -1,7 +1,7 @@
 use Rattle.std.proofs.Common.{◌≡◌, ℕ, List, Some, map, sym, ap, ◌∙◌, subst, arith}
 use Rattle.std.proofs.lemmas.List.{length-map}
 use Rattle.std.proofs.lemmas.Option.{slice_get_within}
-use Rattle.rpg_effect.specs.Values.{Text}
+use Rattle.rpg_program.specs.Values.{Text}
 use Rattle.rpg_store.specs.Contents.{IsEntry}
 use Rattle.rpg_store.specs.Slots.{forms_of, spot}
 use Rattle.rpg_store.specs.declared.slot.Slot.{Slot}

@@ -1,7 +1,7 @@
 use Rattle.std.proofs.Common.{◌≡◌, ℕ, List, Some, map, sym, ap, ◌∙◌, arith}
 use Rattle.std.proofs.lemmas.List.{length-map}
 use Rattle.std.proofs.lemmas.Option.{slice_get_within}
-use Rattle.rpg_effect.specs.Values.{Text}
+use Rattle.rpg_program.specs.Values.{Text}
 use Rattle.rpg_store.specs.Slots.{spot}
 use Rattle.rpg_store.proofs.Listing.{known_place, of_store, text_at, text_read, text_there}
 use Rattle.rpg_store.proofs.listed.ListedStoreStore.text_in.Goals as goal

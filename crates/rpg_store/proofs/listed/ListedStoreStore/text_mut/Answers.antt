@@ -2,7 +2,7 @@ use Rattle.std.proofs.Common.{◌≡◌, ℕ, List, Some, length, map, refl, sym
 use Rattle.std.proofs.lemmas.List.{length-map}
 use Rattle.std.proofs.lemmas.Option.{slice_get_within}
 use Rattle.std.specs.FinMap as maps
-use Rattle.rpg_effect.specs.Values.{Text}
+use Rattle.rpg_program.specs.Values.{Text}
 use Rattle.rpg_store.specs.Contents.{IsEntry}
 use Rattle.rpg_store.specs.Listed.{Listed, listed_contents, listed_with_text}
 use Rattle.rpg_store.specs.Slots.{forms_of, spot}

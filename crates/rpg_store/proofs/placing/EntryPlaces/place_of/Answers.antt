@@ -1,5 +1,5 @@
 use Rattle.std.proofs.Common.{List, sym, ap, ◌∙◌, subst}
-use Rattle.rpg_effect.specs.declared.form.FieldForm.{FieldForm}
+use Rattle.rpg_program.specs.declared.form.FieldForm.{FieldForm}
 use Rattle.rpg_store.proofs.BySlot.{spot_place}
 use Rattle.rpg_store.specs.Contents.{IsEntry, IsEntryAt}
 use Rattle.rpg_store.specs.Slots.{forms_of, spot}

@@ -3,7 +3,7 @@ use Rattle.std.specs.Prelude.{nat_eq}
 use Rattle.std.specs.Cmp.Lexicographic.{pointwise}
 use Rattle.std.proofs.lemmas.List.Sums.{sum_by-append}
 use Rattle.indexmap.proofs.CallerLemmas.{insert_entry-new}
-use Rattle.rpg_effect.specs.Forms.{size_of}
+use Rattle.rpg_program.specs.Forms.{size_of}
 use Rattle.rpg_symbols.proofs.symbols.Symbols.add.Goals as goal
 
 pub invariant_of-self-2 : goal.invariant_of-self-2

@@ -1,7 +1,7 @@
 use Rattle.std.proofs.Common.{rules, ◌≡◌, ◌<◌, length, sym, subst, ap, ◌∙◌, arith}
 use Rattle.std.specs.Prelude.{slice_index}
 use Rattle.std.proofs.lemmas.List.{get_or_read}
-use Rattle.rpg_object_program.specs.Instructions.{weight}
+use Rattle.rpg_program.specs.ObjectInstructions.{weight}
 use Rattle.rpg_verify.proofs.Most.{greatest_at}
 use Rattle.rpg_verify.proofs.Placing.{in_stored, read_stored}
 use Rattle.rpg_verify.specs.Bound.{cost, costs, stretch}

@@ -1,9 +1,0 @@
--- What was put out before isn't lost by what is put out after it, whether that goes well or not.
-use Rattle.std.specs.Prelude.{◌≡◌, ◌++◌}
-use Rattle.rpg_effect.specs.Put.{Bytes}
-
--- an output only grew: more bytes follow those that it had
-pub record OnlyGrows (old new : Bytes) : Type 0 where
-  pub more : Bytes
-  pub print : new.print ≡ old.print ++ more.print
-  pub disk : new.disk ≡ old.disk ++ more.disk

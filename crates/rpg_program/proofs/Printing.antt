@@ -1,0 +1,135 @@
+-- One line on the paper, wherever the lines before it ended.
+use Rattle.std.proofs.Common.{◌≡◌, ℕ, ◌+◌, ◌-◌, Bool, true, false, cond, ◌&&◌, nat_le, nat_lt, ◌==◌, eqb, eqb-true, eq-eqb, ne_eqb, add-zero, List, [], ◌∷◌, ◌++◌, Option, Some, refl, sym, ap, ◌∙◌, subst, add_assoc, append_assoc, append-nil}
+use Rattle.std.proofs.Math.Nat.{add_left_cancel}
+use Rattle.std.specs.Ordering.{nat_cmp}
+use Rattle.rpg_paper.proofs.Papers.{way_is}
+use Rattle.rpg_paper.specs.Form.{Standing, StandsAt, page_or_1, way_of}
+use Rattle.rpg_paper.specs.Paper.{Position, spaced, skipped, turns_overflow_on, way}
+use Rattle.rpg_paper.specs.Form.{trimmed}
+use Rattle.rpg_program.proofs.Putting.{quiet_done, then_done}
+use Rattle.rpg_program.specs.Effect.{Leaves}
+use Rattle.rpg_program.specs.Lines.{after_skip, after_space, spaced_after, spaced_before, after_movement, printed_line, put_on}
+use Rattle.rpg_program.specs.Put.{Bytes, Held, IsDone, IsLeft, line_of, on_paper}
+use Rattle.rpg_program.specs.Ends.{GoesOn}
+use Rattle.rpg_program.specs.Showing.{turned_on}
+use Rattle.rpg_program.specs.World.{World}
+use Rattle.rpg_program.specs.declared.line.File.TheVariants.{Printer, Disk}
+use Rattle.rpg_program.specs.declared.line.Spacing.{Spacing}
+
+-- so many pages on
+abbrev pub on : ℕ → Position → Position
+on k p = record { page = k + p.page; line = p.line }
+
+on_by : (k : ℕ) (b : Bool) (page line other : ℕ) →
+    cond {A = Position} b (record { page = k + page; line = line }) (record { page = k + page + 1; line = other })
+    ≡ on k (cond {A = Position} b (record { page = page; line = line }) (record { page = page + 1; line = other }))
+on_by k true page line other = refl
+on_by k false page line other = ap (λ n. record { page = n; line = other }) (add_assoc k page 1)
+
+spaced_on : (k n : ℕ) (p : Position) → spaced n (on k p) ≡ on k (spaced n p)
+spaced_on k n p = on_by k (nat_le (p.line + n) 66) p.page (p.line + n) (p.line + n - 66)
+
+skipped_on : (k line : ℕ) (p : Position) → skipped line (on k p) ≡ on k (skipped line p)
+skipped_on k line p = on_by k (nat_le p.line line) p.page line line
+
+same_by : (k a b : ℕ) (t : Bool) → eqb a b ≡ t → eqb (k + a) (k + b) ≡ t
+same_by k a b true h = eq-eqb (k + a) (k + b) (ap (λ n. k + n) (eqb-true a b h))
+same_by k a b false h = ne_eqb (k + a) (k + b) (λ e. let is : eqb a b ≡ true = eq-eqb a b (add_left_cancel k e) in cc)
+
+same_page : (k a b : ℕ) → eqb (k + a) (k + b) ≡ eqb a b
+same_page k a b = same_by k a b (eqb a b) refl
+
+turns_on : (k : ℕ) (from to : Position) → turns_overflow_on (on k from) (on k to) ≡ turns_overflow_on from to
+turns_on k from to = ap (λ b. b && nat_lt from.line to.line && nat_le 60 to.line) (same_page k to.page from.page)
+
+module _ (overflow : Option ℕ) (previous : Option Position) where
+  -- a movement is the same wherever the lines before ended
+  -- the world after a movement there, into the foot of its page or not
+  abbrev moved : Bool → Position → World nat_cmp → World nat_cmp
+  moved b to w =
+      cond {A = World nat_cmp} b (record { «data» = record w.data { on = turned_on overflow w.data.on }; paper = record w.paper { here = to; has_turned_on = true } })
+      (record w { paper = record w.paper { here = to } })
+
+  moved_by : (b : Bool) (to : Position) (w : World nat_cmp) → moved b (on (page_or_1 previous) to) (on_paper previous w) ≡ on_paper previous (moved b to w)
+  moved_by true to w = refl
+  moved_by false to w = refl
+
+  moved_on : (to : Position) (w : World nat_cmp) → after_movement overflow (on (page_or_1 previous) to) (on_paper previous w) ≡ on_paper previous (after_movement overflow to w)
+  unfolding after_movement
+  moved_on to w = ap (λ b. moved b (on (page_or_1 previous) to) (on_paper previous w)) (turns_on (page_or_1 previous) w.paper.here to)
+      ∙ moved_by (turns_overflow_on w.paper.here to) to w
+
+  space_on : (n : ℕ) (w : World nat_cmp) → after_space overflow n (on_paper previous w) ≡ on_paper previous (after_space overflow n w)
+  space_on n w = ap (λ (p : Position). after_movement overflow p (on_paper previous w)) (spaced_on (page_or_1 previous) n w.paper.here) ∙ moved_on (spaced n w.paper.here) w
+
+  skip_by : (b : Bool) (line : ℕ) (w : World nat_cmp) →
+      cond b (on_paper previous w) (after_movement overflow (skipped line (on (page_or_1 previous) w.paper.here)) (on_paper previous w)) ≡ on_paper previous (cond b w (after_movement overflow (skipped line w.paper.here) w))
+  skip_by true line w = refl
+  skip_by false line w = ap (λ (p : Position). after_movement overflow p (on_paper previous w)) (skipped_on (page_or_1 previous) line w.paper.here) ∙ moved_on (skipped line w.paper.here) w
+
+  skip_on : (line : ℕ) (w : World nat_cmp) → after_skip overflow line (on_paper previous w) ≡ on_paper previous (after_skip overflow line w)
+  skip_on line w = skip_by (line == 0) line w
+
+  pub before_on : (s : Spacing) (w : World nat_cmp) → spaced_before overflow s (on_paper previous w) ≡ on_paper previous (spaced_before overflow s w)
+  before_on s w = ap (after_space overflow s.space_before) (skip_on s.skip_before w) ∙ space_on s.space_before (after_skip overflow s.skip_before w)
+
+  pub after_on : (s : Spacing) (w : World nat_cmp) → spaced_after overflow s (on_paper previous w) ≡ on_paper previous (spaced_after overflow s w)
+  after_on s w = ap (after_space overflow s.space_after) (skip_on s.skip_after w) ∙ space_on s.space_after (after_skip overflow s.skip_after w)
+
+-- the world when a line was placed: pages are counted from it
+abbrev pub from_line : World nat_cmp → World nat_cmp
+from_line w = record w { paper = record w.paper { here = record { page = 0; line = w.paper.here.line } } }
+
+-- the form in front of a line
+abbrev pub form_of : Option ℕ → World nat_cmp → Standing
+form_of last w = record { last = last; begun = w.paper.here.page; line = w.paper.here.line }
+
+bytes_are : (p q : Bytes) → p.print ≡ q.print → p.disk ≡ q.disk → p ≡ q
+bytes_are p q h g = ap (λ x. record { print = x; disk = p.disk }) h ∙ ap (λ x. record { print = q.print; disk = x }) g
+
+-- the line placed where the form stands
+placed_left : (previous : Option Position) (last : Option ℕ) (w : World nat_cmp) (text : List ℕ) (p o : Bytes) (v : Held) → last ≡ line_of previous →
+    v.world ≡ from_line w → v.last ≡ Some w.paper.here.line → o.print ≡ p.print ++ way_of (form_of last w) ++ trimmed text → o.disk ≡ p.disk →
+    IsLeft previous (printed_line (on_paper previous w) text) p GoesOn v o
+placed_left previous last w text p o v l h k b d =
+    let here : Position = on (page_or_1 previous) w.paper.here in
+    let stands : StandsAt (form_of last w) previous here = record { last_line = l; page = refl; present_line = refl } in
+    record {
+      ending = refl;
+      world = ap (on_paper (Some here)) h ∙ ap (λ (n : ℕ). record w { paper = record w.paper { here = record { page = n; line = w.paper.here.line } } }) (add-zero here.page);
+      last = k;
+      bytes = bytes_are _ _
+          (b ∙ ap (λ z. p.print ++ z ++ trimmed text) (sym (way_is (form_of last w) previous here stands))
+          ∙ append_assoc p.print (way previous here) (trimmed text) ∙ ap (λ z. p.print ++ z) (sym (append-nil (way previous here ++ trimmed text))))
+          (d ∙ sym (append-nil p.disk));
+    }
+
+-- a line printed: the form moves, its way and its text are appended, and the form moves on
+pub print_done : (overflow : Option ℕ) (s : Spacing) (text : List ℕ) (w u v : Held) (p o : Bytes) →
+    u.world ≡ from_line (spaced_before overflow s w.world) → u.last ≡ Some (spaced_before overflow s w.world).paper.here.line →
+    v.world ≡ spaced_after overflow s u.world → v.last ≡ u.last →
+    o.print ≡ p.print ++ way_of (form_of w.last (spaced_before overflow s w.world)) ++ trimmed text → o.disk ≡ p.disk →
+    IsDone (put_on overflow Printer s text) w p GoesOn v o
+unfolding put_on
+print_done overflow s text w u v p o h k i l b d =
+    let before = spaced_before overflow s w.world in
+    let placed : IsDone (λ x. printed_line (spaced_before overflow s x) text) w p GoesOn u o = record {
+      behind = λ previous e. subst (λ (x : World nat_cmp). IsLeft previous (printed_line x text) p GoesOn u o) (sym (before_on overflow previous s w.world))
+          (placed_left previous w.last before text p o u e h k b d);
+    } in
+    let moved : IsDone (λ x. Leaves (spaced_after overflow s x)) u o GoesOn v o =
+    quiet_done (spaced_after overflow s) GoesOn u v o l (λ previous. ap (on_paper previous) i ∙ sym (after_on overflow previous s u.world)) in
+    then_done (λ x. printed_line (spaced_before overflow s x) text) (λ x. Leaves (spaced_after overflow s x)) w u v p o o GoesOn placed moved
+
+-- a record written
+pub record_done : (overflow : Option ℕ) (s : Spacing) (text : List ℕ) (w : Held) (p o : Bytes) → o.print ≡ p.print → o.disk ≡ (p.disk ++ text) ++ 10 ∷ [] →
+    IsDone (put_on overflow Disk s text) w p GoesOn w o
+unfolding put_on
+record_done overflow s text w p o h d = record {
+  behind = λ previous e. record {
+    ending = refl;
+    world = refl;
+    last = e;
+    bytes = bytes_are _ _ (h ∙ sym (append-nil p.print)) (d ∙ append_assoc p.disk text (10 ∷ []));
+  };
+}

@@ -1,0 +1,265 @@
+-- Output lines: the text of a line, when it is put out, and its effect on a world.
+use Rattle.std.specs.Prelude.{ℕ, ℤ, pos, ◌+ℤ◌, ◌-◌, Bool, true, false, not, ◌&&◌, ◌==◌, List, [], ◌∷◌, ◌++◌, length, take, drop, replicate, Option, None, Some, if◌then◌else◌}
+use Rattle.std.specs.FinSet as set
+use Rattle.std.specs.List.{list_any}
+use Rattle.std.specs.Ordering.{nat_cmp, int_eq}
+use Rattle.std.specs.declared.cmp.Ordering.{Ordering}
+use Rattle.rpg_paper.specs.Paper.{Position, spaced, skipped, turns_overflow_on}
+use Rattle.rpg_program.specs.Effect.{Effect, Leaves, quiet, then_go, unless_wrong}
+use Rattle.rpg_program.specs.Editing.{how_of, text_of}
+use Rattle.rpg_program.specs.Ends.{End, Fault, GoesOn, Halt, Wrong}
+use Rattle.rpg_program.specs.Entries.{position_of}
+use Rattle.rpg_program.specs.LineFaults.{field_fault, line_fault}
+use Rattle.rpg_program.specs.Showing.{turned_on, turned_off}
+use Rattle.rpg_program.specs.Values.{Value, Number, Text, number_of}
+use Rattle.rpg_program.specs.World.{World, Fields, all_hold, three_hold, value_in, with_data, with_value}
+use Rattle.rpg_program.specs.declared.form.FieldForm.{FieldForm}
+use Rattle.rpg_program.specs.declared.condition.Condition.{Condition}
+use Rattle.rpg_program.specs.declared.line.File.{File}
+use Rattle.rpg_program.specs.declared.line.File.TheVariants.{Printer, Disk}
+use Rattle.rpg_program.specs.declared.line.LineField.{LineField}
+use Rattle.rpg_program.specs.declared.line.Spacing.{Spacing}
+use Rattle.rpg_program.specs.declared.line.Pass.{Pass}
+use Rattle.rpg_program.specs.declared.line.Pass.TheVariants as passes
+use Rattle.rpg_program.specs.declared.line.Source.{Source}
+use Rattle.rpg_program.specs.declared.line.Source.TheVariants as sources
+use Rattle.rpg_program.specs.declared.line.Time.{Time}
+use Rattle.rpg_program.specs.declared.line.Time.TheVariants as times
+
+-- a line with its length, that of its file (0: no such file)
+pub record Line (K : Type 0) : Type 0 where
+  pub file : File
+  pub time : Time
+  pub len : ℕ
+  pub spacing : Spacing
+  pub alternatives : List (List Condition)
+  pub fields : List (LineField K)
+
+-- ---- when a line is put out
+
+-- an indicator is named without N
+abbrev pub names_indicator : ℕ → List Condition → Bool
+names_indicator n cs = list_any (λ c. (c.indicator == n) && not c.is_negated) cs
+
+-- an alternative that names the overflow indicator without N
+abbrev pub names_overflow : Option ℕ → List Condition → Bool
+names_overflow None cs = false
+names_overflow (Some n) cs = names_indicator n cs
+
+-- the passage that an alternative of a line counts at: that of overflow where it names the overflow indicator, else its line's own
+unfoldable pub pass_of : Option ℕ → Time → List Condition → Pass
+pass_of overflow times.Heading cs = if names_overflow overflow cs then passes.OverflowDetail else passes.Detail
+pass_of overflow times.Detail cs = if names_overflow overflow cs then passes.OverflowDetail else passes.Detail
+pass_of overflow times.Total cs = if names_overflow overflow cs then passes.OverflowTotal else passes.Total
+pass_of overflow times.Exception cs = passes.Exception
+
+-- two passages are the same
+abbrev pub is_pass : Pass → Pass → Bool
+is_pass passes.Detail passes.Detail = true
+is_pass passes.Total passes.Total = true
+is_pass passes.OverflowTotal passes.OverflowTotal = true
+is_pass passes.OverflowDetail passes.OverflowDetail = true
+is_pass passes.Exception passes.Exception = true
+is_pass p q = false
+
+-- the alternative counts at this passage, and all its conditions hold
+abbrev pub is_met : Option ℕ → Pass → set.FinSet nat_cmp → Time → List Condition → Bool
+is_met overflow pass on time cs = is_pass (pass_of overflow time cs) pass && all_hold on cs
+
+-- a line is due where one of its alternatives is met
+abbrev pub is_asked : Option ℕ → Pass → set.FinSet nat_cmp → Time → List (List Condition) → Bool
+is_asked overflow pass on time alternatives = list_any (λ cs. is_met overflow pass on time cs) alternatives
+
+-- ---- the form
+
+module _ {K : Type 0} {R : K → K → Ordering} where
+  -- the form moves, and with a movement into the foot of its page, from line 60 on, the overflow indicator turns on
+  unfoldable pub after_movement : Option ℕ → Position → World R → World R
+  after_movement overflow to w =
+      if turns_overflow_on w.paper.here to
+      then record { «data» = record w.data { on = turned_on overflow w.data.on }; paper = record w.paper { here = to; has_turned_on = true } }
+      else record w { paper = record w.paper { here = to } }
+
+  -- n lines on
+  abbrev pub after_space : Option ℕ → ℕ → World R → World R
+  after_space overflow n w = after_movement overflow (spaced n w.paper.here) w
+
+  -- 0 is no skip
+  abbrev pub after_skip : Option ℕ → ℕ → World R → World R
+  after_skip overflow line w = if line == 0 then w else after_movement overflow (skipped line w.paper.here) w
+
+  -- the line is placed where the form is
+  abbrev pub printed_line : World R → List ℕ → Effect R
+  printed_line w text = record { ending = GoesOn; world = w; lines = record { at = w.paper.here; text = text } ∷ []; records = [] }
+
+  -- the text becomes a record of the disk
+  abbrev pub recorded : World R → List ℕ → Effect R
+  recorded w text = record { ending = GoesOn; world = w; lines = []; records = text ∷ [] }
+
+  -- skip before, space before
+  abbrev pub spaced_before : Option ℕ → Spacing → World R → World R
+  spaced_before overflow s w = after_space overflow s.space_before (after_skip overflow s.skip_before w)
+
+  -- skip after, space after
+  abbrev pub spaced_after : Option ℕ → Spacing → World R → World R
+  spaced_after overflow s w = after_space overflow s.space_after (after_skip overflow s.skip_after w)
+
+  -- the form moves, the line is placed, the form moves; a record is written
+  unfoldable pub put_on : Option ℕ → File → Spacing → List ℕ → World R → Effect R
+  put_on overflow Printer s text w = then_go (printed_line (spaced_before overflow s w) text) (λ v. Leaves (spaced_after overflow s v))
+  put_on overflow Disk s text w = recorded w text
+
+-- ---- the text of a line
+
+-- the part, ending at that place
+unfoldable pub laid_over : List ℕ → ℕ → List ℕ → List ℕ
+laid_over text end part = take (end - length part) text ++ part ++ drop end text
+
+-- PAGE is one more, and after 9999 zero
+unfoldable pub next_page : ℤ → ℤ
+next_page n = if int_eq n (pos 9999) then pos 0 else n +ℤ pos 1
+
+-- zero, or blanks
+abbrev pub blanked : Option Value → Value
+blanked None = Number (pos 0)
+blanked (Some (Number n)) = Number (pos 0)
+blanked (Some (Text text)) = Text (replicate (length text) 32)
+
+-- with blank after, the entry that was assembled is to be blanked
+abbrev pub remembered : {K : Type 0} → Bool → K × ℕ → List (K × ℕ) → List (K × ℕ)
+remembered true entry entries = entries ++ entry ∷ []
+remembered false entry entries = entries
+
+-- a line that is being assembled: the fields, of which PAGE changes, the text so far, and the entries that are to be blanked
+pub record Draft {K : Type 0} (R : K → K → Ordering) : Type 0 where
+  pub fields : Fields R
+  pub text : List ℕ
+  pub to_blank : List (K × ℕ)
+
+-- how assembling ended, and the line as far as it came
+pub record Drafted {K : Type 0} (R : K → K → Ordering) : Type 0 where
+  pub ending : End
+  pub draft : Draft R
+
+module _ {K : Type 0} {R : K → K → Ordering} where
+  -- a draft with its end
+  abbrev pub drafted : End → Draft R → Drafted R
+  drafted e d = record { ending = e; draft = d }
+
+  -- the fields become those
+  abbrev pub with_fields : Fields R → World R → World R
+  with_fields fields w = with_data (record w.data { fields = fields }) w
+
+  -- nothing but blanks so far
+  abbrev pub blank_line : ℕ → World R → Draft R
+  blank_line len w = record { fields = w.data.fields; text = replicate len 32; to_blank = [] }
+
+  -- PAGE is made one more before it is printed
+  abbrev pub counted : Source → K × ℕ → Fields R → Fields R
+  counted sources.Value entry fields = fields
+  counted sources.Page entry fields = with_value entry (Number (next_page (number_of (value_in fields entry)))) fields
+
+  -- an entry becomes zero or blank
+  abbrev pub blanked_at : K × ℕ → Fields R → Fields R
+  blanked_at entry fields = with_value entry (blanked (value_in fields entry)) fields
+
+  -- the entries are blanked, one after another
+  abbrev pub blanked_all : List (K × ℕ) → Fields R → Fields R
+  blanked_all [] fields = fields
+  blanked_all (e ∷ es) fields = blanked_all es (blanked_at e fields)
+
+  -- continues if nothing is wrong with a field
+  abbrev pub unless_faulty : Option Fault → Draft R → Drafted R → Drafted R
+  unless_faulty None d e = e
+  unless_faulty (Some f) d e = drafted (Wrong f) d
+
+  -- a draft that goes on is passed to what follows
+  abbrev pub go_on_with : End → Drafted R → (Draft R → Drafted R) → Drafted R
+  go_on_with GoesOn d go = go d.draft
+  go_on_with (Halt k) d go = d
+  go_on_with (Wrong f) d go = d
+
+module _ {K : Type 0} {R : K → K → Ordering} where
+  -- once an overflow output has settled it, the indicator turns off, unless a later movement has turned it on again
+  abbrev pub settled : Option ℕ → World R → World R
+  settled overflow w = record {
+    «data» = record w.data { on = if w.paper.was_overflow && not w.paper.has_turned_on then turned_off overflow w.data.on else w.data.on };
+    paper = record w.paper { was_overflow = false };
+  }
+
+  -- from the end of an overflow output on, movements are watched
+  abbrev pub movements_watched : World R → World R
+  movements_watched w = record w { paper = record w.paper { was_overflow = true; has_turned_on = false } }
+
+module _ {K : Type 0} {R : K → K → Ordering} (forms : K → Option FieldForm) (words : K → List ℕ) where
+  -- the text of an entry is laid over the line; where the index is bad, halt 2
+  abbrev pub laid : Draft R → LineField K → Option ℕ → Drafted R
+  laid d f None = drafted (Halt 2) d
+  laid d f (Some position) =
+      let fields = counted f.source (f.operand.field, position) d.fields in
+      drafted GoesOn (record {
+        fields = fields;
+        text = laid_over d.text f.end (text_of (forms f.operand.field) (how_of words f.editing f.fill) (value_in fields (f.operand.field, position)));
+        to_blank = remembered f.is_blanked (f.operand.field, position) d.to_blank;
+      })
+
+  -- a field whose conditions hold
+  unfoldable pub with_field : set.FinSet nat_cmp → ℕ → Draft R → LineField K → Drafted R
+  with_field on len d f =
+      if three_hold on f.conditions
+      then unless_faulty (field_fault forms words len f) d (laid d f (position_of forms d.fields f.operand))
+      else drafted GoesOn d
+
+  -- all fields in order, until one is faulty or halts
+  abbrev pub assembled : set.FinSet nat_cmp → ℕ → List (LineField K) → Draft R → Drafted R
+  assembled on len [] d = drafted GoesOn d
+  assembled on len (f ∷ fs) d = let one = with_field on len d f in go_on_with one.ending one (assembled on len fs)
+
+  -- the line is put out, and then its entries are blanked, unless a field has stopped it
+  abbrev pub put_out : Option ℕ → Line K → World R → End → Draft R → Effect R
+  put_out overflow l w GoesOn d =
+      then_go (put_on overflow l.file l.spacing d.text (with_fields d.fields w)) (λ v. Leaves (with_fields (blanked_all d.to_blank v.data.fields) v))
+  put_out overflow l w (Halt k) d = quiet (Halt k) (with_fields d.fields w)
+  put_out overflow l w (Wrong f) d = quiet (Wrong f) (with_fields d.fields w)
+
+  -- a line is assembled whole, and then put out
+  unfoldable pub line_out : Option ℕ → Line K → World R → Effect R
+  line_out overflow l w =
+      unless_wrong (line_fault l.len l.spacing) w
+      (let done = assembled w.data.on l.len l.fields (blank_line l.len w) in put_out overflow l w done.ending done.draft)
+
+  -- an effect, if it is due
+  abbrev pub where_asked : Bool → Effect R → World R → Effect R
+  where_asked true e w = e
+  where_asked false e w = Leaves w
+
+  -- a line, if it is due at this passage
+  unfoldable pub one_out : Option ℕ → Pass → Line K → World R → Effect R
+  one_out overflow pass l w = where_asked (is_asked overflow pass w.data.on l.time l.alternatives) (line_out overflow l w) w
+
+  -- the lines of a passage, in order
+  unfoldable pub lines_out : Option ℕ → Pass → List (Line K) → World R → Effect R
+  lines_out overflow pass [] w = Leaves w
+  lines_out overflow pass (l ∷ ls) w = then_go (one_out overflow pass l w) (lines_out overflow pass ls)
+
+  -- ---- the outputs of a cycle
+
+  -- H and D lines, and then the overflow indicator is settled
+  abbrev pub detail_output : Option ℕ → List (Line K) → World R → Effect R
+  detail_output overflow lines w = then_go (lines_out overflow passes.Detail lines w) (λ v. Leaves (settled overflow v))
+
+  -- T lines
+  abbrev pub total_output : Option ℕ → List (Line K) → World R → Effect R
+  total_output overflow lines w = lines_out overflow passes.Total lines w
+
+  -- H and D lines, and from then on movements are watched
+  abbrev pub overflow_details : Option ℕ → List (Line K) → World R → Effect R
+  overflow_details overflow lines w = then_go (lines_out overflow passes.OverflowDetail lines w) (λ v. Leaves (movements_watched v))
+
+  -- total lines at overflow time, and then the heading and detail lines
+  abbrev pub overflow_output : Option ℕ → List (Line K) → World R → Effect R
+  overflow_output overflow lines w = then_go (lines_out overflow passes.OverflowTotal lines w) (overflow_details overflow lines)
+
+  -- E lines
+  abbrev pub exception_output : Option ℕ → List (Line K) → World R → Effect R
+  exception_output overflow lines w = lines_out overflow passes.Exception lines w

@@ -1,0 +1,59 @@
+//! Halts.
+
+ghost use Rattle.std.specs.Prelude.{◌≡◌};
+ghost use Rattle.rpg_program.specs.Halts.{halt_number};
+
+/// Why a job halts.
+#[derive(Clone, Copy, PartialEq, Eq)]
+pub enum Halt {
+    /// A division by zero.
+    ZeroDivisor,
+    /// An index that is no entry of its table or array.
+    BadIndex,
+    /// A record that is of no type.
+    NoRecordType,
+    /// A numeric field that holds a character that is no digit.
+    BadDigit,
+    /// A branch back or a call for which the cycle has no allowance left.
+    AllowanceSpent,
+    /// A halt indicator that is on.
+    IndicatorOn,
+    /// A record that is too long, or has a byte that is no character.
+    BadRecord,
+    /// A record whose match value is lower than the last one of its file.
+    OutOfSequence,
+}
+
+impl Halt {
+    /// The number of a halt.
+    pub fn number(self) -> u8
+        ensures { result ≡ halt_number self }
+    {
+        match self {
+            Halt::ZeroDivisor => 1,
+            Halt::BadIndex => 2,
+            Halt::NoRecordType => 3,
+            Halt::BadDigit => 4,
+            Halt::AllowanceSpent => 5,
+            Halt::IndicatorOn => 6,
+            Halt::BadRecord => 7,
+            Halt::OutOfSequence => 8,
+        }
+    }
+
+    /// What happened, in a sentence.
+    pub fn sentence(self) -> &'static str {
+        match self {
+            Halt::ZeroDivisor => "a calculation divides by zero",
+            Halt::BadIndex => "an index is outside its table or array",
+            Halt::NoRecordType => "the record fits no record type",
+            Halt::BadDigit => "a numeric field holds a character that isn't a digit",
+            Halt::AllowanceSpent =>
+                "the cycle has used up its allowance of backward branches and calls",
+            Halt::IndicatorOn => "a halt indicator is on",
+            Halt::BadRecord => "the record is too long, or a byte of it isn't a character",
+            Halt::OutOfSequence =>
+                "the record's match value is lower than the last one of its file",
+        }
+    }
+}
