@@ -19,7 +19,7 @@ const COLUMNS: usize = 80;
 /// The place of the form type, the first being 0.
 const FORM_TYPE: usize = 5;
 
-/// Whether an item is open, and whether it goes on behind blanks, as a text between apostrophes and a comment do.
+/// Whether an item is open, and whether blanks belong to it, as in a text between apostrophes or in a comment.
 #[derive(Clone, Copy)]
 struct Item {
     is_open: bool,
