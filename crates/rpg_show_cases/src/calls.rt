@@ -11,6 +11,7 @@ use rpg_paper::NoMemory;
 use rpg_sheet::SheetCode;
 use rpg_symbols::{DefineFault, LevelFault};
 use std::cmp::Ordering;
+use std::fmt::Display;
 
 /// Refusals of sources.
 const REFUSALS: [SourceFault; 3] = [
@@ -30,6 +31,12 @@ const REFUSALS: [SourceFault; 3] = [
 /// The greatest number of 15 digits.
 const NINES: i64 = 999_999_999_999_999;
 
+/// Writes what a value or an error says, in a line of its own.
+fn write_line(out: &mut TextWriter, told: impl Display + Drop) {
+    out.write_fmt(told);
+    out.write_char('\n');
+}
+
 /// Writes the places of bad digits, counted in what is read or moved, the first being 0.
 fn write_places(out: &mut TextWriter) {
     let numbers: [Result<i64, BadDigit>; 9] = [
@@ -46,7 +53,7 @@ fn write_places(out: &mut TextWriter) {
     for number in numbers {
         match number {
             Ok(_) => out.write_str("a number\n"),
-            Err(fault) => write!(out, "{fault}\n"),
+            Err(fault) => write_line(out, fault),
         }
     }
 }
@@ -77,10 +84,10 @@ fn write_rests(out: &mut TextWriter) {
     for rest in rests {
         match rest {
             Ok(rest) => {
-                let (value, decimals) = (rest.value, rest.dec.value);
-                write!(out, "{value} of {decimals} decimals\n");
+                out.write_fmt(rest.value);
+                out.fill(" of {} decimals\n", &[rest.dec.value.into()]);
             }
-            Err(fault) => write!(out, "{fault}\n"),
+            Err(fault) => write_line(out, fault),
         }
     }
 }
@@ -103,17 +110,19 @@ fn write_orders(out: &mut TextWriter) {
 }
 
 fn write_errors(out: &mut TextWriter) {
-    write!(out, "{ZeroDivisor}\n{EditFault}\n{NoMemory}\n");
-    let (other, full, none) = (DefineFault::Other, DefineFault::Full, DefineFault::NoMemory);
-    write!(out, "{other}\n{full}\n{none}\n");
-    let cycle = LevelFault::Cycle { call: 1 };
-    write!(out, "{cycle}\n");
+    write_line(out, ZeroDivisor);
+    write_line(out, EditFault);
+    write_line(out, NoMemory);
+    for fault in [DefineFault::Other, DefineFault::Full, DefineFault::NoMemory] {
+        write_line(out, fault);
+    }
+    write_line(out, LevelFault::Cycle { call: 1 });
 }
 
 /// Writes a line for each.
 pub fn write_calls(out: &mut TextWriter) {
     for fault in &REFUSALS {
-        write!(out, "{fault}\n");
+        write_line(out, *fault);
     }
     write_places(out);
     write_rests(out);
