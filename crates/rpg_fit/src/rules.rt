@@ -72,14 +72,15 @@ fn apply_to_calculations(alloc: Global, editor: &mut Editor, rule: Rule) {
 
 /// Applies a rule about record types, pages or overflow.
 fn apply_to_cycle(alloc: Global, editor: &mut Editor, rule: Rule) {
-    match rule {
+    let outcome = match rule {
         Rule::OrTypes => or_types(alloc, editor),
         Rule::Sequence => sequence(alloc, editor),
         Rule::InputArrays => input_arrays(alloc, editor),
         Rule::Pages => pages(alloc, editor),
         Rule::Fetch => fetch(alloc, editor),
-        _ => {}
-    }
+        _ => Ok(()),
+    };
+    settle(editor, outcome);
 }
 
 /// What applies rules to a deck.

@@ -3,7 +3,7 @@
 use rpg_fit_deck::{Card, Editor, Seen, Sentence, View, Word};
 use rpg_fit_words::{
     Array, Calculation, Columns, Group, Indicator, Line, List, NewCard, Operand, Place, Printer,
-    Section, Stop, Time, array_of, arrays, fresh_name, groups, insert_at, is_card,
+    Section, Stop, Time, array_of, arrays, fresh_name, groups, has_overflow, insert_at, is_card,
     is_field_put_first, is_name_used, is_total_skipped_late, lines, printer_of,
 };
 use std::alloc::Global;
@@ -149,19 +149,6 @@ fn check_lines(alloc: Global, view: &View, parts: &[DatePart]) -> Result<(), Sto
     Ok(())
 }
 
-/// Whether a line is put out at overflow.
-fn has_overflow(printer: Option<Printer>, line: &Line) -> bool {
-    let Some(printer) = printer else {
-        return false;
-    };
-    for alternative in line.alternatives.iter() {
-        if printer.is_overflow(line, &alternative.condition) {
-            return true;
-        }
-    }
-    false
-}
-
 /// Rejects parts of the date on a line. `is_early`: overflow may put it out before any total calculation.
 fn check_line(
     printer: Option<Printer>,
@@ -181,10 +168,9 @@ fn check_line(
 
 /// Whether a deck has total calculations or total lines.
 fn has_total(alloc: Global, view: &View) -> Result<bool, Stop> {
-    Ok(
-        has_total_line(lines(alloc, view)?.as_slice())
-            || has_total_group(groups(alloc, view)?.as_slice()),
-    )
+    let lines = lines(alloc, view)?;
+    let groups = groups(alloc, view)?;
+    Ok(has_total_line(lines.as_slice()) || has_total_group(groups.as_slice()))
 }
 
 fn has_total_line(lines: &[Line]) -> bool {

@@ -130,17 +130,7 @@ fn move_entries(
     let work = work_prefix(&now.view, now.seen.number)?;
     let under = under_flag(alloc, &now.view, group, free, false)?;
     let plan = Plan::of(&now.seen, &under, work);
-    let mut cards = under.before;
-    plan.push_moves(&mut cards, moves);
-    let cards = cards.checked()?;
-    let count = Word::of_number(cards.len());
-    replace(
-        editor,
-        group,
-        cards,
-        Sentence::about("MOVEA is % calculations", count),
-    );
-    Ok(())
+    plan.put(editor, group, under.before, moves)
 }
 
 /// Gives the arrays of a MOVEA names with room for an index, in the order of their names.

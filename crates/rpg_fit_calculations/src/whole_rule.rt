@@ -66,37 +66,50 @@ fn is_entry_of(text: &[u8], array: &[u8]) -> bool {
 
 /// Rejects a calculation with whole arrays that can't be done entry by entry.
 fn check(now: &Now, next: Option<&Group>) -> Result<(), Stop> {
+    check_calculation(now)?;
+    check_next(next)?;
+    check_own_entry(now)
+}
+
+/// Rejects an operation that isn't done entry by entry, a result that is no whole array, and resulting indicators.
+fn check_calculation(now: &Now) -> Result<(), Stop> {
     let number = now.seen.number;
     let card = &now.seen.card;
     let operation = card.value(28, 32);
-    let result = Columns::Result.value(card);
     if !is_one_of(operation, &BY_ENTRY) {
         let why = Sentence::about("a whole array beside %", Word::of(operation));
         return Err(Stop::refused(number, why));
     }
-    if !is_whole(now.arrays.as_slice(), result) {
+    if !is_whole(now.arrays.as_slice(), Columns::Result.value(card)) {
         return Err(Stop::refused(number, Sentence::of("a whole array into a field")));
     }
     if !card.is_blank(54, 59) {
         let why = Sentence::of("resulting indicators of a whole array");
         return Err(Stop::refused(number, why));
     }
-    if let Some(group) = next {
-        if group.operation() == b"MVR".as_slice() {
+    Ok(())
+}
+
+/// Rejects MVR as the next calculation.
+fn check_next(next: Option<&Group>) -> Result<(), Stop> {
+    match next {
+        Some(group) if matches!(group.operation(), b"MVR") => {
             let why = Sentence::of("MVR after a DIV of whole arrays");
-            return Err(Stop::refused(group.last.number, why));
+            Err(Stop::refused(group.last.number, why))
         }
+        _ => Ok(()),
     }
-    check_own_entry(card, result, number)
 }
 
 /// Rejects an entry of the result as a factor.
-fn check_own_entry(card: &Card, array: &[u8], number: usize) -> Result<(), Stop> {
+fn check_own_entry(now: &Now) -> Result<(), Stop> {
+    let card = &now.seen.card;
+    let array = Columns::Result.value(card);
     if is_entry_of(Columns::Factor1.value(card), array)
         || is_entry_of(Columns::Factor2.value(card), array)
     {
         let why = "an entry of % as a factor of the whole of it";
-        return Err(Stop::refused(number, Sentence::about(why, Word::of(array))));
+        return Err(Stop::refused(now.seen.number, Sentence::about(why, Word::of(array))));
     }
     Ok(())
 }
@@ -235,24 +248,22 @@ fn by_loop(
     group: &Group,
     entries: usize,
 ) -> Result<(), Stop> {
-    let index = FreshNames::of(b"X#", 2).take(&editor.view(alloc)?, group.last.number)?;
+    let index = fresh_index(alloc, editor, group)?;
     make_rooms(alloc, editor, group, &index)?;
     let now = Now::of(alloc, editor, group)?;
     let under = under_flag(alloc, &now.view, group, free, true)?;
-    match under.flag {
-        Some(flag) => {
-            let frame = Loop::of(&now, under.level, flag, index)?;
-            put_loop(
-                editor,
-                group,
-                &frame,
-                entry_card(&now, frame.base, &index),
-                under.before,
-                entries,
-            )
-        }
-        None => Ok(()),
-    }
+    let Some(flag) = under.flag else {
+        return Ok(());
+    };
+    let frame = Loop::of(&now, under.level, flag, index)?;
+    let entry = entry_card(&now, frame.base, &index);
+    put_loop(editor, group, &frame, entry, under.before, entries)
+}
+
+/// The name of a loop's index.
+fn fresh_index(alloc: Global, editor: &Editor, group: &Group) -> Result<Word, Stop> {
+    let view = editor.view(alloc)?;
+    FreshNames::of(b"X#", 2).take(&view, group.last.number)
 }
 
 /// Puts a loop in the place of a calculation, after some cards.

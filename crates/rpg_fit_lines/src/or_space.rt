@@ -45,7 +45,7 @@ fn split_lines(
 
 /// Whether a card is an OR card with spaces or skips of its own.
 fn has_spaces(seen: &Seen) -> bool {
-    seen.card.columns(14, 15) == b"OR".as_slice() && !seen.card.is_blank(17, 22)
+    matches!(seen.card.columns(14, 15), b"OR") && !seen.card.is_blank(17, 22)
 }
 
 /// The number of a line's first OR card with spaces or skips of its own.

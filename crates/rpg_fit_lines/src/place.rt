@@ -36,8 +36,7 @@ fn place_fields(alloc: Global, editor: &mut Editor, line: &Line) -> Result<(), S
             before.push(field);
         }
     }
-    before.fields.checked()?;
-    Ok(())
+    before.fields.check()
 }
 
 /// The fields of a line before a card, copies among them.

@@ -39,8 +39,7 @@ fn spread_lines(
     for line in lines {
         spread_fields(alloc, editor, &mut deck, line)?;
     }
-    deck.renamed.checked()?;
-    Ok(())
+    deck.renamed.check()
 }
 
 fn spread_fields(
@@ -57,8 +56,7 @@ fn spread_fields(
             None => before.push(deck.span(field)),
         }
     }
-    before.checked()?;
-    Ok(())
+    before.check()
 }
 
 /// Puts a field for each entry in place of a whole array, after other fields of its line.

@@ -74,9 +74,8 @@ impl WideFields {
 
     /// Whether memory sufficed.
     pub fn check(&self) -> Result<(), Stop> {
-        self.fields.checked()?;
-        self.copies.checked()?;
-        Ok(())
+        self.fields.check()?;
+        self.copies.check()
     }
 
     /// The field for a number in a line, to which it is copied before the line is put out.

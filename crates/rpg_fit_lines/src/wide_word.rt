@@ -7,8 +7,8 @@ use crate::wide_field::{PutOut, WideFields};
 use crate::word_form::WordForm;
 use rpg_fit_deck::{Editor, Seen, Sentence, View, Word};
 use rpg_fit_words::{
-    Form, Line, NewCard, Operand, Printer, Stop, Time, form_of, is_card, is_date_part,
-    is_field_put_first, is_total_skipped_late, lines, printer_of,
+    Form, Line, NewCard, Operand, Printer, Stop, Time, form_of, has_overflow, is_card,
+    is_date_part, is_field_put_first, is_total_skipped_late, lines, printer_of,
 };
 use std::alloc::Global;
 
@@ -147,26 +147,13 @@ impl Deck<'_> {
     /// Whether a field may be put out before any calculation.
     fn may_come_early(&self, line: &Line, field: &Seen) -> bool {
         is_field_put_first(self.printer, line, field)
-            || self.is_total_skipped && self.has_overflow(line)
-    }
-
-    /// Whether a line has an alternative of overflow.
-    fn has_overflow(&self, line: &Line) -> bool {
-        let Some(printer) = self.printer else {
-            return false;
-        };
-        for alternative in line.alternatives.iter() {
-            if printer.is_overflow(line, &alternative.condition) {
-                return true;
-            }
-        }
-        false
+            || self.is_total_skipped && has_overflow(self.printer, line)
     }
 
     /// Whether a field may be blanked between its copy and its line: by an earlier line of the same time, or by any where the line has an
     /// alternative of overflow.
     fn may_be_blanked(&self, at: LineAt, name: &[u8]) -> bool {
-        let at_overflow = self.has_overflow(at.line);
+        let at_overflow = has_overflow(self.printer, at.line);
         for (place, line) in self.lines.iter().enumerate() {
             let is_before = place < at.place && is_same_time(line.time, at.line.time);
             if (at_overflow || is_before) && blanks(line, name) {
@@ -187,7 +174,7 @@ impl Deck<'_> {
     ) -> Result<(), Stop> {
         let when = PutOut {
             time: at.line.time,
-            has_overflow: self.has_overflow(at.line),
+            has_overflow: has_overflow(self.printer, at.line),
         };
         let name = wide.field_for(alloc, editor, number, when)?;
         let field = number.field;

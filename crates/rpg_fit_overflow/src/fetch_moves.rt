@@ -1,7 +1,6 @@
 //! How lines become lines that EXCPT puts out, and overflow output where they fetch it.
 
-use crate::overflow::Overflow;
-use crate::page_reset::fetches;
+use crate::overflow::{Overflow, fetches};
 use rpg_fit_deck::{Address, Editor, Sentence, View, Word};
 use rpg_fit_words::{
     Calculation, Condition, FreeIndicators, Indicator, Line, List, NewCard, Place, Stop, Term,

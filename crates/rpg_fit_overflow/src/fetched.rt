@@ -1,22 +1,20 @@
 //! Lines that fetch overflow output: they and all lines of their time are put out by EXCPT.
 
 use crate::fetch_moves::Moves;
-use crate::overflow::Overflow;
-use crate::page_reset::fetches;
+use crate::overflow::{Overflow, fetches, first_fetching};
 use rpg_fit_deck::{Address, Editor, Seen, Sentence, View};
 use rpg_fit_words::{
     Condition, Indicator, IndicatorUse, Line, Stop, Term, Time, indicator_uses, lines,
-    reaches_overflow, settle,
+    reaches_overflow,
 };
 use std::alloc::Global;
 
 /// Puts lines out by EXCPT where some of their time fetch overflow output.
-pub fn fetch(alloc: Global, editor: &mut Editor) {
-    let outcome = fetch_lines(alloc, editor);
-    settle(editor, outcome);
-}
-
-fn fetch_lines(alloc: Global, editor: &mut Editor) -> Result<(), Stop> {
+///
+/// # Errors
+///
+/// The deck is rejected, or memory is refused.
+pub fn fetch(alloc: Global, editor: &mut Editor) -> Result<(), Stop> {
     let view = editor.view(alloc)?;
     rewrite(alloc, editor, &view, lines(alloc, &view)?.as_slice())
 }
@@ -34,16 +32,6 @@ fn rewrite(alloc: Global, editor: &mut Editor, view: &View, lines: &[Line]) -> R
         }
         None => Ok(()),
     }
-}
-
-/// The number of the card of the first line that fetches overflow output.
-fn first_fetching(lines: &[Line]) -> Option<usize> {
-    for line in lines {
-        if fetches(line) {
-            return Some(line.head.number);
-        }
-    }
-    None
 }
 
 /// A deck in which a line fetches overflow output.
@@ -109,8 +97,8 @@ impl Deck<'_> {
 
     /// Refuses a deck that asks for the overflow indicator, or turns it on or off, anywhere but in alternatives of lines.
     fn check_uses(&self, alloc: Global, indicator: Indicator) -> Result<(), Stop> {
-        let uses = indicator_uses(alloc, self.view)?;
-        for one in uses.iter() {
+        let uses = indicator_uses(alloc, self.view);
+        for one in uses.checked()? {
             if one.indicator == indicator && one.form != b'F' && !self.is_alternative(*one) {
                 return Err(Stop::refused(
                     one.number,

@@ -1,7 +1,24 @@
 //! Overflow output.
 
 use rpg_fit_deck::View;
-use rpg_fit_words::{Condition, Indicator, Line, List, Printer, Term, printer_of};
+use rpg_fit_words::{
+    Condition, Indicator, Line, List, Printer, Term, has_overflow, is_overflow, printer_of,
+};
+
+/// Whether a line fetches overflow output.
+pub(crate) fn fetches(line: &Line) -> bool {
+    line.head.card.column(16) == b'F'
+}
+
+/// The number of the card of the first line that fetches overflow output.
+pub(crate) fn first_fetching(lines: &[Line]) -> Option<usize> {
+    for line in lines {
+        if fetches(line) {
+            return Some(line.head.number);
+        }
+    }
+    None
+}
 
 /// What a deck does at overflow.
 #[derive(Clone, Copy)]
@@ -36,10 +53,7 @@ impl Overflow {
 
     /// Whether a line is put out at overflow under a condition.
     pub fn is_output(&self, line: &Line, condition: &Condition) -> bool {
-        match self.printer {
-            Some(printer) => printer.is_overflow(line, condition),
-            None => false,
-        }
+        is_overflow(self.printer, line, condition)
     }
 
     /// Whether a line's condition is one of a kind of its alternatives.
@@ -49,12 +63,7 @@ impl Overflow {
 
     /// Whether a line has an alternative of overflow.
     pub fn has(&self, line: &Line) -> bool {
-        for alternative in line.alternatives.iter() {
-            if self.is_output(line, &alternative.condition) {
-                return true;
-            }
-        }
-        false
+        has_overflow(self.printer, line)
     }
 
     /// Appends the conditions under which a line is put out at overflow, in their order.

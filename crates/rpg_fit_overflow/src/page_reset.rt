@@ -1,22 +1,21 @@
 //! PAGE under conditions: it is printed in any case, and set back to 0 before that where they hold.
 
-use crate::overflow::{Kind, Overflow};
+use crate::overflow::{Kind, Overflow, first_fetching};
 use crate::page_field::{PageField, is_page, page_card};
 use crate::page_steps::{Marks, reset, reset_at_overflow};
 use rpg_fit_deck::{Card, Editor, Sentence, View, Word};
 use rpg_fit_words::{
     Condition, Indicator, Line, List, Stop, Term, Time, is_card, is_field_put_first, is_put_first,
-    is_total_skipped_late, lines, settle,
+    is_total_skipped_late, lines,
 };
 use std::alloc::Global;
 
 /// Sets PAGE back by calculations where it is printed under conditions.
-pub fn pages(alloc: Global, editor: &mut Editor) {
-    let outcome = reset_pages(alloc, editor);
-    settle(editor, outcome);
-}
-
-fn reset_pages(alloc: Global, editor: &mut Editor) -> Result<(), Stop> {
+///
+/// # Errors
+///
+/// The deck is rejected, or memory is refused.
+pub fn pages(alloc: Global, editor: &mut Editor) -> Result<(), Stop> {
     let view = editor.view(alloc)?;
     reset_lines(alloc, editor, &view, lines(alloc, &view)?.as_slice())
 }
@@ -32,25 +31,10 @@ fn reset_lines(
         view,
         overflow,
         lines,
-        fetches: has_fetching(lines),
+        fetches: first_fetching(lines).is_some(),
         is_total_skipped: is_total_skipped_late(alloc, view, overflow.printer, lines)?,
     };
     deck.reset_lines(alloc, editor)
-}
-
-/// Whether a line fetches overflow output.
-pub(crate) fn fetches(line: &Line) -> bool {
-    line.head.card.column(16) == b'F'
-}
-
-/// Whether one of some lines fetches overflow output.
-fn has_fetching(lines: &[Line]) -> bool {
-    for line in lines {
-        if fetches(line) {
-            return true;
-        }
-    }
-    false
 }
 
 /// A deck before any PAGE is set back.

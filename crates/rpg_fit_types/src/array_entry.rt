@@ -25,9 +25,9 @@ struct Shadow {
 pub(crate) struct Filling {
     pub free: FreeIndicators,
     names: FreshNames,
-    shadows: Vec<Shadow>,
+    shadows: List<Shadow>,
     /// The calculations that fill the entries, of all types.
-    pub moves: List<NewCard>,
+    moves: List<NewCard>,
 }
 
 /// An array or an entry on a card: the card, its type's indicator, and the form of an entry.
@@ -51,14 +51,20 @@ impl Filling {
         Filling {
             free: FreeIndicators::new(),
             names: FreshNames::of(b"I#", 6),
-            shadows: Vec::new(alloc),
+            shadows: List::new(alloc),
             moves: List::new(alloc),
         }
     }
 
+    /// The calculations that fill the entries.
+    pub fn calculations(&self) -> Result<&[NewCard], Stop> {
+        self.shadows.check()?;
+        self.moves.checked()
+    }
+
     /// The field that an entry is read into already.
     fn shadow(&self, indicator: Indicator, entry: &Entry) -> Option<Word> {
-        for shadow in self.shadows.iter() {
+        for shadow in self.shadows.as_slice() {
             if shadow.indicator == indicator && is_same(&shadow.entry, entry) {
                 return Some(shadow.field);
             }
@@ -76,7 +82,7 @@ impl Filling {
             indicator: reading.indicator,
             entry: *entry,
             field,
-        })?;
+        });
         self.moves.push(move_to(reading, entry, &field));
         Ok(field)
     }

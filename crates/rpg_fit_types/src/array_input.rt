@@ -2,41 +2,24 @@
 
 use crate::array_entry::{Entry, Filling, Reading, Span};
 use rpg_fit_deck::{Card, Editor, Seen, Sentence, View, Word};
-use rpg_fit_terms::{Array, Indicator, Operand, Stop, array_of, arrays, settle, with_room};
+use rpg_fit_terms::{Array, Indicator, Operand, Stop, array_of, arrays, with_room};
 use rpg_fit_words::{List, Place, RecordType, check_only_type, groups, insert_at, record_types};
 use std::alloc::Global;
 
 /// A field for each entry of an array that is read, and calculations that fill the entries at the front of detail.
-pub fn input_arrays(alloc: Global, editor: &mut Editor) {
-    let outcome = fill_all(alloc, editor);
-    settle(editor, outcome);
-}
-
-fn fill_all(alloc: Global, editor: &mut Editor) -> Result<(), Stop> {
+///
+/// # Errors
+///
+/// The deck is rejected, or memory is refused.
+pub fn input_arrays(alloc: Global, editor: &mut Editor) -> Result<(), Stop> {
     let view = editor.view(alloc)?;
     let types = record_types(alloc, &view)?;
     let arrays = arrays(alloc, &view)?;
-    let mut filling = Filling::new(alloc);
-    for kind in types.iter() {
-        fill_type(
-            alloc,
-            editor,
-            &mut filling,
-            types.as_slice(),
-            arrays.as_slice(),
-            kind,
-        )?;
-    }
-    insert_moves(alloc, editor, &filling)
-}
-
-/// Puts the calculations of all types at the front of detail.
-fn insert_moves(alloc: Global, editor: &mut Editor, filling: &Filling) -> Result<(), Stop> {
-    let moves = filling.moves.checked()?;
-    match moves.first() {
-        Some(first) => insert_at(alloc, editor, Place::DetailFront, moves, first.number),
-        None => Ok(()),
-    }
+    let deck = Deck {
+        types: types.as_slice(),
+        arrays: arrays.as_slice(),
+    };
+    deck.fill_types(alloc, editor)
 }
 
 /// The name and index of an input field.
@@ -49,39 +32,111 @@ fn is_array(seen: &Seen, arrays: &[Array]) -> bool {
     array_of(arrays, field_of(&seen.card).name).is_some()
 }
 
-/// The fields of a type that are arrays or entries.
-fn array_fields(alloc: Global, kind: &RecordType, arrays: &[Array]) -> Result<Vec<Seen>, Stop> {
-    let mut found = List::new(alloc);
-    for field in kind.fields.iter() {
-        if is_array(field, arrays) {
-            found.push(*field);
-        }
-    }
-    found.finish()
+/// A record type that reads arrays, and the indicator that it has now.
+#[derive(Clone, Copy)]
+struct Reader<'a> {
+    kind: &'a RecordType,
+    indicator: Indicator,
 }
 
-/// Reads the arrays of a type.
-fn fill_type(
-    alloc: Global,
-    editor: &mut Editor,
-    filling: &mut Filling,
-    types: &[RecordType],
-    arrays: &[Array],
-    kind: &RecordType,
-) -> Result<(), Stop> {
-    let fields = array_fields(alloc, kind, arrays)?;
-    let with = match fields.first() {
-        Some(first) => first.number,
-        None => return Ok(()),
-    };
-    let indicator = indicator_of(alloc, editor, filling, kind, with)?;
-    check_types(alloc, types, arrays, kind, indicator)?;
-    check_indicator(alloc, editor, kind, indicator)?;
-    for field in fields.iter() {
-        check_field(kind, field)?;
-        fill_field(alloc, editor, filling, field, indicator)?;
+/// A deck before its arrays are rewritten.
+#[derive(Clone, Copy)]
+struct Deck<'a> {
+    types: &'a [RecordType],
+    arrays: &'a [Array],
+}
+
+impl Deck<'_> {
+    fn fill_types(&self, alloc: Global, editor: &mut Editor) -> Result<(), Stop> {
+        let mut filling = Filling::new(alloc);
+        for kind in self.types {
+            self.fill_type(alloc, editor, &mut filling, kind)?;
+        }
+        insert_moves(alloc, editor, &filling)
     }
-    Ok(())
+
+    /// Reads the arrays of a type.
+    fn fill_type(
+        &self,
+        alloc: Global,
+        editor: &mut Editor,
+        filling: &mut Filling,
+        kind: &RecordType,
+    ) -> Result<(), Stop> {
+        let fields = self.array_fields(alloc, kind);
+        let fields = fields.checked()?;
+        match fields.first() {
+            Some(first) => {
+                let indicator = indicator_of(alloc, editor, filling, kind, first.number)?;
+                self.fill_fields(alloc, editor, filling, Reader { kind, indicator }, fields)
+            }
+            None => Ok(()),
+        }
+    }
+
+    /// The fields of a type that are arrays or entries.
+    fn array_fields(&self, alloc: Global, kind: &RecordType) -> List<Seen> {
+        let mut found = List::new(alloc);
+        for field in kind.fields.iter() {
+            if is_array(field, self.arrays) {
+                found.push(*field);
+            }
+        }
+        found
+    }
+
+    /// Reads fields of a type that are arrays or entries.
+    fn fill_fields(
+        &self,
+        alloc: Global,
+        editor: &mut Editor,
+        filling: &mut Filling,
+        reader: Reader,
+        fields: &[Seen],
+    ) -> Result<(), Stop> {
+        self.check_types(alloc, reader)?;
+        check_indicator(alloc, editor, reader)?;
+        for field in fields {
+            check_field(reader.kind, field)?;
+            fill_field(alloc, editor, filling, field, reader.indicator)?;
+        }
+        Ok(())
+    }
+
+    /// Refuses a type's indicator that a type which fills other entries has too.
+    fn check_types(&self, alloc: Global, reader: Reader) -> Result<(), Stop> {
+        for other in self.types {
+            if Indicator::at(&other.head.card, 19) == reader.indicator {
+                self.check_same(alloc, other, reader)?;
+            }
+        }
+        Ok(())
+    }
+
+    /// Refuses a type beside which another one with its indicator fills other entries, or in another order.
+    fn check_same(&self, alloc: Global, other: &RecordType, reader: Reader) -> Result<(), Stop> {
+        let first = self.array_fields(alloc, other);
+        let second = self.array_fields(alloc, reader.kind);
+        if fill_same(first.checked()?, second.checked()?) {
+            return Ok(());
+        }
+        Err(Stop::refused(
+            reader.kind.head.number,
+            Sentence::about(
+                "another type has indicator % too, and fills other entries",
+                reader.indicator.word(),
+            ),
+        ))
+    }
+}
+
+/// Puts the calculations of all types at the front of detail.
+fn insert_moves(alloc: Global, editor: &mut Editor, filling: &Filling) -> Result<(), Stop> {
+    let moves = filling.calculations()?;
+    match moves.first() {
+        Some(first) => insert_at(alloc, editor, Place::DetailFront, moves, first.number),
+        None => Ok(()),
+    }
 }
 
 /// The indicator of a type: its own, or a free one.
@@ -113,63 +168,22 @@ fn indicator_of(
 }
 
 /// Refuses a type's indicator that anything but its types may have turned on or off.
-fn check_indicator(
-    alloc: Global,
-    editor: &Editor,
-    kind: &RecordType,
-    indicator: Indicator,
-) -> Result<(), Stop> {
+fn check_indicator(alloc: Global, editor: &Editor, reader: Reader) -> Result<(), Stop> {
     let view = editor.view(alloc)?;
     let groups = groups(alloc, &view)?;
-    check_only_type(alloc, &view, groups.as_slice(), indicator, kind.head.number)
+    let number = reader.kind.head.number;
+    check_only_type(alloc, &view, groups.as_slice(), reader.indicator, number)
 }
 
-/// Refuses a type's indicator that a type which fills other entries has too.
-fn check_types(
-    alloc: Global,
-    types: &[RecordType],
-    arrays: &[Array],
-    kind: &RecordType,
-    indicator: Indicator,
-) -> Result<(), Stop> {
-    for other in types {
-        if Indicator::at(&other.head.card, 19) == indicator
-            && !fill_same(alloc, other, kind, arrays)?
-        {
-            return Err(Stop::refused(
-                kind.head.number,
-                Sentence::about(
-                    "another type has indicator % too, and fills other entries",
-                    indicator.word(),
-                ),
-            ));
-        }
-    }
-    Ok(())
-}
-
-/// Whether two types fill the same entries, in the same order.
-fn fill_same(
-    alloc: Global,
-    one: &RecordType,
-    other: &RecordType,
-    arrays: &[Array],
-) -> Result<bool, Stop> {
-    let first = array_fields(alloc, one, arrays)?;
-    let second = array_fields(alloc, other, arrays)?;
-    Ok(first.len() == second.len() && all_fill_same(first.as_slice(), second.as_slice()))
-}
-
-/// Whether as many fields of two types as both have fill the same entries, in the same order.
-fn all_fill_same(first: &[Seen], second: &[Seen]) -> bool {
+/// Whether the fields of two types fill the same entries, in the same order.
+fn fill_same(first: &[Seen], second: &[Seen]) -> bool {
     for (place, field) in first.iter().enumerate() {
-        if let Some(other) = second.get(place) {
-            if !fills_same(&field.card, &other.card) {
-                return false;
-            }
+        match second.get(place) {
+            Some(other) if fills_same(&field.card, &other.card) => {}
+            _ => return false,
         }
     }
-    true
+    first.len() == second.len()
 }
 
 /// Whether two fields fill the same entries.
@@ -244,7 +258,7 @@ fn fill_field(
                 form: array.form,
             };
             if Operand::of(name.text()).has_index() {
-                fill_entry(alloc, editor, filling, &reading, &name)
+                fill_entry(editor, filling, &view, &reading, &name)
             } else {
                 fill_array(alloc, editor, filling, &reading, &array)
             }
@@ -268,9 +282,9 @@ fn tell_filled(editor: &mut Editor, reading: &Reading, name: &Word, count: usize
 
 /// Reads an entry.
 fn fill_entry(
-    alloc: Global,
     editor: &mut Editor,
     filling: &mut Filling,
+    view: &View,
     reading: &Reading,
     name: &Word,
 ) -> Result<(), Stop> {
@@ -286,9 +300,8 @@ fn fill_entry(
         name: Word::of(Operand::of(name.text()).name),
         index: Word::of(Operand::of(name.text()).index),
     };
-    let view = editor.view(alloc)?;
     let span = span_of(seen, reading.form.length, 0);
-    filling.read_entry(editor, &view, reading, &entry, span)?;
+    filling.read_entry(editor, view, reading, &entry, span)?;
     editor.remove(seen.at, seen.number);
     Ok(())
 }
@@ -296,13 +309,12 @@ fn fill_entry(
 /// How many entries of an array a field has, if it ends with one, hasn't too many, and has no levels or indicators.
 fn entries_of(reading: &Reading, most: usize) -> Option<usize> {
     let card = &reading.seen.card;
+    let length = reading.form.length;
     let width = width(card)?;
-    let rest = width.checked_rem(reading.form.length)?;
-    let count = width.checked_div(reading.form.length)?;
-    if rest != 0 || count > most || !card.is_blank(59, 62) || !card.is_blank(65, 70) {
+    if length == 0 || width % length != 0 || width / length > most {
         return None;
     }
-    Some(count)
+    (card.is_blank(59, 62) && card.is_blank(65, 70)).then_some(width / length)
 }
 
 /// Reads a whole array.

@@ -1,18 +1,17 @@
 //! A type in place of each OR, and fields without a field record relation.
 
 use rpg_fit_deck::{Address, Card, Editor, Seen, Sentence, Word};
-use rpg_fit_terms::{Indicator, NewCard, Stop, address_after, put_cards, settle};
+use rpg_fit_terms::{Indicator, NewCard, Stop, address_after, put_cards};
 use rpg_fit_words::{List, RecordType, record_types};
 use std::alloc::Global;
 
 /// A type of its own for each OR card, with the fields that belong to it. A field record relation that names the type's own indicator
 /// goes.
-pub fn or_types(alloc: Global, editor: &mut Editor) {
-    let outcome = separate_all(alloc, editor);
-    settle(editor, outcome);
-}
-
-fn separate_all(alloc: Global, editor: &mut Editor) -> Result<(), Stop> {
+///
+/// # Errors
+///
+/// The deck is rejected, or memory is refused.
+pub fn or_types(alloc: Global, editor: &mut Editor) -> Result<(), Stop> {
     let view = editor.view(alloc)?;
     let types = record_types(alloc, &view)?;
     for kind in types.iter() {
@@ -29,7 +28,7 @@ fn separate_all(alloc: Global, editor: &mut Editor) -> Result<(), Stop> {
 
 /// Whether a card of a type begins another alternative.
 fn is_or(seen: &Seen) -> bool {
-    seen.card.columns(14, 15) == b"OR".as_slice()
+    matches!(seen.card.columns(14, 15), b"OR")
 }
 
 /// How many alternatives a type has.

@@ -76,8 +76,7 @@ impl Group {
 
 /// Whether a card continues the calculation before it.
 fn continues(card: &Card) -> bool {
-    let level = card.columns(7, 8);
-    level == b"AN".as_slice() || level == b"OR".as_slice()
+    matches!(card.columns(7, 8), b"AN" | b"OR")
 }
 
 fn push_card(alloc: Global, found: &mut Vec<Group>, seen: &Seen) -> Result<(), Stop> {

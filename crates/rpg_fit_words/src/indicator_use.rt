@@ -82,18 +82,14 @@ fn push_card(found: &mut List<IndicatorUse>, seen: &Seen) {
 }
 
 /// The indicators of a deck, card by card.
-///
-/// # Errors
-///
-/// Memory is refused.
-pub fn indicator_uses(alloc: Global, view: &View) -> Result<Vec<IndicatorUse>, Stop> {
+pub fn indicator_uses(alloc: Global, view: &View) -> List<IndicatorUse> {
     let mut found = List::new(alloc);
     for seen in view.cards.iter() {
         if !seen.card.is_comment() {
             push_card(&mut found, seen);
         }
     }
-    found.finish()
+    found
 }
 
 /// Whether a card belongs to a detail calculation.
@@ -128,8 +124,8 @@ pub fn check_only_type(
     indicator: Indicator,
     card: usize,
 ) -> Result<(), Stop> {
-    let uses = indicator_uses(alloc, view)?;
-    for one in uses.iter() {
+    let uses = indicator_uses(alloc, view);
+    for one in uses.checked()? {
         if one.indicator == indicator && is_set_elsewhere(groups, one) {
             return Err(Stop::refused(
                 card,

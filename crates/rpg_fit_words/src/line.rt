@@ -64,12 +64,12 @@ pub struct Line {
 
 /// Whether a card continues the conditions of a line: AND or OR in 14 to 16.
 fn continues(card: &Card) -> bool {
-    card.is_blank(7, 13) && (card.columns(14, 16) == b"AND".as_slice() || is_or(card))
+    card.is_blank(7, 13) && (matches!(card.columns(14, 16), b"AND") || is_or(card))
 }
 
 /// Whether a card of a line begins another alternative.
 fn is_or(card: &Card) -> bool {
-    card.columns(14, 15) == b"OR".as_slice()
+    matches!(card.columns(14, 15), b"OR")
 }
 
 fn alternative_at(seen: &Seen) -> Alternative {
