@@ -35,7 +35,7 @@ const TOO_WIDE: &str = ": {} entries a card of {} columns take {}, and a card ha
 const ENTRY: &str = ": entry {} of {}, on card {}, is \"{}\", which ";
 
 /// Which entry of a table is wrong, and why.
-fn write_entry(out: &mut TextWriter, spot: Spot<'_>, cause: &EntryCause) {
+fn write_entry(out: &mut TextWriter, spot: &Spot<'_>, cause: &EntryCause) {
     let text = spot
         .data_of_card(cause.card, cause.column, usize::from(cause.length))
         .unwrap_or(&[]);
@@ -60,7 +60,7 @@ fn write_entry(out: &mut TextWriter, spot: Spot<'_>, cause: &EntryCause) {
 const SPARE: &str = ": it is ** card {}, and {} {}";
 
 /// F18: what is wrong with the data of a table.
-pub(crate) fn write_data(out: &mut TextWriter, spot: Spot<'_>, cause: &DataCause) {
+pub(crate) fn write_data(out: &mut TextWriter, spot: &Spot<'_>, cause: &DataCause) {
     out.write_str(FaultCode::F18.sentence());
     match cause {
         DataCause::NoData => out.write_str(": a table has data, and 33-35 are blank"),

@@ -22,19 +22,14 @@ const MORE_OUTPUT: &str =
     "; more output files aren't supported: make a deck for each printer; rpg2 fit makes one of several disk files (A21)";
 
 /// A second file of a use, and what to do.
-fn write_second(out: &mut TextWriter, spot: Spot<'_>, name: &[u8], first: &FileOnCard) {
+fn write_second(out: &mut TextWriter, spot: &Spot<'_>, name: &[u8], first: &FileOnCard) {
     let serves_as = use_name(first.serves_as);
-    let first_name = first.name.as_slice();
+    let (other, card) = (first.name.as_slice(), first.card);
     out.fill(
         "{} would be a second {}: {} (card {}) is one",
-        &[
-            name.into(),
-            serves_as.into(),
-            first_name.into(),
-            first.card.into(),
-        ],
+        &[name.into(), serves_as.into(), other.into(), card.into()],
     );
-    let first_device = spot.text_of_card(first.card, 40, 46);
+    let first_device = spot.text_of_card(card, 40, 46);
     let own_device = text_at(spot.line, 40, 46);
     match first.serves_as {
         FileUse::Disk if is_near(first_device, b"PRINTER") => {
@@ -57,8 +52,9 @@ const LINE_LENGTH: &str = "a printed line of {} places: a line has 1 to 132 (doc
 /// The length that no record has.
 const RECORD_LENGTH: &str = "a record length of {}: a record has 1 to 9,999 columns";
 
-/// A file name that is near one which no F card has.
-fn write_near_file(out: &mut TextWriter, cards: &[SpecCard], name: &[u8]) {
+/// A file name that no F card has, and a near one that some card has.
+fn write_unknown_file(out: &mut TextWriter, cards: &[SpecCard], name: &[u8]) {
+    out.fill("no F card has {}", &[name.into()]);
     for card in cards {
         if let Some(file) = card.file() {
             let other = file.name.as_slice();
@@ -78,8 +74,19 @@ const fn user_names(user: FileUser) -> (&'static str, &'static str) {
     }
 }
 
+/// A record type or a line of a file that has another use.
+fn write_wrong_use(out: &mut TextWriter, user: FileUser, file: &FileOnCard) {
+    let (of_whom, other_use) = user_names(user);
+    let name = file.name.as_slice();
+    let card = file.card;
+    out.fill(
+        "{} (card {}) is an {} file, and has no {}",
+        &[name.into(), card.into(), other_use.into(), of_whom.into()],
+    );
+}
+
 /// F7: which file it is, and what is wrong with it.
-pub(crate) fn write_file(out: &mut TextWriter, spot: Spot<'_>, cause: &FileCause) {
+pub(crate) fn write_file(out: &mut TextWriter, spot: &Spot<'_>, cause: &FileCause) {
     match cause {
         FileCause::Twice(file) => out.fill(
             "{} is on card {} already: each file has one F card",
@@ -104,23 +111,14 @@ pub(crate) fn write_file(out: &mut TextWriter, spot: Spot<'_>, cause: &FileCause
             );
         }
         FileCause::Unknown { name, .. } => {
-            out.fill("no F card has {}", &[name.as_slice().into()]);
-            write_near_file(out, spot.source.cards.as_slice(), name.as_slice());
+            write_unknown_file(out, spot.source.cards.as_slice(), name.as_slice());
         }
-        FileCause::WrongUse { user, file } => {
-            let (of_whom, other_use) = user_names(*user);
-            let name = file.name.as_slice();
-            let card = file.card;
-            out.fill(
-                "{} (card {}) is an {} file, and has no {}",
-                &[name.into(), card.into(), other_use.into(), of_whom.into()],
-            );
-        }
+        FileCause::WrongUse { user, file } => write_wrong_use(out, *user, file),
     }
 }
 
 /// F9 of a line: its file, which is no printer.
-pub(crate) fn write_movement(out: &mut TextWriter, spot: Spot<'_>, file: &FileOnCard) {
+pub(crate) fn write_movement(out: &mut TextWriter, spot: &Spot<'_>, file: &FileOnCard) {
     let device = spot.text_of_card(file.card, 40, 46);
     let name = file.name.as_slice();
     out.fill(

@@ -29,7 +29,7 @@ const IS_SUBROUTINE: &str = "{} is a subroutine (card {}): EXSR calls it, GOTO g
 const IS_LABEL: &str = "{} is a label (card {}): GOTO goes to it, EXSR calls subroutines";
 
 /// F10: the label or the subroutine that isn't there, or is the other of the two.
-pub(crate) fn write_nowhere(out: &mut TextWriter, spot: Spot<'_>, cause: &NowhereCause) {
+pub(crate) fn write_nowhere(out: &mut TextWriter, spot: &Spot<'_>, cause: &NowhereCause) {
     match cause {
         NowhereCause::Absent(wanted) => {
             let name = wanted.name.as_slice();

@@ -49,7 +49,7 @@ const LAST_CARD_ALONE: &str =
     "the calculation continues with AN or OR, and only its last card may have {}";
 
 /// F9 of what LOKUP searches, or of an output field.
-pub(crate) fn write_field(out: &mut TextWriter, spot: Spot<'_>, cause: &FieldCause) {
+pub(crate) fn write_field(out: &mut TextWriter, spot: &Spot<'_>, cause: &FieldCause) {
     match cause {
         FieldCause::Unordered { name, definer } => {
             out.fill(
@@ -73,7 +73,7 @@ pub(crate) fn write_field(out: &mut TextWriter, spot: Spot<'_>, cause: &FieldCau
 }
 
 /// F9 of a calculation: what is missing, or not allowed.
-pub(crate) fn write_column(out: &mut TextWriter, spot: Spot<'_>, cause: &ColumnCause) {
+pub(crate) fn write_column(out: &mut TextWriter, spot: &Spot<'_>, cause: &ColumnCause) {
     let (sentence, columns) = sentence(cause);
     if matches!(cause, ColumnCause::LastCardAlone(_)) {
         out.fill(sentence, &[columns.into()]);

@@ -23,7 +23,7 @@ fn unread(name: &[u8]) -> Option<&'static str> {
 }
 
 /// F1: which name no card defines, and which are close to it.
-pub(crate) fn write_undefined(out: &mut TextWriter, spot: Spot<'_>, name: &[u8]) {
+pub(crate) fn write_undefined(out: &mut TextWriter, spot: &Spot<'_>, name: &[u8]) {
     out.fill("{} is used, and no card defines it", &[name.into()]);
     match unread(name) {
         Some(sentence) => out.write_str(sentence),
@@ -35,7 +35,7 @@ const ARRAY_ON_INPUT: &str =
     ": input fields don't fill arrays; read fields of their own, and move them by Z-ADD or MOVE to its entries (rpg2 fit rewrites it: A12)";
 
 /// F2: what a name is here, and what it was before.
-pub(crate) fn write_redefined(out: &mut TextWriter, spot: Spot<'_>, cause: &Redefined) {
+pub(crate) fn write_redefined(out: &mut TextWriter, spot: &Spot<'_>, cause: &Redefined) {
     let name = cause.name.as_slice();
     if name == b"UDATE".as_slice() {
         out.write_str("UDATE is the date, and no card can define it");

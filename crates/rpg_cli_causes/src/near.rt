@@ -71,7 +71,7 @@ fn write_defined(
 }
 
 /// Writes which names are defined that are near one.
-pub(crate) fn write_near_names(out: &mut TextWriter, spot: Spot<'_>, name: &[u8]) {
+pub(crate) fn write_near_names(out: &mut TextWriter, spot: &Spot<'_>, name: &[u8]) {
     let mut near = Near {
         told: 0,
         definitions: 0,

@@ -12,7 +12,7 @@ use rpg_sheet::{ColumnRange, Word};
 const MOST_DIGITS: u16 = 15;
 
 /// Writes how a text becomes a number, if a card defines it and it isn't too long for one.
-fn write_remedy(out: &mut TextWriter, spot: Spot<'_>, text: &TextField) {
+fn write_remedy(out: &mut TextWriter, spot: &Spot<'_>, text: &TextField) {
     let Some(card) = text.definer else {
         return;
     };
@@ -35,24 +35,27 @@ fn write_text(out: &mut TextWriter, name: &[u8], text: &TextField) {
     write_card(out, text.definer);
 }
 
+/// An operand that isn't the array or the table that its operation takes.
+fn write_wrong_class(out: &mut TextWriter, spot: &Spot<'_>, at: ColumnRange, wanted: Content) {
+    let sentence = match wanted {
+        Content::WholeArray => "{} isn't an array, and {} adds up the entries of one",
+        Content::Searched => "{} is neither a table nor an array, and {} searches one",
+        _ => "{} isn't a table, and what is found by {} becomes current in one",
+    };
+    let (name, operation) = (spot.text_in(at), spot.operation());
+    out.fill(sentence, &[name.into(), operation.into()]);
+}
+
 /// F4: which operand is of the wrong kind, and which card makes it so.
-pub(crate) fn write_operand(out: &mut TextWriter, spot: Spot<'_>, cause: &OperandCause) {
-    let operation = spot.operation();
+pub(crate) fn write_operand(out: &mut TextWriter, spot: &Spot<'_>, cause: &OperandCause) {
     match cause {
-        OperandCause::WrongClass { at, wanted } => {
-            let sentence = match wanted {
-                Content::WholeArray => "{} isn't an array, and {} adds up the entries of one",
-                Content::Searched => "{} is neither a table nor an array, and {} searches one",
-                _ => "{} isn't a table, and what is found by {} becomes current in one",
-            };
-            out.fill(sentence, &[spot.text_in(*at).into(), operation.into()]);
-        }
+        OperandCause::WrongClass { at, wanted } => write_wrong_class(out, spot, *at, *wanted),
         OperandCause::TextOperand { at, text } => {
             write_text(out, spot.text_in(*at), text);
-            out.fill(", and {} takes numbers", &[operation.into()]);
+            out.fill(", and {} takes numbers", &[spot.operation().into()]);
             write_remedy(out, spot, text);
         }
-        OperandCause::Unlike { first, second } => write_unlike(out, operation, *first, *second),
+        OperandCause::Unlike { first, second } => write_unlike(out, spot, *first, *second),
         OperandCause::Unwritable => {
             out.write_str("UDATE is the date, and no calculation can change it");
         }
@@ -65,17 +68,18 @@ pub(crate) fn write_operand(out: &mut TextWriter, spot: Spot<'_>, cause: &Operan
     }
 }
 
-fn write_unlike(out: &mut TextWriter, operation: &[u8], first: FieldForm, second: FieldForm) {
+fn write_unlike(out: &mut TextWriter, spot: &Spot<'_>, first: FieldForm, second: FieldForm) {
     out.write_str("factor 1 is ");
     write_form(out, first);
     out.write_str(" and factor 2 ");
     write_form(out, second);
+    let operation = spot.operation();
     out.fill(": {} takes two numbers, or two texts", &[operation.into()]);
 }
 
 const TOO_FEW: &str = "{} has {} {}, and what is searched has {}: the result needs as many";
 
-fn write_too_few(out: &mut TextWriter, spot: Spot<'_>, found: u16, searched: u16) {
+fn write_too_few(out: &mut TextWriter, spot: &Spot<'_>, found: u16, searched: u16) {
     let name = spot.text_in(ColumnRange::ResultName);
     let entries = noun(usize::from(found), "entry", "entries");
     out.fill(
@@ -84,7 +88,7 @@ fn write_too_few(out: &mut TextWriter, spot: Spot<'_>, found: u16, searched: u16
     );
 }
 
-fn write_edited(out: &mut TextWriter, spot: Spot<'_>, text: &TextField) {
+fn write_edited(out: &mut TextWriter, spot: &Spot<'_>, text: &TextField) {
     let name = match &text.name {
         Some(name) => name.as_slice(),
         None => &[],
@@ -120,7 +124,7 @@ const NO_INDEX_GIVEN: &str =
 const TOO_SHORT: &str = "{} has no room for their number, which LOKUP puts there";
 
 /// F5: what is wrong with the index of an entry.
-pub(crate) fn write_index(out: &mut TextWriter, spot: Spot<'_>, cause: &IndexCause) {
+pub(crate) fn write_index(out: &mut TextWriter, spot: &Spot<'_>, cause: &IndexCause) {
     match cause {
         IndexCause::NoIndex {
             name,

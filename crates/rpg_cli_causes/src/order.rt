@@ -32,7 +32,7 @@ const EARLY: &str = "this card is for {}, but comes after {} (card {})";
 const NO_BEGSR: &str = "this ENDSR has no BEGSR: the last subroutine before it ends on card {}";
 
 /// F12 of a calculation card: what it needs before it, or after it.
-pub(crate) fn write_order(out: &mut TextWriter, spot: Spot<'_>, cause: &OrderCause) {
+pub(crate) fn write_order(out: &mut TextWriter, spot: &Spot<'_>, cause: &OrderCause) {
     match cause {
         OrderCause::Unjoined => out.write_str(UNJOINED),
         OrderCause::Early { own, later, card } => {

@@ -21,7 +21,7 @@ fn write_length(out: &mut TextWriter, kind: &'static str, file: &FileOnCard) {
 }
 
 /// The position of a code, as it stands on the card.
-fn position(spot: Spot<'_>, at: ColumnRange) -> Piece<'_> {
+fn position<'a>(spot: &Spot<'a>, at: ColumnRange) -> Piece<'a> {
     let first = usize::from(at.columns().column);
     text_at(spot.line, first, first.saturating_add(3)).into()
 }
@@ -31,7 +31,7 @@ const NO_POSITION: &str = "position {}: columns of a record are counted from 1";
 const TURNED_ROUND: &str = "the last column, {}, comes before the first, {}";
 
 /// F16 of a card's own columns: what is outside the record or the line.
-pub(crate) fn write_outside(out: &mut TextWriter, spot: Spot<'_>, cause: &PlaceCause) {
+pub(crate) fn write_outside(out: &mut TextWriter, spot: &Spot<'_>, cause: &PlaceCause) {
     match cause {
         PlaceCause::NoPosition(at) => out.fill(NO_POSITION, &[position(spot, *at)]),
         PlaceCause::PositionPast { at, file, .. } => {
@@ -56,7 +56,7 @@ pub(crate) fn write_outside(out: &mut TextWriter, spot: Spot<'_>, cause: &PlaceC
 }
 
 /// How many places a field takes.
-fn write_width(out: &mut TextWriter, spot: Spot<'_>, width: usize, end: u16) {
+fn write_width(out: &mut TextWriter, spot: &Spot<'_>, width: usize, end: u16) {
     match spot.card.output_field() {
         Some(field) if field.operand.is_some() => out.write_shown(text_at(spot.line, 32, 37)),
         _ => out.write_str("the constant"),

@@ -27,7 +27,7 @@ fn padded(name: &[u8]) -> [u8; 6] {
 }
 
 /// The card that makes an entry a text.
-fn text_of(spot: Spot<'_>, entry: Option<&Entry>) -> Option<Root> {
+fn text_of(spot: &Spot<'_>, entry: Option<&Entry>) -> Option<Root> {
     let name = &entry?.name;
     match (spot.form(name), spot.definer(name.as_slice())) {
         (Some(form), Some(card)) if form.kind == Kind::Text => Some(Root::Text(card.number)),
@@ -36,16 +36,16 @@ fn text_of(spot: Spot<'_>, entry: Option<&Entry>) -> Option<Root> {
 }
 
 /// A field that is a text, where numbers are taken or edited: the marked one, or beside a factor 2 of another kind factor 1.
-fn text_root(spot: Spot<'_>) -> Option<Root> {
+fn text_root(spot: &Spot<'_>) -> Option<Root> {
     match text_of(spot, spot.entry()) {
         Some(root) => Some(root),
-        None if spot.column() == 33 => text_of(spot, spot.first_factor()),
+        None if spot.column == 33 => text_of(spot, spot.first_factor()),
         None => None,
     }
 }
 
 /// The slip that a cause of F1, F4 or F12 comes of: an operand of the wrong kind, if that is that it is a text.
-fn root_in(spot: Spot<'_>, cause: &Cause) -> Option<Root> {
+fn root_in(spot: &Spot<'_>, cause: &Cause) -> Option<Root> {
     match cause {
         Cause::UndefinedName(name) => Some(Root::Unknown(padded(name.as_slice()))),
         Cause::Operand(
@@ -67,9 +67,9 @@ pub fn root_of(source: SourceCards<'_>, line: &[u8], fault: CardFault) -> Option
     let spot = Spot::of(source, line, fault.card, fault.columns)?;
     match code {
         FaultCode::F1 | FaultCode::F4 | FaultCode::F12 => {
-            root_in(spot, &source.cause(fault.card, code)?)
+            root_in(&spot, &source.cause(fault.card, code)?)
         }
-        FaultCode::F17 => text_root(spot),
+        FaultCode::F17 => text_root(&spot),
         _ => None,
     }
 }

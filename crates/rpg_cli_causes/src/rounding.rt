@@ -5,7 +5,7 @@ use rpg_causes::RoundingCause;
 use rpg_cli_text::TextWriter;
 
 /// F15: why H, or MVR, isn't allowed.
-pub(crate) fn write_rounding(out: &mut TextWriter, spot: Spot<'_>, cause: RoundingCause) {
+pub(crate) fn write_rounding(out: &mut TextWriter, spot: &Spot<'_>, cause: RoundingCause) {
     let sentence = match cause {
         RoundingCause::LastCardAlone =>
             "the calculation continues with AN or OR, and only its last card may have H",

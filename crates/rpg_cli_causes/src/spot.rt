@@ -49,8 +49,8 @@ pub(crate) struct Spot<'a> {
     pub source: SourceCards<'a>,
     pub line: &'a [u8],
     pub card: &'a SpecCard,
-    /// The columns that the fault is about; none where it is about the card as a whole.
-    pub columns: Option<ColumnFault>,
+    /// The first column that the fault is about; 0 where it is about the card as a whole.
+    pub column: u8,
 }
 
 /// What stands in columns, counted from 1, without the blanks around it.
@@ -74,30 +74,26 @@ impl<'a> Spot<'a> {
         columns: Option<ColumnFault>,
     ) -> Option<Self> {
         let card = card_at(source.cards.as_slice(), number)?;
+        let column = match columns {
+            Some(columns) => columns.column,
+            None => 0,
+        };
         Some(Spot {
             source,
             line,
             card,
-            columns,
+            column,
         })
     }
 
-    /// The first column that the fault is about.
-    pub fn column(self) -> u8 {
-        match self.columns {
-            Some(columns) => columns.column,
-            None => 0,
-        }
-    }
-
     /// What stands in a range of columns.
-    pub fn text_in(self, range: ColumnRange) -> &'a [u8] {
+    pub fn text_in(&self, range: ColumnRange) -> &'a [u8] {
         let ColumnFault { column, last } = range.columns();
         text_at(self.line, usize::from(column), usize::from(last))
     }
 
     /// Whether a card, by its number, is an E card.
-    pub fn is_extension(self, number: u16) -> bool {
+    pub fn is_extension(&self, number: u16) -> bool {
         match card_at(self.source.cards.as_slice(), number) {
             Some(card) => card.extension().is_some(),
             None => false,
@@ -105,12 +101,12 @@ impl<'a> Spot<'a> {
     }
 
     /// The name of a calculation's operation.
-    pub fn operation(self) -> &'a [u8] {
+    pub fn operation(&self) -> &'a [u8] {
         text_at(self.line, 28, 32)
     }
 
     /// What stands in columns of another card; nothing where the text isn't known.
-    pub fn text_of_card(self, number: u16, first: usize, last: usize) -> &'a [u8] {
+    pub fn text_of_card(&self, number: u16, first: usize, last: usize) -> &'a [u8] {
         let mut rest = self.source.text;
         for at in 1..=number {
             if rest.is_empty() {
@@ -126,7 +122,7 @@ impl<'a> Spot<'a> {
     }
 
     /// What stands on a card of data from a column on.
-    pub fn data_of_card(self, number: u16, column: usize, length: usize) -> Option<&'a [u8]> {
+    pub fn data_of_card(&self, number: u16, column: usize, length: usize) -> Option<&'a [u8]> {
         let first = column.saturating_sub(1);
         match card_at(self.source.cards.as_slice(), number)?.data()? {
             DataSpec::Card(data) => data.as_slice().get(first..first.saturating_add(length)),
@@ -135,11 +131,11 @@ impl<'a> Spot<'a> {
     }
 
     /// The field that stands in the marked columns.
-    pub fn entry(self) -> Option<&'a Entry> {
+    pub fn entry(&self) -> Option<&'a Entry> {
         let Some(calculation) = self.card.calculation() else {
             return self.card.output_field()?.operand.as_ref();
         };
-        match self.column() {
+        match self.column {
             18 => factor_entry(&calculation.factor_1),
             33 => factor_entry(&calculation.factor_2),
             43 => calculation.result_field.as_ref(),
@@ -148,12 +144,12 @@ impl<'a> Spot<'a> {
     }
 
     /// The field that stands in factor 1 of a calculation.
-    pub fn first_factor(self) -> Option<&'a Entry> {
+    pub fn first_factor(&self) -> Option<&'a Entry> {
         factor_entry(&self.card.calculation()?.factor_1)
     }
 
     /// The form of a name.
-    pub fn form(self, name: &Word<6>) -> Option<FieldForm> {
+    pub fn form(&self, name: &Word<6>) -> Option<FieldForm> {
         match self.source.cards.form_of_name(name) {
             Defined::Good(form) => Some(form),
             Defined::Missing | Defined::Bad => None,
@@ -161,7 +157,7 @@ impl<'a> Spot<'a> {
     }
 
     /// The first card that defines a name.
-    pub fn definer(self, name: &[u8]) -> Option<&'a SpecCard> {
+    pub fn definer(&self, name: &[u8]) -> Option<&'a SpecCard> {
         for card in self.source.cards.as_slice() {
             if defines(card, name) {
                 return Some(card);

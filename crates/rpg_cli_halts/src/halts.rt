@@ -164,7 +164,7 @@ const BETWEEN: &str =
 
 impl Told<'_> {
     /// The name of the record's file; of all input files of the program if it isn't known.
-    fn write_names(self, out: &mut TextWriter) {
+    fn write_names(&self, out: &mut TextWriter) {
         let InputNames { primary, secondary } = self.names;
         match (self.record, secondary) {
             (Some((file, _)), _) => out.write_shown(self.names.of(file).as_bytes()),
@@ -177,7 +177,7 @@ impl Told<'_> {
     }
 
     /// Where it halted, as far as record and column are known, and what was wrong.
-    fn write_halt(self, out: &mut TextWriter) {
+    fn write_halt(&self, out: &mut TextWriter) {
         let halt = self.halted.halt;
         self.write_names(out);
         if let Some((_, record)) = self.record {
@@ -203,7 +203,7 @@ impl Told<'_> {
     }
 
     /// Which instruction halted; where none did, which columns of the record, or which output fields it may have been.
-    fn write_place(self, out: &mut TextWriter) {
+    fn write_place(&self, out: &mut TextWriter) {
         let program = self.program.program();
         match (self.halted.place, self.halted.halt, self.found) {
             (Some(place), _, _) => {
@@ -217,7 +217,7 @@ impl Told<'_> {
     }
 
     /// Which record it was, or what the cycle does, and how many cycles were done before.
-    fn write_cycle(self, out: &mut TextWriter) {
+    fn write_cycle(&self, out: &mut TextWriter) {
         let cycle = self.halted.cycles;
         let before = cycle.saturating_sub(1);
         let (sentence, first) = match (self.record, self.halted.halt, before) {

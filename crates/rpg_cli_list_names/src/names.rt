@@ -164,19 +164,29 @@ impl Names {
             .sort_by(|a, _, b, _| a.as_slice().cmp(b.as_slice()))?;
         out.write_str(HEADING);
         for (name, cards) in &self.names {
-            out.fill("  {:<6}  ", &[name_text(name.as_slice()).into()]);
-            match self.fields.get_index_of(name) {
-                Some(place) => out.fill("#{:<4}  ", &[place.saturating_add(1).into()]),
-                None => out.write_str("-      "),
-            }
+            write_name(out, name, self.fields.get_index_of(name));
             write_defined(out, source.form_of_name(name));
-            cards.write_column(out, By::Giving);
-            cards.write_column(out, By::Setting);
-            cards.write_lines(out, By::Using, USED);
-            out.write_char('\n');
+            write_cards(out, cards);
         }
         Ok(())
     }
+}
+
+/// A name, and the number of its field, by its place among the fields.
+fn write_name(out: &mut TextWriter, name: &Word<6>, place: Option<usize>) {
+    out.fill("  {:<6}  ", &[name_text(name.as_slice()).into()]);
+    match place {
+        Some(place) => out.fill("#{:<4}  ", &[place.saturating_add(1).into()]),
+        None => out.write_str("-      "),
+    }
+}
+
+/// The cards that define, set and use a name.
+fn write_cards(out: &mut TextWriter, cards: &Mentions) {
+    cards.write_column(out, By::Giving);
+    cards.write_column(out, By::Setting);
+    cards.write_lines(out, By::Using, USED);
+    out.write_char('\n');
 }
 
 fn write_defined(out: &mut TextWriter, defined: Defined) {

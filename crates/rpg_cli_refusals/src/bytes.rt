@@ -49,30 +49,43 @@ fn write_wanted(out: &mut TextWriter, spot: Spot) {
     out.write_str(" was expected");
 }
 
+/// What stands before and behind so many bytes that are found, of which the first are shown.
+const fn words_around(found: usize) -> (&'static str, &'static str) {
+    if found == 1 {
+        (", and byte", " was found")
+    } else if found <= MOST_SHOWN {
+        (", and bytes", " were found")
+    } else {
+        (", and bytes", " .. were found")
+    }
+}
+
+/// A byte in hex, after a blank.
+fn write_byte(out: &mut TextWriter, byte: u8) {
+    let digits = [
+        b' ',
+        HEX[usize::from(byte / 16)],
+        HEX[usize::from(byte % 16)],
+    ];
+    out.write_shown(digits.as_slice());
+}
+
 /// What stands at an offset in the place of so many bytes.
 fn write_found(out: &mut TextWriter, bytes: &[u8], offset: usize, count: usize) {
     let size = bytes.len();
-    let (bytes_stand, stand) = match size.saturating_sub(offset).min(count) {
-        0 => {
-            let unit = counted(size, "byte", "bytes");
-            out.fill(", and the file has {} {}", &[size.into(), unit.into()]);
-            return;
-        }
-        1 => (", and byte", " was found"),
-        found if found <= MOST_SHOWN => (", and bytes", " were found"),
-        _ => (", and bytes", " .. were found"),
-    };
-    out.write_str(bytes_stand);
-    let rest = bytes.get(offset..).unwrap_or(&[]);
-    for byte in rest.get(..count.min(MOST_SHOWN)).unwrap_or(rest) {
-        let digits = [
-            b' ',
-            HEX[usize::from(*byte / 16)],
-            HEX[usize::from(*byte % 16)],
-        ];
-        out.write_shown(digits.as_slice());
+    let found = size.saturating_sub(offset).min(count);
+    if found == 0 {
+        let unit = counted(size, "byte", "bytes");
+        out.fill(", and the file has {} {}", &[size.into(), unit.into()]);
+        return;
     }
-    out.write_str(stand);
+    let (before, behind) = words_around(found);
+    out.write_str(before);
+    let end = offset.saturating_add(found.min(MOST_SHOWN));
+    for byte in bytes.get(offset..end).unwrap_or(&[]) {
+        write_byte(out, *byte);
+    }
+    out.write_str(behind);
 }
 
 /// The diagnostic for bytes that are no object program: the code's sentence, what was looked for at the offset, and what stands there; of a

@@ -4,7 +4,8 @@ use crate::fields::{write_field, write_indicator, write_indicators, write_operan
 use crate::rows::write_subroutine;
 use rpg_cli_text::TextWriter;
 use rpg_effect::condition::{Condition, Conditions};
-use rpg_effect::line::{Editing, Spacing};
+use rpg_effect::input::InputField;
+use rpg_effect::line::{Editing, LineField, Spacing};
 use rpg_effect::operation::{Operand, Shows};
 use rpg_effect::row::{Marks, Use};
 use rpg_object_program::row::Rows;
@@ -160,6 +161,29 @@ fn write_called(out: &mut TextWriter, rows: &Rows, level: Option<u16>) {
     }
 }
 
+/// An input field that shows its value by indicators.
+fn write_shown(out: &mut TextWriter, rows: &Rows, input: InputField<u16>) {
+    write_field(out, rows, input.field);
+    out.write_str(", with the indicators");
+    write_shows(out, input.shows);
+}
+
+/// What a field of a line puts out, its edit word, and its end.
+fn write_line_field(out: &mut TextWriter, rows: &Rows, field: LineField<u16>) {
+    write_operand(out, rows, field.operand);
+    if let Editing::Word(word) = field.editing {
+        out.write_str(", edited by the word in ");
+        write_field(out, rows, word);
+    }
+    out.fill(", and ends at place {}", &[field.end.into()]);
+}
+
+/// A result with fewer entries than what is searched.
+fn write_short(out: &mut TextWriter, rows: &Rows, used: Use<Operand<u16>>, entries: u16) {
+    write_used(out, rows, Column::Result, used);
+    out.fill(", and factor 2 has {}", &[entries.into()]);
+}
+
 /// What follows a cause's sentence: what it is about, in words.
 fn write_parts(out: &mut TextWriter, rows: &Rows, row: usize, cause: Cause) {
     match cause {
@@ -167,33 +191,17 @@ fn write_parts(out: &mut TextWriter, rows: &Rows, row: usize, cause: Cause) {
             write_indicator(out, indicator);
         }
         Cause::Input { input, .. } => write_field(out, rows, input.field),
-        Cause::Shown { input, .. } => {
-            write_field(out, rows, input.field);
-            out.write_str(", with the indicators");
-            write_shows(out, input.shows);
-        }
-        Cause::Field { field, .. } => {
-            write_operand(out, rows, field.operand);
-            if let Editing::Word(word) = field.editing {
-                out.write_str(", edited by the word in ");
-                write_field(out, rows, word);
-            }
-            out.fill(", and ends at place {}", &[field.end.into()]);
-        }
+        Cause::Shown { input, .. } => write_shown(out, rows, input),
+        Cause::Field { field, .. } => write_line_field(out, rows, field),
         Cause::Operand { column, used } => write_used(out, rows, column, used),
-        Cause::Asked { conditions } => {
-            write_shows(out, asked(conditions));
-        }
+        Cause::Asked { conditions } => write_shows(out, asked(conditions)),
         Cause::Marked { marks } => write_marks(out, marks),
         Cause::Unordered { marks, used } => {
             write_marks(out, marks);
             write_used(out, rows, Column::Factor2, used);
         }
         Cause::Index { used, .. } => write_used(out, rows, Column::Factor2, used),
-        Cause::Short { used, entries } => {
-            write_used(out, rows, Column::Result, used);
-            out.fill(", and factor 2 has {}", &[entries.into()]);
-        }
+        Cause::Short { used, entries } => write_short(out, rows, used, entries),
         Cause::Called { level, .. } => write_called(out, rows, level),
         Cause::ForeignReturn { .. } | Cause::Unended | Cause::Level { .. } => {
             write_subroutine(out, rows, row);

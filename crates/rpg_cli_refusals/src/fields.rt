@@ -34,30 +34,52 @@ pub(crate) fn write_indicators(out: &mut TextWriter, indicators: [Option<u8>; 3]
     }
 }
 
-/// What a field is: its class, of an array or a table its entries, its kind, and its length.
-fn write_form(out: &mut TextWriter, form: FieldForm) {
-    let class = match form.class {
+/// The class of a field, with the count of an array's or a table's entries.
+const fn class_sentence(class: Class) -> &'static str {
+    match class {
         Class::Plain => "a ",
         Class::Constant => "a constant, a ",
         Class::Date => "the date, a ",
         Class::Array => "an array of {} {}, each a ",
         Class::Table => "a table of {} {}, each a ",
-    };
+    }
+}
+
+/// The decimals of a number of so many digits.
+const fn decimals_sentence(length: u16, decimals: u8) -> &'static str {
+    if decimals == 0 {
+        ""
+    } else if length == 1 {
+        ", a decimal"
+    } else if decimals == 1 {
+        ", 1 of them a decimal"
+    } else {
+        ", {} of them decimals"
+    }
+}
+
+fn write_text_length(out: &mut TextWriter, length: u16) {
+    let unit = counted(usize::from(length), "character", "characters");
+    out.fill("text of {} {}", &[length.into(), unit.into()]);
+}
+
+fn write_digits(out: &mut TextWriter, length: u16, decimals: u8) {
+    let unit = counted(usize::from(length), "digit", "digits");
+    out.fill("number of {} {}", &[length.into(), unit.into()]);
+    out.fill(decimals_sentence(length, decimals), &[decimals.into()]);
+}
+
+/// What a field is: its class, of an array or a table its entries, its kind, and its length.
+fn write_form(out: &mut TextWriter, form: FieldForm) {
     let unit = counted(usize::from(form.entries), "entry", "entries");
-    out.fill(class, &[form.entries.into(), unit.into()]);
-    let length = usize::from(form.length);
-    let (kind, unit) = match form.kind {
-        Kind::Text => ("text of {} {}", counted(length, "character", "characters")),
-        Kind::Number => ("number of {} {}", counted(length, "digit", "digits")),
-    };
-    out.fill(kind, &[length.into(), unit.into()]);
-    let decimals = match (form.kind, length, form.decimals) {
-        (Kind::Text, _, _) | (_, _, 0) => "",
-        (_, 1, _) => ", a decimal",
-        (_, _, 1) => ", 1 of them a decimal",
-        _ => ", {} of them decimals",
-    };
-    out.fill(decimals, &[form.decimals.into()]);
+    out.fill(
+        class_sentence(form.class),
+        &[form.entries.into(), unit.into()],
+    );
+    match form.kind {
+        Kind::Text => write_text_length(out, form.length),
+        Kind::Number => write_digits(out, form.length, form.decimals),
+    }
 }
 
 /// A field by its number, and what it is; where there is none, the numbers that fields have.

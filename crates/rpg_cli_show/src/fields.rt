@@ -40,7 +40,7 @@ fn write_first(out: &mut TextWriter, form: FieldForm, values: &[Value]) {
 /// Writes the row of a field before its uses.
 fn write_row(
     out: &mut TextWriter,
-    shown: Shown<'_>,
+    shown: &Shown<'_>,
     number: u16,
     form: FieldForm,
     values: &[Value],
@@ -64,7 +64,7 @@ fn write_row(
 }
 
 /// Writes a row for each field.
-pub(crate) fn write_fields(out: &mut TextWriter, at: &mut usize, shown: Shown<'_>, uses: &Uses) {
+pub(crate) fn write_fields(out: &mut TextWriter, at: &mut usize, shown: &Shown<'_>, uses: &Uses) {
     out.write_str("\n    at  FIELD ");
     if shown.is_named {
         out.write_str("name    card  ");
@@ -92,7 +92,7 @@ fn write_entries(out: &mut TextWriter, begin: usize, form: FieldForm, values: &[
 }
 
 /// Writes the first values of arrays and tables that aren't all zero or blank.
-pub(crate) fn write_first_values(out: &mut TextWriter, at: &mut usize, shown: Shown<'_>) {
+pub(crate) fn write_first_values(out: &mut TextWriter, at: &mut usize, shown: &Shown<'_>) {
     let mut number: u16 = 0;
     for (form, values) in shown.rows.fields.iter().zip(&shown.rows.values) {
         number = number.saturating_add(1);

@@ -28,8 +28,23 @@ pub(crate) fn write_version(out: &mut TextWriter, rows: &Rows, bytes: usize) {
     );
 }
 
+/// Writes how much of each table a program has.
+fn write_counts(out: &mut TextWriter, rows: &Rows) {
+    out.fill(
+        TABLES,
+        &[
+            rows.fields.len().into(),
+            rows.types.len().into(),
+            rows.lines.len().into(),
+            rows.subroutines.len().into(),
+            rows.detail.len().into(),
+            rows.total.len().into(),
+        ],
+    );
+}
+
 /// Writes the header after the version.
-pub(crate) fn write_header(out: &mut TextWriter, shown: Shown<'_>) {
+pub(crate) fn write_header(out: &mut TextWriter, shown: &Shown<'_>) {
     let rows = shown.rows;
     write_length(
         out,
@@ -54,16 +69,6 @@ pub(crate) fn write_header(out: &mut TextWriter, shown: Shown<'_>) {
         rows.disk_length,
         "  disk     none\n",
     );
-    out.fill(
-        TABLES,
-        &[
-            rows.fields.len().into(),
-            rows.types.len().into(),
-            rows.lines.len().into(),
-            rows.subroutines.len().into(),
-            rows.detail.len().into(),
-            rows.total.len().into(),
-        ],
-    );
+    write_counts(out, rows);
     out.fill(ALLOWANCE, &[rows.allowance.into()]);
 }

@@ -35,7 +35,7 @@ fn sentences_of(action: Action<Operand<u16>>) -> [&'static str; 3] {
 /// Writes an operand, if there is one, in a column of so many characters and a blank.
 fn write_column(
     out: &mut TextWriter,
-    shown: Shown<'_>,
+    shown: &Shown<'_>,
     used: Option<Use<Operand<u16>>>,
     width: usize,
 ) {
@@ -47,7 +47,7 @@ fn write_column(
     out.write_char(' ');
 }
 
-fn write_action(out: &mut TextWriter, shown: Shown<'_>, action: Action<Operand<u16>>) {
+fn write_action(out: &mut TextWriter, shown: &Shown<'_>, action: Action<Operand<u16>>) {
     let row = row_of(shown.rows, action);
     let result_width = if shown.is_named { 14 } else { 8 };
     write_column(out, shown, row.factor1, 14);
@@ -63,7 +63,7 @@ fn write_action(out: &mut TextWriter, shown: Shown<'_>, action: Action<Operand<u
     }
 }
 
-fn write_instruction(out: &mut TextWriter, shown: Shown<'_>, instruction: Instruction<u16>) {
+fn write_instruction(out: &mut TextWriter, shown: &Shown<'_>, instruction: Instruction<u16>) {
     if !matches!(&instruction, Instruction::Act(_)) {
         out.fill("               {:<6} ", &[instruction.name().into()]);
     }
@@ -85,29 +85,34 @@ fn write_instruction(out: &mut TextWriter, shown: Shown<'_>, instruction: Instru
     }
 }
 
+/// Writes a place with its path cost, and where the source is known its card.
+fn write_place(out: &mut TextWriter, shown: &Shown<'_>, place: usize) {
+    out.fill(" {:>5} ", &[place.into()]);
+    match shown.costs.get(place) {
+        Some(cost) => out.fill("{:>6}", &[(*cost).into()]),
+        None => out.write_str("      "),
+    }
+    if shown.is_named {
+        match shown.source.place_card(place) {
+            Some(card) => out.fill("  {:>5}", &[card.into()]),
+            None => out.write_str("       "),
+        }
+    }
+    out.write_str("  ");
+}
+
 /// Writes the instructions of a section, of which the first has this place.
 fn write_section(
     out: &mut TextWriter,
     at: &mut usize,
-    shown: Shown<'_>,
+    shown: &Shown<'_>,
     first: usize,
     code: &[Instruction<u16>],
 ) {
     let mut place = first;
     for instruction in code {
         write_offset(out, at, INSTRUCTION);
-        out.fill(" {:>5} ", &[place.into()]);
-        match shown.costs.get(place) {
-            Some(cost) => out.fill("{:>6}", &[(*cost).into()]),
-            None => out.write_str("      "),
-        }
-        if shown.is_named {
-            match shown.source.place_card(place) {
-                Some(card) => out.fill("  {:>5}", &[card.into()]),
-                None => out.write_str("       "),
-            }
-        }
-        out.write_str("  ");
+        write_place(out, shown, place);
         write_instruction(out, shown, *instruction);
         out.end_line();
         shown.write_broken(out, Table::Places, place);
@@ -115,7 +120,7 @@ fn write_section(
     }
 }
 
-fn write_heading(out: &mut TextWriter, shown: Shown<'_>, name: &str, count: usize) {
+fn write_heading(out: &mut TextWriter, shown: &Shown<'_>, name: &str, count: usize) {
     let heading = if count == 0 {
         "\n        {}: none\n"
     } else if shown.is_named {
@@ -129,7 +134,7 @@ fn write_heading(out: &mut TextWriter, shown: Shown<'_>, name: &str, count: usiz
 const SUBROUTINE_ROW: &str = "               subroutine {}, level {}\n";
 
 /// Writes each subroutine's level and its instructions.
-fn write_subroutines(out: &mut TextWriter, at: &mut usize, shown: Shown<'_>, first: usize) {
+fn write_subroutines(out: &mut TextWriter, at: &mut usize, shown: &Shown<'_>, first: usize) {
     let mut place = first;
     for (number, subroutine) in shown.rows.subroutines.iter().enumerate() {
         write_offset(out, at, SUBROUTINE);
@@ -141,7 +146,7 @@ fn write_subroutines(out: &mut TextWriter, at: &mut usize, shown: Shown<'_>, fir
 }
 
 /// Writes the instructions of all sections.
-pub(crate) fn write_sections(out: &mut TextWriter, at: &mut usize, shown: Shown<'_>) {
+pub(crate) fn write_sections(out: &mut TextWriter, at: &mut usize, shown: &Shown<'_>) {
     let rows = shown.rows;
     let total = rows.detail.len();
     let subroutines = total.saturating_add(rows.total.len());

@@ -8,6 +8,7 @@ use rpg_cli_text::TextWriter;
 use rpg_effect::condition::Condition;
 use rpg_effect::line::{Editing, File, LineField, Source};
 use rpg_effect::operation::{Index, Operand};
+use rpg_object_program::row::Line;
 
 /// Writes conditions that must all hold.
 fn write_alternative(out: &mut TextWriter, conditions: &[Condition]) {
@@ -29,7 +30,7 @@ fn write_alternatives(out: &mut TextWriter, at: &mut usize, alternatives: &[Vec<
     }
 }
 
-fn write_field(out: &mut TextWriter, at: &mut usize, shown: Shown<'_>, field: LineField<u16>) {
+fn write_field(out: &mut TextWriter, at: &mut usize, shown: &Shown<'_>, field: LineField<u16>) {
     write_offset(out, at, 16);
     out.fill("    to place {:<4} ", &[field.end.into()]);
     if let Source::Page = field.source {
@@ -54,7 +55,7 @@ fn write_field(out: &mut TextWriter, at: &mut usize, shown: Shown<'_>, field: Li
 fn write_line_fields(
     out: &mut TextWriter,
     at: &mut usize,
-    shown: Shown<'_>,
+    shown: &Shown<'_>,
     number: usize,
     fields: &[LineField<u16>],
 ) {
@@ -65,24 +66,29 @@ fn write_line_fields(
     }
 }
 
+/// Writes which line it is, how the form moves, and when it is put out.
+fn write_head(out: &mut TextWriter, at: &mut usize, shown: &Shown<'_>, number: usize, line: &Line) {
+    let file = match line.file {
+        File::Printer => "printer",
+        File::Disk => "disk",
+    };
+    let time = time_word(line.time);
+    write_offset(out, at, 12);
+    out.fill(
+        "  line {}: {}, {}",
+        &[number.into(), file.into(), time.into()],
+    );
+    write_spacing(out, line.spacing);
+    write_alternatives(out, at, &line.alternatives);
+    write_card(out, shown.source.line_card(number));
+    out.write_char('\n');
+}
+
 /// Writes all lines.
-pub(crate) fn write_lines(out: &mut TextWriter, at: &mut usize, shown: Shown<'_>) {
+pub(crate) fn write_lines(out: &mut TextWriter, at: &mut usize, shown: &Shown<'_>) {
     out.write_str("\n    at  LINES\n");
     for (number, line) in shown.rows.lines.iter().enumerate() {
-        let file = match line.file {
-            File::Printer => "printer",
-            File::Disk => "disk",
-        };
-        let time = time_word(line.time);
-        write_offset(out, at, 12);
-        out.fill(
-            "  line {}: {}, {}",
-            &[number.into(), file.into(), time.into()],
-        );
-        write_spacing(out, line.spacing);
-        write_alternatives(out, at, &line.alternatives);
-        write_card(out, shown.source.line_card(number));
-        out.write_char('\n');
+        write_head(out, at, shown, number, line);
         write_line_fields(out, at, shown, number, &line.fields);
         shown.write_broken(out, Table::Lines, number);
     }

@@ -19,7 +19,7 @@ use std::alloc::{AllocError, Global};
 const HEADER: usize = 32;
 
 /// Writes the tables of a program.
-fn write_tables(out: &mut TextWriter, shown: Shown<'_>, uses: &Uses) {
+fn write_tables(out: &mut TextWriter, shown: &Shown<'_>, uses: &Uses) {
     let mut at = HEADER;
     write_fields(out, &mut at, shown, uses);
     write_first_values(out, &mut at, shown);
@@ -32,7 +32,7 @@ fn write_tables(out: &mut TextWriter, shown: Shown<'_>, uses: &Uses) {
 fn shown_text(
     alloc: Global,
     program: &Program,
-    shown: Shown<'_>,
+    shown: &Shown<'_>,
     bound: Option<u64>,
 ) -> Result<String, AllocError> {
     let bytes = encode(alloc, program)?.len();
@@ -64,7 +64,7 @@ fn accepted_text(
         costs: &costs,
         broken: None,
     };
-    shown_text(alloc, verified.program(), shown, Some(verified.bound()))
+    shown_text(alloc, verified.program(), &shown, Some(verified.bound()))
 }
 
 fn refused_text(
@@ -82,7 +82,7 @@ fn refused_text(
         costs: &[],
         broken: Some(broken),
     };
-    shown_text(alloc, program, shown, None)
+    shown_text(alloc, program, &shown, None)
 }
 
 /// The text about a program by the cards of its source, which have names if it is known.

@@ -67,7 +67,7 @@ pub(crate) fn write_offset(out: &mut TextWriter, at: &mut usize, bytes: usize) {
 
 impl Shown<'_> {
     /// Writes the rule that is broken after the row that breaks it.
-    pub fn write_broken(self, out: &mut TextWriter, table: Table, row: usize) {
+    pub fn write_broken(&self, out: &mut TextWriter, table: Table, row: usize) {
         match self.broken {
             Some(broken) if broken.row == row && table_of(broken.rule) == table => {
                 let (number, sentence) = (broken.rule.number(), broken.rule.sentence());
@@ -78,14 +78,14 @@ impl Shown<'_> {
     }
 
     /// Writes the name of a field with a blank before it; nothing where it has none or the source isn't known.
-    pub fn write_name(self, out: &mut TextWriter, field: u16) {
+    pub fn write_name(&self, out: &mut TextWriter, field: u16) {
         if let Some(name) = self.source.field_name(field) {
             out.fill(" {}", &[name_text(name).into()]);
         }
     }
 
     /// Writes a field with its index, if it has one, and a constant with its value. Where the source is known, what its cards have comes after it.
-    pub fn write_operand(self, out: &mut TextWriter, operand: Operand<u16>) {
+    pub fn write_operand(&self, out: &mut TextWriter, operand: Operand<u16>) {
         let constant = constant_of(self.rows, operand.field);
         out.fill("#{}", &[operand.field.into()]);
         if let Some((value, decimals)) = constant {

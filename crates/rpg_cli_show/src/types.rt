@@ -51,7 +51,7 @@ fn write_levels(out: &mut TextWriter, at: &mut usize, sentence: &str, fields: &[
 fn write_inputs(
     out: &mut TextWriter,
     at: &mut usize,
-    shown: Shown<'_>,
+    shown: &Shown<'_>,
     number: usize,
     inputs: &[InputField<u16>],
 ) {
@@ -78,8 +78,32 @@ fn write_inputs(
     }
 }
 
+/// Writes the codes and the fields of a record type.
+fn write_parts(
+    out: &mut TextWriter,
+    at: &mut usize,
+    shown: &Shown<'_>,
+    number: usize,
+    record_type: &RecordType,
+) {
+    write_codes(out, at, &record_type.codes);
+    write_levels(
+        out,
+        at,
+        "    columns {}-{} are a control field of L{}",
+        &record_type.levels,
+    );
+    write_inputs(out, at, shown, number, &record_type.inputs);
+    write_levels(
+        out,
+        at,
+        "    columns {}-{} are a match field of M{}",
+        &record_type.matches,
+    );
+}
+
 /// Writes all record types.
-pub(crate) fn write_types(out: &mut TextWriter, at: &mut usize, shown: Shown<'_>) {
+pub(crate) fn write_types(out: &mut TextWriter, at: &mut usize, shown: &Shown<'_>) {
     out.write_str("\n    at  RECORD TYPES\n");
     let head = match shown.rows.version {
         Version::One => 8,
@@ -90,20 +114,7 @@ pub(crate) fn write_types(out: &mut TextWriter, at: &mut usize, shown: Shown<'_>
         write_head(out, number, record_type);
         write_card(out, shown.source.type_card(number));
         out.write_char('\n');
-        write_codes(out, at, &record_type.codes);
-        write_levels(
-            out,
-            at,
-            "    columns {}-{} are a control field of L{}",
-            &record_type.levels,
-        );
-        write_inputs(out, at, shown, number, &record_type.inputs);
-        write_levels(
-            out,
-            at,
-            "    columns {}-{} are a match field of M{}",
-            &record_type.matches,
-        );
+        write_parts(out, at, shown, number, record_type);
         shown.write_broken(out, Table::Types, number);
     }
 }

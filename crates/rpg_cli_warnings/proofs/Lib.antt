@@ -1,3 +1,4 @@
 pub mod Marking
+pub mod Turns
 pub mod Unnamed
 pub mod UpTo

@@ -4,7 +4,7 @@ ghost use Rattle.std.specs.Prelude.{◌≡◌, ◌++◌, OnOk};
 ghost use Rattle.std.specs.List.{filter_map};
 ghost use Rattle.rpg_cli_warnings.specs.Digits as digits;
 
-use crate::warning::{Warning, WarningKind};
+use crate::warning::{Warning, WarningKind, put};
 use rpg_cards::{Defined, IndexedCards, SpecCard};
 use rpg_effect::form::{FieldForm, Kind};
 use rpg_sheet_specs::{CalculationSpec, ColumnFault, Entry, Factor, Operation};
@@ -133,9 +133,7 @@ pub(crate) fn put_shorter(
     ensures { OnOk result (warnings.new.items ≡ warnings.old.items ++ filter_map (digits.shorter_on source.now) source.now) }
 {
     for card in source.as_slice() {
-        if let Some(warning) = shorter_on(source, card) {
-            warnings.push(warning)?;
-        }
+        put(warnings, shorter_on(source, card))?;
     }
     Ok(())
 }

@@ -4,7 +4,7 @@ ghost use Rattle.std.specs.Prelude.{◌≡◌, ◌++◌, OnOk};
 ghost use Rattle.std.specs.List.{filter_map};
 ghost use Rattle.rpg_cli_warnings.specs.Halts as halts;
 
-use crate::warning::{Warning, WarningKind};
+use crate::warning::{Warning, WarningKind, put};
 use rpg_cards::SpecCard;
 use rpg_sheet_specs::{ColumnFault, Indicator, Operation};
 use std::alloc::AllocError;
@@ -88,9 +88,7 @@ pub(crate) fn put_halts(warnings: &mut Vec<Warning>, cards: &[SpecCard]) -> Resu
     ensures { OnOk result (warnings.new.items ≡ warnings.old.items ++ filter_map halts.halt_on cards.now) }
 {
     for card in cards {
-        if let Some(warning) = halt_on(card) {
-            warnings.push(warning)?;
-        }
+        put(warnings, halt_on(card))?;
     }
     Ok(())
 }

@@ -8,7 +8,7 @@ use crate::asking::{asked_columns, first_asking};
 use crate::levels::any_has_level;
 use crate::marks::{asked_by, shown_by};
 use crate::turning::{any_turns_on, first_showing, shown_columns};
-use crate::warning::{Warning, WarningKind};
+use crate::warning::{Warning, WarningKind, put};
 use rpg_cards::SpecCard;
 use std::alloc::AllocError;
 
@@ -71,16 +71,6 @@ fn no_level(cards: &[SpecCard], indicator: u8) -> Option<Warning>
             kind: WarningKind::NoLevel { indicator },
         }),
     }
-}
-
-/// Appends a warning, if there is one.
-pub(crate) fn put(warnings: &mut Vec<Warning>, warning: Option<Warning>) -> Result<(), AllocError>
-    ensures { OnOk result (warnings.new.items ≡ warnings.old.items ++ indicators.listed warning) }
-{
-    if let Some(warning) = warning {
-        warnings.push(warning)?;
-    }
-    Ok(())
 }
 
 /// Appends the warnings of an indicator, given whether a card asks for it, and whether one turns it on for others to ask.

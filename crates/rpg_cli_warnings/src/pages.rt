@@ -5,7 +5,7 @@ ghost use Rattle.std.specs.List.{filter_map};
 ghost use Rattle.rpg_cli_warnings.specs.Pages as pages;
 
 use crate::overlaps::is_always_out;
-use crate::warning::{Warning, WarningKind};
+use crate::warning::{Warning, WarningKind, put};
 use rpg_cards::SpecCard;
 use rpg_sheet_specs::{ColumnFault, Entry};
 use std::alloc::AllocError;
@@ -46,9 +46,7 @@ pub(crate) fn put_pages(warnings: &mut Vec<Warning>, cards: &[SpecCard]) -> Resu
     ensures { OnOk result (warnings.new.items ≡ warnings.old.items ++ filter_map pages.page_on cards.now) }
 {
     for card in cards {
-        if let Some(warning) = page_on(card) {
-            warnings.push(warning)?;
-        }
+        put(warnings, page_on(card))?;
     }
     Ok(())
 }

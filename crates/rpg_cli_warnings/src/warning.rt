@@ -1,10 +1,12 @@
 //! Warnings, and what they say.
 
-ghost use Rattle.std.specs.Prelude.{◌≡◌};
-ghost use Rattle.rpg_cli_warnings.specs.Warnings as warnings;
+ghost use Rattle.std.specs.Prelude.{◌≡◌, ◌++◌, OnOk};
+ghost use Rattle.rpg_cli_warnings.specs.Indicators as indicators;
+ghost use Rattle.rpg_cli_warnings.specs.Warnings as codes;
 
 use rpg_cli_values::WarningCode;
 use rpg_sheet_specs::ColumnFault;
+use std::alloc::AllocError;
 
 /// Why a card is warned of.
 #[derive(Clone, Copy)]
@@ -42,7 +44,7 @@ pub enum WarningKind {
 
 impl WarningKind {
     pub const fn code(self) -> WarningCode
-        ensures { result ≡ warnings.code self }
+        ensures { result ≡ codes.code self }
     {
         match self {
             WarningKind::NeverOn { .. } => WarningCode::W1,
@@ -62,4 +64,14 @@ pub struct Warning {
     pub card: u16,
     pub columns: ColumnFault,
     pub kind: WarningKind,
+}
+
+/// Appends a warning, if there is one.
+pub(crate) fn put(warnings: &mut Vec<Warning>, warning: Option<Warning>) -> Result<(), AllocError>
+    ensures { OnOk result (warnings.new.items ≡ warnings.old.items ++ indicators.listed warning) }
+{
+    if let Some(warning) = warning {
+        warnings.push(warning)?;
+    }
+    Ok(())
 }

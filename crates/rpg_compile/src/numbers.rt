@@ -11,16 +11,16 @@ ghost use Rattle.rpg_compile.specs.Numbers as numbers_of;
 ghost use Rattle.rpg_compile.specs.Walk.{section_in, subroutines_in};
 
 use crate::part::{Part, given_name, next_in, next_subroutine};
-use indexmap::IndexMap;
 use rpg_cards::SpecCard;
 use rpg_sheet_specs::{CalculationSpec, Operation};
 use rpg_symbols::Name;
 use std::alloc::{AllocError, Global};
+use std::collections::HashMap;
 
 /// The numbers of names: the labels of a section with their places, or the subroutines with their numbers.
 #[derive(Drop)]
 pub(crate) struct NameNumbers {
-    numbers: IndexMap<Name, u16>,
+    numbers: HashMap<Name, u16>,
     /// The number of any other name.
     otherwise: u16,
 }
@@ -28,7 +28,7 @@ pub(crate) struct NameNumbers {
 impl NameNumbers {
     pub(crate) fn new(alloc: Global) -> Self {
         NameNumbers {
-            numbers: IndexMap::new(alloc),
+            numbers: HashMap::new(alloc),
             otherwise: 0,
         }
     }
@@ -38,7 +38,7 @@ impl NameNumbers {
         requires { length (subroutines_in cards.now) < 65536 }
         ensures { IfOk result (λ t. (n : Option (List ℕ)) → numbers_of.number_by t n ≡ callee n (subroutines_in cards.now)) }
     {
-        let mut numbers = IndexMap::new(alloc);
+        let mut numbers = HashMap::new(alloc);
         let otherwise = note_subroutines(&mut numbers, cards)?;
         Ok(NameNumbers { numbers, otherwise })
     }
@@ -76,7 +76,7 @@ impl NameNumbers {
 
 /// Notes the labels of a section that begins at this place. Returns the place after the section.
 fn note_labels(
-    places: &mut IndexMap<Name, u16>,
+    places: &mut HashMap<Name, u16>,
     part: Part,
     cards: &[SpecCard],
     first: u16,
@@ -96,10 +96,7 @@ fn note_labels(
 }
 
 /// Notes the names of subroutines. Returns how many subroutines there are.
-fn note_subroutines(
-    numbers: &mut IndexMap<Name, u16>,
-    cards: &[SpecCard],
-) -> Result<u16, AllocError>
+fn note_subroutines(numbers: &mut HashMap<Name, u16>, cards: &[SpecCard]) -> Result<u16, AllocError>
     requires { length (subroutines_in cards.now) < 65536 }
     ensures noted { OnOk result ((n : List ℕ) → lookup (pointwise nat_eq n) numbers.new.entries ≡ option_or (lookup (pointwise nat_eq n) numbers.old.entries) (lookup (pointwise nat_eq n) (numbers_of.names_from 0 (subroutines_in cards.now)))) }
     ensures count { IfOk result (λ count. count ≡ length (subroutines_in cards.now)) }
@@ -116,7 +113,7 @@ fn note_subroutines(
 
 /// Gives a name its number, unless it has one.
 fn note(
-    numbers: &mut IndexMap<Name, u16>,
+    numbers: &mut HashMap<Name, u16>,
     name: Option<&Name>,
     number: u16,
 ) -> Result<(), AllocError>
@@ -128,7 +125,7 @@ fn note(
     }
 }
 
-fn note_name(numbers: &mut IndexMap<Name, u16>, name: Name, number: u16) -> Result<(), AllocError>
+fn note_name(numbers: &mut HashMap<Name, u16>, name: Name, number: u16) -> Result<(), AllocError>
     ensures { OnOk result ((n : List ℕ) → lookup (pointwise nat_eq n) numbers.new.entries ≡ option_or (lookup (pointwise nat_eq n) numbers.old.entries) (if pointwise nat_eq n name then Some number else None)) }
 {
     if numbers.contains_key(&name) {
