@@ -1,5 +1,5 @@
 -- A call of a reader of records, from what it read.
-use Rattle.std.proofs.Common.{◌≡◌, ℕ, Bool, List, ◌++◌, Option, sym, ap, subst, ◌∙◌, append_assoc}
+use Rattle.std.proofs.Common.{◌≡◌, ◌<◌, ℕ, Bool, List, ◌++◌, length, Option, sym, ap, subst, ◌∙◌, append_assoc, arith, length-append}
 use Rattle.rpg_files.specs.NextLine.{CanFollow}
 use Rattle.rpg_files.specs.Reads.{Reads}
 use Rattle.rpg_files.specs.Reading.{Advances}
@@ -16,3 +16,6 @@ advances a b old mid whole new ended ended' Fact same reads fact = record {
       let joined : old ++ (reads.read ++ more) ≡ whole ++ more = sym (append_assoc old reads.read more) ∙ ap (λ (front : List ℕ). (front ++ reads.read) ++ more) (sym same) ∙ ap (λ (front : List ℕ). front ++ more) (sym reads.bytes) in
       subst (λ (bytes : List ℕ). Fact bytes (new ++ more)) (sym joined) (fact more can);
 }
+
+pub some_with : (xs more : List ℕ) → 0 < length xs → 0 < length (xs ++ more)
+some_with xs more some = omega (arith, some, length-append xs more)

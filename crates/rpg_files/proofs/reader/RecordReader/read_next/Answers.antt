@@ -1,6 +1,6 @@
-use Rattle.std.proofs.Common.{◌<◌, ◌≤◌, ◌++◌, refl, ap₂, arith}
+use Rattle.std.proofs.Common.{◌≡◌, ◌<◌, ◌≤◌, ◌++◌, refl, ap₂, arith}
 use Rattle.std.proofs.lemmas.Result.{err_from_is_err_and}
-use Rattle.rpg_files.proofs.Advancing.{advances}
+use Rattle.rpg_files.proofs.Advancing.{advances, some_with}
 use Rattle.rpg_files.proofs.reader.RecordReader.read_next.Goals as goal
 
 pub returns-in-Bad-clause-next : goal.returns-in-Bad-clause-next
@@ -32,3 +32,25 @@ returns-in-Record-clause-next g c =
     let few : c.args.self.now.count < 10000000 = omega arith in
     let found = rw c.in-Record.is at c.in_ok-len.ensures.ok in
     record { limit = refl; count = refl; faults = c.in_ok-len.ensures.faults; input = advances _ _ _ _ _ _ _ _ _ c.consume.ensures.bytes c.read_line.ensures.read (λ more can. (few, found.good, found.first more can)); waits = λ is. absurd cc }
+
+pub returns-in_err-has_more-clause-next : goal.returns-in_err-has_more-clause-next
+returns-in_err-has_more-clause-next g c =
+    let e = err_from_is_err_and c.from_residual.result c.from_residual.ensures.1 in
+    rw (e.1, e.2) (record {
+      limit = refl;
+      count = refl;
+      faults = c.in_err-has_more.ensures.faults;
+      input = advances _ _ _ _ _ _ _ _ _ c.consume.ensures.bytes c.has_more.ensures.read (λ more can. refl);
+      waits = λ is. c.in_err-has_more.ensures.waits;
+    })
+
+pub returns-then-branch-clause-next : goal.returns-then-branch-clause-next
+returns-then-branch-clause-next g c =
+    let all : c.args.self.now.count ≡ 10000000 = omega arith in
+    let some = rw c.if-branch.true at c.in_ok-has_more.ensures.ok in
+    record { limit = refl; count = refl; faults = c.in_ok-has_more.ensures.faults; input = advances _ _ _ _ _ _ _ _ _ c.consume.ensures.bytes c.has_more.ensures.read (λ more can. (all, some_with _ more some)); waits = λ is. absurd cc }
+
+pub returns-else-branch-clause-next : goal.returns-else-branch-clause-next
+returns-else-branch-clause-next g c =
+    let none = rw c.if-branch.false at c.in_ok-has_more.ensures.ok in
+    record { limit = refl; count = refl; faults = c.in_ok-has_more.ensures.faults; input = advances _ _ _ _ _ _ _ _ _ c.consume.ensures.bytes c.has_more.ensures.read (λ more can. let is = ap₂ (◌++◌) none.0 (can none.1) in (is, is)); waits = λ is. absurd cc }
