@@ -8,7 +8,7 @@ use Rattle.rpg_machine.specs.Outputs.{PutsOut}
 use Rattle.rpg_machine.specs.declared.time.OutputTime.TheVariants as times
 use Rattle.rpg_object_program.specs.Object.{Object}
 use Rattle.rpg_cycle.proofs.InTurn.{both_on}
-use Rattle.rpg_cycle.proofs.Cycling.{Stays, at_totals, behind_4, behind_match, by_act, from_selection, keeps, same, settled_still, stay}
+use Rattle.rpg_cycle.proofs.Cycling.{Stays, at_totals, after_4, after_match, by_act, from_selection, keeps, same, settled_still, stay}
 use Rattle.rpg_cycle.proofs.Taking.{takes}
 use Rattle.rpg_cycle.specs.Counting.{one_if, records_count, waiting_count}
 use Rattle.rpg_cycle_records.specs.Earlier.{Left, Selected, control_fields, left_by, match_value, with_record}
@@ -127,8 +127,8 @@ not_last false false h = refl
 
 has_selected : (p : Object) (left : Left) (t : Inputs → Selected → Bool) (c d : UnderWay) (out : Output) → after_selection p left t c GoesOn d out → is_none c.selected ≡ false
 has_selected p left t c d out g =
-    let five = both_on (total_time p left) (end_where_last before overflow_lines p before show_match t before behind_match p) c d out g in
-    let six = both_on end_where_last (overflow_lines p before show_match t before behind_match p) five.mid d five.more five.two in
+    let five = both_on (total_time p left) (end_where_last before overflow_lines p before show_match t before after_match p) c d out g in
+    let six = both_on end_where_last (overflow_lines p before show_match t before after_match p) five.mid d five.more five.two in
     let k5 = at_totals p (is_bypassed p left.any left.control c.config) c five.mid five.put five.one in
     ap is_none (sym k5.selected) ∙ not_last (is_on five.mid.config last_record) (is_none five.mid.selected) six.one.0
 
@@ -152,7 +152,7 @@ shorter p earlier rs c i d out h g =
     let asks = not (is_on c last_record || any_on c halt_indicators) in
     let s = phase_4 p earlier asks n m rs three.mid four.mid four.put (is_on three.mid.config last_record) (subst (λ (j : Inputs). AreMergedInOrder p earlier j) (sym k.inputs) h) k.selected
     (ap (λ (j : Inputs). asks && takes_in p j Primary) (sym k.inputs)) (ap (λ (j : Inputs). asks && takes_in p j Secondary) (sym k.inputs)) four.one in
-    let last = behind_4 p left t four.mid d four.more four.two in
+    let last = after_4 p left t four.mid d four.more four.two in
     let few = s.less (has_selected p left t four.mid d four.more four.two) in
     let u : waiting_count d.inputs ≡ waiting_count four.mid.inputs = ap waiting_count last.inputs in
     let v : waiting_count three.mid.inputs ≡ waiting_count i = ap waiting_count k.inputs in

@@ -15,7 +15,7 @@ use Rattle.rpg_cycle.specs.Stages.{Ended, Going, Stage, job_end, stage_at}
 use Rattle.rpg_cycle.specs.declared.ends.JobEnd.{JobEnd}
 use Rattle.rpg_cycle.specs.declared.ends.JobEnd.TheVariants as jobs
 use Rattle.rpg_machine.specs.Config.{Output}
-use Rattle.rpg_machine.specs.Running.{Running, config_on, feed_behind, finished, refilled}
+use Rattle.rpg_machine.specs.Running.{Running, config_on, feed_after, finished, refilled}
 use Rattle.rpg_object_program.specs.Object.{Object}
 
 -- a job with that machine
@@ -96,6 +96,6 @@ ends p earlier previous x y m b c left now i j stage s e same is order placed d 
       left = λ h. absurd (stops_not e h);
       inputs = λ h. absurd (stops_not e h);
       last = z.last;
-      bytes = ap (with_feed (feed_behind b.last)) z.bytes
+      bytes = ap (with_feed (feed_after b.last)) z.bytes
           ∙ ap (λ (g : Stage). with_feed (feed_at g b.last) (with_output previous z.out.lines z.out.records m.output)) (sym (ended e));
     })

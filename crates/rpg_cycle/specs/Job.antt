@@ -19,7 +19,7 @@ use Rattle.rpg_cycle.specs.Phases.{Cycle, UnderWay, begun}
 use Rattle.rpg_cycle.specs.Stages.{Stage, Going, Ended, Failed, has_failed, is_going, stage_at}
 use Rattle.rpg_cycle.specs.Starting.{date_in, dated}
 use Rattle.rpg_machine.specs.Config.{Config, Output}
-use Rattle.rpg_machine.specs.Running.{Running, config_on, feed_behind, no_bytes}
+use Rattle.rpg_machine.specs.Running.{Running, config_on, feed_after, no_bytes}
 use Rattle.rpg_object_program.specs.Object.{Object}
 use Rattle.rpg_store.specs.First.{first_contents, first_currents}
 use Rattle.rpg_verify.specs.Bound.{bound}
@@ -70,7 +70,7 @@ pub record IsBehind (p : Object) (left : Left) (inputs : Inputs) : Type 0 where
 -- where the job ends, so does the last line
 abbrev pub feed_at : Stage → Option ℕ → List ℕ
 feed_at Going last = []
-feed_at (Ended e) last = feed_behind last
+feed_at (Ended e) last = feed_after last
 feed_at Failed last = []
 
 -- the bytes with what ends the printed pages, if anything does

@@ -53,9 +53,9 @@ first_if_any [] = None
 first_if_any (x ∷ xs) = Some x
 
 -- the list without its first
-abbrev pub behind_first : {A : Type 0} → List A → List A
-behind_first [] = []
-behind_first (x ∷ xs) = xs
+abbrev pub after_first : {A : Type 0} → List A → List A
+after_first [] = []
+after_first (x ∷ xs) = xs
 
 -- what a cycle takes from a file, and what it leaves
 abbrev pub next_of : {A : Type 0} → Bool → List A → Option A
@@ -63,7 +63,7 @@ next_of is_needed rs = if is_needed then first_if_any rs else None
 
 -- the records that are left, where one is needed
 abbrev pub rest_where_needed : {A : Type 0} → Bool → List A → List A
-rest_where_needed is_needed rs = if is_needed then behind_first rs else rs
+rest_where_needed is_needed rs = if is_needed then after_first rs else rs
 
 -- the records that are left after a cycle
 abbrev pub left_behind : Object → Config → Inputs → Records → Records

@@ -222,12 +222,12 @@ module _ (p : Object) (orderly : IsOrderly p) where
 
   -- ---- cycles
 
-  abbrev behind_match : Phase
-  behind_match = fill_fields p before detail_calculations p
+  abbrev after_match : Phase
+  after_match = fill_fields p before detail_calculations p
 
   module _ (left : Left) (matches : Inputs → Selected → Bool) (primary secondary : Option (List ℕ)) where
     abbrev from_ending : Phase
-    from_ending = end_where_last before overflow_lines p before show_match matches before behind_match
+    from_ending = end_where_last before overflow_lines p before show_match matches before after_match
 
     abbrev from_selection : Phase
     from_selection = select_record p left primary secondary before after_selection p left matches
@@ -239,9 +239,9 @@ module _ (p : Object) (orderly : IsOrderly p) where
         (both_paid (set_off p) from_selection off_paid
         (both_paid (select_record p left primary secondary) (after_selection p left matches) (selection_paid left primary secondary)
         (both_paid (total_time p left) from_ending (totals_paid left)
-        (both_paid end_where_last (overflow_lines p before show_match matches before behind_match) end_paid
-        (both_paid (overflow_lines p) (show_match matches before behind_match) overflow_paid
-        (both_paid (show_match matches) behind_match (showing_paid matches)
+        (both_paid end_where_last (overflow_lines p before show_match matches before after_match) end_paid
+        (both_paid (overflow_lines p) (show_match matches before after_match) overflow_paid
+        (both_paid (show_match matches) after_match (showing_paid matches)
         (both_paid (fill_fields p) (detail_calculations p) filling_paid (section_rests sections.Detail refl)))))))))
 
   starts : (c : Config) (i : Inputs) → Holds p c.world.data → c.cells ≡ map.empty → AreWaiting p i → Rests (begun p c i)

@@ -244,12 +244,12 @@ module _ (p : Object) (orderly : IsOrderly p) where
 
   -- ---- cycles
 
-  abbrev behind_match : Phase
-  behind_match = fill_fields p before detail_calculations p
+  abbrev after_match : Phase
+  after_match = fill_fields p before detail_calculations p
 
   module _ (left : Left) (matches : Inputs → Selected → Bool) (primary secondary : Option (List ℕ)) where
     abbrev from_ending : Phase
-    from_ending = end_where_last before overflow_lines p before show_match matches before behind_match
+    from_ending = end_where_last before overflow_lines p before show_match matches before after_match
 
     abbrev from_selection : Phase
     from_selection = select_record p left primary secondary before after_selection p left matches
@@ -261,9 +261,9 @@ module _ (p : Object) (orderly : IsOrderly p) where
         (both_safe (set_off p) from_selection off_safe
         (both_safe (select_record p left primary secondary) (after_selection p left matches) (selection_safe left primary secondary)
         (both_safe (total_time p left) from_ending (totals_safe left)
-        (both_safe end_where_last (overflow_lines p before show_match matches before behind_match) end_safe
-        (both_safe (overflow_lines p) (show_match matches before behind_match) overflow_safe
-        (both_safe (show_match matches) behind_match (showing_safe matches)
+        (both_safe end_where_last (overflow_lines p before show_match matches before after_match) end_safe
+        (both_safe (overflow_lines p) (show_match matches before after_match) overflow_safe
+        (both_safe (show_match matches) after_match (showing_safe matches)
         (both_safe (fill_fields p) (detail_calculations p) filling_safe (section_safe sections.Detail refl)))))))))
 
     abbrev filling_way : Way
@@ -311,13 +311,13 @@ module _ (p : Object) (orderly : IsOrderly p) where
   at_end n e same true t = rw (le-leb 0 n (omega arith), t)
   at_end n e same false t = rw (le-leb 0 n (omega arith), t, eq-eqb n e same)
 
-  behind_detail : is_place p (record { section = sections.Detail; number = length p.detail }) ≡ true
+  after_detail : is_place p (record { section = sections.Detail; number = length p.detail }) ≡ true
   unfolding is_place place_behind first_place
-  behind_detail = at_end (length p.detail) (0 + length p.detail) (omega arith) _ refl
+  after_detail = at_end (length p.detail) (0 + length p.detail) (omega arith) _ refl
 
   -- every configuration of a run
   pub visited_steady : (date : ℤ) (fields : Fields nat_cmp) (records : Records) (x : Config) → unsigned_abs date < 10 ^ 6 → Holds p (job_first_world fields).data →
       IsOfRun p date fields records x → IsSteady p x
   visited_steady date fields records x small h (n, visits) =
       visits_safe n [] records (job_start p date fields) unread x
-      (record { values = start_holds p orderly.program date small fields h; ended = refl; place = behind_detail; no_cell = refl; waiting = unread_waits p; taken = tt }) visits
+      (record { values = start_holds p orderly.program date small fields h; ended = refl; place = after_detail; no_cell = refl; waiting = unread_waits p; taken = tt }) visits

@@ -14,8 +14,8 @@ use Rattle.rpg_object_program.specs.Object.{Object}
 use Rattle.rpg_engine.specs.Reporting.{GoesOnFor}
 
 -- a course with cycles before it
-abbrev pub behind : ℕ → ℕ → Output → Course → Course
-behind cycles most out course = record {
+abbrev pub after_cycles : ℕ → ℕ → Output → Course → Course
+after_cycles cycles most out course = record {
   ending = course.ending;
   cycles = cycles + course.cycles;
   most = max most course.most;
@@ -39,13 +39,13 @@ more_assoc a b c = same_output _ _ _ _ (sym (append_assoc a.lines b.lines c.line
 pub more_none : (a : Output) → with_more a no_output ≡ a
 more_none a = same_output (a.lines ++ []) a.lines (a.records ++ []) a.records (append-nil a.lines) (append-nil a.records)
 
-none_before : (course : Course) → behind 0 0 no_output course ≡ course
+none_before : (course : Course) → after_cycles 0 0 no_output course ≡ course
 none_before course = same_course course.ending course.there (0 + course.cycles) course.cycles (max 0 course.most) course.most course.output course.output (omega arith) (omega arith) refl
 
 -- one more cycle before the rest
-one_behind : (cycles most greater : ℕ) (c : Config) (out more : Output) (course : Course) → greater ≡ max most c.steps
-    → behind cycles most out (with_cycle c more course) ≡ behind (cycles + 1) greater (with_more out more) course
-one_behind cycles most greater c out more course g =
+one_after : (cycles most greater : ℕ) (c : Config) (out more : Output) (course : Course) → greater ≡ max most c.steps
+    → after_cycles cycles most out (with_cycle c more course) ≡ after_cycles (cycles + 1) greater (with_more out more) course
+one_after cycles most greater c out more course g =
     same_course course.ending course.there (cycles + (1 + course.cycles)) (cycles + 1 + course.cycles) (max most (max c.steps course.most)) (max greater course.most)
     (with_more out (with_more more course.output)) (with_more (with_more out more) course.output) (omega arith) (omega (arith, g)) (more_assoc out more course.output)
 
@@ -98,8 +98,8 @@ goes_on_to (suc n) p earlier rs c i out there Then holds (d, first, more, cycle,
 -- records are left: all these cycles went on, a course of what is left is one of all, and each course of all comes from one of what is left.
 pub record IsUnderWay (p : Object) (start : Config) (all : Records) (earlier : List Selected) (now : Config) (i : Inputs) (rest : Records) (cycles most : ℕ) (out : Output) : Type 0 where
   pub gone : GoesOnTo cycles p [] all start unread out (stand earlier rest now i)
-  pub forth : (course : Course) → Runs p earlier rest now i course → Runs p [] all start unread (behind cycles most out course)
-  pub back : (course : Course) → Runs p [] all start unread course → (later : Course) × Runs p earlier rest now i later × (course ≡ behind cycles most out later)
+  pub forth : (course : Course) → Runs p earlier rest now i course → Runs p [] all start unread (after_cycles cycles most out course)
+  pub back : (course : Course) → Runs p [] all start unread course → (later : Course) × Runs p earlier rest now i later × (course ≡ after_cycles cycles most out later)
 
 pub begins : (p : Object) (start : Config) (all : Records) → IsUnderWay p start all [] start unread all 0 0 no_output
 begins p start all = record {
@@ -174,7 +174,7 @@ one_more p start all earlier now i rest after cycles most greater out d o u head
       (go_on_more cycles p [] all start unread out o (stand earlier rest now i) (λ e r x j. stand e r x j ≡ stand (with_record d.selected earlier) after d.config d.inputs)
       (record { d = d; cycle = head.cycle; then = ap (λ (rs : Records). stand (with_record d.selected earlier) rs d.config d.inputs) (sym (head.left refl)) }) u.gone);
   forth = λ course runs.
-      subst (λ c. Runs p [] all start unread c) (one_behind cycles most greater d.config out o course g)
+      subst (λ c. Runs p [] all start unread c) (one_after cycles most greater d.config out o course g)
       (u.forth (with_cycle d.config o course) (runs_first p earlier now i rest after GoesOn d o course.cycles (with_cycle d.config o course) head
       (course, subst (λ (rs : Records). Runs p (with_record d.selected earlier) rs d.config d.inputs course) (head.left refl) runs, refl)));
   back = λ course runs.
@@ -182,7 +182,7 @@ one_more p start all earlier now i rest after cycles most greater out d o u head
       let more = first_is p earlier now i rest after GoesOn d o later.0 head later.1 in (
         more.0,
         subst (λ (rs : Records). Runs p (with_record d.selected earlier) rs d.config d.inputs more.0) (sym (head.left refl)) more.1,
-        later.2 ∙ ap (behind cycles most out) more.2 ∙ one_behind cycles most greater d.config out o more.0 g,
+        later.2 ∙ ap (after_cycles cycles most out) more.2 ∙ one_after cycles most greater d.config out o more.0 g,
       );
 }
 
@@ -203,7 +203,7 @@ ends_here (Wrong f) d o Rest last = refl
 -- the whole run
 pub ends : (p : Object) (start : Config) (all : Records) (earlier : List Selected) (now : Config) (i : Inputs) (rest after : Records) (cycles most : ℕ) (out : Output) (e : PhaseEnd) (d : UnderWay) (o : Output)
     → IsUnderWay p start all earlier now i rest cycles most out → HeadCycle p earlier now i e d o rest after → IsLast e
-    → Runs p [] all start unread (behind cycles most out (last_cycle e d o))
+    → Runs p [] all start unread (after_cycles cycles most out (last_cycle e d o))
 ends p start all earlier now i rest after cycles most out e d o u head last =
     u.forth (last_cycle e d o) (runs_first p earlier now i rest after e d o 0 (last_cycle e d o) head (ends_here e d o _ last))
 

@@ -43,18 +43,18 @@ module _ (a b : Option (List ℕ)) (waiting : List ℕ) (sent : ℕ) (all : List
   all_sent none = subst (λ (x : List ℕ). Appends a b x) (sym (append-nil s.gone) ∙ ap (λ (x : List ℕ). s.gone ++ x) (sym none) ∙ s.order) s.out
 
   -- bytes that begin with all these begin with those that went out
-  behind_gone : (whole : List ℕ) → BeginsWith whole all → BeginsWith whole (s.gone ++ waiting)
-  behind_gone whole begins = record { more = begins.more; is = begins.is ∙ ap (λ (x : List ℕ). x ++ begins.more) (sym s.order) }
+  after_gone : (whole : List ℕ) → BeginsWith whole all → BeginsWith whole (s.gone ++ waiting)
+  after_gone whole begins = record { more = begins.more; is = begins.is ∙ ap (λ (x : List ℕ). x ++ begins.more) (sym s.order) }
 
   -- of them the writer has a first part
   pub prefix_sent : (whole : List ℕ) → BeginsWith whole all → AppendsPrefix a b whole
   prefix_sent whole begins =
-      let front = behind_gone whole begins in
+      let front = after_gone whole begins in
       (length s.gone, front_sent a b whole s.gone (record { more = waiting ++ front.more; is = front.is ∙ append_assoc s.gone waiting front.more }) s.out)
 
   -- a first part of what waited went out
   pub first_sent : (c : Option (List ℕ)) (whole : List ℕ) (n : ℕ) → BeginsWith whole all → AppendsFirst b c n waiting → AppendsFirst a c (sent + n) whole
-  first_sent c whole n begins part = subst (λ (k : ℕ). AppendsFirst a c (k + n) whole) (sym s.count) (part_sent a b c whole s.gone waiting n (behind_gone whole begins) s.out part)
+  first_sent c whole n begins part = subst (λ (k : ℕ). AppendsFirst a c (k + n) whole) (sym s.count) (part_sent a b c whole s.gone waiting n (after_gone whole begins) s.out part)
 
   -- and no more than all that was put out
   pub strictly_sent : (n : ℕ) → n < length waiting → sent + n < length all
@@ -69,7 +69,7 @@ module _ (a b : Option (List ℕ)) (waiting : List ℕ) (sent : ℕ) (all : List
   rest_sent c out = subst (λ (x : List ℕ). Appends a c x) s.order (Appends-trans a b c s.gone waiting s.out out)
 
   pub waiting_sent : (c : Option (List ℕ)) (whole : List ℕ) → BeginsWith whole all → Appends b c waiting → AppendsPrefix a c whole
-  waiting_sent c whole begins out = (length (s.gone ++ waiting), front_sent a c whole (s.gone ++ waiting) (behind_gone whole begins) (Appends-trans a b c s.gone waiting s.out out))
+  waiting_sent c whole begins out = (length (s.gone ++ waiting), front_sent a c whole (s.gone ++ waiting) (after_gone whole begins) (Appends-trans a b c s.gone waiting s.out out))
 
 -- bytes begin with themselves
 pub begins_whole : (bytes : List ℕ) → BeginsWith bytes bytes

@@ -31,14 +31,14 @@ use Rattle.rpg_object_program.specs.Object.{Object, input_length}
 use Rattle.rpg_object_program.specs.declared.section.Place.{Place}
 use Rattle.rpg_verify.specs.Bound.{bound}
 use Rattle.rpg_engine.specs.Inputs.{OfFronts, OfInputs, records_of}
-use Rattle.rpg_engine.specs.Reporting.{AreAlike, IsBad, GoesOnFor, HasParts, HasSent, IsPutOut, IsPutOutBy, IsRunOver, IsUnread, MayBePutOut, Reports, WaitsFor, WentOn, following, records_in}
+use Rattle.rpg_engine.specs.Reporting.{AreSameOrBad, IsBad, GoesOnFor, HasParts, HasSent, IsPutOut, IsPutOutBy, IsRunOver, IsUnread, MayBePutOut, Reports, WaitsFor, WentOn, following_in, records_of_file}
 use Rattle.rpg_engine.specs.Streaming.{Asks, FailsToRead, HasAnswered, IsRunFault, SendsSome, StopsBy, StopsEarly, TakesNone, ended_stage, record_with}
 use Rattle.rpg_engine.specs.declared.fault.CycleFault.{CycleFault}
 use Rattle.rpg_engine.specs.declared.fault.CycleFault.TheVariants as stops
 use Rattle.rpg_engine.specs.declared.fault.RunFault.{RunFault}
 use Rattle.rpg_engine.specs.declared.fault.RunFault.TheVariants as faults
 use Rattle.rpg_engine.proofs.Bytes.{BeginsWith, disk_goes_on, print_ends, printed_begins, printed_so_far, put_by, stored_begins, stored_so_far}
-use Rattle.rpg_engine.proofs.Courses.{GoesOnWith, HeadCycle, IsLast, IsUnderWay, behind, begins_with, ends, goes_on_to, one_more, some_cycles, stand}
+use Rattle.rpg_engine.proofs.Courses.{GoesOnWith, HeadCycle, IsLast, IsUnderWay, after_cycles, begins_with, ends, goes_on_to, one_more, some_cycles, stand}
 use Rattle.rpg_engine.proofs.Sent.{IsSent, all_sent, begins_whole, first_sent, prefix_sent, rest_sent, some_sent, strictly_sent, waiting_sent}
 use Rattle.rpg_engine.proofs.Streams.{SinceStart, Stands, Streams, head, is_last, more_read, put_on, reads_on, rest, steps_are, under_way_still, was_ended, was_read}
 use Rattle.rpg_engine.proofs.Taking.{Source, TakesNext, no_character, source_of, stands_still, told_of}
@@ -64,7 +64,7 @@ stream_reports first job mid given others a b a' b' cycles most greater print pr
     let does = t.does in
     let ended : e ≡ job_end j = was_ended e j (sym does.stage ∙ stage) in
     let last : IsLast e = subst IsLast (sym ended) (is_last j) in
-    let course = behind cycles most s.out (last_cycle e does.there does.out) in
+    let course = after_cycles cycles most s.out (last_cycle e does.there does.out) in
     let to_print : paper s.out.lines ++ (put_by e s.out does.out).print ≡ printed (with_more s.out does.out) = print_ends e s.out does.out last in
     let to_disk : disk_bytes s.out.records ++ (put_by e s.out does.out).disk ≡ stored (with_more s.out does.out) = disk_goes_on e s.out does.out in
     record {
@@ -122,7 +122,7 @@ module _ {R : Type 0} (remaining : R → Option (List ℕ)) where
   -- the first record that a reader which was asked has to come, whatever follows
   known_first : (p : Object) (f : InputFile) (is_needed : Bool) (old new : RecordReader R) (x : HasAnswered remaining is_needed old new) → limit_of old ≡ input_length p f → is_needed ≡ true
       → (more : List ℕ) → CanFollow (input_of remaining new).ended more
-      → AreAlike p f (record_with new x.0) (first_if_any (records ((input_of remaining old).buffered ++ ((asked is_needed old new x).read ++ more))))
+      → AreSameOrBad p f (record_with new x.0) (first_if_any (records ((input_of remaining old).buffered ++ ((asked is_needed old new x).read ++ more))))
   known_first p f false old new x limit is more can = absurd (let never : false ≡ true = is in cc)
   known_first p f true old new (next.Record, asks) limit is more can = let gives = (asks.needed refl).0.input.fact more can in inl (sym (ap first_if_any gives.2))
   known_first p f true old new (next.Bad, asks) limit is more can =
@@ -174,7 +174,7 @@ some_records [] some = absurd (omega arith)
 some_records (b ∷ bytes) some = elim (cases_Bool (b == 10)) [
   | inl feed ↦ rw feed (omega arith)
   | inr other ↦ rw other (elim (cases_Bool (b == 13 && begins_with_line_feed bytes)) [
-    | inl returns ↦ rw returns (behind_return bytes (feed_follows (b == 13) (begins_with_line_feed bytes) returns))
+    | inl returns ↦ rw returns (after_return bytes (feed_follows (b == 13) (begins_with_line_feed bytes) returns))
     | inr on ↦ rw on (some_onto b (records bytes))
   ])
 ]
@@ -183,9 +183,9 @@ some_records (b ∷ bytes) some = elim (cases_Bool (b == 10)) [
     feed_follows true q h = h
     feed_follows false q h = absurd cc
 
-    behind_return : (rest : List ℕ) → begins_with_line_feed rest ≡ true → 0 < length (records rest)
-    behind_return [] h = absurd (let never : false ≡ true = h in cc)
-    behind_return (c ∷ rest) h = rw h (omega arith)
+    after_return : (rest : List ℕ) → begins_with_line_feed rest ≡ true → 0 < length (records rest)
+    after_return [] h = absurd (let never : false ≡ true = h in cc)
+    after_return (c ∷ rest) h = rw h (omega arith)
 
 -- the records of an input and those to come of it, once so much more was read
 abbrev pub all_of : {given : Option (List ℕ)} {i : Input} → SinceStart given i → List ℕ → List ℕ → List (List ℕ)
@@ -214,9 +214,9 @@ pub record ReadFails (job : AtWork) (file : InputFile) (fault : ReadFault) {give
   pub part : List ℕ
   pub known : Option (List ℕ)
   pub unread : (more behind : List ℕ) → CanFollow i.ended more → CanFollow j.ended behind
-      → IsUnread fault (records_in file (record { primary = all_of since one.read more; secondary = all_of since_too two.read behind }))
-      (records_in file (record { primary = left_of a one.read more; secondary = left_of b two.read behind })) part (following file more behind)
-  pub first : file ≡ Secondary → job_needs_record job Primary ≡ true → (more : List ℕ) → CanFollow i.ended more → AreAlike job.program Primary known (first_if_any (left_of a one.read more))
+      → IsUnread fault (records_of_file file (record { primary = all_of since one.read more; secondary = all_of since_too two.read behind }))
+      (records_of_file file (record { primary = left_of a one.read more; secondary = left_of b two.read behind })) part (following_in file more behind)
+  pub first : file ≡ Secondary → job_needs_record job Primary ≡ true → (more : List ℕ) → CanFollow i.ended more → AreSameOrBad job.program Primary known (first_if_any (left_of a one.read more))
   pub printed : Appends print print' lines
   pub stored : Appends disk disk' records_put
 
@@ -326,7 +326,7 @@ module _ (first job : AtWork) (given others : Option (List ℕ)) (a b : Source) 
   waits_for : (file : InputFile) (fault : ReadFault) (print print' disk disk' : Option (List ℕ)) (fails : ReadFails job file fault s.primary.since s.secondary.since one two (paper s.out.lines) (disk_bytes s.out.records) print print' disk disk')
       → (more behind : List ℕ) → CanFollow i.ended more → CanFollow j.ended behind
       → WaitsFor job.program file fault (records_of (xs_of more) (ys_of behind)) (records_of (a.input.buffered ++ (one.read ++ more)) (b.input.buffered ++ (two.read ++ behind))) stands_now job.inputs
-      fails.part (following file more behind) fails.known
+      fails.part (following_in file more behind) fails.known
   waits_for file fault print print' disk disk' fails more behind can can_too = record {
     needed = going_on (is_going job.stage) (needs_record job.program stands_now job.inputs file) fails.needed;
     unread = fails.unread more behind can can_too;
@@ -369,9 +369,9 @@ module _ (first job : AtWork) (given others : Option (List ℕ)) (a b : Source) 
             goes_on = λ more behind can can_too.
                 let xs = xs_of more in
                 let ys = ys_of behind in
-                went_on day is more behind can can_too (λ earlier rs c k. WaitsFor first.program file fault (records_of xs ys) rs c k failed.part (following file more behind) failed.known)
+                went_on day is more behind can can_too (λ earlier rs c k. WaitsFor first.program file fault (records_of xs ys) rs c k failed.part (following_in file more behind) failed.known)
                 (subst (λ (p : Object). WaitsFor p file fault (records_of xs ys) (records_of (a.input.buffered ++ (one.read ++ more)) (b.input.buffered ++ (two.read ++ behind))) stands_now job.inputs
-                failed.part (following file more behind) failed.known) s.program (waits_for file fault print print' disk disk' failed more behind can can_too));
+                failed.part (following_in file more behind) failed.known) s.program (waits_for file fault print print' disk disk' failed more behind can can_too));
             longer = λ more behind can can_too course bytes run.
                 let u = reads_on first job given others a b cycles most s i j _ _ one two more behind can can_too in
                 let later = u.back course (runs_from first day (xs_of more) (ys_of behind) course bytes is run) in
@@ -394,7 +394,7 @@ module _ (first : AtWork) (day : ℤ) (is : IsStart first day) (xs ys : List ℕ
 
   put_at_end : (e : PhaseEnd) → HeadCycle first.program earlier now i e there o rest after → IsLast e → EitherPutOut first.program day xs ys (put_with e)
   put_at_end e head last =
-      let course = behind cycles most out (last_cycle e there o) in
+      let course = after_cycles cycles most out (last_cycle e there o) in
       inr (
         course,
         record {
@@ -405,8 +405,8 @@ module _ (first : AtWork) (day : ℤ) (is : IsStart first day) (xs ys : List ℕ
         },
       )
 
-  put_out_behind : (e : PhaseEnd) → HeadCycle first.program earlier now i e there o rest after → EitherPutOut first.program day xs ys (put_with e)
-  put_out_behind GoesOn head =
+  put_out_after : (e : PhaseEnd) → HeadCycle first.program earlier now i e there o rest after → EitherPutOut first.program day xs ys (put_with e)
+  put_out_after GoesOn head =
       let more = one_more first.program (config_on None first.config) (records_of xs ys) earlier now i rest after cycles most (max most there.config.steps) out there o u head refl in
       let both = put_on out o GoesOn refl in
       let put : IsPutOutBy (cycles + 1) first.program day xs ys (put_with GoesOn) = (
@@ -417,17 +417,17 @@ module _ (first : AtWork) (day : ℤ) (is : IsStart first day) (xs ys : List ℕ
         same_bytes _ _ _ _ both.0 both.1,
       ) in
       inl (cycles + 1, put)
-  put_out_behind EndOfJob head = put_at_end EndOfJob head tt
-  put_out_behind (Halt k) head = put_at_end (Halt k) head tt
-  put_out_behind (Wrong f) head = put_at_end (Wrong f) head tt
+  put_out_after EndOfJob head = put_at_end EndOfJob head tt
+  put_out_after (Halt k) head = put_at_end (Halt k) head tt
+  put_out_after (Wrong f) head = put_at_end (Wrong f) head tt
 
 -- after a cycle, with its output
-pub stopped_behind : (first job mid : AtWork) (given others : Option (List ℕ)) (a b a' b' : Source) (cycles most : ℕ) (fault : RunFault) (none_failed : Type 0) (e : PhaseEnd) (print print' disk disk' : Option (List ℕ))
+pub stopped_after : (first job mid : AtWork) (given others : Option (List ℕ)) (a b a' b' : Source) (cycles most : ℕ) (fault : RunFault) (none_failed : Type 0) (e : PhaseEnd) (print print' disk disk' : Option (List ℕ))
     (s : Streams first given others job a b cycles most) (t : TakesNext s.earlier (last_position s.out.lines) job a b e mid a' b')
     → LeavesParts fault (paper s.out.lines ++ (put_by e s.out t.does.out).print) (disk_bytes s.out.records ++ (put_by e s.out t.does.out).disk) print print' disk disk'
     → HasSent fault none_failed print print' disk disk' (bytes_with (paper s.out.lines ++ (put_by e s.out t.does.out).print) (disk_bytes s.out.records ++ (put_by e s.out t.does.out).disk))
     → IsWriters fault → (day : ℤ) → IsStart first day → OfFronts given a'.input.remaining others b'.input.remaining (StopsEarly first.program day fault none_failed print print' disk disk')
-stopped_behind first job mid given others a b a' b' cycles most fault none_failed e print print' disk disk' s t leaves sent writers day is =
+stopped_after first job mid given others a b a' b' cycles most fault none_failed e print print' disk disk' s t leaves sent writers day is =
     let does = t.does in
     let now = config_on (last_position s.out.lines) job.config in
     record {
@@ -448,7 +448,7 @@ stopped_behind first job mid given others a b a' b' cycles most fault none_faile
                   (begins_as bytes.disk (stored course.output) _ run.disk (stored_begins e course.output s.out does.out goes));
               bytes = bytes_with (paper s.out.lines ++ (put_by e s.out does.out).print) (disk_bytes s.out.records ++ (put_by e s.out does.out).disk);
               put_out = writers_put fault first.program day xs ys _ writers
-                  (put_out_behind first day is xs ys s.earlier now job.inputs _ _ cycles most s.out does.there does.out u e one);
+                  (put_out_after first day is xs ys s.earlier now job.inputs _ _ cycles most s.out does.there does.out u e one);
               sent = sent;
             };
         needs = λ file fault read. absurd (subst IsWriters read writers);

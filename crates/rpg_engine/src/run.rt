@@ -4,13 +4,13 @@ ghost use Rattle.std.specs.Prelude.{◌≡◌, IfErr, IfOk};
 ghost use Rattle.rpg_files.specs.Reading.{reader_of};
 ghost use Rattle.rpg_verify.specs.Bound as words;
 ghost use Rattle.rpg_engine.specs.Devices.{AreLentOn, CanCountFaults, ReportsFrom, StopsFrom, TellsWhoseFaultOf};
-ghost use Rattle.rpg_engine.specs.Streaming.{IsAtStart, IsRunFault};
+ghost use Rattle.rpg_engine.specs.Streaming.{IsUnbegun, IsRunFault};
 
 use crate::cycle::next_cycle;
 use crate::fault::RunFault;
 use crate::report::Report;
 use crate::sending::{
-    Sent, enough_for, fault_behind, send_before_reading, send_where_enough, waiting_in,
+    Sent, enough_for, fault_to_report, send_before_reading, send_where_enough, waiting_in,
 };
 use crate::watching::Watcher;
 use rpg_cycle::Job;
@@ -30,7 +30,7 @@ pub(crate) fn run<S: Store + Drop, R1: Read, R2: Read, W1: Write, W2: Write, W: 
     watcher: &mut W,
 ) -> Result<Report, RunFault>
     requires devices { CanCountFaults (reader_of primary.old) (reader_of secondary.old) print.old disk.old }
-    requires begins { IsAtStart job.old primary.old secondary.old }
+    requires begins { IsUnbegun job.old primary.old secondary.old }
     requires bound { bound ≡ words.bound job.old.program }
     ensures same { AreLentOn primary secondary }
     ensures alone { job.old.program.secondary_length ≡ 0 → secondary.new ≡ secondary.old }
@@ -51,7 +51,15 @@ pub(crate) fn run<S: Store + Drop, R1: Read, R2: Read, W1: Write, W2: Write, W: 
         let ended = match next_cycle(job, need, primary, secondary) {
             Ok(ended) => ended,
             Err(fault) => {
-                return Err(fault_behind(fault, cycles, print, disk, job.output(), waiting, sent));
+                return Err(fault_to_report(
+                    fault,
+                    cycles,
+                    print,
+                    disk,
+                    job.output(),
+                    waiting,
+                    sent,
+                ));
             }
         };
         cycles += 1;

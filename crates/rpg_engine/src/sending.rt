@@ -176,7 +176,7 @@ fn send_or_leave<W1: Write, W2: Write>(
 /// The fault to report where a cycle wasn't done after so many that were. Where memory ran out, what waited before that cycle is still
 /// sent, and a writer that fails then isn't reported: memory ran out first. Where a reader failed, nothing was left waiting.
 #[inline(never)]
-pub(crate) fn fault_behind<W1: Write, W2: Write>(
+pub(crate) fn fault_to_report<W1: Write, W2: Write>(
     fault: CycleFault,
     cycles: u64,
     print: &mut Counted<W1>,
@@ -188,8 +188,7 @@ pub(crate) fn fault_behind<W1: Write, W2: Write>(
     requires ready { CanSend print.old disk.old sent }
     requires lines { waiting.print ≤ length output.now.print.items }
     requires records { waiting.disk ≤ length output.now.disk.items }
-    ensures { StopsWithTo W1.contents W2.contents fault cycles print disk sent
-        (take waiting.print output.now.print.items) (take waiting.disk output.now.disk.items) result }
+    ensures { StopsWithTo W1.contents W2.contents fault cycles print disk sent waiting output.now.print.items output.now.disk.items result }
 {
     match fault {
         CycleFault::Read { file, fault } => RunFault::Read { file, fault },

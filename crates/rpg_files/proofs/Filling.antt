@@ -1,7 +1,9 @@
 -- A buffer whose front was given, and one that was filled.
-use Rattle.std.proofs.Common.{◌≡◌, ℕ, ◌+◌, ◌-◌, ◌<◌, ◌≤◌, List, ◌++◌, length, take, drop, slice_range, Option, Ok, sym, ap, ◌∙◌, arith, length-take, length-drop}
+use Rattle.std.proofs.Common.{◌≡◌, ℕ, ◌+◌, ◌-◌, ◌<◌, ◌≤◌, List, ◌++◌, length, take, drop, slice_range, Option, Result, Ok, Err, refl, sym, ap, ◌∙◌, subst, arith, length-append, length-take, length-drop}
 use Rattle.std.specs.Io.KnownBytes.{ReadConsumes}
-use Rattle.std.proofs.lemmas.List.{drop-take, drop-drop, length-take-le}
+use Rattle.std.specs.Result.{IfOk}
+use Rattle.std.proofs.Transfers.{drop-appended}
+use Rattle.std.proofs.lemmas.List.{drop-take, drop-drop, length-take-le, take-append-le, take_all}
 use Rattle.std.proofs.Math.Seq.{take-add}
 use Rattle.std.proofs.Math.Nat.{sub-zero}
 use Rattle.rpg_files.specs.Reads.{Fills}
@@ -27,3 +29,15 @@ filled a b xs ys zs start end len n are is low high same room within bytes =
           ∙ ap (λ (front : List ℕ). front ++ take n (drop len ys)) (same ∙ ap (λ (k : ℕ). take k (drop start xs)) whole);
       count = (sym (length-take-le n (drop len ys) (omega (arith, length-drop len ys))), λ none. bytes.1 none (omega (arith, length-drop len ys)));
     }
+
+-- ---- bytes after the first
+
+pub front_kept : (n : ℕ) (front new all : List ℕ) → length front ≡ n → front ≡ take n all → take n (front ++ new) ≡ take n all
+front_kept n front new all long is = take-append-le n front new (omega arith) ∙ take_all n front (omega arith) ∙ is
+
+pub all_within : {E : Type 0} (result : Result ℕ E) (n : ℕ) (front new : List ℕ) → length front ≡ n → IfOk result (λ k. k ≤ length new) → IfOk result (λ k. n + k ≤ length (front ++ new))
+all_within (Ok k) n front new long low = omega (arith, long, length-append front new)
+all_within (Err e) n front new long low = tt
+
+pub back_read : {E : Type 0} (a b : Option (List ℕ)) (result : Result ℕ E) (n : ℕ) (front new : List ℕ) → length front ≡ n → ReadConsumes a b result new → ReadConsumes a b result (drop n (front ++ new))
+back_read a b result n front new long bytes = subst (λ (xs : List ℕ). ReadConsumes a b result xs) (sym (drop-appended front (front ++ new) new refl) ∙ ap (λ (k : ℕ). drop k (front ++ new)) long) bytes

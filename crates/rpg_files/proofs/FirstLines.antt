@@ -24,10 +24,10 @@ cut_before xs more zero = refl
 cut_before [] more (suc n) = refl
 cut_before (x ∷ xs) more (suc n) = ap (λ (ys : List ℕ). x ∷ ys) (cut_before xs more n)
 
-behind_cut : (xs more : List ℕ) (n : ℕ) → n < length xs → drop n xs ++ more ≡ get_or xs n 0 ∷ (drop (suc n) xs ++ more)
-behind_cut [] more n lt = absurd (omega arith)
-behind_cut (x ∷ xs) more zero lt = refl
-behind_cut (x ∷ xs) more (suc n) lt = behind_cut xs more n (omega arith)
+after_cut : (xs more : List ℕ) (n : ℕ) → n < length xs → drop n xs ++ more ≡ get_or xs n 0 ∷ (drop (suc n) xs ++ more)
+after_cut [] more n lt = absurd (omega arith)
+after_cut (x ∷ xs) more zero lt = refl
+after_cut (x ∷ xs) more (suc n) lt = after_cut xs more n (omega arith)
 
 good_front : (limit : ℕ) (xs : List ℕ) (n : ℕ) → n ≤ length xs → n ≤ limit → list_all is_character (take n xs) ≡ true → is_good limit (take n xs) ≡ true
 good_front limit xs n within short all = and_from _ _ (le-leb _ _ (omega (arith, length-take-le n xs within))) all
@@ -52,7 +52,7 @@ return_ends limit xs n lt short all return feed' = let feed : get_or xs (suc n) 
   first = λ more.
       let behind = drop (suc (suc n)) xs ++ more in
       let at : get_or xs n 0 ∷ (drop (suc n) xs ++ more) ≡ 13 ∷ 10 ∷ behind =
-      ap (λ (b : ℕ). b ∷ (drop (suc n) xs ++ more)) return ∙ ap (λ (ys : List ℕ). 13 ∷ ys) (behind_cut xs more (suc n) (omega arith) ∙ ap (λ (b : ℕ). b ∷ behind) feed) in
+      ap (λ (b : ℕ). b ∷ (drop (suc n) xs ++ more)) return ∙ ap (λ (ys : List ℕ). 13 ∷ ys) (after_cut xs more (suc n) (omega arith) ∙ ap (λ (b : ℕ). b ∷ behind) feed) in
       let two : suc (suc n) ≡ n + 2 = omega arith in
       ap records (cut_at xs more n (omega arith) ∙ ap (λ (ys : List ℕ). take n xs ++ ys) at) ∙ return_first (take n xs) behind all
       ∙ ap (λ (k : ℕ). take n xs ∷ records (drop k xs ++ more)) two;
@@ -73,7 +73,7 @@ pub lone_return_ends : (limit : ℕ) (xs : List ℕ) (n : ℕ) → n + 1 < lengt
 lone_return_ends limit xs n lt all other no_feed no_feed_at more =
     let no_feed_behind : get_or xs (suc n) 0 ≢ 10 = rw add-one at no_feed_at in
     other_ends limit xs n (omega arith) all other no_feed
-    (λ m. and_right _ _ (subst (λ (ys : List ℕ). begins_with_line_feed ys ≡ false) (sym (behind_cut xs m (suc n) (omega arith))) (ne_eqb _ _ no_feed_behind))) more
+    (λ m. and_right _ _ (subst (λ (ys : List ℕ). begins_with_line_feed ys ≡ false) (sym (after_cut xs m (suc n) (omega arith))) (ne_eqb _ _ no_feed_behind))) more
 
 pub too_long : (limit : ℕ) (xs : List ℕ) (n : ℕ) → n ≤ length xs → limit < n → list_all is_character (take n xs) ≡ true → (more : List ℕ) → BeginsBad limit (xs ++ more)
 too_long limit xs n within long all more =

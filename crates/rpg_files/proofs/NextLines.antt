@@ -1,10 +1,10 @@
 -- How far the reading of a line can go on, and what it is at the end of the input.
-use Rattle.std.proofs.Common.{◌≡◌, ℕ, ◌+◌, ◌-◌, ◌<◌, ◌≤◌, Bool, true, false, if◌then◌else◌, List, ◌++◌, length, drop, Option, refl, sym, ap, ap₂, ◌∙◌, subst, append_assoc, arith, length-append, length-drop, ◌⊎◌, inl, inr}
+use Rattle.std.proofs.Common.{◌≡◌, ℕ, zero, suc, ◌+◌, ◌-◌, ◌<◌, ◌≤◌, nat_eq, eqb-true, Bool, true, false, if◌then◌else◌, List, ◌++◌, length, drop, Option, Ok, Err, refl, sym, ap, ap₂, ◌∙◌, subst, append_assoc, arith, length-append, length-drop, ◌⊎◌, inl, inr}
 use Rattle.std.proofs.KnownBytes.{Consumes-trans}
 use Rattle.rpg_files.specs.NextLine.{IsNextLine}
 use Rattle.rpg_files.specs.FirstLine.{IsIncomplete}
 use Rattle.rpg_files.specs.declared.input.NextLine.{NextLine}
-use Rattle.rpg_files.specs.Reads.{Reads}
+use Rattle.rpg_files.specs.Reads.{Fills, Reads}
 
 -- a line without an end is at most one byte longer than the limit
 pub open_short : (limit : ℕ) (xs : List ℕ) (n : ℕ) → IsIncomplete limit xs n → length xs ≤ limit + 1
@@ -15,6 +15,30 @@ open_short limit xs n is = elim is.behind [
 
 pub reads_longer : (a b : Option (List ℕ)) (old new : List ℕ) (ended ended' : Bool) → Reads a b old new ended ended' → length old ≤ length new
 reads_longer a b old new ended ended' reads = omega (arith, ap length reads.bytes, length-append old reads.read)
+
+-- one read, where the end of the input wasn't seen yet: it is seen where nothing came
+pub reads_filled : {E : Type 0} (a b : Option (List ℕ)) (old new : List ℕ) (ended : Bool) (n : ℕ) → ended ≡ false → Fills {E = E} a b old new (Ok n) → Reads a b old new ended (nat_eq n 0)
+reads_filled a b old new ended n still fills = record {
+  read = fills.read;
+  consumed = fills.consumed;
+  bytes = fills.bytes;
+  none_at_end = λ is. absurd (let never : true ≡ false = sym is ∙ still in cc);
+  at_end = λ none before. fills.count.1 (eqb-true n 0 none);
+}
+
+-- one read that failed
+pub reads_failed : {E : Type 0} (a b : Option (List ℕ)) (old new : List ℕ) (ended : Bool) (e : E) → ended ≡ false → Fills a b old new (Err e) → Reads a b old new ended ended
+reads_failed a b old new ended e still fills = record {
+  read = fills.read;
+  consumed = fills.consumed;
+  bytes = fills.bytes;
+  none_at_end = λ is. absurd (let never : true ≡ false = sym is ∙ still in cc);
+  at_end = λ is before. absurd (let never : true ≡ false = sym is ∙ still in cc);
+}
+
+pub fills_longer : {E : Type 0} (a b : Option (List ℕ)) (old new : List ℕ) (n : ℕ) → Fills {E = E} a b old new (Ok n) → nat_eq n 0 ≡ false → length old < length new
+fills_longer a b old new zero fills some = absurd cc
+fills_longer a b old new (suc n) fills some = omega (arith, fills.count.0, ap length fills.bytes, length-append old fills.read)
 
 -- one read after others
 pub reads_trans : (a b c : Option (List ℕ)) (xs ys zs : List ℕ) (e f g : Bool) → Reads a b xs ys e f → Reads b c ys zs f g → Reads a c xs zs e g

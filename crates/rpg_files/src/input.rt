@@ -39,9 +39,7 @@ fn read_more<R: Read>(
     ensures faults { faults_of reader.new ≡ faults_after (faults_of reader.old) result }
 {
     let n = buffer.fill(reader)?;
-    if n == 0 {
-        *is_ended = true;
-    }
+    *is_ended = n == 0;
     Ok(())
 }
 

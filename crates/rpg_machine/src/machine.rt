@@ -11,7 +11,7 @@ use crate::section::run_section;
 use crate::state::{State, Writer};
 use crate::time::OutputTime;
 use rpg_effect::outcome::End;
-use rpg_machine_inputs::inputs::fill_all;
+use rpg_machine_lines::inputs::fill_all;
 use rpg_machine_lines::{Entries, Output};
 use rpg_memory::memory::Memory;
 use rpg_object_program::row::Rows;

@@ -3,7 +3,7 @@ ghost use Rattle.std.specs.Prelude.{◌≡◌, IfOk, OnOk};
 ghost use Rattle.rpg_effect.specs.Ends.{end_of};
 ghost use Rattle.rpg_machine.specs.Outputs as spec;
 ghost use Rattle.rpg_machine.specs.Outputs.{output_weight};
-ghost use Rattle.rpg_machine.specs.Leaving.{CanPutLines, KeepsRoom};
+ghost use Rattle.rpg_machine.specs.Leaving.{CanPutOut, KeepsRoom};
 ghost use Rattle.rpg_machine_lines.specs.Outputs.{PutsOwn};
 ghost use Rattle.rpg_machine_lines.specs.Ready.{IsNear};
 ghost use Rattle.rpg_machine_lines.specs.Right.{AreRightLines};
@@ -26,7 +26,7 @@ pub(crate) fn put_out<S: Store + Drop>(
     plan: &Plan,
 ) -> Result<End, AllocError>
     requires lines { AreRightLines memory.old.program }
-    requires can { CanPutLines memory.old writer.old.text.items plan.now }
+    requires can { CanPutOut memory.old writer.old.text.items plan.now }
     requires weighed { weight ≡ output_weight memory.old.program time }
     ensures done { IfOk result (λ e. PutsOwn (λ p. spec.output_effect p time) memory.old writer.old.output (end_of e) memory.new writer.new.output) }
     ensures near { OnOk result (IsNear memory.new.world.paper.here) }

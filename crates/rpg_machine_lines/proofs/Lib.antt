@@ -2,8 +2,10 @@ pub mod AllLines
 pub mod Assembling
 pub mod Entering
 pub mod Fields
+pub mod Filling
 pub mod Following
 pub mod Growing
+pub mod InputEntries
 pub mod Keeping
 pub mod Left
 pub mod Moving

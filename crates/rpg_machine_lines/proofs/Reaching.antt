@@ -15,7 +15,7 @@ use Rattle.rpg_effect.specs.declared.line.LineField.{LineField}
 use Rattle.rpg_machine_lines.proofs.Fields.{right}
 use Rattle.rpg_machine_lines.specs.Drafts.{draft_in, drafted_in, with_field_in}
 use Rattle.rpg_machine_lines.specs.Plans.{reach_of}
-use Rattle.rpg_machine_lines.specs.Ready.{IsBlankBehind}
+use Rattle.rpg_machine_lines.specs.Ready.{IsBlankAfter}
 use Rattle.rpg_object_program.specs.Constants.{word_at}
 use Rattle.rpg_memory.specs.Memory.{Working, forms_in}
 
@@ -57,9 +57,9 @@ reach_in_line forms words len fs h =
 -- ---- after the greatest end
 
 -- a part that is laid over a line, and leaves it as long as it was, changes nothing after its end
-laid_behind : (text out part : List ℕ) (end n : ℕ) → out ≡ laid_over text end part → length out ≡ length text → end ≤ length text → end ≤ n → drop n out ≡ drop n text
+laid_after_reach : (text out part : List ℕ) (end n : ℕ) → out ≡ laid_over text end part → length out ≡ length text → end ≤ length text → end ≤ n → drop n out ≡ drop n text
 unfolding laid_over
-laid_behind text out part end n is long low high =
+laid_after_reach text out part end n is long low high =
     let front = take (end - length part) text ++ part in
     let first : length (take (end - length part) text) ≡ end - length part = length-take-le (end - length part) text (omega (arith, low)) in
     let before : length front ≡ (end - length part) + length part = length-append (take (end - length part) text) part ∙ ap (λ m. m + length part) first in
@@ -71,42 +71,42 @@ laid_behind text out part end n is long low high =
 
 module _ (forms : ℕ → Option FieldForm) (words : ℕ → List ℕ) (d e : Draft nat_cmp) (r : End) (f : LineField ℕ) (n : ℕ) (long : length e.text ≡ length d.text)
     (low : f.end ≤ length d.text) (high : f.end ≤ n) where
-  same_behind : (s : End) → drafted r e ≡ drafted s d → drop n e.text ≡ drop n d.text
-  same_behind s h = ap (λ (x : Drafted nat_cmp). drop n x.draft.text) h
+  same_after_reach : (s : End) → drafted r e ≡ drafted s d → drop n e.text ≡ drop n d.text
+  same_after_reach s h = ap (λ (x : Drafted nat_cmp). drop n x.draft.text) h
 
   laid_by : (o : Option ℕ) → drafted r e ≡ laid forms words d f o → drop n e.text ≡ drop n d.text
-  laid_by None h = same_behind _ h
-  laid_by (Some p) h = laid_behind d.text e.text _ f.end n (ap (λ (x : Drafted nat_cmp). x.draft.text) h) long low high
+  laid_by None h = same_after_reach _ h
+  laid_by (Some p) h = laid_after_reach d.text e.text _ f.end n (ap (λ (x : Drafted nat_cmp). x.draft.text) h) long low high
 
   faulty_by : (o : Option Fault) (p : Option ℕ) → drafted r e ≡ unless_faulty o d (laid forms words d f p) → drop n e.text ≡ drop n d.text
   faulty_by None p h = laid_by p h
-  faulty_by (Some x) p h = same_behind _ h
+  faulty_by (Some x) p h = same_after_reach _ h
 
   put_by : (b : Bool) (o : Option Fault) (p : Option ℕ) → drafted r e ≡ cond b (unless_faulty o d (laid forms words d f p)) (drafted GoesOn d) →
       drop n e.text ≡ drop n d.text
   put_by true o p h = faulty_by o p h
-  put_by false o p h = same_behind _ h
+  put_by false o p h = same_after_reach _ h
 
   -- a field changes nothing after its end
-  pub field_behind : (on : sets.FinSet nat_cmp) (len : ℕ) → drafted r e ≡ with_field forms words on len d f → drop n e.text ≡ drop n d.text
+  pub field_after_reach : (on : sets.FinSet nat_cmp) (len : ℕ) → drafted r e ≡ with_field forms words on len d f → drop n e.text ≡ drop n d.text
   unfolding with_field
-  field_behind on len h = put_by (three_hold on f.conditions) (field_fault forms words len f) (position_of forms d.fields f.operand) h
+  field_after_reach on len h = put_by (three_hold on f.conditions) (field_fault forms words len f) (position_of forms d.fields f.operand) h
 
 -- the first of them changes nothing after that place
-pub first_behind : (forms : ℕ → Option FieldForm) (words : ℕ → List ℕ) (len n : ℕ) (all fs : List (LineField ℕ)) (f : LineField ℕ) (w v : Working) (text out : List ℕ)
+pub first_after_reach : (forms : ℕ → Option FieldForm) (words : ℕ → List ℕ) (len n : ℕ) (all fs : List (LineField ℕ)) (f : LineField ℕ) (w v : Working) (text out : List ℕ)
     (es more : List (ℕ × ℕ)) (r : End) → all ≡ f ∷ fs → AreRight forms words len all → EndWithin n all → length text ≡ len → length out ≡ length text →
     drafted_in r v out more ≡ with_field_in w text es f → drop n out ≡ drop n text
-first_behind forms words len n all fs f w v text out es more r is ok ends long same h =
+first_after_reach forms words len n all fs f w v text out es more r is ok ends long same h =
     let whole : LineField ℕ → Type 0 = λ x. field_fault forms words len x ≡ None in
     let within : LineField ℕ → Type 0 = λ x. x.end ≤ n in
     let low = (right forms words len f (All-head whole f fs (subst (All whole) is ok))).end in
     let high = All-head within f fs (subst (All within) is ends) in
-    field_behind (forms_in w) (word_at w.program) (draft_in w text es) (draft_in v out more) r f n same (omega (arith, low, long)) high w.world.data.on (length text) h
+    field_after_reach (forms_in w) (word_at w.program) (draft_in w text es) (draft_in v out more) r f n same (omega (arith, low, long)) high w.world.data.on (length text) h
 
 -- a line that was blank is still blank after its fields
-pub blank_behind : (fs gs : List (LineField ℕ)) (reach len : ℕ) (text out : List ℕ) → reach ≡ reach_of fs → gs ≡ fs → reach_of fs ≤ len → text ≡ replicate len 32 →
-    length out ≡ length text → drop (reach_of gs) out ≡ drop (reach_of gs) text → IsBlankBehind reach out
-blank_behind fs gs reach len text out is same low blank long behind =
+pub blank_after_reach : (fs gs : List (LineField ℕ)) (reach len : ℕ) (text out : List ℕ) → reach ≡ reach_of fs → gs ≡ fs → reach_of fs ≤ len → text ≡ replicate len 32 →
+    length out ≡ length text → drop (reach_of gs) out ≡ drop (reach_of gs) text → IsBlankAfter reach out
+blank_after_reach fs gs reach len text out is same low blank long behind =
     let there : drop reach out ≡ drop reach text = subst (λ n. drop n out ≡ drop n text) (ap reach_of same ∙ sym is) behind in
     let all : length out ≡ len = long ∙ ap length blank ∙ length-replicate len 32 in
     record {

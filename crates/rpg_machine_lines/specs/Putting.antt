@@ -10,7 +10,7 @@ use Rattle.rpg_effect.specs.declared.operation.Operand.{Operand}
 use Rattle.rpg_machine_lines.specs.Drafts.{fields_replaced}
 use Rattle.rpg_machine_lines.specs.Entries.{AreFieldEntries}
 use Rattle.rpg_machine_lines.specs.Plans.{IsLinePlan, IsPlanOf, IsPlannedLine}
-use Rattle.rpg_machine_lines.specs.Ready.{IsBlankBehind, IsNear}
+use Rattle.rpg_machine_lines.specs.Ready.{IsBlankAfter, IsNear}
 use Rattle.rpg_machine_lines.specs.Right.{AreRightLines, HasLineRoom, IsRightLine}
 use Rattle.rpg_machine_lines.specs.declared.plan.LinePlan.{LinePlan}
 use Rattle.rpg_machine_lines.specs.declared.plan.Plan.{Plan}
@@ -45,7 +45,7 @@ pub record CanPutLine (m : Working) (text : List ℕ) (line : Line) (found : Lin
 pub record CanPlace (m : Working) (moves : Spacing) (text : List ℕ) (reach : ℕ) : Type 0 where
   pub spacing : is_spacing moves ≡ true
   pub near : IsNear m.world.paper.here
-  pub blank : IsBlankBehind reach text
+  pub blank : IsBlankAfter reach text
 
 -- the one entry that an operand names: its field has that form, and the operand's index can be read
 pub record CanBeRead (m : Working) (own : Option FieldForm) (o : Operand ℕ) : Type 0 where

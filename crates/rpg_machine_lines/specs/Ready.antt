@@ -7,6 +7,6 @@ abbrev pub IsNear : Position → Type 0
 IsNear here = here.page ≤ 2
 
 -- only blanks follow that place of the line
-pub record IsBlankBehind (reach : ℕ) (text : List ℕ) : Type 0 where
+pub record IsBlankAfter (reach : ℕ) (text : List ℕ) : Type 0 where
   pub within : reach ≤ length text
   pub blank : drop reach text ≡ replicate (length text - reach) 32

@@ -1,9 +1,12 @@
-//! Output lines of an object program over any store: assembled in one buffer, edited, and placed on the form or written as records.
+//! What goes out of storage and into it. Output lines of an object program over any store are assembled in one buffer, edited, and placed
+//! on the form or written as records. Input fields become values of fields from the columns of a record.
 #![tactic(auto)]
 
 mod assembly;
 pub mod bytes;
 mod field;
+pub mod fixed_inputs;
+pub mod inputs;
 mod line;
 pub mod outputs;
 mod pass;

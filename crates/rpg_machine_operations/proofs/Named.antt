@@ -14,7 +14,8 @@ use Rattle.rpg_effect.specs.declared.operation.Shows.{Shows}
 use Rattle.rpg_effect.specs.declared.operation.Side.{Side}
 use Rattle.rpg_memory.specs.Memory.{Working, data_put, entry_if_in_range, forms_in, position_in}
 use Rattle.rpg_memory.specs.declared.resolved.Resolved.{Resolved}
-use Rattle.rpg_machine_operations.specs.Words.{DidData, act_in, assigned_in, computed_in, kind_in, moved_in, operate_in, stored_value_in, summed_in}
+use Rattle.rpg_machine_operations.specs.Words.{act_in, assigned_in, computed_in, kind_in, moved_in, operate_in, stored_value_in, summed_in}
+use Rattle.rpg_memory.specs.Doing.{DidData}
 
 -- an operand whose entry was found names that entry
 record Names (w : Working) (o : Operand ℕ) (r : Resolved) : Type 0 where

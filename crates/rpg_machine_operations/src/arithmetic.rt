@@ -11,7 +11,8 @@ ghost use Rattle.rpg_effect.specs.declared.operation.Action.TheVariants as actio
 ghost use Rattle.rpg_memory.specs.Fields.{IsValue};
 ghost use Rattle.rpg_memory.specs.Memory.{NamesNumber, data_put, forms_in, rest_value};
 ghost use Rattle.rpg_machine_operations.specs.Fixed.{are_aligned};
-ghost use Rattle.rpg_machine_operations.specs.Words.{AreNumbersNamed, DidData, DidOperate, FitsResult, IsNumberOperand, act_in, assigned_in, computed_in, quotient_in, stored_value_in, with_remainder_of};
+ghost use Rattle.rpg_machine_operations.specs.Words.{AreNumbersNamed, DidOperate, FitsResult, IsNumberOperand, act_in, assigned_in, computed_in, quotient_in, stored_value_in, with_remainder_of};
+ghost use Rattle.rpg_memory.specs.Doing.{DidData};
 
 use crate::resolving::number_named;
 use rpg_decimal::{Num, Rest, Scale, Target, add, div, fit, keep, mult, remainder, sub};

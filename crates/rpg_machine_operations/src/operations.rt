@@ -6,7 +6,8 @@ ghost use Rattle.rpg_effect.specs.Rows as rows_of;
 ghost use Rattle.rpg_effect.specs.Weights as weights;
 ghost use Rattle.rpg_effect.specs.declared.operation.Action.TheVariants as actions;
 ghost use Rattle.rpg_machine_operations.specs.Good.{IsRightAction};
-ghost use Rattle.rpg_machine_operations.specs.Words.{DidData, DidOperate, operate_in};
+ghost use Rattle.rpg_machine_operations.specs.Words.{DidOperate, operate_in};
+ghost use Rattle.rpg_memory.specs.Doing.{DidData};
 
 use crate::arithmetic::{assign, compute, divide, take_remainder};
 use crate::comparing::compare_entries;

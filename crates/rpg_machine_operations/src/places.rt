@@ -9,7 +9,8 @@ ghost use Rattle.rpg_effect.specs.declared.form.Kind.TheVariants as kinds;
 ghost use Rattle.rpg_effect.specs.declared.operation.Action.TheVariants as actions;
 ghost use Rattle.rpg_effect.specs.declared.operation.Side.TheVariants as sides;
 ghost use Rattle.rpg_memory.specs.Memory.{NamesLike, NamesNumber, NamesText, forms_in};
-ghost use Rattle.rpg_machine_operations.specs.Words.{DidData, DidOperate, FitsResult, IsLikeOperand, kind_in, moved_in, number_moved, number_after_in, source_in};
+ghost use Rattle.rpg_machine_operations.specs.Words.{DidOperate, FitsResult, IsLikeOperand, kind_in, moved_in, number_moved, number_after_in, source_in};
+ghost use Rattle.rpg_memory.specs.Doing.{DidData};
 ghost use Rattle.rpg_object_program.specs.Kept.{IsCharacter};
 
 use crate::resolving::entry_named;

@@ -5,7 +5,7 @@ ghost use Rattle.rpg_effect.specs.declared.form.Kind.{Kind};
 ghost use Rattle.rpg_memory.specs.Fields.{CanBeResolved, IsResolved, resolved_entry};
 ghost use Rattle.rpg_memory.specs.Memory.{NamesNumber, entry_if_in_range};
 ghost use Rattle.rpg_machine_operations.specs.Good.{IsRightOperand, written_operand};
-ghost use Rattle.rpg_machine_operations.specs.Words.{IsNumberOperand, entry_if_any, field_in, operand_field};
+ghost use Rattle.rpg_machine_operations.specs.Words.{IsNumberOperand, entry_if_any, field_if_any, operand_field};
 
 use rpg_effect::operation::Operand;
 use rpg_memory::entry::resolve;
@@ -50,7 +50,7 @@ pub fn table_named<S: Store + Drop>(
 ) -> Option<Option<Resolved>>
     requires { IfSome operand.now (λ o. CanBeResolved memory.now.program.fields o) }
     ensures entry { option_map (λ o. option_map resolved_entry o) result ≡ entry_if_any memory.now operand.now }
-    ensures field { IfSome result (λ t. field_in t ≡ operand_field operand.now) }
+    ensures field { IfSome result (λ t. field_if_any t ≡ operand_field operand.now) }
 {
     let Some(operand) = operand else {
         return Some(None);

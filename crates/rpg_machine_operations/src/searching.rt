@@ -11,7 +11,8 @@ ghost use Rattle.rpg_effect.specs.declared.operation.Found.{Found};
 ghost use Rattle.rpg_memory.specs.Fields.{CanBeResolved, reads_index};
 ghost use Rattle.rpg_memory.specs.Memory.{data_put, forms_in};
 ghost use Rattle.rpg_machine_operations.specs.Good.{FitsPosition, HasPosition, written_operand};
-ghost use Rattle.rpg_machine_operations.specs.Words.{AreAlike, DidData, DidOperate, GoesThrough, HoldsPositions, IsLikeOperand, current_made, current_made_if_any, field_in, found_by, found_put, looked_up_in, nearest_by, operand_field, orders_in};
+ghost use Rattle.rpg_machine_operations.specs.Words.{AreAlike, DidOperate, GoesThrough, HoldsPositions, IsLikeOperand, current_made, current_made_if_any, field_if_any, found_by, found_put, looked_up_in, nearest_by, operand_field, orders_in};
+ghost use Rattle.rpg_memory.specs.Doing.{DidData};
 
 use crate::comparing::compared;
 use crate::resolving::{entry_named, table_named};
@@ -228,7 +229,7 @@ fn place<S: Store + Drop>(
 }
 
 fn field_of(to: Option<Resolved>) -> Option<u16>
-    ensures { result ≡ field_in to }
+    ensures { result ≡ field_if_any to }
 {
     Some(to?.entry.field)
 }
@@ -250,7 +251,7 @@ fn search_and_place<S: Store + Drop>(
 ) -> End
     requires alike { AreAlike memory.old factor1 factor2 }
     requires reads { reads_index memory.old.program.fields factor2.entry.index ≡ true }
-    requires positions { HoldsPositions memory.old (written_operand factor2.entry) (field_in to) }
+    requires positions { HoldsPositions memory.old (written_operand factor2.entry) (field_if_any to) }
     ensures { DidData (looked_up_in memory.old factor1 factor2 to shows) memory.old (end_of result) memory.new }
 {
     let found = search(memory, factor1, factor2, shows);

@@ -1,4 +1,5 @@
 pub mod Codes
+pub mod Doing
 pub mod Fields
 pub mod Fits
 pub mod Marked

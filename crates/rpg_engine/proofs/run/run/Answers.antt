@@ -11,9 +11,9 @@ use Rattle.rpg_engine.specs.Streaming.{ended_stage}
 use Rattle.rpg_engine.specs.declared.report.Report.{Report}
 use Rattle.rpg_engine.proofs.Flows.{cycled, flow_begins, flow_goes_on, flow_sends}
 use Rattle.rpg_engine.proofs.Sent.{all_sent, front_is, goes_out}
-use Rattle.rpg_engine.proofs.Stopping.{IsWriters, moved_by, none_waits, some_have, some_of_run, some_parts, some_writers, stays_there, stop_counts, stop_has, stop_needs, stop_of_run, stop_parts, stop_since, stopped_behind, stopped_between, stream_reports}
+use Rattle.rpg_engine.proofs.Stopping.{IsWriters, moved_by, none_waits, some_have, some_of_run, some_parts, some_writers, stays_there, stop_counts, stop_has, stop_needs, stop_of_run, stop_parts, stop_since, stopped_after, stopped_between, stream_reports}
 use Rattle.rpg_engine.proofs.Streams.{few_given, stays_bounded}
-use Rattle.rpg_engine.proofs.Taking.{faults_stay, needs_still, ready_behind, ready_still, source_of, takes_next, went}
+use Rattle.rpg_engine.proofs.Taking.{faults_stay, needs_still, ready_after, ready_still, source_of, takes_next, went}
 use Rattle.rpg_engine.proofs.Whose.{same_counts, some_faults, stop_faults}
 use Rattle.rpg_engine.proofs.run.run.Goals as goal
 
@@ -29,8 +29,8 @@ cycles-init g c =
           one.buffered one.ended one.count two.buffered two.ended two.count;
       ready = record {
         going = ap (λ (j : AtWork). is_going j.stage) first;
-        behind_primary = λ _. one.answer;
-        behind_secondary = λ _. two.answer;
+        after_primary = λ _. one.answer;
+        after_secondary = λ _. two.answer;
         limit_primary = one.limit;
         limit_secondary = two.limit;
       };
@@ -94,13 +94,13 @@ next_cycle-requires g c =
     record {
       going = ready.going;
       needs = needs_still c.needs-need.result c.cycles.job job rest (record { primary = c.needs-need.ensures.primary; secondary = c.needs-need.ensures.secondary });
-      primary = record { behind = ready.behind_primary; faults = omega (arith, i.primary, c.requires.devices.primary_faults) };
-      secondary = record { behind = ready.behind_secondary; faults = omega (arith, i.secondary, c.requires.devices.secondary_faults) };
+      primary = record { behind = ready.after_primary; faults = omega (arith, i.primary, c.requires.devices.primary_faults) };
+      secondary = record { behind = ready.after_secondary; faults = omega (arith, i.secondary, c.requires.devices.secondary_faults) };
     }
 
 -- a cycle that wasn't done
-pub fault_behind-requires-clause-ready : goal.fault_behind-requires-clause-ready
-fault_behind-requires-clause-ready g c =
+pub fault_to_report-requires-clause-ready : goal.fault_to_report-requires-clause-ready
+fault_to_report-requires-clause-ready g c =
     let i = c.cycles.invariant in
     let sends = c.in_ok-send_before_reading.ensures.sends in
     let none = i.flows.none_fails in
@@ -126,9 +126,9 @@ returns-in-Err-clause-early g c =
     let grows = c.next_cycle.ensures.grows in
     let lines = front_is job.output.print c.next_cycle.new.job.output.print grows.more.print c.waiting_in-waiting.result.print grows.print (c.waiting_in-waiting.ensures.print ∙ ap length c.output.ensures.print) in
     let records = front_is job.output.disk c.next_cycle.new.job.output.disk grows.more.disk c.waiting_in-waiting.result.disk grows.disk (c.waiting_in-waiting.ensures.disk ∙ ap length c.output.ensures.disk) in
-    let stopped = rw (lines, records) at (rw (c.output-in-Err.ensures.print, c.output-in-Err.ensures.disk) at c.fault_behind.ensures.stops) in
+    let stopped = rw (lines, records) at (rw (c.output-in-Err.ensures.print, c.output-in-Err.ensures.disk) at c.fault_to_report.ensures.stops) in
     let stop = stop_since _ _ _ _ _ _ _ _ _ _ _ _ f.printed f.stored c.in-Err.fault _ _ _ _
-    (λ (kept : (faults_of c.fault_behind.new.print ≡ faults_of c.args.print.now) × (faults_of c.fault_behind.new.disk ≡ faults_of c.args.disk.now)).
+    (λ (kept : (faults_of c.fault_to_report.new.print ≡ faults_of c.args.print.now) × (faults_of c.fault_to_report.new.disk ≡ faults_of c.args.disk.now)).
     (kept.0 ∙ sym f.none_fails.0, kept.1 ∙ sym f.none_fails.1)) stopped in
     stopped_between c.args.job.now job _ _ a b _ _ c.cycles.cycles c.cycles.most s moved.0 moved.1 _ _ _ _ _ _
     (stop_counts _ _ _ _ _ _ _ _ _ _ _ _ f.printed f.stored c.in-Err.fault _ _ _ stop)
@@ -139,14 +139,14 @@ returns-in-Err-clause-early g c =
     c.in-Err.fault _ _ _ stop none (none_waits job _ _ c.in-Err.fault c.in_ok-send_before_reading.ensures.ready c.in-Err.ensures.sure))
 
 pub returns-in-Err-clause-only : goal.returns-in-Err-clause-only
-returns-in-Err-clause-only g c = stop_of_run c.in-Err.fault _ _ _ _ _ _ _ _ _ c.fault_behind.ensures.stops
+returns-in-Err-clause-only g c = stop_of_run c.in-Err.fault _ _ _ _ _ _ _ _ _ c.fault_to_report.ensures.stops
 
 pub returns-in-Err-clause-faults : goal.returns-in-Err-clause-faults
 returns-in-Err-clause-faults g c =
     let i = c.cycles.invariant in
     let streams = i.flows.streams in
     let same = c.in_ok-send_before_reading.ensures.sends.none_fails in
-    let stops = c.fault_behind.ensures in
+    let stops = c.fault_to_report.ensures in
     stop_faults g.R1.Read.remaining g.R2.Read.remaining c.cycles.primary c.next_cycle.new.primary c.cycles.secondary c.next_cycle.new.secondary _ _ streams.primary streams.secondary c.send_before_reading.new.job c.in-Err.fault _ _ _ _ _ _ _ _ _
     _ _ _ _ _ _ _ _ Report c.in-Err.ensures.none stops.stops stops.faults i.primary i.secondary (same.0 ∙ i.flows.none_fails.0) (same.1 ∙ i.flows.none_fails.1)
 
@@ -182,7 +182,7 @@ returns-in_err-send_where_enough-clause-early g c =
     (takes_next g.R1.Read.remaining g.R2.Read.remaining job mid c.cycles.primary c.next_cycle.new.primary c.cycles.secondary c.next_cycle.new.secondary _
     (ready_still c.cycles.job job sends.rest c.cycles.primary c.cycles.secondary c.cycles.invariant.ready) c.in-Ok.ensures.cycle s.earlier s.left s.orderly (last_position s.out.lines) s.last) in
     let some = c.in_err-send_where_enough.ensures.sends.some in
-    rw (e.1, e.2) (stopped_behind c.args.job.now job mid _ _ a b a' b' c.cycles.cycles c.cycles.most _ _ k.ending _ _ _ _ s k.takes
+    rw (e.1, e.2) (stopped_after c.args.job.now job mid _ _ a b a' b' c.cycles.cycles c.cycles.most _ _ k.ending _ _ _ _ s k.takes
     (some_parts _ _ _ _ _ _ _ _ _ _ _ _ k.printed k.stored _ some) (some_have _ _ _ _ _ _ _ _ _ _ _ _ k.printed k.stored _ _ some) (some_writers _ _ _ _ _ _ _ _ _ some))
 
 pub returns-in_err-send_where_enough-clause-only : goal.returns-in_err-send_where_enough-clause-only
@@ -255,7 +255,7 @@ cycles-preserved g c =
     let stage = takes.cycle.stage ∙ ap ended_stage c.in_default.is in
     let most = c.max-most.ensures ∙ ap (max c.cycles.most) c.steps.ensures in
     let few = stays_bounded c.args.job.now job mid _ _ a b a' b' c.cycles.cycles c.cycles.most k.ending s k.takes i.bounded takes.cycle.bounded in
-    let behind = ready_behind g.R1.Read.remaining g.R2.Read.remaining job mid c.cycles.primary c.next_cycle.new.primary c.cycles.secondary c.next_cycle.new.secondary _
+    let behind = ready_after g.R1.Read.remaining g.R2.Read.remaining job mid c.cycles.primary c.next_cycle.new.primary c.cycles.secondary c.next_cycle.new.secondary _
     ready takes s.earlier s.left s.orderly (last_position s.out.lines) s.last stage in
     let all = c.in_ok-send_where_enough.ensures.sends in
     let next = c.send_where_enough.new.job in

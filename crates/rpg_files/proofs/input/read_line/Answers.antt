@@ -37,3 +37,9 @@ returns-in_err-read_more-clause-waits g c =
 
 pub returns-in_err-read_more-clause-read : goal.returns-in_err-read_more-clause-read
 returns-in_err-read_more-clause-read g c = reads_trans _ _ _ _ _ _ _ _ _ c.reading.invariant.read c.read_more.ensures.read
+
+pub reading-preserved : goal.reading-preserved
+reading-preserved g c = ?
+
+pub returns-in-Record-clause-ok : goal.returns-in-Record-clause-ok
+returns-in-Record-clause-ok g c = ?

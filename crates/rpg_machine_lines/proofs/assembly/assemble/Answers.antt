@@ -2,8 +2,8 @@ use Rattle.std.proofs.Common.{◌≡◌, None, ◌≤◌, ◌∙◌, ap, arith, 
 use Rattle.std.proofs.lemmas.List.Elements.{All-rest}
 use Rattle.rpg_effect.specs.Ends.{end_of}
 use Rattle.rpg_effect.specs.LineFaults.{field_fault}
-use Rattle.rpg_machine_lines.proofs.Assembling.{field_next, plan_behind}
-use Rattle.rpg_machine_lines.proofs.Reaching.{ends_in_reach, first_behind}
+use Rattle.rpg_machine_lines.proofs.Assembling.{field_next, plan_after_first}
+use Rattle.rpg_machine_lines.proofs.Reaching.{ends_in_reach, first_after_reach}
 use Rattle.rpg_machine_lines.specs.Drafts.{fields_replaced}
 use Rattle.rpg_machine_lines.specs.Entries.{AreFieldEntries}
 use Rattle.rpg_machine_lines.specs.Plans.{reach_of}
@@ -42,10 +42,10 @@ fields-preserved g c =
       entries = subst (λ (p : Object). AreFieldEntries p.fields c.with_planned_field.new.to_blank.items) (ap (λ (x : Working). x.program) same)
           c.with_planned_field.ensures.changes.each;
       right = All-rest (λ x. field_fault (forms_in m) (word_at m.program) len x ≡ None) f behind left is c.fields.invariant.right;
-      planned = plan_behind m.program.fields left behind f c.fields.found.now is c.fields.invariant.planned;
+      planned = plan_after_first m.program.fields left behind f c.fields.found.now is c.fields.invariant.planned;
       room = omega (arith, c.in-Some.ensures.cases.1, c.with_planned_field.ensures.changes.few, c.fields.invariant.room);
       ends = All-rest (λ x. x.end ≤ reach) f behind left is c.fields.invariant.ends;
-      behind = first_behind (forms_in m) (word_at m.program) len reach left behind f c.fields.memory new c.fields.text c.with_planned_field.new.text
+      behind = first_after_reach (forms_in m) (word_at m.program) len reach left behind f c.fields.memory new c.fields.text c.with_planned_field.new.text
           c.fields.to_blank.items c.with_planned_field.new.to_blank.items (end_of c.with_planned_field.result) is c.fields.invariant.right c.fields.invariant.ends
           c.fields.invariant.len c.with_planned_field.auto.text c.with_planned_field.ensures.drafted
           ∙ c.fields.invariant.behind;
@@ -57,7 +57,7 @@ fields-preserved g c =
 pub returns-in-Halt-clause-behind : goal.returns-in-Halt-clause-behind
 returns-in-Halt-clause-behind g c =
     let m = c.args.memory.now in
-    first_behind (forms_in m) (word_at m.program) (length c.args.text.now) (reach_of c.args.fields.now) c.fields.left.now c.in-Some.behind.now c.in-Some.field.now
+    first_after_reach (forms_in m) (word_at m.program) (length c.args.text.now) (reach_of c.args.fields.now) c.fields.left.now c.in-Some.behind.now c.in-Some.field.now
     c.fields.memory c.with_planned_field.new.memory c.fields.text c.with_planned_field.new.text
     c.fields.to_blank.items c.with_planned_field.new.to_blank.items (end_of c.with_planned_field.result) c.in-Some.ensures.cases.0 c.fields.invariant.right
     c.fields.invariant.ends c.fields.invariant.len c.with_planned_field.auto.text c.with_planned_field.ensures.drafted

@@ -6,7 +6,7 @@ use Rattle.rpg_effect.specs.Halts.{halt_number}
 use Rattle.rpg_effect.specs.Lines.{blanked_all, put_on}
 use Rattle.rpg_effect.specs.Put.{IsDone}
 use Rattle.rpg_machine_lines.proofs.OneLine.{assembled_from, line_halted, line_placed, right_moves}
-use Rattle.rpg_machine_lines.proofs.Reaching.{blank_behind, reach_in_line}
+use Rattle.rpg_machine_lines.proofs.Reaching.{blank_after_reach, reach_in_line}
 use Rattle.rpg_machine_lines.specs.Drafts.{draft_in, fields_replaced}
 use Rattle.rpg_machine_lines.specs.Outputs.{output_of}
 use Rattle.rpg_object_program.specs.Constants.{word_at}
@@ -24,7 +24,7 @@ put_on-requires g c =
     record {
       spacing = right_moves _ _ c.requires.right.fault;
       near = subst (λ (m : Working). IsNear m.world.paper.here) (sym c.assemble.ensures.changes.rest) c.requires.near;
-      blank = blank_behind l.fields.items c.deref.result.now c.args.plan.now.reach len c.fill_blanks.new.text c.assemble.new.text c.requires.planned.reach c.deref.ensures.value
+      blank = blank_after_reach l.fields.items c.deref.result.now c.args.plan.now.reach len c.fill_blanks.new.text c.assemble.new.text c.requires.planned.reach c.deref.ensures.value
           (reach_in_line (form_at p.fields) (word_at p) len l.fields.items c.requires.right.fields) blank c.assemble.auto.text c.assemble.ensures.behind;
     }
 

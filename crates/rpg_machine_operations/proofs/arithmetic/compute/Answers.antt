@@ -2,7 +2,7 @@ use Rattle.std.proofs.Common.{◌≡◌, nat_cmp, rules, subst, sym, to_z, of_z}
 use Rattle.std.specs.Int.{w64}
 use Rattle.rpg_effect.specs.Ended.{Ended}
 use Rattle.rpg_effect.specs.Ends.{GoesOn}
-use Rattle.rpg_machine_operations.specs.Words.{DidData}
+use Rattle.rpg_memory.specs.Doing.{DidData}
 use Rattle.rpg_machine_operations.proofs.Named.{compute_named, compute_stored}
 use Rattle.rpg_machine_operations.proofs.arithmetic.compute.Goals as goal
 

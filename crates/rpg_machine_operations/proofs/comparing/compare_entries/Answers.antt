@@ -2,7 +2,7 @@ use Rattle.std.proofs.Common.{refl, sym, subst, nat_cmp}
 use Rattle.rpg_effect.specs.Act.{act}
 use Rattle.rpg_effect.specs.Ended.{Ended}
 use Rattle.rpg_effect.specs.Ends.{GoesOn}
-use Rattle.rpg_machine_operations.specs.Words.{DidData}
+use Rattle.rpg_memory.specs.Doing.{DidData}
 use Rattle.rpg_machine_operations.proofs.Named.{compare_named}
 use Rattle.rpg_machine_operations.proofs.Rights.{names_like}
 use Rattle.rpg_machine_operations.proofs.comparing.compare_entries.Goals as goal

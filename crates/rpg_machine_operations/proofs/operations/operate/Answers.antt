@@ -3,7 +3,8 @@ use Rattle.rpg_effect.specs.Ends.{End, end_of}
 use Rattle.rpg_effect.specs.declared.halt.Halt.TheVariants.{BadIndex}
 use Rattle.rpg_effect.specs.declared.outcome.End as rust
 use Rattle.rpg_effect.specs.declared.outcome.End.TheVariants as answers
-use Rattle.rpg_machine_operations.specs.Words.{DidData, end_if_in_range, operate_in}
+use Rattle.rpg_machine_operations.specs.Words.{end_if_in_range, operate_in}
+use Rattle.rpg_memory.specs.Doing.{DidData}
 use Rattle.rpg_machine_operations.proofs.operations.operate.Goals as goal
 
 -- without an index in range it halts by 2

@@ -1,7 +1,7 @@
 use Rattle.std.proofs.Common.{sym, subst, nat_cmp}
 use Rattle.rpg_effect.specs.Ended.{Ended}
 use Rattle.rpg_effect.specs.Ends.{end_of}
-use Rattle.rpg_machine_operations.specs.Words.{DidData}
+use Rattle.rpg_memory.specs.Doing.{DidData}
 use Rattle.rpg_machine_operations.proofs.Named.{move_named}
 use Rattle.rpg_machine_operations.proofs.Rights.{names_like}
 use Rattle.rpg_machine_operations.proofs.places.move_places.Goals as goal

@@ -4,7 +4,7 @@ use Rattle.rpg_effect.specs.Ends.{end_of}
 use Rattle.rpg_machine_operations.proofs.Looking.{looked_up_named}
 use Rattle.rpg_machine_operations.proofs.Rights.{names_like}
 use Rattle.rpg_machine_operations.proofs.searching.look_up.Goals as goal
-use Rattle.rpg_machine_operations.specs.Words.{DidData}
+use Rattle.rpg_memory.specs.Doing.{DidData}
 
 pub search_and_place-requires-clause-alike : goal.search_and_place-requires-clause-alike
 search_and_place-requires-clause-alike g c = record {

@@ -32,3 +32,21 @@ returns-in-Record-clause-next g c =
     let few : c.args.self.now.count < 10000000 = omega arith in
     let found = rw c.in-Record.is at c.in_ok-len.ensures.ok in
     record { limit = refl; count = refl; faults = c.in_ok-len.ensures.faults; input = advances _ _ _ _ _ _ _ _ _ c.consume.ensures.bytes c.read_line.ensures.read (λ more can. (few, found.good, found.first more can)); waits = λ is. absurd cc }
+
+pub returns-in_err-has_more-clause-next : goal.returns-in_err-has_more-clause-next
+returns-in_err-has_more-clause-next g c = ?
+
+pub returns-then-branch-clause-next : goal.returns-then-branch-clause-next
+returns-then-branch-clause-next g c = ?
+
+pub returns-else-branch-clause-next : goal.returns-else-branch-clause-next
+returns-else-branch-clause-next g c = ?
+
+pub returns-in_err-len-clause-sure : goal.returns-in_err-len-clause-sure
+returns-in_err-len-clause-sure g c = ?
+
+pub returns-in_err-has_more-clause-sure : goal.returns-in_err-has_more-clause-sure
+returns-in_err-has_more-clause-sure g c = ?
+
+pub returns-then-branch-clause-sure : goal.returns-then-branch-clause-sure
+returns-then-branch-clause-sure g c = ?

@@ -1,10 +1,10 @@
 use Rattle.std.proofs.Common.{◌≡◌, None, ◌∙◌, ap, length, refl}
 use Rattle.std.proofs.lemmas.List.Elements.{All-rest}
 use Rattle.rpg_effect.specs.Input.{input_fault}
-use Rattle.rpg_machine_inputs.proofs.Filling.{field_next}
-use Rattle.rpg_machine_inputs.proofs.InputEntries.{inputs_behind}
+use Rattle.rpg_machine_lines.proofs.Filling.{field_next}
+use Rattle.rpg_machine_lines.proofs.InputEntries.{inputs_after_first}
 use Rattle.rpg_memory.specs.Memory.{data_put, forms_in}
-use Rattle.rpg_machine_inputs.proofs.inputs.fill_all.Goals as goal
+use Rattle.rpg_machine_lines.proofs.inputs.fill_all.Goals as goal
 
 pub fields-init : goal.fields-init
 fields-init g c = record {
@@ -26,7 +26,7 @@ fields-preserved g c =
     record {
       rest = c.fill_one.ensures.rest ∙ ap (data_put new.world.data) same;
       right = All-rest (λ x. input_fault (forms_in m) (length c.args.text.now) x ≡ None) f behind left is c.fields.invariant.right;
-      found = inputs_behind m.program.fields left behind f c.fields.found.now is c.fields.invariant.found;
+      found = inputs_after_first m.program.fields left behind f c.fields.found.now is c.fields.invariant.found;
       onward = field_next m c.fields.memory c.args.text.now left behind f c.fill_one.result new.world.data same is c.in-GoesOn.is c.fill_one.ensures.leaves
           ∙ c.fields.invariant.onward;
     }

@@ -1,2 +1,0 @@
-pub mod FixedInputs
-pub mod Inputs
