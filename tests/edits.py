@@ -184,7 +184,8 @@ def with_holes(crate, edits, room, keeps_bodies):
 def words_of(crate, edits):
     """The words of rattle's check of the functions that these edits turn."""
     rlib = lambda it: Path("crates", it, "out/rlib", f"{it}.rlib").absolute() if it in crate.below else KIT / "rlibs" / f"{it}.rlib"
-    words = ["--crate-name", crate.name, "src/lib.rt", "--jobs", "1", "--links", f"{crate.name}="]
+    source = "src/main.rt" if (crate.folder / "src/main.rt").is_file() else "src/lib.rt"
+    words = ["--crate-name", crate.name, source, "--jobs", "1", "--links", f"{crate.name}="]
     for it in ("std", *crate.uses):
         words += ["--extern", f"{it}={rlib(it)}"]
     for folder in (KIT / "rlibs", *(rlib(it).parent for it in crate.below)):

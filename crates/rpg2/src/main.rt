@@ -1,10 +1,24 @@
-//! The program `rpg2`.
+//! The program `rpg2`: its commands over files, and their lines and exit statuses.
 #![tactic(auto)]
 
+mod checking;
+mod colours;
+mod dates;
+mod decks;
+mod explaining;
+mod files;
+mod listing;
+mod naming;
+mod outlet;
+mod program;
+mod telling;
+mod told;
+
+use crate::program::main_with;
 use std::io::IsTerminal;
 use std::process::ExitCode;
 
 fn main(rt: HostRuntime) -> ExitCode {
     let is_terminal = rt.stderr().is_terminal();
-    rpg_cli::main_with(&rt, is_terminal)
+    main_with(&rt, is_terminal)
 }

@@ -1,10 +1,10 @@
-//! The program `rpg2`.
+//! What the program does with its arguments: the command that they ask for, or why they are refused.
 
 ghost use Rattle.std.specs.Prelude.{◌≡◌, ◌⊎◌};
 ghost use Rattle.std.specs.Io.KnownBytes.{Appends};
 ghost use Rattle.rpg_files.specs.Sending.{AppendsPrefix};
 ghost use Rattle.rpg_text.specs.Lines.{with_line_feed};
-ghost use Rattle.rpg_cli.specs.Saying.{PrintsALine, Says, SaysOrIsQuiet};
+ghost use Rattle.rpg2.specs.Saying.{PrintsALine, Says, SaysOrIsQuiet};
 
 use crate::checking::check_files;
 use crate::dates::{JobDate, tell_odd_date};
@@ -168,24 +168,6 @@ fn refuse<R: Print + Eprint + AllocGlobal, W: Write, L: Listener>(
     }
 }
 
-/// Runs the command of the arguments, prints one line to `out`, and returns the exit status. Diagnostics go to the listener.
-///
-/// The first word is the program's name. A fault of the command line prints clap's text on standard error, and help that
-/// was asked for goes to standard output, in place of the line. So does a text before the line that can't be shown whole.
-pub fn run<R: Clock + Env + Files + Input + Print + Eprint + AllocGlobal, W: Write, L: Listener>(
-    rt: &R,
-    words: &[String],
-    out: &mut W,
-    listener: &mut L,
-) -> u8
-    ensures { PrintsALine (W.contents out.old) (W.contents out.new) result }
-{
-    match request_of(rt.alloc(), words) {
-        Ok(request) => obey(rt, &request, out, listener),
-        Err(refusal) => refuse(rt, &refusal, out, listener),
-    }
-}
-
 /// Prints the line of an answer, unless the command is quiet, adds the diagnostic, and returns the exit status.
 fn conclude<W: Write, L: Listener>(
     alloc: Global,
@@ -313,7 +295,7 @@ fn refuses_colours<R: Env + AllocGlobal>(rt: &R) -> bool {
 
 /// The whole program. Words that aren't UTF-8 are a fault of the command line. If standard error is a terminal, marks are in colour, unless the
 /// variable NO_COLOR is set.
-pub fn main_with<R: Clock + Env + Files + Input + Print + Eprint + AllocGlobal>(
+pub(crate) fn main_with<R: Clock + Env + Files + Input + Print + Eprint + AllocGlobal>(
     rt: &R,
     is_terminal: bool,
 ) -> ExitCode {
