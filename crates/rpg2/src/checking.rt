@@ -1,8 +1,8 @@
 //! The command that checks sources.
 
 use crate::telling::tell_source_fault;
-use rpg_cli_answers::{Answer, Listener, Stop, line, named, source_object};
-use rpg_cli_run::{judge_warnings, source_bytes, tell_faults};
+use rpg_cli_answers::{Answer, Listener, Stop, line, named, source_bytes, source_object};
+use rpg_cli_run::{judge_warnings, tell_faults};
 use rpg_cli_text::TextWriter;
 use rpg_cli_words::{CheckWords, FileWord, Format, SameFile, Shared, WarningWords, is_standard};
 use rpg_faults::faultless_cards;

@@ -1,9 +1,8 @@
 //! The command that makes cards of shorthand, and shorthand of cards.
 
-use rpg_cli_answers::{Answer, Listener, Stop, named};
+use rpg_cli_answers::{Answer, Listener, Stop, named, source_bytes};
 use rpg_cli_columns::{RULER, ShorthandFault, deck_of, line_message, shorthand_of};
 use rpg_cli_messages::card_message;
-use rpg_cli_run::source_bytes;
 use rpg_cli_words::{CardsWanted, CardsWords, FileWord};
 use rpg_faults::{CardFault, SourceFault};
 use std::alloc::Global;

@@ -1,10 +1,12 @@
 //! The commands that read one file, and the object that one of them writes.
 
-use rpg_cli_answers::{Answer, Listener, NamedFile, Stop, named, refuse_same_file};
-use rpg_cli_files::{CompiledObject, file_bytes, write_bytes};
+use rpg_cli_answers::{
+    Answer, Listener, NamedFile, Stop, named, refuse_same_file, source_bytes, system_path,
+};
+use rpg_cli_files::{file_bytes, write_bytes};
 use rpg_cli_run::{
-    OwnSource, compiled, judge_warnings, own_source, source_bytes, system_path, tell_faults,
-    tell_object, verified,
+    CompiledObject, OwnSource, compiled, judge_warnings, own_source, tell_faults, tell_object,
+    verified,
 };
 use rpg_cli_show::{program_overview, program_text};
 use rpg_cli_words::{CompileWords, FileWord, Format, ShowWords, VerifyWords};

@@ -1,8 +1,8 @@
 //! The commands that show a source.
 
-use rpg_cli_answers::{Answer, Listener, Stop, named};
+use rpg_cli_answers::{Answer, Listener, Stop, named, source_bytes};
 use rpg_cli_list::source_listing;
-use rpg_cli_run::{source_bytes, tell_faults};
+use rpg_cli_run::tell_faults;
 use rpg_cli_words::{FileWord, Format, ListWords};
 use rpg_faults::{SourceFault, faultless_cards};
 use std::alloc::Global;

@@ -1,8 +1,8 @@
 -- The line and the exit status of each answer.
 use Rattle.std.specs.Prelude.{ℕ, List, [], ◌++◌, codes, decimal, Option, Some, None}
-use Rattle.rpg_cli_files.specs.SourceCodes.{source_code_text}
-use Rattle.rpg_cli_files.specs.SourceFault.{SourceFault}
-use Rattle.rpg_cli_files.specs.SourceFault.TheVariants as sources
+use Rattle.rpg_faults.specs.SourceCodes.{source_code_text}
+use Rattle.rpg_faults.specs.declared.source_fault.SourceFault.{SourceFault}
+use Rattle.rpg_faults.specs.declared.source_fault.SourceFault.TheVariants as sources
 use Rattle.rpg_cli_files.specs.declared.files.FileFault.{FileFault}
 use Rattle.rpg_cli_files.specs.declared.files.FileFault.TheVariants as files
 use Rattle.rpg_engine.specs.CodeTexts.{code_text}

@@ -5,10 +5,11 @@ ghost use Rattle.rpg_cli_answers.specs.Named.{named_fault};
 ghost use Rattle.rpg_cli_answers.specs.declared.answer.Answer.TheVariants as answers;
 
 use arrayvec::ArrayVec;
-use rpg_cli_files::{FileFault, SourceFault};
+use rpg_cli_files::FileFault;
 use rpg_cli_values::WarningCode;
 use rpg_cli_words::FileWord;
 use rpg_engine::{ObjectFault, Report, RunFault};
+use rpg_faults::SourceFault;
 
 /// How a command ended. What refuses a command is handed up as it is.
 #[derive(Clone, Copy)]

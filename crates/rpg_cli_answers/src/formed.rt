@@ -1,9 +1,8 @@
 //! A listener that passes diagnostics on in the form that is wanted: as texts, or as objects of JSON.
 
 use crate::diagnostic::{Known, Severity};
-use crate::listener::Listener;
 use crate::objects::diagnostics;
-use rpg_cli_files::Reason;
+use rpg_cli_files::{Listener, Reason};
 use std::alloc::Global;
 
 /// The form of diagnostics.

@@ -7,9 +7,10 @@ ghost use Rattle.rpg_cli_answers.specs.Answers as answers;
 use crate::answer::{Answer, Line};
 use arrayvec::ArrayVec;
 use itoa::Buffer;
-use rpg_cli_files::{FileFault, SourceFault};
+use rpg_cli_files::FileFault;
 use rpg_cli_values::WarningCode;
 use rpg_engine::{JobEnd, ObjectFault, Report, RunFault};
+use rpg_faults::SourceFault;
 
 /// A line under construction.
 type Text = ArrayVec<u8, 96>;

@@ -3,9 +3,9 @@
 use crate::changes::{change_messages, refusal_message, too_many_message};
 use crate::new_deck::new_deck_messages;
 use rpg_cli_answers::{Answer, Listener, NamedFile, Stop, named, refuse_same_file};
-use rpg_cli_files::{FileFault, Opened, Reason, SourceCode, file_bytes, lines, write_bytes};
+use rpg_cli_files::{FileFault, Opened, Reason, file_bytes, lines, write_bytes};
 use rpg_cli_words::{FileWord, FitWords, is_standard};
-use rpg_faults::{CardFault, SourceFault};
+use rpg_faults::{CardFault, SourceCode, SourceFault};
 use rpg_fit::{FitFault, FittedDeck, Settings, Switches, TableFile, fit};
 use rpg_sheet::SheetCode;
 use std::alloc::{AllocError, Global};

@@ -2,8 +2,8 @@
 use Rattle.std.specs.Prelude.{◌≡◌, ℕ, ◌<◌, List, Result, IfOk, Err}
 use Rattle.rpg_engine.specs.Bound.{bound}
 use Rattle.rpg_engine.specs.Object.{Object}
-use Rattle.rpg_cli_files.specs.Spelling.{CompilesTo, CompilesToOther}
 use Rattle.rpg_engine.specs.Objects.{HasObjectFault, SpellsProgram}
+use Rattle.rpg_cli_run.specs.Spelling.{CompilesTo, CompilesToOther}
 use Rattle.rpg_engine.specs.declared.fault.RunFault.TheVariants as runs
 use Rattle.rpg_engine.specs.declared.object.ObjectFault.{ObjectFault}
 use Rattle.rpg_faults.specs.Source.{IsSourceRefusal}

@@ -4,4 +4,5 @@ pub mod Flushing
 pub mod Judging
 pub mod Keeping
 pub mod Running
+pub mod Spelling
 pub mod Warned

@@ -1,11 +1,10 @@
 //! The command that compiles a source and runs it.
 
 use crate::jobs::run_own;
-use crate::reading::source_bytes;
 use crate::refusing::tell_wanted;
 use crate::sources::{OwnSource, tell_faults};
 use crate::warned::deny_warnings;
-use rpg_cli_answers::{Answer, Listener, Stop, named};
+use rpg_cli_answers::{Answer, Listener, Stop, named, source_bytes};
 use rpg_cli_words::{FileWord, GoWords};
 use rpg_engine::Report;
 use rpg_meaning::CompiledSource;

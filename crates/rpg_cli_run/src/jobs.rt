@@ -10,11 +10,12 @@ use crate::dating::has_date;
 use crate::halting::tell_halt;
 use crate::keeping::Kept;
 use crate::looking::run_as_asked;
-use crate::reading::system_path;
 use crate::refusing::tell_refused;
 use crate::running::{run_over, run_source_over};
 use crate::sources::{OwnSource, own_source};
-use rpg_cli_answers::{Answer, Listener, NamedFile, Reasons, Stop, named, refuse_same_file};
+use rpg_cli_answers::{
+    Answer, Listener, NamedFile, Reasons, Stop, named, refuse_same_file, system_path,
+};
 use rpg_cli_files::{
     KeptFile, LineTarget, Opened, Pending, RecordSource, file_bytes, input_file, kept_file, lines,
     output_file, records,

@@ -2,12 +2,14 @@
 
 ghost use Rattle.std.specs.Prelude.{◌≡◌, ◌<◌, IfErr, IfOk};
 ghost use Rattle.rpg_cli_run.specs.Judging.{IsSourceOf, TellsMismatch, TellsObject, TellsSource};
-ghost use Rattle.rpg_cli_files.specs.Spelling.{CompilesTo};
+ghost use Rattle.rpg_cli_run.specs.Spelling.{CompilesTo};
 ghost use Rattle.rpg_engine.specs.Objects.{IsAcceptedWith};
 
+use crate::matching::is_written_as;
+use crate::translation::{CompiledObject, compile_to_object};
 use rpg_cli_answers::Answer;
-use rpg_cli_files::{CompiledObject, SourceFault, compile_to_object, is_written_as};
 use rpg_engine::{Program, decode_object, verify_bytes};
+use rpg_faults::SourceFault;
 use rpg_meaning::CompiledSource;
 use rpg_object::laws::a_spelling_is_read_again;
 use std::alloc::Global;

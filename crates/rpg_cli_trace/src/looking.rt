@@ -4,7 +4,7 @@ use crate::counts::Counts;
 use crate::names::JobNames;
 use crate::records::Records;
 use crate::tracing::{Cycle, Told};
-use rpg_cli_answers::Listener;
+use rpg_cli_files::Listener;
 use rpg_cli_words::LookWords;
 use rpg_engine::{Job, JobEnd, Watcher};
 use rpg_store::Store;

@@ -1,6 +1,6 @@
 //! Where a command prints its text, apart from the line of its answer.
 
-use rpg_cli_files::Reason;
+use crate::reason::Reason;
 
 /// Writes diagnostics to standard error and texts to standard output.
 pub trait Listener {

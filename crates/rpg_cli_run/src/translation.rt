@@ -1,12 +1,13 @@
 //! A source to the bytes of its object program.
 
 ghost use Rattle.std.specs.Prelude.{◌≡◌, ◌<◌, None, IfErr, IfOk};
-ghost use Rattle.rpg_cli_files.specs.Spelling.{CompilesTo};
+ghost use Rattle.rpg_cli_run.specs.Spelling.{CompilesTo};
 ghost use Rattle.rpg_object.specs.Program.{first_fault};
 ghost use Rattle.rpg_faults.specs.Source.{AreFaultless, IsSourceRefusal};
 
 use rpg_cards::SpecCard;
-use rpg_compile::{Compiled, SourceFault, compile_with_cards};
+use rpg_compile::{Compiled, compile_with_cards};
+use rpg_faults::SourceFault;
 use rpg_object::encode;
 use rpg_object::laws::a_spelling_is_read_again;
 use std::alloc::Global;
@@ -19,7 +20,7 @@ pub struct CompiledObject {
 }
 
 /// The object program that the source is compiled to.
-pub fn compile_to_object(
+pub(crate) fn compile_to_object(
     alloc: Global,
     text: &[u8],
     allowance: u16,

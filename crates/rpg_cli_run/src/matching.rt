@@ -4,12 +4,16 @@ ghost use Rattle.std.specs.Prelude.{◌≡◌, ◌≢◌, IfOk};
 ghost use Rattle.std.specs.Bool.{MatchBool};
 ghost use Rattle.rpg_object.specs.Program.{spelling};
 
+use rpg_engine::Program;
 use rpg_object::encode;
-use rpg_program::Program;
 use std::alloc::{AllocError, Global};
 
 /// Whether a program is written as these very bytes.
-pub fn is_written_as(alloc: Global, program: &Program, bytes: &[u8]) -> Result<bool, AllocError>
+pub(crate) fn is_written_as(
+    alloc: Global,
+    program: &Program,
+    bytes: &[u8],
+) -> Result<bool, AllocError>
     ensures { IfOk result (λ is_same. MatchBool is_same (spelling program.now ≡ bytes.now) (spelling program.now ≢ bytes.now)) }
 {
     let written = encode(alloc, program)?;

@@ -3,7 +3,7 @@ use Rattle.std.specs.Prelude.{◌≡◌, ◌≢◌, ℕ, List, Ok}
 use Rattle.rpg_compile.specs.Compile.{Compiles}
 use Rattle.rpg_object.specs.Program.{reading, spelling}
 use Rattle.rpg_program.specs.Kept.{IsProgram}
-use Rattle.rpg_program.specs.Object.{Object}
+use Rattle.rpg_engine.specs.Object.{Object}
 
 -- these bytes are the object program's
 pub record IsSpelled (p : Object) (bytes : List ℕ) : Type 0 where

@@ -1,8 +1,8 @@
 use Rattle.std.proofs.Common.{rules, ap, ◌∙◌}
-use Rattle.rpg_cli_files.proofs.Spelled.{faultless}
+use Rattle.rpg_cli_run.proofs.Spelled.{faultless}
 use Rattle.rpg_object.specs.Program.{reading}
 use Rattle.rpg_program.specs.Kept.{IsProgram}
-use Rattle.rpg_cli_files.proofs.translation.compile_to_object.Goals as goal
+use Rattle.rpg_cli_run.proofs.translation.compile_to_object.Goals as goal
 
 pub returns-clause-ok : goal.returns-clause-ok
 returns-clause-ok c =
