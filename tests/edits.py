@@ -164,6 +164,13 @@ def spoil(edits, room):
         (room / cut.file).write_text(text[: cut.start] + cut.new + text[cut.end :], encoding="utf-8")
 
 
+def as_library(room):
+    """Calls the `main` of a program otherwise: its copy is then a library, whose check links no code of the libraries below."""
+    root = room / "src/main.rt"
+    if root.is_file():
+        root.write_text(re.sub(r"^fn main\(", "pub fn begin(", root.read_text(encoding="utf-8"), flags=re.M), encoding="utf-8")
+
+
 def with_holes(crate, edits, room, keeps_bodies):
     """Leaves of each function that no edit turns only the contract: its body is gone, unless bodies are kept, and a hole stands in the place of its
     proof. Functions whose theorems have parameters of types are left as they are."""
@@ -204,6 +211,7 @@ def check(crate, edits, controls, log, keeps_bodies=False):
         copied(crate, room)
         if not controls:
             spoil(edits, room)
+        as_library(room)
         with_holes(crate, edits, room, keeps_bodies)
         words = words_of(crate, edits)
         how = {"stdin": subprocess.DEVNULL, "stdout": subprocess.PIPE, "stderr": subprocess.STDOUT}
