@@ -104,7 +104,7 @@ fn put_source_fault(text: &mut Text, fault: SourceFault)
             put(text, b"card ");
             put_number(text, u64::from(card));
             put(text, b": ");
-            put(text, code.text().as_str().as_bytes());
+            put(text, code.text().as_bytes());
         }
         SourceFault::NoMemory => put(text, b"no memory"),
     }

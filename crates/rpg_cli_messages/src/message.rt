@@ -112,14 +112,8 @@ const LATER_TIME: &str = "also follows from card {}, which is of a later time\n"
 
 /// A fault that comes from a slip that is reported already.
 fn write_follower(out: &mut TextWriter, path: &str, line: &[u8], fault: CardFault, slip: Slip) {
-    let code = fault.code.text();
-    write_place(
-        out,
-        path,
-        fault.card,
-        columns_of(line, fault),
-        code.as_str(),
-    );
+    let columns = columns_of(line, fault);
+    write_place(out, path, fault.card, columns, fault.code.text());
     let (sentence, card) = match slip {
         Slip::Later(later) => (LATER_SHEET, later.card),
         Slip::Root(Root::Text(card)) => (TEXT, card),
@@ -192,8 +186,7 @@ fn write_message(
     fault: CardFault,
 ) {
     let columns = columns_of(line, fault);
-    let code = fault.code.text();
-    write_place(out, path, fault.card, columns, code.as_str());
+    write_place(out, path, fault.card, columns, fault.code.text());
     write_sentence(out, line, source, fault);
     out.write_char('\n');
     if fault.card > 0 {

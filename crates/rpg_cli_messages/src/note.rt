@@ -29,7 +29,6 @@ pub fn write_note(
         write_mark(out, margin, columns);
     }
     let code = fault.code.text();
-    let code = code.as_str();
     write_times(
         out,
         ' ',

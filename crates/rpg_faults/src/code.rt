@@ -4,9 +4,6 @@ ghost use Rattle.std.specs.Prelude.{◌≡◌, ◌≤◌, length};
 ghost use Rattle.rpg_faults.specs.Codes as codes;
 ghost use Rattle.rpg_faults.specs.Faults as faults;
 
-use arrayvec::ArrayString;
-use itoa::Buffer;
-
 /// A rule that a card breaks. Of two codes the one with the lower number is the lesser.
 #[derive(Clone, Copy)]
 pub enum FaultCode {
@@ -82,14 +79,30 @@ impl FaultCode {
     }
 
     /// The letter F and the number.
-    pub fn text(self) -> ArrayString<4>
-        ensures value { result.bytes ≡ codes.fault_code_text self }
-        ensures len { length result.bytes ≤ 4 }
+    pub const fn text(self) -> &'static str
+        ensures value { result.now ≡ codes.fault_code_text self }
+        ensures len { length result.now ≤ 4 }
     {
-        let mut text = ArrayString::new();
-        text.push_str("F");
-        text.push_str(Buffer::new().format(self.number()));
-        text
+        match self {
+            FaultCode::F1 => "F1",
+            FaultCode::F2 => "F2",
+            FaultCode::F3 => "F3",
+            FaultCode::F4 => "F4",
+            FaultCode::F5 => "F5",
+            FaultCode::F6 => "F6",
+            FaultCode::F7 => "F7",
+            FaultCode::F8 => "F8",
+            FaultCode::F9 => "F9",
+            FaultCode::F10 => "F10",
+            FaultCode::F11 => "F11",
+            FaultCode::F12 => "F12",
+            FaultCode::F13 => "F13",
+            FaultCode::F14 => "F14",
+            FaultCode::F15 => "F15",
+            FaultCode::F16 => "F16",
+            FaultCode::F17 => "F17",
+            FaultCode::F18 => "F18",
+        }
     }
 
     /// The rule that is broken, as a person reads it.

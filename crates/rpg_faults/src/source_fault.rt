@@ -5,7 +5,6 @@ ghost use Rattle.rpg_faults.specs.SourceCodes as codes;
 ghost use Rattle.rpg_faults.specs.declared.source_fault.SourceFault.TheVariants.{NoMemory};
 
 use crate::FaultCode;
-use arrayvec::ArrayString;
 use rpg_sheet::{ColumnFault, SheetCode, SheetFault};
 use std::alloc::AllocError;
 use std::fmt;
@@ -19,9 +18,9 @@ pub enum SourceCode {
 
 impl SourceCode {
     /// The letter and the number.
-    pub fn text(self) -> ArrayString<4>
-        ensures value { result.bytes ≡ codes.source_code_text self }
-        ensures len { length result.bytes ≤ 4 }
+    pub const fn text(self) -> &'static str
+        ensures value { result.now ≡ codes.source_code_text self }
+        ensures len { length result.now ≤ 4 }
     {
         match self {
             SourceCode::Sheet(code) => code.text(),
@@ -64,8 +63,7 @@ impl fmt::Display for SourceFault {
     fn fmt<W: fmt::Write>(&self, f: &mut fmt::Formatter<W>) -> fmt::Result {
         match self {
             SourceFault::At { card, code, .. } => {
-                let text = code.text();
-                let code = text.as_str();
+                let code = code.text();
                 write!(f, "card {card}: {code}")
             }
             SourceFault::NoMemory => f.write_str("no memory"),

@@ -9,8 +9,6 @@ ghost use Rattle.rpg_sheet.specs.Sheet.{fault_columns};
 ghost use Rattle.rpg_sheet.specs.declared.sheet.SheetFault.TheVariants.{NoMemory};
 
 use crate::Card;
-use arrayvec::ArrayString;
-use itoa::Buffer;
 use rpg_sheet_specs::{ColumnFault, DataCard, DataSpec, FormType, Spec};
 use std::alloc::AllocFailed;
 use std::marker::Model;
@@ -55,14 +53,18 @@ impl SheetCode {
     }
 
     /// The letter S and the number.
-    pub fn text(self) -> ArrayString<4>
-        ensures value { result.bytes ≡ codes.sheet_code_text self }
-        ensures len { length result.bytes ≤ 4 }
+    pub const fn text(self) -> &'static str
+        ensures value { result.now ≡ codes.sheet_code_text self }
+        ensures len { length result.now ≤ 4 }
     {
-        let mut text = ArrayString::new();
-        text.push_str("S");
-        text.push_str(Buffer::new().format(self.number()));
-        text
+        match self {
+            SheetCode::S1 => "S1",
+            SheetCode::S2 => "S2",
+            SheetCode::S3 => "S3",
+            SheetCode::S4 => "S4",
+            SheetCode::S5 => "S5",
+            SheetCode::S6 => "S6",
+        }
     }
 
     /// What is wrong, as a person reads it.

@@ -5,22 +5,25 @@ ghost use Rattle.std.proofs.Common.{ap};
 ghost use Rattle.std.specs.Cmp.{partial_equiv_from_equiv};
 ghost use Rattle.std.specs.Cmp.Lexicographic.{pointwise, bytes_decides, nat_list_eq_equiv};
 
-use arrayvec::ArrayVec;
 use std::hash::{Hash, Hasher};
 use std::marker::Model;
 
 /// A text of at most `N` characters, as a name.
 #[derive(Drop)]
 pub struct Word<const N: usize> {
-    characters: ArrayVec<u8, N>,
+    /// Those after the first `length` are of no meaning.
+    characters: [u8; N],
+    length: usize,
 }
 
 impl<const N: usize> Model for Word<N> {
-    ghost use Rattle.std.specs.Prelude.{ℕ, List};
+    ghost use Rattle.std.specs.Prelude.{ℕ, List, take, ◌≤◌};
 
     ghost Value = { List ℕ };
 
-    ghost view = { λ w. w.characters.items };
+    ghost view = { λ w. take w.length w.characters };
+
+    ghost invariant = { λ w. w.length ≤ N };
 }
 
 impl<const N: usize> Word<N> {
@@ -28,25 +31,25 @@ impl<const N: usize> Word<N> {
         requires { length text.now ≤ N }
         ensures { result ≡ text.now }
     {
-        let mut characters = ArrayVec::new();
-        match characters.try_extend_from_slice(text) {
-            Ok(()) => Word { characters },
-            Err(_) => unreachable!(),
-        }
+        let mut characters = [0; N];
+        let length = text.len();
+        characters[..length].copy_from_slice(text);
+        Word { characters, length }
     }
 
     pub fn push(&mut self, character: u8)
         requires { length self.old < N }
         ensures { self.new ≡ self.old ++ character ∷ [] }
     {
-        self.characters.push(character);
+        self.characters[self.length] = character;
+        self.length += 1;
     }
 
     pub fn as_slice(&self) -> &[u8]
         ensures value { result.now ≡ self.now }
         ensures fits { length result.now ≤ N }
     {
-        self.characters.as_slice()
+        &self.characters[..self.length]
     }
 }
 
