@@ -1,6 +1,5 @@
 //! A line is assembled: the fields whose conditions hold are laid over blanks, in order.
 ghost use Rattle.std.specs.Prelude.{◌≡◌, ◌≤◌, ◌+◌, length, drop, true, None};
-ghost use Rattle.arrayvec.specs.ArrayVec.{array_vec_len};
 ghost use Rattle.rpg_program.specs.Ends.{GoesOn, end_of};
 ghost use Rattle.rpg_program.specs.LineFaults as faults;
 ghost use Rattle.rpg_program.specs.Lines as lines;
@@ -12,10 +11,10 @@ ghost use Rattle.rpg_machine_lines.specs.Putting.{CanRemember, ChangesFields, Ch
 ghost use Rattle.rpg_program.specs.Constants.{word_at};
 ghost use Rattle.rpg_memory.specs.Memory.{forms_in};
 
+use crate::entries::Entries;
 use crate::field::{count_page, lay_fixed_value, lay_value};
 use crate::plan::FieldPlan;
 use crate::reading::position_of;
-use arrayvec::ArrayVec;
 use rpg_memory::condition::three_hold;
 use rpg_memory::memory::Memory;
 use rpg_memory::resolved::FixedEntry;
@@ -25,12 +24,6 @@ use rpg_program::line::LineField;
 use rpg_program::outcome::End;
 use rpg_store::store::Store;
 
-/// The most fields of a line.
-const MOST_FIELDS: usize = 200;
-
-/// The entries, by field and position, that are to be blanked once the line is put out.
-pub type Entries = ArrayVec<(u16, u16), MOST_FIELDS>;
-
 /// With blank after, the entry that was assembled is to be blanked.
 #[tactic(auto, using(crate::proofs::Entering::entering))]
 fn remember<S: Store + Drop>(
@@ -39,10 +32,10 @@ fn remember<S: Store + Drop>(
     is_blanked: bool,
     entry: (u16, u16),
 )
-    requires more { CanRemember memory.now.program.fields (array_vec_len to_blank.old) to_blank.old.items }
+    requires more { CanRemember memory.now.program.fields (length to_blank.old) to_blank.old }
     requires entry { IsFieldEntry memory.now.program.fields entry.0 entry.1 }
-    ensures items { to_blank.new.items ≡ lines.remembered is_blanked (entry.0, entry.1) to_blank.old.items }
-    ensures one { RemembersOne memory.now.program.fields (array_vec_len to_blank.old) (array_vec_len to_blank.new) to_blank.new.items }
+    ensures items { to_blank.new ≡ lines.remembered is_blanked (entry.0, entry.1) to_blank.old }
+    ensures one { RemembersOne memory.now.program.fields (length to_blank.old) (length to_blank.new) to_blank.new }
 {
     if is_blanked {
         to_blank.push(entry);
@@ -59,9 +52,9 @@ fn with_field<S: Store + Drop>(
     field: &LineField<u16>,
 ) -> End
     requires right { faults.field_fault (forms_in memory.old) (word_at memory.old.program) (length text.old) field.now ≡ None }
-    requires more { CanRemember memory.old.program.fields (array_vec_len to_blank.old) to_blank.old.items }
-    ensures drafted { drafted_in (end_of result) memory.new text.new to_blank.new.items ≡ with_field_in memory.old text.old to_blank.old.items field.now }
-    ensures changes { ChangesFields memory.old memory.new (array_vec_len to_blank.old) (array_vec_len to_blank.new) to_blank.new.items }
+    requires more { CanRemember memory.old.program.fields (length to_blank.old) to_blank.old }
+    ensures drafted { drafted_in (end_of result) memory.new text.new to_blank.new ≡ with_field_in memory.old text.old to_blank.old field.now }
+    ensures changes { ChangesFields memory.old memory.new (length to_blank.old) (length to_blank.new) to_blank.new }
 {
     if !three_hold(memory.on(), field.conditions) {
         return End::GoesOn;
@@ -96,9 +89,9 @@ fn with_fixed_field<S: Store + Drop>(
     requires right { faults.field_fault (forms_in memory.now) (word_at memory.now.program) (length text.old) field.now ≡ None }
     requires holds { three_hold memory.now.world.data.on field.now.conditions ≡ true }
     requires fixed { IsFixedField memory.now.program.fields field.now fixed.now }
-    requires more { CanRemember memory.now.program.fields (array_vec_len to_blank.old) to_blank.old.items }
-    ensures drafted { drafted_in GoesOn memory.now text.new to_blank.new.items ≡ with_field_in memory.now text.old to_blank.old.items field.now }
-    ensures one { RemembersOne memory.now.program.fields (array_vec_len to_blank.old) (array_vec_len to_blank.new) to_blank.new.items }
+    requires more { CanRemember memory.now.program.fields (length to_blank.old) to_blank.old }
+    ensures drafted { drafted_in GoesOn memory.now text.new to_blank.new ≡ with_field_in memory.now text.old to_blank.old field.now }
+    ensures one { RemembersOne memory.now.program.fields (length to_blank.old) (length to_blank.new) to_blank.new }
 {
     memory.is_kept();
     lay_fixed_value(memory, text, field, fixed);
@@ -121,9 +114,9 @@ fn with_planned_field<S: Store + Drop>(
 ) -> End
     requires right { faults.field_fault (forms_in memory.old) (word_at memory.old.program) (length text.old) field.now ≡ None }
     requires planned { IsFieldPlan memory.old.program.fields field.now found.now }
-    requires more { CanRemember memory.old.program.fields (array_vec_len to_blank.old) to_blank.old.items }
-    ensures drafted { drafted_in (end_of result) memory.new text.new to_blank.new.items ≡ with_field_in memory.old text.old to_blank.old.items field.now }
-    ensures changes { ChangesFields memory.old memory.new (array_vec_len to_blank.old) (array_vec_len to_blank.new) to_blank.new.items }
+    requires more { CanRemember memory.old.program.fields (length to_blank.old) to_blank.old }
+    ensures drafted { drafted_in (end_of result) memory.new text.new to_blank.new ≡ with_field_in memory.old text.old to_blank.old field.now }
+    ensures changes { ChangesFields memory.old memory.new (length to_blank.old) (length to_blank.new) to_blank.new }
 {
     let fixed = match found {
         FieldPlan::Always(fixed) => fixed,
@@ -148,11 +141,11 @@ pub fn assemble<S: Store + Drop>(
     plan: &[FieldPlan],
 ) -> End
     requires right { faults.AreRight (forms_in memory.old) (word_at memory.old.program) (length text.old) fields.now }
-    requires room { array_vec_len to_blank.old + length fields.now ≤ 200 }
-    requires entries { AreFieldEntries memory.old.program.fields to_blank.old.items }
+    requires room { length to_blank.old + length fields.now ≤ 200 }
+    requires entries { AreFieldEntries memory.old.program.fields to_blank.old }
     requires planned { AreFieldPlans memory.old.program.fields fields.now plan.now }
-    ensures drafted { drafted_in (end_of result) memory.new text.new to_blank.new.items ≡ assembled_in memory.old text.old to_blank.old.items fields.now }
-    ensures changes { ChangesValues memory.old memory.new to_blank.new.items }
+    ensures drafted { drafted_in (end_of result) memory.new text.new to_blank.new ≡ assembled_in memory.old text.old to_blank.old fields.now }
+    ensures changes { ChangesValues memory.old memory.new to_blank.new }
     ensures behind { drop (reach_of fields.now) text.new ≡ drop (reach_of fields.now) text.old }
 {
     let (mut left, mut found) = (fields, plan);

@@ -4,6 +4,7 @@
 
 mod assembly;
 pub mod bytes;
+mod entries;
 mod field;
 pub mod fixed_inputs;
 pub mod inputs;
@@ -17,7 +18,7 @@ mod printer;
 mod reading;
 pub mod weights;
 
-pub use assembly::Entries;
 pub use bytes::Output;
+pub use entries::Entries;
 pub use outputs::{put_details, put_exceptions, put_overflow, put_totals};
 pub use plan::Plan;

@@ -6,8 +6,9 @@ ghost use Rattle.rpg_machine_lines.specs.Outputs.{PutsOwn, line_effect, output_o
 ghost use Rattle.rpg_machine_lines.specs.Putting.{CanPutLine, StaysNear};
 ghost use Rattle.rpg_program.specs.Object.{line_row};
 
-use crate::assembly::{Entries, assemble};
+use crate::assembly::assemble;
 use crate::bytes::Output;
+use crate::entries::Entries;
 use crate::field::{blank_all, fill_blanks};
 use crate::plan::LinePlan;
 use crate::printer::put_on;
@@ -38,6 +39,6 @@ pub fn put_line<S: Store + Drop>(
         End::Halt(halt) => return Ok(End::Halt(halt)),
     }
     put_on(memory, output, line.file, line.spacing, text, plan.reach)?;
-    blank_all(memory, to_blank);
+    blank_all(memory, to_blank.as_slice());
     Ok(End::GoesOn)
 }

@@ -8,8 +8,8 @@ ghost use Rattle.rpg_machine_lines.specs.Putting.{CanPutLines, StaysNear};
 ghost use Rattle.rpg_machine_lines.specs.Ready.{IsNear};
 ghost use Rattle.rpg_machine_lines.specs.Right.{AreRightLines, HasLineRoom};
 
-use crate::assembly::Entries;
 use crate::bytes::Output;
+use crate::entries::Entries;
 use crate::passage::put_lines;
 use crate::plan::Plan;
 use rpg_memory::memory::Memory;

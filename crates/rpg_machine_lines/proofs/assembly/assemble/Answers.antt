@@ -39,14 +39,14 @@ fields-preserved g c =
     record {
       rest = c.with_planned_field.ensures.changes.rest ∙ ap (λ (x : Working). fields_replaced new.world.data.fields x) same;
       len = c.with_planned_field.auto.text ∙ c.fields.invariant.len;
-      entries = subst (λ (p : Object). AreFieldEntries p.fields c.with_planned_field.new.to_blank.items) (ap (λ (x : Working). x.program) same)
+      entries = subst (λ (p : Object). AreFieldEntries p.fields c.with_planned_field.new.to_blank) (ap (λ (x : Working). x.program) same)
           c.with_planned_field.ensures.changes.each;
       right = All-rest (λ x. field_fault (forms_in m) (word_at m.program) len x ≡ None) f behind left is c.fields.invariant.right;
       planned = plan_after_first m.program.fields left behind f c.fields.found.now is c.fields.invariant.planned;
       room = omega (arith, c.in-Some.ensures.cases.1, c.with_planned_field.ensures.changes.few, c.fields.invariant.room);
       ends = All-rest (λ x. x.end ≤ reach) f behind left is c.fields.invariant.ends;
       behind = first_after_reach (forms_in m) (word_at m.program) len reach left behind f c.fields.memory new c.fields.text c.with_planned_field.new.text
-          c.fields.to_blank.items c.with_planned_field.new.to_blank.items (end_of c.with_planned_field.result) is c.fields.invariant.right c.fields.invariant.ends
+          c.fields.to_blank c.with_planned_field.new.to_blank (end_of c.with_planned_field.result) is c.fields.invariant.right c.fields.invariant.ends
           c.fields.invariant.len c.with_planned_field.auto.text c.with_planned_field.ensures.drafted
           ∙ c.fields.invariant.behind;
       onward = field_next m len c.fields.memory left behind f _ _ c.with_planned_field.result _
@@ -59,6 +59,6 @@ returns-in-Halt-clause-behind g c =
     let m = c.args.memory.now in
     first_after_reach (forms_in m) (word_at m.program) (length c.args.text.now) (reach_of c.args.fields.now) c.fields.left.now c.in-Some.behind.now c.in-Some.field.now
     c.fields.memory c.with_planned_field.new.memory c.fields.text c.with_planned_field.new.text
-    c.fields.to_blank.items c.with_planned_field.new.to_blank.items (end_of c.with_planned_field.result) c.in-Some.ensures.cases.0 c.fields.invariant.right
+    c.fields.to_blank c.with_planned_field.new.to_blank (end_of c.with_planned_field.result) c.in-Some.ensures.cases.0 c.fields.invariant.right
     c.fields.invariant.ends c.fields.invariant.len c.with_planned_field.auto.text c.with_planned_field.ensures.drafted
     ∙ c.fields.invariant.behind

@@ -12,14 +12,14 @@ abbrev pub invariant-fields : goal.invariant-fields
 invariant-fields g l = record {
   rest : l.memory ≡ fields_replaced l.memory.world.data.fields l.fn.memory;
   len : length l.text ≡ length l.fn.text;
-  entries : AreFieldEntries l.fn.memory.program.fields l.to_blank.items;
+  entries : AreFieldEntries l.fn.memory.program.fields l.to_blank;
   right : AreRight (forms_in l.fn.memory) (word_at l.fn.memory.program) (length l.fn.text) l.left;
   planned : AreFieldPlans l.fn.memory.program.fields l.left l.found;
-  room : length l.to_blank.items + length l.left ≤ 200;
+  room : length l.to_blank + length l.left ≤ 200;
   ends : EndWithin (reach_of l.fields) l.left;
   behind : drop (reach_of l.fields) l.text ≡ drop (reach_of l.fields) l.fn.text;
-  onward : fields_drafted l.fn.memory (length l.fn.text) l.left (draft_in l.memory l.text l.to_blank.items)
-      ≡ fields_drafted l.fn.memory (length l.fn.text) l.fields (draft_in l.fn.memory l.fn.text l.fn.to_blank.items);
+  onward : fields_drafted l.fn.memory (length l.fn.text) l.left (draft_in l.memory l.text l.to_blank)
+      ≡ fields_drafted l.fn.memory (length l.fn.text) l.fields (draft_in l.fn.memory l.fn.text l.fn.to_blank);
 }
 
 abbrev pub decreases-fields : goal.decreases-fields

@@ -29,5 +29,5 @@ remember-requires-clause-entry g c =
 
 pub returns-clause-drafted : goal.returns-clause-drafted
 returns-clause-drafted g c =
-    fixed_laid c.args.memory.now c.args.text.now c.lay_fixed_value.new.text c.args.to_blank.now.items c.remember.new.to_blank.items c.args.field.now c.args.fixed.now
+    fixed_laid c.args.memory.now c.args.text.now c.lay_fixed_value.new.text c.args.to_blank.now c.remember.new.to_blank c.args.field.now c.args.fixed.now
     c.requires.fixed c.requires.holds c.requires.right c.lay_fixed_value.ensures.text c.remember.ensures.items

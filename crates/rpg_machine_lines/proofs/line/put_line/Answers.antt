@@ -33,7 +33,7 @@ returns-in-Halt-clause-done g c =
     let m = c.args.memory.now in
     let p = m.program in
     let l = program_line p (line_row c.args.line.now) in
-    let d = draft_in c.assemble.new.memory c.assemble.new.text c.assemble.new.to_blank.items in
+    let d = draft_in c.assemble.new.memory c.assemble.new.text c.assemble.new.to_blank in
     let long = c.fill_blanks.auto.text ∙ c.requires.len in
     let blank = c.fill_blanks.ensures ∙ ap (λ (n : ℕ). replicate n 32) c.requires.len in
     let a = assembled_from (form_at p.fields) (word_at p) m.world.data.on m.world.data.fields c.assemble.result
@@ -47,7 +47,7 @@ returns-clause-done g c =
     let m = c.args.memory.now in
     let p = m.program in
     let l = program_line p (line_row c.args.line.now) in
-    let d = draft_in c.assemble.new.memory c.assemble.new.text c.assemble.new.to_blank.items in
+    let d = draft_in c.assemble.new.memory c.assemble.new.text c.assemble.new.to_blank in
     let long = c.fill_blanks.auto.text ∙ c.requires.len in
     let blank = c.fill_blanks.ensures ∙ ap (λ (n : ℕ). replicate n 32) c.requires.len in
     let a = assembled_from (form_at p.fields) (word_at p) m.world.data.on m.world.data.fields c.assemble.result
@@ -57,7 +57,7 @@ returns-clause-done g c =
     let drafted = c.assemble.ensures.changes.rest in
     let put = subst (λ (x : Working). IsDone (put_on x.program.overflow l.file l.spacing d.text) (held_of x) (output_of c.args.output.now) GoesOn (held_of placed) (output_of c.put_on.new.output)) drafted
     c.in_ok-put_on.ensures.done in
-    let blanked = c.blank_all.ensures ∙ ap (λ (es : List (ℕ × ℕ)). fields_replaced (blanked_all es placed.world.data.fields) placed) c.deref-3.ensures.0 in
+    let blanked = c.blank_all.ensures ∙ ap (λ (es : List (ℕ × ℕ)). fields_replaced (blanked_all es placed.world.data.fields) placed) c.as_slice.ensures.value in
     line_placed (form_at p.fields) (word_at p) p.overflow l (held_of m) (output_of c.args.output.now) d (held_of placed)
     (held_of c.blank_all.new.memory) (output_of c.put_on.new.output) c.requires.right.fault a put
     (ap (λ (x : Working). x.last) blanked) (ap (λ (x : Working). x.world) blanked)
