@@ -21,5 +21,5 @@ pub use objects::source_object;
 pub use reading::{source_bytes, system_path};
 pub use rpg_cli_files::Listener;
 pub use sharing::{NamedFile, refuse_same_file};
-pub use stop::{Reasons, Stop};
+pub use stop::{CommandStop, Reasons};
 pub use text::line;

@@ -4,7 +4,7 @@ use crate::jobs::run_own;
 use crate::refusing::tell_wanted;
 use crate::sources::{OwnSource, tell_faults};
 use crate::warned::deny_warnings;
-use rpg_cli_answers::{Answer, Listener, Stop, named, source_bytes};
+use rpg_cli_answers::{Answer, CommandStop, Listener, named, source_bytes};
 use rpg_cli_words::{FileWord, GoWords};
 use rpg_engine::Report;
 use rpg_meaning::CompiledSource;
@@ -31,12 +31,12 @@ fn run_compiled<R: Files + Input + Print + AllocGlobal, L: Listener>(
     words: &GoWords,
     compiled: CompiledSource,
     listener: &mut L,
-) -> Result<Report, Stop> {
+) -> Result<Report, CommandStop> {
     let path = words.run.object;
     deny_warned(rt.alloc(), words, compiled.text(), listener)?;
     let source = OwnSource::of(rt.alloc(), path, compiled)?;
     let ran = run_own(rt, &words.run, &source, listener);
-    if let Err(Stop::Answer(answer)) = ran {
+    if let Err(CommandStop::Answer(answer)) = ran {
         let program = source.compiled.program().program();
         tell_wanted(rt.alloc(), path, program, answer, listener);
     }
@@ -48,7 +48,7 @@ pub fn go_files<R: Files + Input + Print + AllocGlobal, L: Listener>(
     rt: &R,
     words: &GoWords,
     listener: &mut L,
-) -> Result<Report, Stop> {
+) -> Result<Report, CommandStop> {
     if let Some(same) = words.run.shared_stream() {
         return Err(same.into());
     }
