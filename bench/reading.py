@@ -25,7 +25,7 @@ from pathlib import Path
 CONTRACTS = {
     "execute": ("crates/rpg_engine/src/engine.rt", "execute", ()),
     "compile": ("crates/rpg_compile/src/source.rt", "compile", ()),
-    "meaning": ("crates/rpg_meaning/src/run.rt", "run_source", ("headline", "report", "early")),
+    "meaning": ("crates/rpg_meaning/src/run.rt", "run_source", ("program",)),
     "operations": ("crates/rpg_meaning/src/operation_laws.rt", "operations_do", ()),
 }
 # the program that is compiled, and what its run is compared with

@@ -5,9 +5,9 @@ use Rattle.rpg_cli_answers.specs.declared.answer.Answer.{Answer}
 use Rattle.rpg_cli_answers.specs.declared.answer.Answer.TheVariants as answers
 use Rattle.rpg_cli_files.specs.declared.files.FileFault.{FileFault}
 use Rattle.rpg_cli_words.specs.declared.request.FileWord.TheVariants as words
+use Rattle.rpg_engine.specs.declared.files.Writers.{Writers}
 use Rattle.rpg_engine.specs.declared.report.Report.{Report}
 use Rattle.rpg_files.specs.Counting.{device_of, faults_after, faults_of}
-use Rattle.rpg_files.specs.declared.counting.Counted.{Counted}
 
 -- how a flush ended
 abbrev pub Flush : Type 0
@@ -26,11 +26,11 @@ disk_faults (Ok u) disk n = faults_after n disk
 
 -- The answer is that of both flushes, and so are the counts. The writers keep what they have.
 pub record Flushes {P D : Type 0} (contents : P → Option (List ℕ)) (stored : D → Option (List ℕ)) (report : Report) (given : Result Report Answer)
-    (print print' : Counted P) (disk disk' : Counted D) : Type 0 where
+    (before after : Writers P D) : Type 0 where
   pub printer : Flush
   pub file : Flush
   pub answer : given ≡ flushed report printer file
-  pub print_count : faults_of print' ≡ faults_after (faults_of print) printer
-  pub disk_count : faults_of disk' ≡ disk_faults printer file (faults_of disk)
-  pub kept : Keeps (contents (device_of print)) (contents (device_of print'))
-  pub stays : Keeps (stored (device_of disk)) (stored (device_of disk'))
+  pub print_count : faults_of after.printer ≡ faults_after (faults_of before.printer) printer
+  pub disk_count : faults_of after.disk ≡ disk_faults printer file (faults_of before.disk)
+  pub kept : Keeps (contents (device_of before.printer)) (contents (device_of after.printer))
+  pub stays : Keeps (stored (device_of before.disk)) (stored (device_of after.disk))

@@ -2,9 +2,13 @@
 use Rattle.std.specs.Prelude.{◌≡◌, ℕ, ◌+◌, List, Option, Result, Ok, Err}
 use Rattle.rpg_cli_words.specs.declared.request.FileWord.{FileWord}
 use Rattle.rpg_cli_words.specs.declared.request.FileWord.TheVariants as words
-use Rattle.rpg_engine.specs.Faults.{Counts, FaultsAre}
+use Rattle.rpg_engine.specs.Devices.{Lent}
+use Rattle.rpg_engine.specs.Faults.{Counts, FaultsAre, device_counts}
 use Rattle.rpg_engine.specs.declared.fault.RunFault.{RunFault}
+use Rattle.rpg_engine.specs.declared.files.Readers.{Readers}
+use Rattle.rpg_engine.specs.declared.files.Writers.{Writers}
 use Rattle.rpg_engine.specs.declared.report.Report.{Report}
+use Rattle.rpg_files.specs.Counting.{device_of}
 use Rattle.rpg_cli_answers.specs.declared.answer.Answer.{Answer}
 use Rattle.rpg_cli_answers.specs.declared.answer.Answer.TheVariants as answers
 
@@ -31,3 +35,9 @@ TellsFaults (Ok report) given left others rest old new = FaultsAre {X = Report} 
 TellsFaults (Err (answers.Run fault)) given left others rest old new = FaultsAre {X = Report} (Err fault) given left others rest old new
 TellsFaults (Err (answers.File word fault)) given left others rest old new = FlushFaults word old new
 TellsFaults (Err e) given left others rest old new = ⊥
+
+-- The same of readers and writers that are lent to a call.
+abbrev pub AnswersWhoseFault : {R S P D : Type 0} → (R → Option (List ℕ)) → (S → Option (List ℕ)) → Lent (Readers R S) → Lent (Writers P D) → Result Report Answer → Type 0
+AnswersWhoseFault remaining others readers writers result = TellsFaults result (remaining (device_of readers.entry.now.primary)) (remaining (device_of readers.exit.now.primary))
+    (others (device_of readers.entry.now.secondary)) (others (device_of readers.exit.now.secondary))
+    (device_counts readers.entry.now writers.entry.now) (device_counts readers.exit.now writers.exit.now)

@@ -1,10 +1,10 @@
 //! The command that runs an object program over its files.
 
-ghost use Rattle.std.specs.Prelude.{◌≤◌, ◌-◌, ◌^◌, ◌<◌, IfErr, IfOk, IfSome, OnOk};
+ghost use Rattle.std.specs.Prelude.{◌≤◌, IfErr, IfOk, IfSome, OnOk};
 ghost use Rattle.rpg_cli_run.specs.Judging.{BreaksBound, BreaksLimit};
 ghost use Rattle.rpg_engine.specs.Bound.{bound};
+ghost use Rattle.rpg_engine.specs.Devices.{CanCountFaults};
 ghost use Rattle.rpg_engine.specs.Objects.{HasObjectFault, SpellsProgram};
-ghost use Rattle.rpg_files.specs.Counting.{faults_of};
 
 use crate::dating::has_date;
 use crate::halting::tell_halt;
@@ -24,10 +24,9 @@ use rpg_cli_halts::HaltedSource;
 use rpg_cli_show_fields::SourceRows;
 use rpg_cli_words::{FileWord, RunWords, is_standard};
 use rpg_engine::{
-    ObjectFault, Program, Report, RunFault, Verified, Watcher, accept, decode_object,
-    has_disk_file, has_secondary_file,
+    ObjectFault, Program, Readers, Report, RunFault, Verified, Watcher, Writers, accept,
+    decode_object, has_disk_file, has_secondary_file,
 };
-use rpg_files::Counted;
 use rpg_meaning::CompiledSource;
 use std::alloc::Global;
 use std::fs::OpenFile;
@@ -285,31 +284,17 @@ fn run_counted<I: Read, S: Read, P: Write, D: Write, W: Watcher>(
     alloc: Global,
     runnable: Runnable<'_>,
     date: &[u8],
-    input: &mut Counted<I>,
-    secondary: &mut Counted<S>,
-    print: &mut Counted<P>,
-    disk: &mut Counted<D>,
+    readers: &mut Readers<I, S>,
+    writers: &mut Writers<P, D>,
     watcher: &mut W,
 ) -> Result<Report, Answer>
-    requires input { faults_of input.old < 2 ^ 64 - 1 }
-    requires secondary { faults_of secondary.old < 2 ^ 64 - 1 }
-    requires print { faults_of print.old < 2 ^ 64 - 1 }
-    requires disk { faults_of disk.old < 2 ^ 64 - 1 }
+    requires { CanCountFaults readers.old writers.old }
 {
     match runnable {
-        Runnable::Object(program) => run_over(
-            alloc, program, date, input, secondary, print, disk, watcher,
-        ),
-        Runnable::Source(source) => run_source_over(
-            alloc,
-            &source.compiled,
-            date,
-            input,
-            secondary,
-            print,
-            disk,
-            watcher,
-        ),
+        Runnable::Object(program) => run_over(alloc, program, date, readers, writers, watcher),
+        Runnable::Source(source) => {
+            run_source_over(alloc, &source.compiled, date, readers, writers, watcher)
+        }
     }
 }
 
@@ -332,25 +317,14 @@ pub(crate) fn run_devices<
         print,
         disk,
     } = devices;
-    let mut input = Counted::new(input);
-    let mut secondary = Counted::new(secondary);
-    let mut print = Counted::new(print);
-    let mut disk = Counted::new(disk);
-    let ran = run_counted(
-        alloc,
-        runnable,
-        date,
-        &mut input,
-        &mut secondary,
-        &mut print,
-        &mut disk,
-        watcher,
-    );
+    let mut readers = Readers::new(input, secondary);
+    let mut writers = Writers::new(print, disk);
+    let ran = run_counted(alloc, runnable, date, &mut readers, &mut writers, watcher);
     let reasons = Reasons {
-        input: input.into_device().fault(),
-        secondary: secondary.into_device().fault(),
-        print: print.into_device().fault(),
-        disk: disk.into_device().fault(),
+        input: readers.primary.into_device().fault(),
+        secondary: readers.secondary.into_device().fault(),
+        print: writers.printer.into_device().fault(),
+        disk: writers.disk.into_device().fault(),
     };
     match ran {
         Ok(report) => Ok(report),

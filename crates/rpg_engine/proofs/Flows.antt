@@ -8,14 +8,14 @@ use Rattle.rpg_program.specs.Put.{Bytes, disk_bytes}
 use Rattle.rpg_machine.specs.Config.{Output}
 use Rattle.rpg_machine.specs.Running.{no_bytes}
 use Rattle.rpg_paper.specs.Paper.{last_position, paper}
-use Rattle.rpg_engine.specs.Sending.{NoneFails, SendsFront, Writers, none_sent}
+use Rattle.rpg_engine.specs.Sending.{NoneFails, SendsFront, Written, none_sent}
 use Rattle.rpg_engine.proofs.Bytes.{put_by}
 use Rattle.rpg_engine.proofs.Sent.{IsSent, goes_out, none_gone_yet, put_more}
 use Rattle.rpg_engine.proofs.Streams.{Streams, output_is, put_on, stream_begins, stream_goes_on, stream_sends}
 use Rattle.rpg_engine.proofs.Taking.{Source, TakesNext}
 
 -- the writers have had a first part of all that was put out since they stood so, and the rest waits; none has failed
-pub record Flows (first : AtWork) (given others : Option (List ℕ)) (job : AtWork) (a b : Source) (cycles most : ℕ) (start now : Writers) : Type 0 where
+pub record Flows (first : AtWork) (given others : Option (List ℕ)) (job : AtWork) (a b : Source) (cycles most : ℕ) (start now : Written) : Type 0 where
   pub streams : Streams first given others job a b cycles most
   pub printed : IsSent start.print now.print job.output.print now.sent.print (paper streams.out.lines)
   pub stored : IsSent start.disk now.disk job.output.disk now.sent.disk (disk_bytes streams.out.records)
@@ -24,7 +24,7 @@ pub record Flows (first : AtWork) (given others : Option (List ℕ)) (job : AtWo
 pub flow_begins : (first : AtWork) (a b : Source) (print disk : Option (List ℕ)) (n m : ℕ)
     → first.left ≡ left_by first.program [] → first.inputs ≡ unread → first.last ≡ None → first.output ≡ no_bytes
     → a.input.buffered ≡ [] → a.input.ended ≡ false → a.count ≡ 0 → b.input.buffered ≡ [] → b.input.ended ≡ false → b.count ≡ 0
-    → (let w : Writers = record { print = print; disk = disk; print_faults = n; disk_faults = m; sent = none_sent } in Flows first a.input.remaining b.input.remaining first a b 0 0 w w)
+    → (let w : Written = record { print = print; disk = disk; print_faults = n; disk_faults = m; sent = none_sent } in Flows first a.input.remaining b.input.remaining first a b 0 0 w w)
 flow_begins first a b print disk n m left fresh last empty front unended count front_too unended_too count_too =
     let begins = stream_begins first a b left fresh last front unended count front_too unended_too count_too in
     record {
@@ -34,9 +34,9 @@ flow_begins first a b print disk n m left fresh last empty front unended count f
       none_fails = (refl, refl);
     }
 
-module _ (first job : AtWork) (given others : Option (List ℕ)) (a b : Source) (cycles most : ℕ) (start now : Writers) (f : Flows first given others job a b cycles most start now) where
+module _ (first job : AtWork) (given others : Option (List ℕ)) (a b : Source) (cycles most : ℕ) (start now : Written) (f : Flows first given others job a b cycles most start now) where
   -- some of what waited went out
-  pub flow_sends : (mid : AtWork) (later : Writers) → SendsFront job mid now later → Flows first given others mid a b cycles most start later
+  pub flow_sends : (mid : AtWork) (later : Written) → SendsFront job mid now later → Flows first given others mid a b cycles most start later
   flow_sends mid later sends =
       let same = stream_sends first job mid given others a b cycles most f.streams sends.rest in
       record {

@@ -1,16 +1,20 @@
 -- Each run of an accepted program ends well, and there is one.
-use Rattle.std.proofs.Common.{ℕ, List, ◌++◌, Option}
-use Rattle.std.specs.Prelude.{ℤ}
+use Rattle.std.proofs.Common.{ℕ, List, ◌++◌, Option, Result, Ok, Err}
+use Rattle.std.specs.Prelude.{ℤ, IfErr, IfOk}
 use Rattle.rpg_cycle.specs.Counting.{records_count}
 use Rattle.rpg_cycle.specs.Job.{first_fields}
 use Rattle.rpg_cycle.specs.Runs.{Course, IsRun, Records}
 use Rattle.rpg_cycle_safety.specs.Coming.{HasRun, RunsWell}
 use Rattle.rpg_program.specs.Put.{Bytes}
 use Rattle.rpg_program.specs.Object.{Object}
+use Rattle.rpg_engine.specs.Devices.{NoneFailed, OfRead, OfWriters}
 use Rattle.rpg_engine.specs.Inputs.{OfFronts, OfInputs, records_of}
 use Rattle.rpg_engine.specs.Reporting.{JobEndsWell, Reports, SendsParts}
+use Rattle.rpg_engine.specs.Running.{ReportsRun, RunsOnDay}
 use Rattle.rpg_engine.specs.Streaming.{StopsEarly}
 use Rattle.rpg_engine.specs.declared.fault.RunFault.{RunFault}
+use Rattle.rpg_engine.specs.declared.files.Readers.{Readers}
+use Rattle.rpg_engine.specs.declared.files.Writers.{Writers}
 use Rattle.rpg_engine.specs.declared.report.Report.{Report}
 
 -- what holds of each two inputs that begin so
@@ -52,3 +56,22 @@ module _ (p : Object) (day : ℤ) where
       needs = h.fact.needs;
     };
   }
+
+-- a run of an accepted program ends well, or it stopped early and there is one
+pub runs_on_day : {R S P D : Type 0} (remaining : R → Option (List ℕ)) (others : S → Option (List ℕ)) (contents : P → Option (List ℕ)) (stored : D → Option (List ℕ))
+    (p : Object) (day : ℤ) (old new : Readers R S) (before after : Writers P D) (result : Result Report RunFault)
+    → ((rs : Records) → HasRun p day (first_fields p) rs)
+    → ((rs : Records) (course : Course) (bytes : Bytes) → IsRun p day (first_fields p) rs course bytes → RunsWell p (records_count rs) course)
+    → IfOk result (ReportsRun remaining others contents stored p day old new before after)
+    → IfErr result (λ e. OfRead remaining others old new (OfWriters contents stored before after (StopsEarly p day e (NoneFailed before after))))
+    → RunsOnDay remaining others contents stored p day old new before after result
+runs_on_day remaining others contents stored p day old new before after (Ok report) exists each reports stops = record {
+  headline = report_ends_well p day each _ _ _ _ report _ _ _ _ reports;
+  report = reports;
+  early = tt;
+}
+runs_on_day remaining others contents stored p day old new before after (Err e) exists each reports stops = record {
+  headline = tt;
+  report = tt;
+  early = with_run p day exists _ _ _ _ e _ _ _ _ _ stops;
+}

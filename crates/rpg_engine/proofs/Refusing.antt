@@ -1,5 +1,5 @@
 -- A job that never began.
-use Rattle.std.proofs.Common.{◌≡◌, ℕ, ℤ, false, List, [], Option, None, Some, Result, Ok, Err, IfErr, IfOk, refl, sym, ap, subst, arith, inl}
+use Rattle.std.proofs.Common.{◌≡◌, ℕ, ℤ, false, List, [], Option, None, Some, Result, Ok, Err, IfErr, IfOk, refl, sym, ap, ◌∙◌, subst, arith, inl}
 use Rattle.std.proofs.KnownBytes.{Appends-nil, Consumes-nil}
 use Rattle.rpg_program.specs.Put.{Bytes}
 use Rattle.rpg_program.specs.declared.input.InputFile.{InputFile}
@@ -13,13 +13,16 @@ use Rattle.rpg_cycle.specs.Starting.{date_in}
 use Rattle.rpg_cycle.specs.Job.{AtWork, Starts, first_fields, job_started}
 use Rattle.rpg_verify_rules.specs.Accepted.{IsAccepted}
 use Rattle.rpg_engine.specs.Objects.{HasObjectFault, IsRefused, SpellsProgram}
-use Rattle.rpg_engine.specs.Refusing.{HasDay, IsJobOf, IsToldOf, IsToldOfDate, MayRun, start_fault}
+use Rattle.rpg_engine.specs.Refusing.{HasDay, IsToldOf, IsToldOfDate, MayRun, start_fault}
 use Rattle.rpg_engine.specs.Streaming.{IsRunFault, StopsEarly}
-use Rattle.rpg_engine.specs.Reporting.{HasParts, HasSent, IsPutOutBy, JobEndsWell, MayBePutOut, Reports, SendsParts}
+use Rattle.rpg_engine.specs.Reporting.{HasParts, HasSent, IsPutOutBy, MayBePutOut, Reports}
+use Rattle.rpg_engine.specs.Running.{IsObjectRun, IsProgramRun, RunsOnDay}
 use Rattle.rpg_cycle.specs.declared.ends.StartFault.{StartFault}
 use Rattle.rpg_cycle.specs.declared.ends.StartFault.TheVariants as starting
 use Rattle.rpg_engine.specs.declared.object.ObjectFault.{ObjectFault}
 use Rattle.rpg_engine.specs.declared.object.ObjectFault.TheVariants as objects
+use Rattle.rpg_engine.specs.declared.files.Readers.{Readers}
+use Rattle.rpg_engine.specs.declared.files.Writers.{Writers}
 use Rattle.rpg_engine.specs.declared.report.Report.{Report}
 use Rattle.rpg_engine.specs.declared.fault.RunFault.{RunFault}
 use Rattle.rpg_engine.specs.declared.fault.RunFault.TheVariants as faults
@@ -62,6 +65,11 @@ pub not_started : (a b print disk : Option (List ℕ)) (none_failed : Type 0) (f
 not_started a b print disk none_failed starting.BadDate p day =
     at_once a b print disk faults.BadDate none_failed p day (λ file why is. absurd cc) (λ bytes. (none_sent print bytes.print, none_sent disk bytes.disk)) (λ xs ys put. inl (0, put)) tt
 not_started a b print disk none_failed starting.NoMemory p day = no_room a b print disk none_failed p day
+
+-- what is reported of one
+pub start_told : (fault : StartFault) (date : List ℕ) → (fault ≡ starting.BadDate → date_in date ≡ None) → IsToldOfDate {X = Report} (Err (start_fault fault)) date
+start_told starting.BadDate date none = none refl
+start_told starting.NoMemory date none = tt
 
 -- ---- a job that began
 
@@ -143,24 +151,16 @@ pub no_day : (object date : List ℕ) (p : Object) → SpellsProgram object p �
 no_day object date p spells accepted none = undated date (date_in date) refl (λ has. none (may_run object date p spells accepted has))
 
 -- what holds for the accepted program holds for any that the bytes spell
-of_program : (object date : List ℕ) (q p : Object) (day : ℤ) (F : Object → ℤ → Type 0) → ((x : ℤ) → date_in date ≡ Some x → F q x) → ((r : Object) → SpellsProgram object r → q ≡ r) → IsJobOf object date p day → F p day
-of_program object date q p day F holds only is = subst (λ (r : Object). F r day) (only p is.spells) (holds day is.dated)
-
-pub reports_of : (object date : List ℕ) (q p : Object) (day : ℤ) (a b c d print print' disk disk' : Option (List ℕ)) (report : Report)
-    → ((x : ℤ) → date_in date ≡ Some x → OfInputs a b c d (Reports q x report print print' disk disk')) → ((r : Object) → SpellsProgram object r → q ≡ r) → IsJobOf object date p day
-    → OfInputs a b c d (Reports p day report print print' disk disk')
-reports_of object date q p day a b c d print print' disk disk' report holds only is = of_program object date q p day (λ r x. OfInputs a b c d (Reports r x report print print' disk disk')) holds only is
-
-pub headline_of : (object date : List ℕ) (q p : Object) (day : ℤ) (a b c d : Option (List ℕ)) (report : Report)
-    → ((x : ℤ) → date_in date ≡ Some x → OfInputs a b c d (JobEndsWell q x report)) → ((r : Object) → SpellsProgram object r → q ≡ r) → IsJobOf object date p day
-    → OfInputs a b c d (JobEndsWell p day report)
-headline_of object date q p day a b c d report holds only is = of_program object date q p day (λ r x. OfInputs a b c d (JobEndsWell r x report)) holds only is
-
-pub parts_of : (object date : List ℕ) (q p : Object) (day : ℤ) (a b c d print print' disk disk' : Option (List ℕ)) (e : RunFault) (none_failed : Type 0)
-    → ((x : ℤ) → date_in date ≡ Some x → OfFronts a b c d (SendsParts q x e none_failed print print' disk disk')) → ((r : Object) → SpellsProgram object r → q ≡ r) → IsJobOf object date p day
-    → OfFronts a b c d (SendsParts p day e none_failed print print' disk disk')
-parts_of object date q p day a b c d print print' disk disk' e none_failed holds only is =
-    of_program object date q p day (λ r x. OfFronts a b c d (SendsParts r x e none_failed print print' disk disk')) holds only is
+pub object_run : {R S P D : Type 0} (remaining : R → Option (List ℕ)) (others : S → Option (List ℕ)) (contents : P → Option (List ℕ)) (stored : D → Option (List ℕ))
+    (object date : List ℕ) (q : Object) (old new : Readers R S) (before after : Writers P D) (result : Result Report RunFault)
+    → SpellsProgram object q → IsAccepted q → ((r : Object) → SpellsProgram object r → q ≡ r)
+    → IsProgramRun remaining others contents stored q date old new before after result → IsObjectRun remaining others contents stored object date old new before after result
+object_run remaining others contents stored object date q old new before after result spells accepted only ran = record {
+  refused = told_of_program result object date q spells accepted ran.refused;
+  untouched = λ none. ran.untouched (no_day object date q spells accepted none);
+  alone = λ p spelled none. ran.alone (ap (λ (r : Object). r.secondary_length) (only p spelled) ∙ none);
+  run = λ p day job. subst (λ (r : Object). RunsOnDay remaining others contents stored r day old new before after result) (only p job.spells) (ran.run day job.dated);
+}
 
 -- ---- an object whose program is refused
 

@@ -13,18 +13,21 @@ use Rattle.rpg_files.specs.NextLine.{CanFollow}
 use Rattle.rpg_files.specs.Reading.{ReadsNext, input_of, reader_of}
 use Rattle.rpg_files.specs.Records.{max_records, records}
 use Rattle.rpg_files.specs.Sending.{AppendsFirst, AppendsPrefix}
+use Rattle.rpg_files.specs.declared.counting.Counted.{Counted}
 use Rattle.rpg_files.specs.declared.reader.ReadFault.{ReadFault}
 use Rattle.rpg_files.specs.declared.reader.ReadFault.TheVariants as reading
 use Rattle.rpg_files.specs.declared.reader.RecordReader.{RecordReader}
+use Rattle.rpg_engine.specs.Devices.{NamesFault}
 use Rattle.rpg_engine.specs.Faults.{Counts, FaultsAre}
 use Rattle.rpg_engine.specs.Inputs.{HasTooMany, OfInputs}
 use Rattle.rpg_engine.specs.Refusing.{start_fault}
-use Rattle.rpg_engine.specs.Sending.{Sends, SendsUnless, Writers}
+use Rattle.rpg_engine.specs.Sending.{Sends, SendsUnless, Written}
 use Rattle.rpg_engine.specs.Streaming.{FaultsOfWriters, GoesOutUnless, HasAnswered, MayFail, SendsSome, StopsBy, TakesNone}
 use Rattle.rpg_engine.specs.declared.fault.CycleFault.{CycleFault}
 use Rattle.rpg_engine.specs.declared.fault.CycleFault.TheVariants as stops
 use Rattle.rpg_engine.specs.declared.fault.RunFault.{RunFault}
 use Rattle.rpg_engine.specs.declared.fault.RunFault.TheVariants as faults
+use Rattle.rpg_engine.specs.declared.files.Writers.{Writers}
 use Rattle.rpg_engine.specs.declared.sending.Sent.{Sent}
 use Rattle.rpg_engine.proofs.Stopping.{Moves, moved_by, unread_by}
 use Rattle.rpg_engine.proofs.Streams.{Stands, more_read, was_read}
@@ -61,7 +64,7 @@ module _ (printed stored : ℕ) (print print' disk disk' : Option (List ℕ)) (l
   some_rise (faults.Disk sent) some rose = inr (inr rose)
 
 -- bytes were sent, or a writer failed over them
-module _ (old new : Writers) (lines records_put : List ℕ) where
+module _ (old new : Written) (lines records_put : List ℕ) where
   pub unless_failed : {X : Type 0} (r : Result X RunFault) (sent : Sent) → Sends r old new lines records_put → SendsUnless old (record new { sent = sent }) lines records_put
   unless_failed (Ok x) sent all = record {
     out = (all_prefix old.print new.print lines all.printed, all_prefix old.disk new.disk records_put all.stored, λ none. (all.printed, all.stored));
@@ -165,3 +168,13 @@ module _ {R S : Type 0} (remaining : R → Option (List ℕ)) (beside : S → Op
 pub start_faults : (fault : StartFault) (given left others rest : Option (List ℕ)) (c : Counts) (X : Type 0) → FaultsAre {X = X} (Err (start_fault fault)) given left others rest c c
 start_faults starting.BadDate given left others rest c X = refl
 start_faults starting.NoMemory given left others rest c X = inl refl
+
+-- the same readers, whatever they are called
+pub same_fault : {R S P D X : Type 0} (remaining : R → Option (List ℕ)) (others : S → Option (List ℕ)) (a a' c c' : Counted R) (b b' d d' : Counted S) (before after : Writers P D) (result : Result X RunFault)
+    → a ≡ a' → b ≡ b' → c ≡ c' → d ≡ d' → NamesFault remaining others (record { primary = a; secondary = b }) (record { primary = c; secondary = d }) before after result
+    → NamesFault remaining others (record { primary = a'; secondary = b' }) (record { primary = c'; secondary = d' }) before after result
+same_fault {R} {S} remaining others a a' c c' b b' d d' before after result e f g h holds =
+    subst (λ (x : Counted R). NamesFault remaining others (record { primary = x; secondary = b' }) (record { primary = c'; secondary = d' }) before after result) e
+    (subst (λ (y : Counted S). NamesFault remaining others (record { primary = a; secondary = y }) (record { primary = c'; secondary = d' }) before after result) f
+    (subst (λ (x : Counted R). NamesFault remaining others (record { primary = a; secondary = b }) (record { primary = x; secondary = d' }) before after result) g
+    (subst (λ (y : Counted S). NamesFault remaining others (record { primary = a; secondary = b }) (record { primary = c; secondary = y }) before after result) h holds)))

@@ -2,11 +2,12 @@
 use Rattle.std.specs.Prelude.{◌≡◌, ℕ, ◌+◌, ◌⊎◌, List, Option, Result, Err}
 use Rattle.rpg_program.specs.declared.input.InputFile.TheVariants.{Primary, Secondary}
 use Rattle.rpg_files.specs.Counting.{faults_of}
-use Rattle.rpg_files.specs.declared.counting.Counted.{Counted}
 use Rattle.rpg_files.specs.declared.reader.ReadFault.TheVariants as reading
 use Rattle.rpg_engine.specs.Inputs.{HasTooMany, OfInputs}
 use Rattle.rpg_engine.specs.declared.fault.RunFault.{RunFault}
 use Rattle.rpg_engine.specs.declared.fault.RunFault.TheVariants as faults
+use Rattle.rpg_engine.specs.declared.files.Readers.{Readers}
+use Rattle.rpg_engine.specs.declared.files.Writers.{Writers}
 
 -- how many calls of each reader and of each writer have failed
 pub record Counts : Type 0 where
@@ -16,8 +17,13 @@ pub record Counts : Type 0 where
   pub disk : ℕ
 
 -- how often each device has failed
-abbrev pub device_counts : {R S P D : Type 0} → (input : Counted R) (secondary : Counted S) (print : Counted P) (disk : Counted D) → Counts
-device_counts input secondary print disk = record { primary = faults_of input; secondary = faults_of secondary; print = faults_of print; disk = faults_of disk }
+abbrev pub device_counts : {R S P D : Type 0} → Readers R S → Writers P D → Counts
+device_counts readers writers = record {
+  primary = faults_of readers.primary;
+  secondary = faults_of readers.secondary;
+  print = faults_of writers.printer;
+  disk = faults_of writers.disk;
+}
 
 -- A device's fault is reported exactly if its count rose by one, and too many records of a file only if its bytes have them. Where memory
 -- ran out, a writer may have failed over what was still sent, which isn't reported. No other count rises.

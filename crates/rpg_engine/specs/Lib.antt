@@ -6,6 +6,7 @@ pub mod Inputs
 pub mod Objects
 pub mod Refusing
 pub mod Reporting
+pub mod Running
 pub mod Sending
 pub mod Streaming
 pub use Rattle.rpg_cycle.specs.Starting

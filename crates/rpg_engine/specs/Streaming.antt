@@ -17,12 +17,16 @@ use Rattle.rpg_files.specs.declared.reader.ReadFault.{ReadFault}
 use Rattle.rpg_files.specs.declared.reader.RecordReader.{RecordReader}
 use Rattle.rpg_program.specs.Object.{Object}
 use Rattle.rpg_verify.specs.Bound.{bound}
+use Rattle.rpg_engine.specs.Devices.{Lent, NoneFailed, OfRead, OfWriters, readers_of}
 use Rattle.rpg_engine.specs.Inputs.{Front, OfEach}
 use Rattle.rpg_engine.specs.Reporting.{NeedsRecord, StopsOver}
+use Rattle.rpg_engine.specs.Running.{ReportsRun}
 use Rattle.rpg_engine.specs.declared.fault.CycleFault.{CycleFault}
 use Rattle.rpg_engine.specs.declared.fault.CycleFault.TheVariants as stops
 use Rattle.rpg_engine.specs.declared.fault.RunFault.{RunFault}
 use Rattle.rpg_engine.specs.declared.fault.RunFault.TheVariants as faults
+use Rattle.rpg_engine.specs.declared.files.Writers.{Writers}
+use Rattle.rpg_engine.specs.declared.report.Report.{Report}
 
 -- ---- one cycle
 
@@ -149,3 +153,17 @@ FaultsOfWriters (faults.Print sent) print print' disk disk' = (print' ≡ print 
 FaultsOfWriters (faults.Disk sent) print print' disk disk' = (print' ≡ print) × (disk' ≡ disk + 1)
 FaultsOfWriters (faults.NoMemory cycles) print print' disk disk' = MayFail print print' disk disk'
 FaultsOfWriters e print print' disk disk' = (print' ≡ print) × (disk' ≡ disk)
+
+-- ---- the run of a job that hadn't begun, over readers of records
+
+module _ {R S P D : Type 0} (remaining : R → Option (List ℕ)) (others : S → Option (List ℕ)) (contents : P → Option (List ℕ)) (stored : D → Option (List ℕ)) where
+  -- The report and all output are those of the run of a job that hadn't begun.
+  abbrev pub ReportsFrom : AtWork → Lent (RecordReader R) → Lent (RecordReader S) → Lent (Writers P D) → Report → Type 0
+  ReportsFrom job primary secondary writers report = (day : ℤ) → job ≡ job_started job.program day (first_fields job.program)
+      → ReportsRun remaining others contents stored job.program day (readers_of primary.entry.now secondary.entry.now) (readers_of primary.exit.now secondary.exit.now) writers.entry.now writers.exit.now report
+
+  -- The run of a job that hadn't begun stopped early.
+  abbrev pub StopsFrom : AtWork → Lent (RecordReader R) → Lent (RecordReader S) → Lent (Writers P D) → RunFault → Type 0
+  StopsFrom job primary secondary writers e = (day : ℤ) → job ≡ job_started job.program day (first_fields job.program)
+      → OfRead remaining others (readers_of primary.entry.now secondary.entry.now) (readers_of primary.exit.now secondary.exit.now)
+      (OfWriters contents stored writers.entry.now writers.exit.now (StopsEarly job.program day e (NoneFailed writers.entry.now writers.exit.now)))

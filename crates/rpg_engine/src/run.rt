@@ -1,20 +1,20 @@
 //! A whole run, a cycle at a time.
 
 ghost use Rattle.std.specs.Prelude.{◌≡◌, IfErr, IfOk};
-ghost use Rattle.rpg_files.specs.Reading.{reader_of};
 ghost use Rattle.rpg_verify.specs.Bound as words;
-ghost use Rattle.rpg_engine.specs.Devices.{AreLentOn, CanCountFaults, ReportsFrom, StopsFrom, TellsWhoseFaultOf};
-ghost use Rattle.rpg_engine.specs.Streaming.{IsUnbegun, IsRunFault};
+ghost use Rattle.rpg_engine.specs.Devices.{AreLentOn, CanCountFaults, TellsWhoseFaultOf, readers_of};
+ghost use Rattle.rpg_engine.specs.Streaming.{IsUnbegun, IsRunFault, ReportsFrom, StopsFrom};
 
 use crate::cycle::next_cycle;
 use crate::fault::RunFault;
+use crate::files::Writers;
 use crate::report::Report;
 use crate::sending::{
     Sent, enough_for, fault_behind, send_before_reading, send_where_enough, waiting_in,
 };
 use crate::watching::Watcher;
 use rpg_cycle::Job;
-use rpg_files::{Counted, RecordReader};
+use rpg_files::RecordReader;
 use rpg_store::Store;
 use std::io::{Read, Write};
 
@@ -24,20 +24,19 @@ pub(crate) fn run<S: Store + Drop, R1: Read, R2: Read, W1: Write, W2: Write, W: 
     job: &mut Job<'_, S>,
     primary: &mut RecordReader<'_, R1>,
     secondary: &mut RecordReader<'_, R2>,
-    print: &mut Counted<W1>,
-    disk: &mut Counted<W2>,
+    writers: &mut Writers<W1, W2>,
     bound: u64,
     watcher: &mut W,
 ) -> Result<Report, RunFault>
-    requires devices { CanCountFaults (reader_of primary.old) (reader_of secondary.old) print.old disk.old }
+    requires devices { CanCountFaults (readers_of primary.old secondary.old) writers.old }
     requires begins { IsUnbegun job.old primary.old secondary.old }
     requires bound { bound ≡ words.bound job.old.program }
     ensures same { AreLentOn primary secondary }
     ensures alone { job.old.program.secondary_length ≡ 0 → secondary.new ≡ secondary.old }
-    ensures report { IfOk result (ReportsFrom R1.remaining R2.remaining W1.contents W2.contents job.old primary secondary print disk) }
-    ensures early { IfErr result (StopsFrom R1.remaining R2.remaining W1.contents W2.contents job.old primary secondary print disk) }
+    ensures report { IfOk result (ReportsFrom R1.remaining R2.remaining W1.contents W2.contents job.old primary secondary writers) }
+    ensures early { IfErr result (StopsFrom R1.remaining R2.remaining W1.contents W2.contents job.old primary secondary writers) }
     ensures only { IfErr result IsRunFault }
-    ensures faults { TellsWhoseFaultOf R1.remaining R2.remaining primary secondary print disk result }
+    ensures faults { TellsWhoseFaultOf R1.remaining R2.remaining primary secondary writers result }
 {
     let enough = enough_for(watcher);
     watcher.begin(job);
@@ -46,17 +45,17 @@ pub(crate) fn run<S: Store + Drop, R1: Read, R2: Read, W1: Write, W2: Write, W: 
     let mut sent = Sent { print: 0, disk: 0 };
     'cycles: loop {
         let need = job.needs();
-        send_before_reading(job, need, primary, secondary, print, disk, &mut sent)?;
+        send_before_reading(job, need, primary, secondary, writers, &mut sent)?;
         let waiting = waiting_in(job.output());
         let ended = match next_cycle(job, need, primary, secondary) {
             Ok(ended) => ended,
             Err(fault) => {
-                return Err(fault_behind(fault, cycles, print, disk, job.output(), waiting, sent));
+                return Err(fault_behind(fault, cycles, writers, job.output(), waiting, sent));
             }
         };
         cycles += 1;
         most = most.max(job.steps());
-        send_where_enough(job, ended, enough, watcher, print, disk, &mut sent)?;
+        send_where_enough(job, ended, enough, watcher, writers, &mut sent)?;
         if let Some(ending) = ended {
             return Ok(Report {
                 ending,

@@ -6,9 +6,10 @@ ghost use Rattle.rpg_engine.specs.Sending.{CanSend, SendsTo, SendsUnlessTo, Send
 ghost use Rattle.rpg_engine.specs.Streaming.{IsSureWhereAsked};
 
 use crate::fault::{CycleFault, RunFault};
+use crate::files::Writers;
 use crate::watching::Watcher;
 use rpg_cycle::{Job, JobEnd, Need, Output};
-use rpg_files::{Counted, RecordReader, send};
+use rpg_files::{RecordReader, send};
 use rpg_store::Store;
 use std::io::{Read, Write};
 
@@ -49,21 +50,20 @@ pub(crate) fn waiting_in(output: &Output) -> Waiting
 
 /// Sends bytes to the printer, and then bytes to the disk file.
 fn send_both<W1: Write, W2: Write>(
-    print: &mut Counted<W1>,
-    disk: &mut Counted<W2>,
+    writers: &mut Writers<W1, W2>,
     lines: &[u8],
     records: &[u8],
     sent: &mut Sent,
 ) -> Result<(), RunFault>
-    requires ready { CanSend print.old disk.old sent.old }
-    ensures { SendsTo W1.contents W2.contents result print disk sent lines.now records.now }
+    requires ready { CanSend writers.old sent.old }
+    ensures { SendsTo W1.contents W2.contents result writers sent lines.now records.now }
 {
-    if let Err(fault) = send(print, lines) {
+    if let Err(fault) = send(&mut writers.printer, lines) {
         let sent = sent.print + fault.sent as u128;
         return Err(RunFault::Print { sent });
     }
     sent.print += lines.len() as u128;
-    if let Err(fault) = send(disk, records) {
+    if let Err(fault) = send(&mut writers.disk, records) {
         let sent = sent.disk + fault.sent as u128;
         return Err(RunFault::Disk { sent });
     }
@@ -75,16 +75,15 @@ fn send_both<W1: Write, W2: Write>(
 #[inline(never)]
 fn send_waiting<S: Store + Drop, W1: Write, W2: Write>(
     job: &mut Job<'_, S>,
-    print: &mut Counted<W1>,
-    disk: &mut Counted<W2>,
+    writers: &mut Writers<W1, W2>,
     sent: &mut Sent,
 ) -> Result<(), RunFault>
-    requires ready { CanSend print.old disk.old sent.old }
-    ensures sends { SendsWaitingTo W1.contents W2.contents result job.old job.new print disk sent }
+    requires ready { CanSend writers.old sent.old }
+    ensures sends { SendsWaitingTo W1.contents W2.contents result job.old job.new writers sent }
     ensures all { OnOk result (job.new.output ≡ no_bytes) }
 {
     let output = job.output();
-    send_both(print, disk, &output.print, &output.disk, sent)?;
+    send_both(writers, &output.print, &output.disk, sent)?;
     job.clear_output();
     Ok(())
 }
@@ -105,18 +104,17 @@ pub(crate) fn send_before_reading<S: Store + Drop, R1: Read, R2: Read, W1: Write
     need: Need,
     primary: &RecordReader<'_, R1>,
     secondary: &RecordReader<'_, R2>,
-    print: &mut Counted<W1>,
-    disk: &mut Counted<W2>,
+    writers: &mut Writers<W1, W2>,
     sent: &mut Sent,
 ) -> Result<(), RunFault>
-    requires ready { CanSend print.old disk.old sent.old }
-    ensures sends { SendsWaitingTo W1.contents W2.contents result job.old job.new print disk sent }
+    requires ready { CanSend writers.old sent.old }
+    ensures sends { SendsWaitingTo W1.contents W2.contents result job.old job.new writers sent }
     ensures ready { OnOk result ((job.new.output ≡ no_bytes) ⊎ (IsSureWhereAsked need.primary primary.now × IsSureWhereAsked need.secondary secondary.now)) }
 {
     if is_sure(primary, need.primary) && is_sure(secondary, need.secondary) {
         return Ok(());
     }
-    send_waiting(job, print, disk, sent)
+    send_waiting(job, writers, sent)
 }
 
 /// Has the watcher look at a job after a cycle, and sends all that waits there.
@@ -125,16 +123,15 @@ fn look_and_send<S: Store + Drop, W1: Write, W2: Write, W: Watcher>(
     job: &mut Job<'_, S>,
     ended: Option<JobEnd>,
     watcher: &mut W,
-    print: &mut Counted<W1>,
-    disk: &mut Counted<W2>,
+    writers: &mut Writers<W1, W2>,
     sent: &mut Sent,
 ) -> Result<(), RunFault>
-    requires ready { CanSend print.old disk.old sent.old }
-    ensures sends { SendsWaitingTo W1.contents W2.contents result job.old job.new print disk sent }
+    requires ready { CanSend writers.old sent.old }
+    ensures sends { SendsWaitingTo W1.contents W2.contents result job.old job.new writers sent }
     ensures all { OnOk result (job.new.output ≡ no_bytes) }
 {
     watcher.look(job, ended);
-    send_waiting(job, print, disk, sent)
+    send_waiting(job, writers, sent)
 }
 
 /// Has the watcher look at a job after a cycle and sends what waits there, once there is enough of it, or after the last cycle.
@@ -144,33 +141,31 @@ pub(crate) fn send_where_enough<S: Store + Drop, W1: Write, W2: Write, W: Watche
     ended: Option<JobEnd>,
     enough: usize,
     watcher: &mut W,
-    print: &mut Counted<W1>,
-    disk: &mut Counted<W2>,
+    writers: &mut Writers<W1, W2>,
     sent: &mut Sent,
 ) -> Result<(), RunFault>
-    requires ready { CanSend print.old disk.old sent.old }
-    ensures sends { SendsWaitingTo W1.contents W2.contents result job.old job.new print disk sent }
+    requires ready { CanSend writers.old sent.old }
+    ensures sends { SendsWaitingTo W1.contents W2.contents result job.old job.new writers sent }
     ensures all { is_some ended ≡ true → OnOk result (job.new.output ≡ no_bytes) }
 {
     let waiting = waiting_in(job.output());
     if ended.is_none() && waiting.print < enough && waiting.disk < enough {
         return Ok(());
     }
-    look_and_send(job, ended, watcher, print, disk, sent)
+    look_and_send(job, ended, watcher, writers, sent)
 }
 
 /// Sends bytes to the printer, and then bytes to the disk file, unless the printer fails. Failures are ignored.
 fn send_or_leave<W1: Write, W2: Write>(
-    print: &mut Counted<W1>,
-    disk: &mut Counted<W2>,
+    writers: &mut Writers<W1, W2>,
     lines: &[u8],
     records: &[u8],
     mut sent: Sent,
 )
-    requires ready { CanSend print.old disk.old sent }
-    ensures { SendsUnlessTo W1.contents W2.contents print disk sent lines.now records.now }
+    requires ready { CanSend writers.old sent }
+    ensures { SendsUnlessTo W1.contents W2.contents writers sent lines.now records.now }
 {
-    let _told = send_both(print, disk, lines, records, &mut sent);
+    let _told = send_both(writers, lines, records, &mut sent);
 }
 
 /// The fault to report where a cycle wasn't done after so many that were. Where memory ran out, what waited before that cycle is still
@@ -179,23 +174,22 @@ fn send_or_leave<W1: Write, W2: Write>(
 pub(crate) fn fault_behind<W1: Write, W2: Write>(
     fault: CycleFault,
     cycles: u64,
-    print: &mut Counted<W1>,
-    disk: &mut Counted<W2>,
+    writers: &mut Writers<W1, W2>,
     output: &Output,
     waiting: Waiting,
     sent: Sent,
 ) -> RunFault
-    requires ready { CanSend print.old disk.old sent }
+    requires ready { CanSend writers.old sent }
     requires lines { waiting.print ≤ length output.now.print.items }
     requires records { waiting.disk ≤ length output.now.disk.items }
-    ensures { StopsWithTo W1.contents W2.contents fault cycles print disk sent
+    ensures { StopsWithTo W1.contents W2.contents fault cycles writers sent
         (take waiting.print output.now.print.items) (take waiting.disk output.now.disk.items) result }
 {
     match fault {
         CycleFault::Read { file, fault } => RunFault::Read { file, fault },
         CycleFault::NoMemory => {
             let (lines, records) = (&output.print[..waiting.print], &output.disk[..waiting.disk]);
-            send_or_leave(print, disk, lines, records, sent);
+            send_or_leave(writers, lines, records, sent);
             RunFault::NoMemory { cycles }
         }
     }

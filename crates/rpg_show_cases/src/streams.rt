@@ -4,8 +4,7 @@ use crate::answers::{write_answer, write_outputs};
 use crate::devices::{CaseWriter, Devices, devices_of, reader, writer};
 use crate::row::{Row, bytes_of};
 use rpg_cli_text::TextWriter;
-use rpg_engine::{Report, RunFault, execute};
-use rpg_files::Counted;
+use rpg_engine::{Readers, Report, RunFault, Writers, execute};
 use std::alloc::{AllocError, Global};
 
 /// What an object program runs on: the date, and the bytes of its inputs.
@@ -47,23 +46,17 @@ impl Streamed {
 /// Runs an object over devices.
 pub fn run_over(alloc: Global, object: &[u8], given: &Given<'_>, devices: &Devices) -> Streamed {
     let [input, secondary, print, disk] = *devices;
-    let mut input = Counted::new(reader(input, &given.input));
-    let mut secondary = Counted::new(reader(secondary, &given.secondary));
-    let mut print = Counted::new(writer(alloc, print));
-    let mut disk = Counted::new(writer(alloc, disk));
-    let told = execute(
-        alloc,
-        object,
-        given.date,
-        &mut input,
-        &mut secondary,
-        &mut print,
-        &mut disk,
+    let (input, secondary) = (
+        reader(input, &given.input),
+        reader(secondary, &given.secondary),
     );
+    let mut readers = Readers::new(input, secondary);
+    let mut writers = Writers::new(writer(alloc, print), writer(alloc, disk));
+    let told = execute(alloc, object, given.date, &mut readers, &mut writers);
     Streamed {
         told,
-        print: print.into_device(),
-        disk: disk.into_device(),
+        print: writers.printer.into_device(),
+        disk: writers.disk.into_device(),
     }
 }
 

@@ -1,10 +1,9 @@
 -- Runs of a compiled source: what is read of its cards, and runs that stop early.
-use Rattle.std.proofs.Common.{◌≡◌, ◌++◌, ℕ, ℤ, List, Option, Some, Result, Ok, Err, ap, ◌∙◌}
+use Rattle.std.proofs.Common.{◌≡◌, ◌++◌, ℕ, ℤ, List, Option, Result, Ok, Err, ap, ◌∙◌}
 use Rattle.std.specs.Prelude.{IfErr, IfOk}
 use Rattle.rpg_cards.specs.declared.spec_card.SpecCard.{SpecCard}
 use Rattle.rpg_compile.specs.Compile.{Compiles}
 use Rattle.rpg_compile_program.specs.Program.{program_of}
-use Rattle.rpg_cycle.specs.Starting.{date_in}
 use Rattle.rpg_engine.proofs.Headline.{of_each}
 use Rattle.rpg_engine.specs.Inputs.{OfFronts, OfInputs}
 use Rattle.rpg_engine.specs.Reporting.{Reports, SendsFirstParts, SendsParts}
@@ -30,23 +29,21 @@ reads_none text allowance p compiled none = ap (λ (q : Object). q.secondary_len
 
 -- ---- what each two inputs that begin with what was read have
 
-module _ (p : Object) (cards : List SpecCard) (allowance : ℕ) (date : List ℕ) (given left others rest print print' disk disk' : Option (List ℕ)) where
+module _ (p : Object) (cards : List SpecCard) (allowance : ℕ) (day : ℤ) (given left others rest print print' disk disk' : Option (List ℕ)) where
   -- by a run that gave a report
-  pub prints_of : ((day : ℤ) → date_in date ≡ Some day → (report : Report) (primary secondary : List ℕ) → Reports p day report print print' disk disk' primary secondary → PrintsAsMeant cards allowance day report print print' disk disk' primary secondary)
-      → (r : Result Report RunFault) → IfOk r (λ report. (day : ℤ) → date_in date ≡ Some day → OfInputs given left others rest (Reports p day report print print' disk disk'))
-      → IfOk r (λ report. (day : ℤ) → date_in date ≡ Some day → OfInputs given left others rest (PrintsAsMeant cards allowance day report print print' disk disk'))
-  prints_of each (Ok report) h = λ day dated. of_each given left others rest _ _ (each day dated report) (h day dated)
+  pub prints_of : ((report : Report) (primary secondary : List ℕ) → Reports p day report print print' disk disk' primary secondary → PrintsAsMeant cards allowance day report print print' disk disk' primary secondary)
+      → (r : Result Report RunFault) → IfOk r (λ report. OfInputs given left others rest (Reports p day report print print' disk disk'))
+      → IfOk r (λ report. OfInputs given left others rest (PrintsAsMeant cards allowance day report print print' disk disk'))
+  prints_of each (Ok report) h = of_each given left others rest _ _ (each report) h
   prints_of each (Err e) h = tt
 
   -- by one that stopped early
-  pub stops_of : (none_failed : Type 0) → ((day : ℤ) → date_in date ≡ Some day → (e : RunFault) (primary secondary : List ℕ) → SendsFirstParts p day e print print' disk disk' primary secondary → SendsPartsAsMeant cards allowance day e print print' disk disk' primary secondary)
-      → (r : Result Report RunFault) → IfErr r (λ e. (day : ℤ) → date_in date ≡ Some day → OfFronts given left others rest (SendsParts p day e none_failed print print' disk disk'))
-      → IfErr r (λ e. (day : ℤ) → date_in date ≡ Some day → OfInputs given left others rest (SendsPartsAsMeant cards allowance day e print print' disk disk'))
+  pub stops_of : (none_failed : Type 0) → ((e : RunFault) (primary secondary : List ℕ) → SendsFirstParts p day e print print' disk disk' primary secondary → SendsPartsAsMeant cards allowance day e print print' disk disk' primary secondary)
+      → (r : Result Report RunFault) → IfErr r (λ e. OfFronts given left others rest (SendsParts p day e none_failed print print' disk disk'))
+      → IfErr r (λ e. OfInputs given left others rest (SendsPartsAsMeant cards allowance day e print print' disk disk'))
   stops_of none_failed each (Ok report) h = tt
-  stops_of none_failed each (Err e) h = λ day dated.
-      let o = h day dated in
-      record {
-        primary = o.primary;
-        secondary = o.secondary;
-        fact = λ more behind can can_too. each day dated e (o.primary.read ++ more) (o.secondary.read ++ behind) (let stops = o.fact.stops more behind can can_too in stops.parts);
-      }
+  stops_of none_failed each (Err e) o = record {
+    primary = o.primary;
+    secondary = o.secondary;
+    fact = λ more behind can can_too. each e (o.primary.read ++ more) (o.secondary.read ++ behind) (let stops = o.fact.stops more behind can can_too in stops.parts);
+  }

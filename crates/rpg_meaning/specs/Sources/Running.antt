@@ -1,13 +1,15 @@
--- What a call says of a source, of the readers and of the writers that are lent to it.
-use Rattle.std.specs.Prelude.{◌≡◌, ℕ, ℤ, List, Option, None, Some}
+-- What a call promises that runs a compiled source over its readers and its writers.
+use Rattle.std.specs.Prelude.{◌≡◌, ℕ, ℤ, List, Option, None, Some, Result, IfErr, IfOk}
 use Rattle.rpg_cards.specs.declared.spec_card.SpecCard.{SpecCard}
 use Rattle.rpg_cycle.specs.Starting.{date_in}
-use Rattle.rpg_engine.specs.Devices.{Lent, OfReaders}
+use Rattle.rpg_engine.specs.Devices.{Lent, OfReaders, OfWriters}
+use Rattle.rpg_engine.specs.Refusing.{IsToldOfDate}
 use Rattle.rpg_engine.specs.declared.fault.RunFault.{RunFault}
+use Rattle.rpg_engine.specs.declared.files.Readers.{Readers}
+use Rattle.rpg_engine.specs.declared.files.Writers.{Writers}
 use Rattle.rpg_engine.specs.declared.report.Report.{Report}
 use Rattle.rpg_faults.specs.Faults.{Faultless}
 use Rattle.rpg_faults.specs.Source.{cards_in}
-use Rattle.rpg_files.specs.Counting.{device_of}
 use Rattle.rpg_job.specs.Files.{is_secondary, file_record_length, the_file}
 use Rattle.rpg_sheet.specs.Sheet.{first_sheet_fault, source}
 use Rattle.rpg_meaning.specs.Sources.Printing.{PrintsAsMeant, SendsPartsAsMeant}
@@ -23,24 +25,29 @@ abbrev pub HasNoSecondary : List SpecCard → Type 0
 HasNoSecondary cards = file_record_length (the_file is_secondary cards) ≡ 0
 
 module _ {R S P D : Type 0} (remaining : R → Option (List ℕ)) (others : S → Option (List ℕ)) (contents : P → Option (List ℕ)) (stored : D → Option (List ℕ)) where
-  -- on the day that the date spells, the report and all output are those of the cards' run over the inputs' records
-  abbrev pub PrintsOn : (text : List ℕ) → ℕ → (date : List ℕ) → Lent R → Lent S → Lent P → Lent D → Report → Type 0
-  PrintsOn text allowance date input secondary print disk report = (day : ℤ) → date_in date ≡ Some day → OfReaders remaining others input secondary
-      (PrintsAsMeant (cards_in text) allowance day report (contents (device_of print.entry.now)) (contents (device_of print.exit.now)) (stored (device_of disk.entry.now)) (stored (device_of disk.exit.now)))
+  -- the report and all output are those of the cards' run on a day over the inputs' records
+  abbrev pub PrintsOnDay : CompiledSource → ℤ → (old new : Readers R S) → (before after : Writers P D) → Report → Type 0
+  PrintsOnDay source day old new before after report = OfReaders remaining others old new
+      (OfWriters contents stored before after (PrintsAsMeant (cards_in source.text.items) source.allowance day report))
 
-  -- on that day each writer has a first part of what the cards' run puts out
-  abbrev pub StopsOn : (text : List ℕ) → ℕ → (date : List ℕ) → Lent R → Lent S → Lent P → Lent D → RunFault → Type 0
-  StopsOn text allowance date input secondary print disk e = (day : ℤ) → date_in date ≡ Some day → OfReaders remaining others input secondary
-      (SendsPartsAsMeant (cards_in text) allowance day e (contents (device_of print.entry.now)) (contents (device_of print.exit.now)) (stored (device_of disk.entry.now)) (stored (device_of disk.exit.now)))
+  -- each writer has a first part of the bytes of that run
+  abbrev pub StopsOnDay : CompiledSource → ℤ → (old new : Readers R S) → (before after : Writers P D) → RunFault → Type 0
+  StopsOnDay source day old new before after e = OfReaders remaining others old new
+      (OfWriters contents stored before after (SendsPartsAsMeant (cards_in source.text.items) source.allowance day e))
 
-  -- the same of a compiled source
-  abbrev pub SourcePrints : CompiledSource → (date : List ℕ) → Lent R → Lent S → Lent P → Lent D → Report → Type 0
-  SourcePrints source date input secondary print disk = PrintsOn source.text.items source.allowance date input secondary print disk
+  -- what holds of the run of a compiled source on the day that a date spells
+  pub record IsSourceRun (source : CompiledSource) (date : List ℕ) (old new : Readers R S) (before after : Writers P D) (result : Result Report RunFault) : Type 0 where
+    -- The source has no fault. A bad date is reported, and then nothing is read or written.
+    pub faultless : IsFaultlessSource source.text.items
+    pub refused : IsToldOfDate result date
+    pub untouched : date_in date ≡ None → (new ≡ old) × (after ≡ before)
+    -- The secondary input is never read if no card names a secondary file.
+    pub alone : HasNoSecondary (cards_in source.text.items) → new.secondary ≡ old.secondary
+    -- The report, with its ending and its halt, and all output are those of the cards' run over the inputs' records, which is the only one.
+    pub prints : (day : ℤ) → date_in date ≡ Some day → IfOk result (PrintsOnDay source day old new before after)
+    -- If there is no report, each writer has a first part of the bytes of that run.
+    pub stops : (day : ℤ) → date_in date ≡ Some day → IfErr result (StopsOnDay source day old new before after)
 
-  -- the run of a source ends with a fault of the run
-  abbrev pub SourceStops : CompiledSource → (date : List ℕ) → Lent R → Lent S → Lent P → Lent D → RunFault → Type 0
-  SourceStops source date input secondary print disk = StopsOn source.text.items source.allowance date input secondary print disk
-
--- a device is lent back as it was
-abbrev pub IsAsBefore : {T : Type 0} → Lent T → Type 0
-IsAsBefore device = device.exit.now ≡ device.entry.now
+  -- the call runs a compiled source
+  abbrev pub RunsSource : CompiledSource → (date : List ℕ) → Lent (Readers R S) → Lent (Writers P D) → Result Report RunFault → Type 0
+  RunsSource source date readers writers result = IsSourceRun source date readers.entry.now readers.exit.now writers.entry.now writers.exit.now result

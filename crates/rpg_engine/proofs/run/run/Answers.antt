@@ -53,7 +53,7 @@ send_before_reading-requires g c =
     let devices = c.requires.devices in
     record {
       ready = record {
-        print_faults = omega (arith, none.0, devices.print_faults);
+        printer_faults = omega (arith, none.0, devices.printer_faults);
         disk_faults = omega (arith, none.1, devices.disk_faults);
         few_printed = omega (arith, i.few_printed, i.few);
         few_stored = omega (arith, i.few_stored, i.few);
@@ -106,7 +106,7 @@ fault_behind-requires-clause-ready g c =
     let none = i.flows.none_fails in
     let devices = c.requires.devices in
     record {
-      print_faults = omega (arith, sends.none_fails.0, none.0, devices.print_faults);
+      printer_faults = omega (arith, sends.none_fails.0, none.0, devices.printer_faults);
       disk_faults = omega (arith, sends.none_fails.1, none.1, devices.disk_faults);
       few_printed = omega (arith, sends.few_printed, i.few_printed, i.few);
       few_stored = omega (arith, sends.few_stored, i.few_stored, i.few);
@@ -128,7 +128,7 @@ returns-in-Err-clause-early g c =
     let records = front_is job.output.disk c.next_cycle.new.job.output.disk grows.more.disk c.waiting_in-waiting.result.disk grows.disk (c.waiting_in-waiting.ensures.disk ∙ ap length c.output.ensures.disk) in
     let stopped = rw (lines, records) at (rw (c.output-in-Err.ensures.print, c.output-in-Err.ensures.disk) at c.fault_behind.ensures.stops) in
     let stop = stop_since _ _ _ _ _ _ _ _ _ _ _ _ f.printed f.stored c.in-Err.fault _ _ _ _
-    (λ (kept : (faults_of c.fault_behind.new.print ≡ faults_of c.args.print.now) × (faults_of c.fault_behind.new.disk ≡ faults_of c.args.disk.now)).
+    (λ (kept : (faults_of c.fault_behind.new.writers.printer ≡ faults_of c.args.writers.now.printer) × (faults_of c.fault_behind.new.writers.disk ≡ faults_of c.args.writers.now.disk)).
     (kept.0 ∙ sym f.none_fails.0, kept.1 ∙ sym f.none_fails.1)) stopped in
     stopped_between c.args.job.now job _ _ a b _ _ c.cycles.cycles c.cycles.most s moved.0 moved.1 _ _ _ _ _ _
     (stop_counts _ _ _ _ _ _ _ _ _ _ _ _ f.printed f.stored c.in-Err.fault _ _ _ stop)
@@ -159,7 +159,7 @@ send_where_enough-requires g c =
     let devices = c.requires.devices in
     record {
       ready = record {
-        print_faults = omega (arith, sends.none_fails.0, none.0, devices.print_faults);
+        printer_faults = omega (arith, sends.none_fails.0, none.0, devices.printer_faults);
         disk_faults = omega (arith, sends.none_fails.1, none.1, devices.disk_faults);
         few_printed = omega (arith, sends.few_printed, i.few_printed, i.few);
         few_stored = omega (arith, sends.few_stored, i.few_stored, i.few);

@@ -3,7 +3,7 @@ use Rattle.rpg_files.specs.Counting.{device_of, faults_of}
 use Rattle.rpg_files.specs.Reading.{reader_of}
 use Rattle.rpg_files.specs.Records.{max_records}
 use Rattle.rpg_verify.specs.Bound.{bound}
-use Rattle.rpg_engine.specs.Sending.{none_sent, writers_of}
+use Rattle.rpg_engine.specs.Sending.{none_sent, written}
 use Rattle.rpg_engine.proofs.Flows.{Flows}
 use Rattle.rpg_engine.proofs.Taking.{AreReady, source_of}
 use Rattle.rpg_engine.proofs.run.run.Given as goal
@@ -12,8 +12,8 @@ abbrev pub invariant-cycles : goal.invariant-cycles
 invariant-cycles g l = record {
   flows : Flows l.initial.job (g.R1.Read.remaining (device_of (reader_of l.initial.primary))) (g.R2.Read.remaining (device_of (reader_of l.initial.secondary)))
       l.job (source_of g.R1.Read.remaining l.primary) (source_of g.R2.Read.remaining l.secondary) l.cycles l.most
-      (writers_of g.W1.Write.contents g.W2.Write.contents l.initial.print l.initial.disk none_sent)
-      (writers_of g.W1.Write.contents g.W2.Write.contents l.print l.disk l.sent);
+      (written g.W1.Write.contents g.W2.Write.contents l.initial.writers none_sent)
+      (written g.W1.Write.contents g.W2.Write.contents l.writers l.sent);
   ready : AreReady l.job l.primary l.secondary;
   same_primary : l.primary.reader.ghost_name ≡ l.initial.primary.reader.ghost_name;
   same_secondary : l.secondary.reader.ghost_name ≡ l.initial.secondary.reader.ghost_name;
