@@ -1,7 +1,7 @@
 //! What a deck means in another way than before, though it is read as it is.
 
 use rpg_fit_deck::{Card, Seen, View};
-use rpg_fit_terms::is_card;
+use rpg_fit_words::{is_card, printer_of};
 use std::alloc::{AllocError, Global};
 
 /// A note on a card.
@@ -15,7 +15,6 @@ pub struct Note {
 /// The notes on the cards of a source: halt indicators that calculations turn on, and the printer if it has no overflow indicator.
 pub(crate) fn notes(alloc: Global, view: &View) -> Result<Vec<Note>, AllocError> {
     let mut notes = Vec::new(alloc);
-    let mut printer = None;
     for seen in &view.cards {
         if turns_halt_on(seen) {
             notes.push(Note {
@@ -23,14 +22,11 @@ pub(crate) fn notes(alloc: Global, view: &View) -> Result<Vec<Note>, AllocError>
                 text: "the job ends after the lines of this record; the operator could go on",
             })?;
         }
-        if printer.is_none() && is_printer(seen) {
-            printer = Some(*seen);
-        }
     }
-    if let Some(seen) = printer {
-        if seen.card.is_blank(33, 34) {
+    if let Some(printer) = printer_of(view) {
+        if printer.overflow.is_blank() {
             notes.push(Note {
-                card: seen.number,
+                card: printer.number,
                 text: "no overflow indicator: the old system skipped over the fold by itself, here lines go on over it",
             })?;
         }
@@ -50,9 +46,4 @@ fn turns_halt_on(seen: &Seen) -> bool {
 fn is_halt(card: &Card, column: usize) -> bool {
     let digit = card.column(column.saturating_add(1));
     card.column(column) == b'H' && digit.is_ascii_digit() && digit != b'0'
-}
-
-/// Whether a card is that of a printer.
-fn is_printer(seen: &Seen) -> bool {
-    is_card(seen, b'F') && seen.card.value(40, 46) == b"PRINTER".as_slice()
 }

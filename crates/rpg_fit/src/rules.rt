@@ -48,9 +48,7 @@ fn apply_to_cards(alloc: Global, editor: &mut Editor, settings: &Settings, rule:
         Rule::Disks => disks(alloc, editor),
         _ => Ok(()),
     };
-    if outcome.is_err() {
-        editor.run_out();
-    }
+    settle(editor, outcome);
 }
 
 /// Applies a rule about calculations or single lines.
@@ -72,14 +70,15 @@ fn apply_to_calculations(alloc: Global, editor: &mut Editor, rule: Rule) {
 
 /// Applies a rule about record types, pages or overflow.
 fn apply_to_cycle(alloc: Global, editor: &mut Editor, rule: Rule) {
-    match rule {
+    let outcome = match rule {
         Rule::OrTypes => or_types(alloc, editor),
         Rule::Sequence => sequence(alloc, editor),
         Rule::InputArrays => input_arrays(alloc, editor),
         Rule::Pages => pages(alloc, editor),
         Rule::Fetch => fetch(alloc, editor),
-        _ => {}
-    }
+        _ => Ok(()),
+    };
+    settle(editor, outcome);
 }
 
 /// What applies rules to a deck.

@@ -2,9 +2,9 @@
 
 use rpg_fit_deck::{Card, Editor, Seen, Sentence, View, Word};
 use rpg_fit_words::{
-    Array, Calculation, Columns, Group, Indicator, Line, List, NewCard, Operand, Place, Printer,
-    RuleStop, Section, Time, array_of, arrays, fresh_name, groups, insert_at, is_card,
-    is_field_put_first, is_name_used, is_total_skipped_late, lines, printer_of,
+    Calculation, Columns, Group, Indicator, Line, List, NewCard, Operand, Place, Printer, RuleStop,
+    Section, array_of, fresh_name, groups, has_overflow, insert_at, is_card, is_field_put_first,
+    is_name_used, is_total_skipped_late, lines, printer_of,
 };
 use std::alloc::Global;
 
@@ -36,7 +36,7 @@ impl DatePart {
 /// A line with a part of the date may be put out before any calculation, no name is free, or memory is refused.
 pub fn dates(alloc: Global, editor: &mut Editor) -> Result<(), RuleStop> {
     let view = editor.view(alloc)?;
-    let parts = undefined_parts(alloc, &view)?;
+    let parts = undefined_parts(alloc, &view);
     match parts.checked()? {
         [] => Ok(()),
         parts => fill(alloc, editor, &view, parts),
@@ -44,16 +44,15 @@ pub fn dates(alloc: Global, editor: &mut Editor) -> Result<(), RuleStop> {
 }
 
 /// The parts of the date that a deck uses and no card defines.
-fn undefined_parts(alloc: Global, view: &View) -> Result<List<DatePart>, RuleStop> {
-    let arrays = arrays(alloc, view)?;
+fn undefined_parts(alloc: Global, view: &View) -> List<DatePart> {
     let mut found = List::new(alloc);
     for part in &DatePart::ALL {
         let name = part.name();
-        if is_name_used(view, name) && !is_defined(view, arrays.as_slice(), name) {
+        if is_name_used(view, name) && !is_defined(view, name) {
             found.push(*part);
         }
     }
-    Ok(found)
+    found
 }
 
 /// Puts the calculations that fill parts of the date.
@@ -78,13 +77,13 @@ fn fill(
 }
 
 /// Whether an array, a result or an input field defines a name.
-fn is_defined(view: &View, arrays: &[Array], name: &[u8]) -> bool {
+fn is_defined(view: &View, name: &[u8]) -> bool {
     for seen in view.cards.iter() {
         if defines(seen, name) {
             return true;
         }
     }
-    array_of(arrays, name).is_some()
+    array_of(view, name).is_some()
 }
 
 /// Whether a card is a calculation that gives a name its length, or an input field.
@@ -154,19 +153,6 @@ fn check_lines(alloc: Global, view: &View, parts: &[DatePart]) -> Result<(), Rul
     Ok(())
 }
 
-/// Whether a line is put out at overflow.
-fn has_overflow(printer: Option<Printer>, line: &Line) -> bool {
-    let Some(printer) = printer else {
-        return false;
-    };
-    for alternative in line.alternatives.iter() {
-        if printer.is_overflow(line, &alternative.condition) {
-            return true;
-        }
-    }
-    false
-}
-
 /// Rejects parts of the date on a line. `is_early`: overflow may put it out before any total calculation.
 fn check_line(
     printer: Option<Printer>,
@@ -178,7 +164,7 @@ fn check_line(
         let name = field.card.value(32, 37);
         if is_part(parts, name) && (is_early || is_field_put_first(printer, line, field)) {
             let why = "% on a line that may be put out before any calculation";
-            return Err(RuleStop::refused(field.number, Sentence::about(why, Word::of(name))));
+            return Err(RuleStop::about(field.number, why, Word::of(name)));
         }
     }
     Ok(())
@@ -186,15 +172,13 @@ fn check_line(
 
 /// Whether a deck has total calculations or total lines.
 fn has_total(alloc: Global, view: &View) -> Result<bool, RuleStop> {
-    Ok(
-        has_total_line(lines(alloc, view)?.as_slice())
-            || has_total_group(groups(alloc, view)?.as_slice()),
-    )
+    let groups = groups(alloc, view)?;
+    Ok(has_total_line(view) || has_total_group(groups.as_slice()))
 }
 
-fn has_total_line(lines: &[Line]) -> bool {
-    for line in lines {
-        if line.time == Time::Total {
+fn has_total_line(view: &View) -> bool {
+    for seen in view.cards.iter() {
+        if is_card(seen, b'O') && seen.card.column(15) == b'T' {
             return true;
         }
     }

@@ -1,6 +1,5 @@
 //! Figurative constants, and what stands for one beside another operand.
 
-use crate::literal::is_literal;
 use rpg_fit_deck::{Sentence, Word};
 
 /// The longest text that a literal fills.
@@ -8,6 +7,16 @@ const LITERAL: usize = 8;
 
 /// The most digits of a number.
 const DIGITS: usize = 15;
+
+/// Whether a text is a word.
+fn is(text: &[u8], word: &[u8]) -> bool {
+    text == word
+}
+
+/// Whether an operand is a literal of characters.
+pub(crate) fn is_literal(operand: &[u8]) -> bool {
+    operand.first() == Some(&b'\'')
+}
 
 /// A figurative constant.
 #[derive(Clone, Copy)]
@@ -19,9 +28,9 @@ pub(crate) enum Figure {
 impl Figure {
     /// The figurative constant that an operand is.
     pub(crate) fn of(operand: &[u8]) -> Option<Figure> {
-        if operand == b"*BLANK".as_slice() || operand == b"*BLANKS".as_slice() {
+        if is(operand, b"*BLANK") || is(operand, b"*BLANKS") {
             Some(Figure::Blanks)
-        } else if operand == b"*ZERO".as_slice() || operand == b"*ZEROS".as_slice() {
+        } else if is(operand, b"*ZERO") || is(operand, b"*ZEROS") {
             Some(Figure::Zeros)
         } else {
             None
@@ -77,9 +86,9 @@ pub(crate) enum Use {
 
 impl Use {
     pub(crate) fn of(operation: &[u8]) -> Use {
-        if operation == b"MOVE".as_slice() || operation == b"MOVEL".as_slice() {
+        if is(operation, b"MOVE") || is(operation, b"MOVEL") {
             Use::Move
-        } else if operation == b"COMP".as_slice() || operation == b"LOKUP".as_slice() {
+        } else if is(operation, b"COMP") || is(operation, b"LOKUP") {
             Use::Compare
         } else {
             Use::Other

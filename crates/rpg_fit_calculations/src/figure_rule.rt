@@ -109,7 +109,7 @@ fn meaning(
     let constant = columns.value(&seen.card);
     let Some(beside) = beside(view, other_operand(&seen.card, columns)) else {
         let why = "% stands with a name that nothing defines";
-        return Err(RuleStop::refused(seen.number, Sentence::about(why, Word::of(constant))));
+        return Err(RuleStop::about(seen.number, why, Word::of(constant)));
     };
     match replacement(figure, constant, seen.card.value(28, 32), beside) {
         Ok(instead) => Ok(instead),

@@ -4,7 +4,6 @@
 mod date_rule;
 mod figure;
 mod figure_rule;
-mod literal;
 mod movea;
 mod movea_rule;
 mod now;

@@ -1,12 +1,12 @@
 //! MOVEA.
 
-use crate::literal::{is_literal, literal_length};
+use crate::figure::is_literal;
 use crate::movea::{Entries, Moves, Side, moves_of};
-use crate::now::{Now, replace};
+use crate::now::{Now, replace, told};
 use rpg_fit_deck::{Card, Editor, Seen, Sentence, View, Word};
 use rpg_fit_words::{
-    Array, Columns, Flagged, FreeIndicators, Group, List, NewCard, Operand, RuleStop, array_of,
-    form_of, groups, under_flag, unused_prefix, with_room,
+    Array, Columns, Constant, Flagged, FreeIndicators, Group, List, NewCard, Operand, RuleStop,
+    array_of, entry, form_of, groups_now, under_flag, unused_prefix, with_room,
 };
 use std::alloc::Global;
 
@@ -16,8 +16,7 @@ use std::alloc::Global;
 ///
 /// A MOVEA can't be done entry by entry, a name or an indicator is needed and none is free, or memory is refused.
 pub fn moves(alloc: Global, editor: &mut Editor) -> Result<(), RuleStop> {
-    let view = editor.view(alloc)?;
-    let found = groups(alloc, &view)?;
+    let found = groups_now(alloc, editor)?;
     let mut free = FreeIndicators::new();
     for group in found.iter() {
         if group.operation() == b"MOVEA".as_slice() {
@@ -65,31 +64,29 @@ fn meaning(now: &Now) -> Result<Option<Moves>, RuleStop> {
 /// What an operand of MOVEA has; none if nothing defines it, or if its array has no such entry.
 fn side(now: &Now, text: &[u8]) -> Result<Option<Side>, RuleStop> {
     if is_literal(text) {
-        return Ok(Some(Side::Field(literal_length(text))));
+        let characters = Constant::of(text).text().len();
+        return Ok(Some(Side::Field(characters)));
     }
     let operand = Operand::of(text);
     if operand.has_index_field() {
-        return Err(RuleStop::refused(
-            now.seen.number,
-            Sentence::of("MOVEA from or to an entry by an index field"),
-        ));
+        let why = "MOVEA from or to an entry by an index field";
+        return Err(RuleStop::because(now.seen.number, why));
     }
-    match form_of(&now.view, operand.name) {
-        None => Ok(None),
-        Some(form) if form.is_number() => Err(RuleStop::refused(
-            now.seen.number,
-            Sentence::of("MOVEA of a number"),
-        )),
-        Some(form) => match array_of(now.arrays.as_slice(), operand.name) {
-            None => Ok(Some(Side::Field(form.length))),
-            Some(array) => Ok(entries_side(array, operand.index)),
-        },
+    let Some(form) = form_of(&now.view, operand.name) else {
+        return Ok(None);
+    };
+    if form.is_number() {
+        return Err(RuleStop::because(now.seen.number, "MOVEA of a number"));
+    }
+    match array_of(&now.view, operand.name) {
+        None => Ok(Some(Side::Field(form.length))),
+        Some(array) => Ok(entries_side(array, operand.index)),
     }
 }
 
 /// The entries of an array from an index on, or all where there is no index; none if it has no such entry.
 fn entries_side(array: Array, index: &[u8]) -> Option<Side> {
-    let first = if index.is_empty() { 1 } else { number(index) };
+    let first = Card::of(index).number(1, 10).unwrap_or(1);
     if first == 0 || first > array.entries {
         return None;
     }
@@ -98,17 +95,6 @@ fn entries_side(array: Array, index: &[u8]) -> Option<Side> {
         count: (array.entries - first).saturating_add(1),
         length: array.form.length,
     }))
-}
-
-/// The number that digits are.
-fn number(digits: &[u8]) -> usize {
-    let mut total: usize = 0;
-    for digit in digits {
-        total = total
-            .saturating_mul(10)
-            .saturating_add(usize::from(digit.saturating_sub(b'0')));
-    }
-    total
 }
 
 /// Rewrites a MOVEA between fields.
@@ -130,35 +116,25 @@ fn move_entries(
     let work = work_prefix(&now.view, now.seen.number)?;
     let under = under_flag(alloc, &now.view, group, free, false)?;
     let plan = Plan::of(&now.seen, &under, work);
-    let mut cards = under.before;
-    plan.push_moves(&mut cards, moves);
-    let cards = cards.checked()?;
-    let count = Word::of_number(cards.len());
-    replace(
-        editor,
-        group,
-        cards,
-        Sentence::about("MOVEA is % calculations", count),
-    );
-    Ok(())
+    plan.put(editor, group, under.before, moves)
 }
 
 /// Gives the arrays of a MOVEA names with room for an index, in the order of their names.
 fn make_rooms(alloc: Global, editor: &mut Editor, group: &Group) -> Result<(), RuleStop> {
-    let now = Now::of(alloc, editor, group)?;
-    if is_factor_first(&now.seen.card) {
-        make_room(alloc, editor, group, Columns::Factor2)?;
-        make_room(alloc, editor, group, Columns::Result)
-    } else {
-        make_room(alloc, editor, group, Columns::Result)?;
-        make_room(alloc, editor, group, Columns::Factor2)
-    }
+    let [first, second] = by_name(alloc, editor, group)?;
+    make_room(alloc, editor, group, first)?;
+    make_room(alloc, editor, group, second)
 }
 
-/// Whether the name in factor 2 of a MOVEA comes before that in its result.
-fn is_factor_first(card: &Card) -> bool {
-    let from = Operand::of(Columns::Factor2.value(card)).name;
-    from <= Operand::of(Columns::Result.value(card)).name
+/// The columns of a MOVEA's arrays, in the order of their names.
+fn by_name(alloc: Global, editor: &Editor, group: &Group) -> Result<[Columns; 2], RuleStop> {
+    let now = Now::of(alloc, editor, group)?;
+    let from = Operand::of(Columns::Factor2.value(&now.seen.card)).name;
+    if from <= Operand::of(Columns::Result.value(&now.seen.card)).name {
+        Ok([Columns::Factor2, Columns::Result])
+    } else {
+        Ok([Columns::Result, Columns::Factor2])
+    }
 }
 
 /// Gives the array in columns a name with room for the index of its last entry.
@@ -170,22 +146,26 @@ fn make_room(
 ) -> Result<(), RuleStop> {
     let now = Now::of(alloc, editor, group)?;
     let name = Operand::of(columns.value(&now.seen.card)).name;
-    if let Some(array) = array_of(now.arrays.as_slice(), name) {
-        let tail = Word::of(b",").and(Word::of_number(array.entries).text());
-        with_room(alloc, editor, name, tail.len())?;
+    if let Some(array) = array_of(&now.view, name) {
+        with_room(alloc, editor, name, Word::of_number(array.entries))?;
     }
     Ok(())
 }
 
 /// The first characters of work fields, with which no name begins.
 fn work_prefix(view: &View, number: usize) -> Result<Word, RuleStop> {
-    for stem in &[b"MV", b"MW", b"MX", b"M#"] {
-        if let Some(prefix) = unused_prefix(view, *stem, b"#$@VWXYZ") {
-            return Ok(prefix);
-        }
+    let prefix = unused_prefix(view, b"MV", LAST)
+        .or(unused_prefix(view, b"MW", LAST))
+        .or(unused_prefix(view, b"MX", LAST))
+        .or(unused_prefix(view, b"M#", LAST));
+    match prefix {
+        Some(prefix) => Ok(prefix),
+        None => Err(RuleStop::because(number, "no name is free")),
     }
-    Err(RuleStop::refused(number, Sentence::of("no name is free")))
 }
+
+/// The last of the first characters of work fields.
+const LAST: &[u8] = b"#$@VWXYZ";
 
 /// What the calculations in place of a MOVEA share.
 #[derive(Clone, Copy)]
@@ -220,15 +200,8 @@ impl Plan {
     ) -> Result<(), RuleStop> {
         let mut cards = before;
         self.push_moves(&mut cards, moves);
-        let cards = cards.checked()?;
-        let count = Word::of_number(cards.len());
-        replace(
-            editor,
-            group,
-            cards,
-            Sentence::about("MOVEA is % calculations", count),
-        );
-        Ok(())
+        let told = told("MOVEA is % calculations", &cards);
+        replace(editor, group, &cards, told)
     }
 
     /// Appends the moves of all entries.
@@ -253,8 +226,12 @@ impl Plan {
             cards.push(
                 self.base
                     .with(28, 32, b"MOVE")
-                    .with(33, 42, entry(self.from, from.saturating_add(place)).text())
-                    .with(43, 48, entry(self.to, to.saturating_add(place)).text()),
+                    .with(
+                        33,
+                        42,
+                        numbered(self.from, from.saturating_add(place)).text(),
+                    )
+                    .with(43, 48, numbered(self.to, to.saturating_add(place)).text()),
             );
         }
     }
@@ -269,7 +246,7 @@ impl Plan {
                 self.base
                     .with(28, 32, b"MOVE")
                     .with(33, 42, work.text())
-                    .with(43, 48, entry(self.to, to.saturating_add(place)).text())
+                    .with(43, 48, numbered(self.to, to.saturating_add(place)).text())
                     .with(49, 52, b""),
             );
         }
@@ -281,7 +258,7 @@ impl Plan {
         for place in 0..count {
             let number = count.saturating_sub(place);
             let work = self.work_field(number);
-            let last = entry(self.from, from.saturating_add(number).saturating_sub(1));
+            let last = numbered(self.from, from.saturating_add(number).saturating_sub(1));
             let out = self.base.with(28, 32, b"MOVEL").with(33, 42, work.text());
             cards.push(
                 self.to_work(b"MOVE", work, number.saturating_mul(length))
@@ -301,18 +278,15 @@ impl Plan {
 
     /// An operation with a work field of a length as its result.
     fn to_work(&self, operation: &[u8], work: Word, length: usize) -> NewCard {
-        let moved = self.base.with(28, 32, operation).with(43, 48, work.text());
-        NewCard {
-            card: moved
-                .card
-                .with_right(49, 51, Word::of_number(length).text())
-                .with(52, 52, b""),
-            number: moved.number,
-        }
+        self.base
+            .with(28, 32, operation)
+            .with(43, 48, work.text())
+            .with_number(49, 51, length)
+            .with(52, 52, b"")
     }
 }
 
 /// An entry of an array, by its number.
-fn entry(array: Word, number: usize) -> Word {
-    array.and(b",").and(Word::of_number(number).text())
+fn numbered(array: Word, number: usize) -> Word {
+    entry(array, Word::of_number(number))
 }

@@ -1,10 +1,10 @@
 //! Calculations with whole arrays.
 
-use crate::now::{Now, replace};
-use rpg_fit_deck::{Card, Editor, Sentence, Word};
+use crate::now::{Now, replace, told};
+use rpg_fit_deck::{Card, Editor, Sentence, View, Word};
 use rpg_fit_words::{
-    Array, Calculation, Columns, Flagged, FreeIndicators, FreshNames, Group, Indicator, List,
-    NewCard, Operand, RuleStop, array_of, arrays, fresh_name, groups, under_flag, with_room,
+    Calculation, Columns, Flagged, FreeIndicators, FreshNames, Group, Indicator, List, NewCard,
+    Operand, RuleStop, array_of, entry, fresh_name, groups, under_flag, with_room,
 };
 use std::alloc::Global;
 
@@ -18,11 +18,10 @@ const LOOP_FROM: usize = 31;
 /// A calculation can't be done entry by entry, a name or an indicator is needed and none is free, or memory is refused.
 pub fn whole_calculations(alloc: Global, editor: &mut Editor) -> Result<(), RuleStop> {
     let view = editor.view(alloc)?;
-    let arrays = arrays(alloc, &view)?;
     let found = groups(alloc, &view)?;
     let mut free = FreeIndicators::new();
     for (place, group) in found.iter().enumerate() {
-        if has_whole_array(arrays.as_slice(), group) {
+        if has_whole_array(&view, group) {
             let next = found.get(place.saturating_add(1));
             rewrite_group(alloc, editor, &mut free, group, next)?;
         }
@@ -50,13 +49,13 @@ fn is_one_of(operation: &[u8], operations: &[&[u8]]) -> bool {
 }
 
 /// Whether an operand is a whole array.
-fn is_whole(arrays: &[Array], text: &[u8]) -> bool {
-    array_of(arrays, text).is_some()
+fn is_whole(view: &View, text: &[u8]) -> bool {
+    array_of(view, text).is_some()
 }
 
 /// Whether a calculation has a whole array that has to be rewritten.
-fn has_whole_array(arrays: &[Array], group: &Group) -> bool {
-    !is_one_of(group.operation(), &LEFT) && least_entries(arrays, &group.last.card).is_some()
+fn has_whole_array(view: &View, group: &Group) -> bool {
+    !is_one_of(group.operation(), &LEFT) && least_entries(view, &group.last.card).is_some()
 }
 
 /// Whether an operand is an entry of an array.
@@ -66,50 +65,67 @@ fn is_entry_of(text: &[u8], array: &[u8]) -> bool {
 
 /// Rejects a calculation with whole arrays that can't be done entry by entry.
 fn check(now: &Now, next: Option<&Group>) -> Result<(), RuleStop> {
+    check_calculation(now)?;
+    check_next(next)?;
+    check_own_entry(now)
+}
+
+/// Rejects an operation that isn't done entry by entry, a result that is no whole array, and resulting indicators.
+fn check_calculation(now: &Now) -> Result<(), RuleStop> {
     let number = now.seen.number;
     let card = &now.seen.card;
     let operation = card.value(28, 32);
-    let result = Columns::Result.value(card);
     if !is_one_of(operation, &BY_ENTRY) {
-        let why = Sentence::about("a whole array beside %", Word::of(operation));
-        return Err(RuleStop::refused(number, why));
+        let why = "a whole array beside %";
+        return Err(RuleStop::about(number, why, Word::of(operation)));
     }
-    if !is_whole(now.arrays.as_slice(), result) {
-        return Err(RuleStop::refused(number, Sentence::of("a whole array into a field")));
+    if !is_whole(&now.view, Columns::Result.value(card)) {
+        return Err(RuleStop::because(number, "a whole array into a field"));
     }
     if !card.is_blank(54, 59) {
-        let why = Sentence::of("resulting indicators of a whole array");
-        return Err(RuleStop::refused(number, why));
+        let why = "resulting indicators of a whole array";
+        return Err(RuleStop::because(number, why));
     }
-    if let Some(group) = next {
-        if group.operation() == b"MVR".as_slice() {
-            let why = Sentence::of("MVR after a DIV of whole arrays");
-            return Err(RuleStop::refused(group.last.number, why));
+    Ok(())
+}
+
+/// Rejects MVR as the next calculation.
+fn check_next(next: Option<&Group>) -> Result<(), RuleStop> {
+    match next {
+        Some(group) if matches!(group.operation(), b"MVR") => {
+            let why = "MVR after a DIV of whole arrays";
+            Err(RuleStop::because(group.last.number, why))
         }
+        _ => Ok(()),
     }
-    check_own_entry(card, result, number)
 }
 
 /// Rejects an entry of the result as a factor.
-fn check_own_entry(card: &Card, array: &[u8], number: usize) -> Result<(), RuleStop> {
+fn check_own_entry(now: &Now) -> Result<(), RuleStop> {
+    let card = &now.seen.card;
+    let array = Columns::Result.value(card);
     if is_entry_of(Columns::Factor1.value(card), array)
         || is_entry_of(Columns::Factor2.value(card), array)
     {
         let why = "an entry of % as a factor of the whole of it";
-        return Err(RuleStop::refused(number, Sentence::about(why, Word::of(array))));
+        return Err(RuleStop::about(now.seen.number, why, Word::of(array)));
     }
     Ok(())
 }
 
 /// The least number of entries of the whole arrays of a calculation; none if it has no whole array.
-fn least_entries(arrays: &[Array], card: &Card) -> Option<usize> {
-    let mut least = None;
-    for columns in &Columns::ALL {
-        if let Some(array) = array_of(arrays, columns.value(card)) {
-            least = Some(array.entries.min(least.unwrap_or(array.entries)));
-        }
+fn least_entries(view: &View, card: &Card) -> Option<usize> {
+    let least = least_with(view, Columns::Factor1.value(card), None);
+    let least = least_with(view, Columns::Factor2.value(card), least);
+    least_with(view, Columns::Result.value(card), least)
+}
+
+/// The least number of entries, with an operand that may be a whole array.
+fn least_with(view: &View, operand: &[u8], least: Option<usize>) -> Option<usize> {
+    match array_of(view, operand) {
+        Some(array) => Some(array.entries.min(least.unwrap_or(array.entries))),
+        None => least,
     }
-    least
 }
 
 /// Rewrites a calculation with whole arrays.
@@ -122,7 +138,7 @@ fn rewrite_group(
 ) -> Result<(), RuleStop> {
     let now = Now::of(alloc, editor, group)?;
     check(&now, next)?;
-    match least_entries(now.arrays.as_slice(), &now.seen.card) {
+    match least_entries(&now.view, &now.seen.card) {
         None | Some(0) => Ok(()),
         Some(entries) if entries < LOOP_FROM => by_entry(alloc, editor, free, group, entries),
         Some(entries) => by_loop(alloc, editor, free, group, entries),
@@ -134,18 +150,11 @@ fn make_rooms(
     alloc: Global,
     editor: &mut Editor,
     group: &Group,
-    index: &Word,
+    index: Word,
 ) -> Result<(), RuleStop> {
-    for columns in &Columns::ALL {
-        make_room(
-            alloc,
-            editor,
-            group,
-            *columns,
-            index.len().saturating_add(1),
-        )?;
-    }
-    Ok(())
+    make_room(alloc, editor, group, Columns::Factor1, index)?;
+    make_room(alloc, editor, group, Columns::Factor2, index)?;
+    make_room(alloc, editor, group, Columns::Result, index)
 }
 
 /// Gives the whole array in columns a name with room for a comma and an index.
@@ -154,33 +163,32 @@ fn make_room(
     editor: &mut Editor,
     group: &Group,
     columns: Columns,
-    tail: usize,
+    index: Word,
 ) -> Result<(), RuleStop> {
     let now = Now::of(alloc, editor, group)?;
     let name = columns.value(&now.seen.card);
-    if is_whole(now.arrays.as_slice(), name) {
-        with_room(alloc, editor, name, tail)?;
+    if is_whole(&now.view, name) {
+        with_room(alloc, editor, name, index)?;
     }
     Ok(())
 }
 
-/// A card with an index for each of its whole arrays.
-fn indexed(arrays: &[Array], card: Card, index: &Word) -> Card {
-    let mut now = card;
-    for columns in &Columns::ALL {
-        let name = columns.value(&card);
-        if is_whole(arrays, name) {
-            let entry = Word::of(name).and(b",").and(index.text());
-            now = columns.put(now, entry.text());
-        }
+/// A card with an index for the whole array in columns, if there is one.
+fn indexed(view: &View, card: Card, columns: Columns, index: Word) -> Card {
+    let name = columns.value(&card);
+    if is_whole(view, name) {
+        columns.put(card, entry(Word::of(name), index).text())
+    } else {
+        card
     }
-    now
 }
 
-/// The calculation of an entry.
-fn entry_card(now: &Now, base: NewCard, index: &Word) -> NewCard {
+/// The calculation of an entry: an index for each whole array.
+fn entry_card(now: &Now, base: NewCard, index: Word) -> NewCard {
+    let card = indexed(&now.view, base.card, Columns::Factor1, index);
+    let card = indexed(&now.view, card, Columns::Factor2, index);
     NewCard {
-        card: indexed(now.arrays.as_slice(), base.card, index),
+        card: indexed(&now.view, card, Columns::Result, index),
         number: base.number,
     }
 }
@@ -193,7 +201,7 @@ fn by_entry(
     group: &Group,
     entries: usize,
 ) -> Result<(), RuleStop> {
-    make_rooms(alloc, editor, group, &Word::of_number(entries))?;
+    make_rooms(alloc, editor, group, Word::of_number(entries))?;
     let now = Now::of(alloc, editor, group)?;
     let under = under_flag(alloc, &now.view, group, free, false)?;
     put_entries(editor, group, &now, under, entries)
@@ -211,17 +219,10 @@ fn put_entries(
     let mut cards = under.before;
     for place in 0..entries {
         let index = Word::of_number(place.saturating_add(1));
-        cards.push(entry_card(now, base, &index));
+        cards.push(entry_card(now, base, index));
     }
-    let cards = cards.checked()?;
-    let count = Word::of_number(cards.len());
-    replace(
-        editor,
-        group,
-        cards,
-        Sentence::about("whole arrays: % calculations", count),
-    );
-    Ok(())
+    let told = told("whole arrays: % calculations", &cards);
+    replace(editor, group, &cards, told)
 }
 
 /// What the calculations of all entries have, without conditions.
@@ -240,24 +241,22 @@ fn by_loop(
     group: &Group,
     entries: usize,
 ) -> Result<(), RuleStop> {
-    let index = FreshNames::of(b"X#", 2).take(&editor.view(alloc)?, group.last.number)?;
-    make_rooms(alloc, editor, group, &index)?;
+    let index = fresh_index(alloc, editor, group)?;
+    make_rooms(alloc, editor, group, index)?;
     let now = Now::of(alloc, editor, group)?;
     let under = under_flag(alloc, &now.view, group, free, true)?;
-    match under.flag {
-        Some(flag) => {
-            let frame = Loop::of(&now, under.level, flag, index)?;
-            put_loop(
-                editor,
-                group,
-                &frame,
-                entry_card(&now, frame.base, &index),
-                under.before,
-                entries,
-            )
-        }
-        None => Ok(()),
-    }
+    let Some(flag) = under.flag else {
+        return Ok(());
+    };
+    let frame = Loop::of(&now, under.level, flag, index)?;
+    let calculation = entry_card(&now, frame.base, index);
+    put_loop(editor, group, &frame, calculation, under.before, entries)
+}
+
+/// The name of a loop's index.
+fn fresh_index(alloc: Global, editor: &Editor, group: &Group) -> Result<Word, RuleStop> {
+    let view = editor.view(alloc)?;
+    FreshNames::of(b"X#", 2).take(&view, group.last.number)
 }
 
 /// Puts a loop in the place of a calculation, after some cards.
@@ -265,23 +264,17 @@ fn put_loop(
     editor: &mut Editor,
     group: &Group,
     frame: &Loop,
-    entry: NewCard,
+    calculation: NewCard,
     before: List<NewCard>,
     entries: usize,
 ) -> Result<(), RuleStop> {
     let mut cards = before;
     cards.push_all(&frame.begin());
-    cards.push(entry);
+    cards.push(calculation);
     cards.push_all(&frame.end(entries));
     let told = "whole arrays: a loop of %; give --allowance more than 1000 where it is done often";
-    let count = Word::of_number(entries);
-    replace(
-        editor,
-        group,
-        cards.checked()?,
-        Sentence::about(told, count),
-    );
-    Ok(())
+    let told = Sentence::about(told, Word::of_number(entries));
+    replace(editor, group, &cards, told)
 }
 
 /// What surrounds the calculation of an entry in a loop.

@@ -1,23 +1,6 @@
-//! Cards of a deck by their form.
+//! What cards have, by their form and their device.
 
-use rpg_fit_deck::{Card, Seen, View};
-use std::alloc::{AllocError, Global};
-
-/// The cards of a form, without comments.
-pub(crate) fn of_form(alloc: Global, view: &View, form: u8) -> Result<Vec<Seen>, AllocError> {
-    let mut cards = Vec::new(alloc);
-    for seen in &view.cards {
-        if is_of_form(&seen.card, form) {
-            cards.push(*seen)?;
-        }
-    }
-    Ok(cards)
-}
-
-/// Whether a card has a form, and is no comment.
-pub(crate) fn is_of_form(card: &Card, form: u8) -> bool {
-    card.form() == form && !card.is_comment()
-}
+use rpg_fit_deck::Card;
 
 /// The columns of the three conditions of a calculation (C), or of an output card.
 pub(crate) fn first_condition(form: u8) -> usize {

@@ -3,7 +3,8 @@
 use crate::cards::{is_device, is_printer};
 use crate::draft::Draft;
 use rpg_fit_deck::{Card, Editor, Seen, Sentence, Word};
-use std::alloc::{AllocError, Global};
+use rpg_fit_words::RuleStop;
+use std::alloc::Global;
 
 /// The columns of a card, of which all that follow are cut.
 const COLUMNS: usize = 80;
@@ -13,7 +14,7 @@ const COLUMNS: usize = 80;
 /// # Errors
 ///
 /// Memory is refused.
-pub fn columns(alloc: Global, editor: &mut Editor) -> Result<(), AllocError> {
+pub fn columns(alloc: Global, editor: &mut Editor) -> Result<(), RuleStop> {
     let view = editor.view(alloc)?;
     for seen in &view.cards {
         let mut draft = Draft::of(seen);

@@ -1,8 +1,8 @@
 //! Directives for the listing, and DEBUG, become comments.
 
-use crate::cards::of_form;
-use rpg_fit_deck::{Card, Editor, Seen, Sentence, View};
-use std::alloc::{AllocError, Global};
+use rpg_fit_deck::{Card, Editor, Seen, Sentence};
+use rpg_fit_words::{Group, RuleStop, groups_now};
+use std::alloc::Global;
 
 const DIRECTIVES: [&[u8]; 3] = [b"/TITLE", b"/EJECT", b"/SPACE"];
 
@@ -11,13 +11,9 @@ const DIRECTIVES: [&[u8]; 3] = [b"/TITLE", b"/EJECT", b"/SPACE"];
 /// # Errors
 ///
 /// Memory is refused.
-pub fn comments(alloc: Global, editor: &mut Editor) -> Result<(), AllocError> {
-    let view = editor.view(alloc)?;
-    put_directives(editor, &view);
-    let view = editor.view(alloc)?;
-    let cards = of_form(alloc, &view, b'C')?;
-    put_debugs(editor, cards.as_slice());
-    Ok(())
+pub fn comments(alloc: Global, editor: &mut Editor) -> Result<(), RuleStop> {
+    put_directives(alloc, editor)?;
+    put_debugs(alloc, editor)
 }
 
 fn is_directive(card: &Card) -> bool {
@@ -36,7 +32,8 @@ fn make_comment(editor: &mut Editor, seen: &Seen, with: usize) {
     editor.change(seen.at, card, with);
 }
 
-fn put_directives(editor: &mut Editor, view: &View) {
+fn put_directives(alloc: Global, editor: &mut Editor) -> Result<(), RuleStop> {
+    let view = editor.view(alloc)?;
     for seen in &view.cards {
         if is_directive(&seen.card) {
             let sentence = Sentence::of("a directive for the listing is a comment now");
@@ -44,39 +41,25 @@ fn put_directives(editor: &mut Editor, view: &View) {
             make_comment(editor, seen, seen.number);
         }
     }
+    Ok(())
 }
 
-/// Whether a calculation card goes on with the conditions of the one above.
-fn continues(card: &Card) -> bool {
-    matches!(card.columns(7, 8), b"AN" | b"OR")
-}
-
-/// Whether the card at a place is the last one of a calculation.
-fn ends_calculation(cards: &[Seen], place: usize) -> bool {
-    match cards.get(place.saturating_add(1)) {
-        Some(next) => !continues(&next.card),
-        None => true,
-    }
-}
-
-fn put_debugs(editor: &mut Editor, cards: &[Seen]) {
-    let mut first = 0;
-    for (place, seen) in cards.iter().enumerate() {
-        if !continues(&seen.card) {
-            first = place;
-        }
-        let is_debug = seen.card.value(28, 32) == b"DEBUG".as_slice();
-        if is_debug && ends_calculation(cards, place) {
-            let calculation = cards.get(first..=place).unwrap_or(&[]);
-            put_debug(editor, calculation, seen.number);
+fn put_debugs(alloc: Global, editor: &mut Editor) -> Result<(), RuleStop> {
+    let groups = groups_now(alloc, editor)?;
+    for group in groups.iter() {
+        if group.operation() == b"DEBUG".as_slice() {
+            put_debug(editor, group);
         }
     }
+    Ok(())
 }
 
-fn put_debug(editor: &mut Editor, calculation: &[Seen], number: usize) {
+fn put_debug(editor: &mut Editor, group: &Group) {
+    let number = group.last.number;
     let sentence = Sentence::of("DEBUG is a comment now, and its lines aren't printed");
     editor.tell(number, sentence);
-    for seen in calculation {
+    for seen in group.leading.iter() {
         make_comment(editor, seen, number);
     }
+    make_comment(editor, &group.last, number);
 }

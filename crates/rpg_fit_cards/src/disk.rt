@@ -1,14 +1,12 @@
 //! Several disk files become one.
 
-use crate::cards::{is_of_form, is_printer};
+use crate::cards::is_printer;
 use crate::draft::Draft;
 use crate::outputs::{OutputCard, OutputRole, output_cards};
 use rpg_fit_deck::{Card, Editor, Seen, Sentence, View, Word};
 use rpg_fit_terms::address_after;
-use std::alloc::{AllocError, Global};
-
-/// How many disk files can become one: each has a letter.
-const LETTERS: usize = 26;
+use rpg_fit_words::{List, RuleStop, is_card};
+use std::alloc::Global;
 
 /// A disk file that is written.
 #[derive(Clone, Copy)]
@@ -30,14 +28,24 @@ impl Disk {
 /// # Errors
 ///
 /// Memory is refused.
-pub fn disks(alloc: Global, editor: &mut Editor) -> Result<(), AllocError> {
+pub fn disks(alloc: Global, editor: &mut Editor) -> Result<(), RuleStop> {
     let view = editor.view(alloc)?;
-    let disks = written_disks(alloc, &view)?;
-    if let [first, others @ ..] = disks.as_slice() {
+    let disks = written_disks(alloc, &view);
+    join_disks(alloc, editor, &view, disks.checked()?)
+}
+
+/// Makes one disk file of these, if there are several.
+fn join_disks(
+    alloc: Global,
+    editor: &mut Editor,
+    view: &View,
+    disks: &[Disk],
+) -> Result<(), RuleStop> {
+    if let [first, others @ ..] = disks {
         if !others.is_empty() {
-            let outputs = output_cards(alloc, &view)?;
-            tell_disks(editor, disks.as_slice());
-            move_outputs(editor, &view, disks.as_slice(), first, outputs.as_slice());
+            let outputs = output_cards(alloc, view);
+            tell_disks(editor, disks);
+            move_outputs(editor, view, disks, first, outputs.checked()?);
             join_files(editor, first, others);
         }
     }
@@ -61,28 +69,28 @@ fn move_outputs(
 }
 
 /// The disk files that are written; none where one has no length, or they are too many.
-fn written_disks(alloc: Global, view: &View) -> Result<Vec<Disk>, AllocError> {
-    let mut disks: Vec<Disk> = Vec::new(alloc);
+fn written_disks(alloc: Global, view: &View) -> List<Disk> {
+    let mut disks = List::new(alloc);
     let mut letter = b'A';
     for seen in &view.cards {
-        if is_disk(&seen.card) {
+        if is_disk(seen) {
             match seen.card.number(24, 27) {
-                Some(length) if disks.len() < LETTERS => disks.push(Disk {
+                Some(length) if letter <= b'Z' => disks.push(Disk {
                     seen: *seen,
                     length,
                     letter,
-                })?,
-                _ => return Ok(Vec::new(alloc)),
+                }),
+                _ => return List::new(alloc),
             }
             letter = letter.saturating_add(1);
         }
     }
-    Ok(disks)
+    disks
 }
 
 /// Whether a card is that of a file that is written, and no printer.
-fn is_disk(card: &Card) -> bool {
-    is_of_form(card, b'F') && card.column(15) == b'O' && !is_printer(card)
+fn is_disk(seen: &Seen) -> bool {
+    is_card(seen, b'F') && seen.card.column(15) == b'O' && !is_printer(&seen.card)
 }
 
 fn tell_disks(editor: &mut Editor, disks: &[Disk]) {

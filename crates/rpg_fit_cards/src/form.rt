@@ -1,11 +1,12 @@
 //! L cards are taken out.
 
-use crate::cards::{is_of_form, is_printer};
+use crate::cards::is_printer;
 use crate::draft::Draft;
 use crate::outputs::{OutputRole, output_role};
 use crate::settings::Settings;
 use rpg_fit_deck::{Card, Editor, Seen, Sentence, View, Word};
-use std::alloc::{AllocError, Global};
+use rpg_fit_words::{RuleStop, is_card};
+use std::alloc::Global;
 
 /// The lines of a page, and the one at which a page overflows.
 const LINES: usize = 66;
@@ -26,14 +27,14 @@ struct FormUse {
 /// # Errors
 ///
 /// Memory is refused.
-pub fn forms(alloc: Global, editor: &mut Editor, settings: &Settings) -> Result<(), AllocError> {
+pub fn forms(alloc: Global, editor: &mut Editor, settings: &Settings) -> Result<(), RuleStop> {
     let view = editor.view(alloc)?;
     let form_use = FormUse {
         overflow: asked_overflow(&view),
         skips: has_skip(&view),
     };
     for seen in &view.cards {
-        if is_of_form(&seen.card, b'L') && editor.goes_on() {
+        if is_card(seen, b'L') && editor.goes_on() {
             take_out(editor, &view, &form_use, settings.keeps_forms, seen);
         }
     }
@@ -54,7 +55,7 @@ fn asked_overflow(view: &View) -> Option<Word> {
 /// The overflow indicator of the first printer, if it has one.
 fn overflow_of(view: &View) -> Option<Word> {
     for seen in &view.cards {
-        if is_of_form(&seen.card, b'F') && is_printer(&seen.card) {
+        if is_card(seen, b'F') && is_printer(&seen.card) {
             let indicator = seen.card.value(33, 34);
             return (!indicator.is_empty()).then_some(Word::of(indicator));
         }
@@ -85,7 +86,7 @@ fn asks(card: &Card, indicator: &[u8]) -> bool {
 fn has_skip(view: &View) -> bool {
     for seen in &view.cards {
         let card = &seen.card;
-        if is_of_form(card, b'O') && output_role(card) == OutputRole::Line && skips(card) {
+        if is_card(seen, b'O') && output_role(card) == OutputRole::Line && skips(card) {
             return true;
         }
     }
@@ -189,7 +190,7 @@ fn removal(form: Form) -> Sentence {
 /// Blanks the letter on F cards that asks for an L card.
 fn blank_references(editor: &mut Editor, view: &View, with: usize) {
     for seen in &view.cards {
-        if is_of_form(&seen.card, b'F') && seen.card.column(39) == b'L' {
+        if is_card(seen, b'F') && seen.card.column(39) == b'L' {
             Draft::of(seen).follow(editor, 39, 39, &[], with);
         }
     }

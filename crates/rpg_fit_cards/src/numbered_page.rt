@@ -1,9 +1,9 @@
 //! PAGE1 to PAGE7 become PAGE.
 
-use crate::cards::is_of_form;
 use rpg_fit_deck::{Card, Editor, Sentence, View, Word};
-use rpg_fit_terms::{Operand, rename};
-use std::alloc::{AllocError, Global};
+use rpg_fit_terms::rename;
+use rpg_fit_words::{List, Operand, RuleStop, is_card};
+use std::alloc::Global;
 
 /// The page counters of the old language.
 const COUNTERS: [&[u8]; 8] = [
@@ -15,15 +15,15 @@ const COUNTERS: [&[u8]; 8] = [
 /// # Errors
 ///
 /// Memory is refused.
-pub fn numbered_pages(alloc: Global, editor: &mut Editor) -> Result<(), AllocError> {
+pub fn numbered_pages(alloc: Global, editor: &mut Editor) -> Result<(), RuleStop> {
     let view = editor.view(alloc)?;
-    let mut used = Vec::new(alloc);
+    let mut used = List::new(alloc);
     for counter in &COUNTERS {
         if counts(&view, *counter) {
-            used.push(*counter)?;
+            used.push(*counter);
         }
     }
-    match used.as_slice() {
+    match used.checked()? {
         [first, second, ..] if is_page(*first) => reject_second(editor, &view, *second, *first),
         [first, second, ..] => reject_second(editor, &view, *first, *second),
         [counter] if !is_page(*counter) => become_page(editor, &view, *counter),
@@ -46,7 +46,7 @@ fn counts(view: &View, counter: &[u8]) -> bool {
 fn is_defined(view: &View, name: &[u8]) -> bool {
     for seen in &view.cards {
         let card = &seen.card;
-        if is_of_form(card, b'C') && !card.is_blank(49, 51) && card.value(43, 48) == name {
+        if is_card(seen, b'C') && !card.is_blank(49, 51) && card.value(43, 48) == name {
             return true;
         }
     }

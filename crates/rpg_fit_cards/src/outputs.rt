@@ -1,8 +1,8 @@
 //! Output cards, each with its file.
 
-use crate::cards::is_of_form;
 use rpg_fit_deck::{Card, Seen, View, Word};
-use std::alloc::{AllocError, Global};
+use rpg_fit_words::{List, is_card};
+use std::alloc::Global;
 
 /// What an output card is.
 #[derive(Clone, Copy, PartialEq, Eq)]
@@ -40,12 +40,12 @@ pub(crate) fn output_role(card: &Card) -> OutputRole {
 }
 
 /// The output cards of a deck, without comments.
-pub(crate) fn output_cards(alloc: Global, view: &View) -> Result<Vec<OutputCard>, AllocError> {
-    let mut cards = Vec::new(alloc);
+pub(crate) fn output_cards(alloc: Global, view: &View) -> List<OutputCard> {
+    let mut cards = List::new(alloc);
     let mut line = 0;
     let mut file = Word::empty();
     for seen in &view.cards {
-        if !is_of_form(&seen.card, b'O') {
+        if !is_card(seen, b'O') {
             continue;
         }
         let role = output_role(&seen.card);
@@ -60,7 +60,7 @@ pub(crate) fn output_cards(alloc: Global, view: &View) -> Result<Vec<OutputCard>
             role,
             line,
             file,
-        })?;
+        });
     }
-    Ok(cards)
+    cards
 }

@@ -1,32 +1,38 @@
 //! Conditions on external indicators are decided.
 
-use crate::cards::{first_condition, is_of_form};
+use crate::cards::first_condition;
 use crate::draft::Draft;
 use crate::outputs::{OutputCard, OutputRole, output_cards};
 use crate::settings::Switches;
 use rpg_fit_deck::{Card, Editor, Seen, Sentence, View, Word};
+use rpg_fit_words::{RuleStop, is_card};
 use rpg_text::is_blank;
-use std::alloc::{AllocError, Global};
+use std::alloc::Global;
 
 /// Decides conditions on U1 to U8: L0 stands for a condition that holds, NL0 for one that doesn't.
 ///
 /// # Errors
 ///
 /// Memory is refused.
-pub fn switches(alloc: Global, editor: &mut Editor, switches: &Switches) -> Result<(), AllocError> {
+pub fn switches(alloc: Global, editor: &mut Editor, switches: &Switches) -> Result<(), RuleStop> {
     let view = editor.view(alloc)?;
     reject_results(editor, &view);
     if !editor.goes_on() {
         return Ok(());
     }
     decide_conditions(editor, &view, switches);
-    let outputs = output_cards(alloc, &editor.view(alloc)?)?;
+    let outputs = output_cards(alloc, &editor.view(alloc)?);
+    decide_files(editor, &view, outputs.checked()?, switches);
+    Ok(())
+}
+
+/// Decides the conditions of files.
+fn decide_files(editor: &mut Editor, view: &View, outputs: &[OutputCard], switches: &Switches) {
     for seen in &view.cards {
-        if is_of_form(&seen.card, b'F') {
-            decide_file(editor, outputs.as_slice(), seen, switches);
+        if is_card(seen, b'F') {
+            decide_file(editor, outputs, seen, switches);
         }
     }
-    Ok(())
 }
 
 /// The number of the switch that an indicator is.
@@ -69,7 +75,7 @@ fn reject_result(editor: &mut Editor, seen: &Seen) {
 
 fn decide_conditions(editor: &mut Editor, view: &View, switches: &Switches) {
     for seen in &view.cards {
-        if is_of_form(&seen.card, b'C') || is_of_form(&seen.card, b'O') {
+        if is_card(seen, b'C') || is_card(seen, b'O') {
             let first = first_condition(seen.card.form());
             if let Some(conditions) = decided(&seen.card, first, switches) {
                 let sentence = Sentence::about(

@@ -1,19 +1,19 @@
 //! Table files become data after `**` cards.
 
-use crate::cards::is_of_form;
 use crate::draft::Draft;
 use crate::settings::Settings;
 use crate::table_data::{TableShape, entries_of, records_of};
 use rpg_fit_deck::{Address, Card, Editor, Seen, Sentence, View, Word};
+use rpg_fit_words::{List, RuleStop, is_card};
 use rpg_text::has_only_characters;
-use std::alloc::{AllocError, Global};
+use std::alloc::Global;
 
 /// Puts the records of table files after `**` cards, in the order of the E cards, and takes out the files.
 ///
 /// # Errors
 ///
 /// Memory is refused.
-pub fn tables(alloc: Global, editor: &mut Editor, settings: &Settings) -> Result<(), AllocError> {
+pub fn tables(alloc: Global, editor: &mut Editor, settings: &Settings) -> Result<(), RuleStop> {
     let view = editor.view(alloc)?;
     if let Some(first) = first_with_file(&view) {
         put_data(alloc, editor, settings, &view)?;
@@ -25,7 +25,7 @@ pub fn tables(alloc: Global, editor: &mut Editor, settings: &Settings) -> Result
 /// The number of the first E card whose table is read from a file.
 fn first_with_file(view: &View) -> Option<usize> {
     for seen in &view.cards {
-        if is_of_form(&seen.card, b'E') && has_file(&seen.card) {
+        if is_card(seen, b'E') && has_file(&seen.card) {
             return Some(seen.number);
         }
     }
@@ -45,30 +45,30 @@ fn begins_data(seen: &Seen) -> bool {
 /// The first lines of a deck's data, and where the card after them is.
 #[derive(Drop)]
 struct Parts {
-    starts: Vec<Address>,
+    starts: List<Address>,
     end: Address,
     /// How many of them the E cards before have.
     used: usize,
 }
 
 impl Parts {
-    fn of(alloc: Global, view: &View) -> Result<Parts, AllocError> {
-        let mut starts = Vec::new(alloc);
+    fn of(alloc: Global, view: &View) -> Parts {
+        let mut starts = List::new(alloc);
         for seen in &view.data {
             if begins_data(seen) {
-                starts.push(seen.at)?;
+                starts.push(seen.at);
             }
         }
-        Ok(Parts {
+        Parts {
             starts,
             end: view.end,
             used: 0,
-        })
+        }
     }
 
     /// Where the data of the next E card begin, or would.
     fn next(&self) -> Address {
-        match self.starts.get(self.used) {
+        match self.starts.as_slice().get(self.used) {
             Some(at) => *at,
             None => self.end,
         }
@@ -76,7 +76,7 @@ impl Parts {
 
     /// Takes the data of the next E card, if there are some.
     fn take(&mut self) -> bool {
-        let are_there = self.used < self.starts.len();
+        let are_there = self.used < self.starts.as_slice().len();
         self.used = self.used.saturating_add(1);
         are_there
     }
@@ -88,10 +88,11 @@ fn put_data(
     editor: &mut Editor,
     settings: &Settings,
     view: &View,
-) -> Result<(), AllocError> {
-    let mut parts = Parts::of(alloc, view)?;
+) -> Result<(), RuleStop> {
+    let mut parts = Parts::of(alloc, view);
+    parts.starts.check()?;
     for seen in &view.cards {
-        if is_of_form(&seen.card, b'E') && editor.goes_on() {
+        if is_card(seen, b'E') && editor.goes_on() {
             put_table(alloc, editor, settings, &mut parts, seen)?;
         }
     }
@@ -105,7 +106,7 @@ fn put_table(
     settings: &Settings,
     parts: &mut Parts,
     seen: &Seen,
-) -> Result<(), AllocError> {
+) -> Result<(), RuleStop> {
     if !seen.card.is_blank(19, 26) {
         let sentence = Sentence::of("a table that is written at the end (19 to 26)");
         editor.refuse(seen.number, sentence);
@@ -124,7 +125,7 @@ fn put_records(
     settings: &Settings,
     before: Address,
     seen: &Seen,
-) -> Result<(), AllocError> {
+) -> Result<(), RuleStop> {
     let name = seen.card.value(11, 18);
     let word = Word::of(name);
     let Some(text) = settings.records_of(name) else {
@@ -135,15 +136,28 @@ fn put_records(
     let Some(shape) = TableShape::of(&seen.card) else {
         return Ok(());
     };
-    let records = records_of(alloc, text)?;
+    let records = records_of(alloc, text);
+    put_shaped(alloc, editor, &shape, before, records.checked()?, seen)
+}
+
+/// Puts records as the data of a table, if they can be.
+fn put_shaped(
+    alloc: Global,
+    editor: &mut Editor,
+    shape: &TableShape,
+    before: Address,
+    records: &[&[u8]],
+    seen: &Seen,
+) -> Result<(), RuleStop> {
+    let word = Word::of(seen.card.value(11, 18));
     if let Some(why) = shape.reason(word, records.len()) {
         editor.refuse(seen.number, why);
         return Ok(());
     }
-    let entries = entries_of(alloc, &shape, records.as_slice())?;
+    let entries = entries_of(alloc, shape, records)?;
     if has_only_characters(entries.as_slice()) {
-        put_entries(editor, &shape, before, entries.as_slice(), seen.number);
-        take_over(editor, &shape, records.len(), seen);
+        put_entries(editor, shape, before, entries.as_slice(), seen.number);
+        take_over(editor, shape, records.len(), seen);
     } else {
         let sentence = Sentence::about("% has a byte that is no character", word);
         editor.refuse(seen.number, sentence);
@@ -193,7 +207,7 @@ fn take_over(editor: &mut Editor, shape: &TableShape, records: usize, seen: &See
 /// Takes out table files, unless a card was rejected.
 fn drop_files(editor: &mut Editor, view: &View, with: usize) {
     for seen in &view.cards {
-        if is_of_form(&seen.card, b'F') && editor.goes_on() {
+        if is_card(seen, b'F') && editor.goes_on() {
             drop_file(editor, seen, with);
         }
     }

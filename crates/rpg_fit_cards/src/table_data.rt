@@ -1,8 +1,9 @@
 //! The records of a table file as the data of a table.
 
 use rpg_fit_deck::{Card, Sentence, Word};
+use rpg_fit_words::{List, RuleStop};
 use rpg_text::first_line;
-use std::alloc::{AllocError, Global};
+use std::alloc::Global;
 
 /// The columns of a data card.
 const COLUMNS: usize = 80;
@@ -84,22 +85,22 @@ impl TableShape {
 }
 
 /// The lines of a file.
-pub(crate) fn records_of(alloc: Global, text: &[u8]) -> Result<Vec<&[u8]>, AllocError> {
-    let mut records = Vec::new(alloc);
+pub(crate) fn records_of(alloc: Global, text: &[u8]) -> List<&[u8]> {
+    let mut records = List::new(alloc);
     let mut rest = text;
     for _ in 0..text.len() {
         if rest.is_empty() {
             break;
         }
         let (record, more) = first_line(rest);
-        records.push(record)?;
+        records.push(record);
         rest = more;
     }
-    Ok(records)
+    records
 }
 
 /// Appends blanks until a text has so many characters.
-fn pad(text: &mut Vec<u8>, length: usize) -> Result<(), AllocError> {
+fn pad(text: &mut Vec<u8>, length: usize) -> Result<(), RuleStop> {
     for _ in text.len()..length {
         text.push(b' ')?;
     }
@@ -111,7 +112,7 @@ pub(crate) fn entries_of(
     alloc: Global,
     shape: &TableShape,
     records: &[&[u8]],
-) -> Result<Vec<u8>, AllocError> {
+) -> Result<Vec<u8>, RuleStop> {
     let mut text = Vec::new(alloc);
     let width = shape.width.saturating_mul(shape.per_record);
     for record in records {

@@ -1,11 +1,10 @@
 //! A dollar sign that floats in an edit word: the edit code that shows the same.
 
-use crate::constant::Constant;
 use crate::dollar_code::dollar_code;
-use crate::field::name_on;
+use crate::field::{constant_on, name_on};
 use crate::word_form::WordForm;
 use rpg_fit_deck::{Editor, Seen, Sentence, View, Word};
-use rpg_fit_words::{Line, Operand, RuleStop, form_of, lines};
+use rpg_fit_words::{DeckLines, Line, Operand, RuleStop, form_of};
 use std::alloc::Global;
 
 /// Puts an edit code in place of each word in which a dollar sign floats.
@@ -14,10 +13,9 @@ use std::alloc::Global;
 ///
 /// The deck is rejected, or memory is refused.
 pub fn dollars(alloc: Global, editor: &mut Editor) -> Result<(), RuleStop> {
-    let view = editor.view(alloc)?;
-    let lines = lines(alloc, &view)?;
-    for line in lines.iter() {
-        code_fields(editor, &view, line)?;
+    let deck = DeckLines::of(alloc, editor)?;
+    for line in deck.lines.iter() {
+        code_fields(editor, &deck.view, line)?;
     }
     Ok(())
 }
@@ -37,14 +35,14 @@ pub(crate) fn has_word(field: &Seen) -> bool {
 }
 
 fn code_field(editor: &mut Editor, view: &View, field: &Seen) -> Result<(), RuleStop> {
-    let word = Constant::of(&field.card);
+    let word = constant_on(&field.card);
     let name = Operand::of(name_on(&field.card)).name;
     let around = WordForm::of(word.text()).around_dollar();
     match (around, form_of(view, name)) {
         (Some(around), Some(form)) if form.is_number() => {
             match dollar_code(around, form.length, form.places()) {
                 Ok(code) => put_code(editor, field, code),
-                Err(why) => return Err(RuleStop::refused(field.number, Sentence::of(why))),
+                Err(why) => return Err(RuleStop::because(field.number, why)),
             }
         }
         _ => {}

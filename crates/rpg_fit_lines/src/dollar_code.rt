@@ -1,8 +1,8 @@
 //! The edit code that shows a number as a word with a floating dollar sign does.
 
-use crate::constant::Constant;
 use crate::word_form::{Around, count_blanks};
 use rpg_edit_marks::Ending;
+use rpg_fit_words::Constant;
 
 /// The end of a word with a floating dollar sign, from its stop on.
 #[derive(Clone, Copy)]

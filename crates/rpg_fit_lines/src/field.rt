@@ -1,10 +1,17 @@
 //! The card of an output field.
 
 use rpg_fit_deck::Card;
+use rpg_fit_words::Constant;
+use rpg_text::trimmed;
 
 /// The name that a field's card puts out, perhaps with an index.
 pub(crate) fn name_on(field: &Card) -> &[u8] {
     field.value(32, 37)
+}
+
+/// The constant or edit word in columns 45 to 70.
+pub(crate) fn constant_on(field: &Card) -> Constant {
+    Constant::of(trimmed(field.columns(45, 70)))
 }
 
 /// Where a field ends: columns 40 to 43; 0 where that is no number.

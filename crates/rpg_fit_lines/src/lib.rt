@@ -1,7 +1,6 @@
 //! Rules that rewrite output lines.
 #![tactic(auto)]
 
-mod constant;
 mod dollar;
 mod dollar_code;
 mod field;

@@ -2,8 +2,8 @@
 
 use rpg_fit_deck::{Editor, Seen, Sentence, Word};
 use rpg_fit_words::{
-    Alternative, Conjunction, Indicator, Line, List, NewCard, RuleStop, Term, Time, lines,
-    lines_now, name_files, printer_of, put_cards,
+    Alternative, Conjunction, DeckLines, Indicator, Line, List, NewCard, RuleStop, Term, Time,
+    name_files, printer_of, put_cards,
 };
 use std::alloc::Global;
 
@@ -16,12 +16,12 @@ const MOST_ALTERNATIVES: usize = 2000;
 ///
 /// The deck is rejected, or memory is refused.
 pub fn or_spaces(alloc: Global, editor: &mut Editor) -> Result<(), RuleStop> {
-    let view = editor.view(alloc)?;
-    let overflow = match printer_of(&view) {
+    let deck = DeckLines::of(alloc, editor)?;
+    let overflow = match printer_of(&deck.view) {
         Some(printer) => printer.overflow,
         None => Indicator::BLANK,
     };
-    split_lines(alloc, editor, lines(alloc, &view)?.as_slice(), overflow)
+    split_lines(alloc, editor, deck.lines.as_slice(), overflow)
 }
 
 fn split_lines(
@@ -45,7 +45,7 @@ fn split_lines(
 
 /// Whether a card is an OR card with spaces or skips of its own.
 fn has_spaces(seen: &Seen) -> bool {
-    seen.card.columns(14, 15) == b"OR".as_slice() && !seen.card.is_blank(17, 22)
+    matches!(seen.card.columns(14, 15), b"OR") && !seen.card.is_blank(17, 22)
 }
 
 /// The number of a line's first OR card with spaces or skips of its own.
@@ -139,8 +139,8 @@ impl Split<'_> {
 
     /// Puts the name of its file on each line, since this one goes.
     fn name_all(&self, alloc: Global, editor: &mut Editor) -> Result<(), RuleStop> {
-        let lines = lines_now(alloc, editor)?;
-        name_files(editor, lines.as_slice(), self.card);
+        let deck = DeckLines::of(alloc, editor)?;
+        name_files(editor, deck.lines.as_slice(), self.card);
         Ok(())
     }
 
@@ -256,11 +256,11 @@ impl Split<'_> {
     /// Rejects a further alternative: an earlier line may turn overflow on, and no deck has so many.
     fn check(&self, asked: Indicator, alternatives: usize) -> Result<(), RuleStop> {
         if !self.overflow.is_blank() && asked == self.overflow {
-            let why = Sentence::of("an earlier alternative asks for overflow");
-            return Err(RuleStop::refused(self.card, why));
+            let why = "an earlier alternative asks for overflow";
+            return Err(RuleStop::because(self.card, why));
         }
         if alternatives >= MOST_ALTERNATIVES {
-            return Err(RuleStop::refused(self.card, Sentence::of("more than 2000 alternatives")));
+            return Err(RuleStop::because(self.card, "more than 2000 alternatives"));
         }
         Ok(())
     }

@@ -2,7 +2,7 @@
 
 use crate::field::{end_on, name_on};
 use rpg_fit_deck::{Editor, Seen, Sentence, Word};
-use rpg_fit_words::{Conjunction, Line, List, NewCard, RuleStop, lines_now};
+use rpg_fit_words::{Conjunction, DeckLines, Line, List, NewCard, RuleStop};
 use std::alloc::Global;
 
 /// How many cards a deck has at most.
@@ -17,8 +17,8 @@ const MOST_TERMS: usize = 3;
 ///
 /// The deck is rejected, or memory is refused.
 pub fn places(alloc: Global, editor: &mut Editor) -> Result<(), RuleStop> {
-    let lines = lines_now(alloc, editor)?;
-    for line in lines.iter() {
+    let deck = DeckLines::of(alloc, editor)?;
+    for line in deck.lines.iter() {
         place_fields(alloc, editor, line)?;
     }
     Ok(())
@@ -36,8 +36,7 @@ fn place_fields(alloc: Global, editor: &mut Editor, line: &Line) -> Result<(), R
             before.push(field);
         }
     }
-    before.fields.checked()?;
-    Ok(())
+    before.fields.check()
 }
 
 /// The fields of a line before a card, copies among them.
@@ -75,12 +74,11 @@ impl Before {
     /// Rejects *PLACE after PAGE, which would be counted twice, and where copies would come before the fields' ends.
     fn check(&self, place: &Seen) -> Result<(), RuleStop> {
         if has_page(self.fields.as_slice()) {
-            return Err(RuleStop::refused(place.number, Sentence::of("PAGE stands before *PLACE")));
+            return Err(RuleStop::because(place.number, "PAGE stands before *PLACE"));
         }
         if end_on(&place.card) < self.highest.saturating_mul(2) {
             let highest = Word::of_number(self.highest);
-            let why = Sentence::about("its end is less than twice %", highest);
-            return Err(RuleStop::refused(place.number, why));
+            return Err(RuleStop::about(place.number, "its end is less than twice %", highest));
         }
         Ok(())
     }
@@ -119,16 +117,13 @@ fn moved(field: NewCard, place: &Seen, further: usize) -> Result<NewCard, RuleSt
     let own = Conjunction::at(&field.card, 23);
     let together = Conjunction::at(&place.card, 23).and_missing(&own);
     if together.len() > MOST_TERMS {
-        let why = Sentence::of("more than three conditions together");
-        return Err(RuleStop::refused(place.number, why));
+        let why = "more than three conditions together";
+        return Err(RuleStop::because(place.number, why));
     }
-    let end = Word::of_number(end_on(&field.card).saturating_add(further));
-    Ok(NewCard {
-        card: field
-            .card
+    Ok(
+        field
             .with(23, 31, together.columns(0).text())
             .with(39, 39, &[])
-            .with_right(40, 43, end.text()),
-        number: field.number,
-    })
+            .with_number(40, 43, end_on(&field.card).saturating_add(further)),
+    )
 }

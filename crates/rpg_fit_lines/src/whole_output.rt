@@ -5,7 +5,7 @@ use crate::row::{Row, Span};
 use crate::width::field_width;
 use rpg_fit_deck::{Editor, Seen, Sentence, View, Word};
 use rpg_fit_words::{
-    Array, Line, List, NewCard, Operand, RuleStop, array_of, arrays, form_of, lines, with_room,
+    Array, DeckLines, Line, List, NewCard, Operand, RuleStop, array_of, entry, form_of, with_room,
 };
 use std::alloc::Global;
 
@@ -21,8 +21,8 @@ const GAP: usize = 2;
 ///
 /// The deck is rejected, or memory is refused.
 pub fn whole_outputs(alloc: Global, editor: &mut Editor) -> Result<(), RuleStop> {
-    let view = editor.view(alloc)?;
-    spread_lines(alloc, editor, &view, lines(alloc, &view)?.as_slice())
+    let deck = DeckLines::of(alloc, editor)?;
+    spread_lines(alloc, editor, &deck.view, deck.lines.as_slice())
 }
 
 fn spread_lines(
@@ -33,14 +33,12 @@ fn spread_lines(
 ) -> Result<(), RuleStop> {
     let mut deck = Arrays {
         view,
-        arrays: arrays(alloc, view)?,
         renamed: List::new(alloc),
     };
     for line in lines {
         spread_fields(alloc, editor, &mut deck, line)?;
     }
-    deck.renamed.checked()?;
-    Ok(())
+    deck.renamed.check()
 }
 
 fn spread_fields(
@@ -57,8 +55,7 @@ fn spread_fields(
             None => before.push(deck.span(field)),
         }
     }
-    before.checked()?;
-    Ok(())
+    before.check()
 }
 
 /// Puts a field for each entry in place of a whole array, after other fields of its line.
@@ -81,26 +78,25 @@ fn spread_array(
 /// Rejects entries without room in their line.
 fn check(row: Row, before: &[Span], card: usize) -> Result<(), RuleStop> {
     if row.begins_early() {
-        return Err(RuleStop::refused(card, Sentence::of("its first entry begins before column 1")));
+        return Err(RuleStop::because(card, "its first entry begins before column 1"));
     }
     for field in before {
         if row.has_between(*field) {
-            let why = Sentence::of("an earlier field stands between its entries");
-            return Err(RuleStop::refused(card, why));
+            let why = "an earlier field stands between its entries";
+            return Err(RuleStop::because(card, why));
         }
     }
     if row.entries > MOST_FIELDS {
-        let entries = Word::of_number(row.entries);
-        let why = Sentence::about("% entries, and a line has 200 fields", entries);
-        return Err(RuleStop::refused(card, why));
+        let why = "% entries, and a line has 200 fields";
+        return Err(RuleStop::about(card, why, Word::of_number(row.entries)));
     }
     Ok(())
 }
 
 /// Puts a field for each entry of a row in a field's place. The last one takes its card's place.
 fn spread(editor: &mut Editor, field: &Seen, name: Word, row: Row) {
-    for entry in 1..row.entries {
-        let card = entry_card(field, name, row, entry);
+    for number in 1..row.entries {
+        let card = entry_card(field, name, row, number);
         editor.insert_copy(field.at, card.card, card.number, field.number);
     }
     let last = entry_card(field, name, row, row.entries);
@@ -108,14 +104,11 @@ fn spread(editor: &mut Editor, field: &Seen, name: Word, row: Row) {
 }
 
 /// The field of an entry.
-fn entry_card(field: &Seen, name: Word, row: Row, entry: usize) -> NewCard {
-    let name = name.and(b",").and(Word::of_number(entry).text());
-    let end = Word::of_number(row.end_of(entry));
-    let copy = NewCard::copy(field).with(32, 37, name.text());
-    NewCard {
-        card: copy.card.with_right(40, 43, end.text()),
-        number: copy.number,
-    }
+fn entry_card(field: &Seen, name: Word, row: Row, number: usize) -> NewCard {
+    let put_out = entry(name, Word::of_number(number));
+    NewCard::copy(field)
+        .with(32, 37, put_out.text())
+        .with_number(40, 43, row.end_of(number))
 }
 
 /// A name that an array had, and has now.
@@ -129,14 +122,13 @@ struct Renamed {
 #[derive(Drop)]
 struct Arrays<'a> {
     view: &'a View,
-    arrays: Vec<Array>,
     renamed: List<Renamed>,
 }
 
 impl Arrays<'_> {
     /// The array that a field puts out as a whole.
     fn array(&self, field: &Seen) -> Option<Array> {
-        match array_of(self.arrays.as_slice(), name_on(&field.card)) {
+        match array_of(self.view, name_on(&field.card)) {
             Some(array) if array.entries > 0 => Some(array),
             _ => None,
         }
@@ -187,8 +179,7 @@ impl Arrays<'_> {
     ) -> Result<Word, RuleStop> {
         let entries = Word::of_number(array.entries);
         let name = self.name_now(array.name);
-        let tail = entries.len().saturating_add(1);
-        let new = with_room(alloc, editor, name.text(), tail)?;
+        let new = with_room(alloc, editor, name.text(), entries)?;
         if new.text() != name.text() {
             self.renamed.push(Renamed {
                 old: array.name,

@@ -3,7 +3,7 @@
 use crate::wide_word::ShortNumber;
 use rpg_fit_deck::{Editor, Word};
 use rpg_fit_words::{
-    Calculation, Group, Indicator, List, Place, RuleStop, Time, fresh_name, groups, insert_at,
+    Calculation, Group, Indicator, List, Place, RuleStop, Time, fresh_name, groups_now, insert_at,
 };
 use std::alloc::Global;
 
@@ -74,9 +74,8 @@ impl WideFields {
 
     /// Whether memory sufficed.
     pub fn check(&self) -> Result<(), RuleStop> {
-        self.fields.checked()?;
-        self.copies.checked()?;
-        Ok(())
+        self.fields.check()?;
+        self.copies.check()
     }
 
     /// The field for a number in a line, to which it is copied before the line is put out.
@@ -173,8 +172,7 @@ impl WideFields {
 
 /// Whether a deck has an EXCPT.
 fn has_exception(alloc: Global, editor: &Editor) -> Result<bool, RuleStop> {
-    let view = editor.view(alloc)?;
-    let groups = groups(alloc, &view)?;
+    let groups = groups_now(alloc, editor)?;
     for group in groups.iter() {
         if is_exception(group) {
             return Ok(true);
@@ -214,8 +212,7 @@ fn put_before_exceptions(
     calculation: Calculation,
     number: ShortNumber,
 ) -> Result<(), RuleStop> {
-    let view = editor.view(alloc)?;
-    let groups = groups(alloc, &view)?;
+    let groups = groups_now(alloc, editor)?;
     for group in groups.iter() {
         if is_exception(group) {
             let card = calculation.at(group.section().level()).card();

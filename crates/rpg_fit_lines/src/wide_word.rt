@@ -1,14 +1,13 @@
 //! Edit words with more places than their number has digits: a field with as many digits.
 
-use crate::constant::Constant;
 use crate::dollar::has_word;
-use crate::field::name_on;
+use crate::field::{constant_on, name_on};
 use crate::wide_field::{PutOut, WideFields};
 use crate::word_form::WordForm;
 use rpg_fit_deck::{Editor, Seen, Sentence, View, Word};
 use rpg_fit_words::{
-    Form, Line, NewCard, Operand, Printer, RuleStop, Time, form_of, is_card, is_date_part,
-    is_field_put_first, is_total_skipped_late, lines, printer_of,
+    DeckLines, Line, NewCard, Operand, Printer, RuleStop, Time, form_of, has_overflow, is_card,
+    is_date_part, is_field_put_first, is_total_skipped_late, printer_of,
 };
 use std::alloc::Global;
 
@@ -22,8 +21,8 @@ const MOST_DIGITS: usize = 15;
 ///
 /// The deck is rejected, or memory is refused.
 pub fn words(alloc: Global, editor: &mut Editor) -> Result<(), RuleStop> {
-    let view = editor.view(alloc)?;
-    widen_all(alloc, editor, &view, lines(alloc, &view)?.as_slice())
+    let deck = DeckLines::of(alloc, editor)?;
+    widen_all(alloc, editor, &deck.view, deck.lines.as_slice())
 }
 
 fn widen_all(
@@ -92,7 +91,7 @@ impl Deck<'_> {
         }
         let name = name_on(&field.card);
         let form = form_of(self.view, Operand::of(name).name)?;
-        let places = WordForm::of(Constant::of(&field.card).text()).places();
+        let places = WordForm::of(constant_on(&field.card).text()).places();
         if form.is_number() && form.length > 0 && places > form.length {
             Some(ShortNumber {
                 field: *field,
@@ -108,18 +107,17 @@ impl Deck<'_> {
     /// Rejects a number whose copy might not have its value where the line is put out.
     fn check(&self, at: LineAt, field: &Seen, number: ShortNumber) -> Result<(), RuleStop> {
         if number.places > MOST_DIGITS {
-            let why = Sentence::about("a word with % places", Word::of_number(number.places));
-            return Err(RuleStop::refused(field.number, why));
+            let places = Word::of_number(number.places);
+            return Err(RuleStop::about(field.number, "a word with % places", places));
         }
         let name = Operand::of(name_on(&field.card));
         if name.has_index_field() {
-            return refused(
-                field,
-                "a word with more places than digits beside an index field",
-            );
+            let why = "a word with more places than digits beside an index field";
+            return Err(RuleStop::because(field.number, why));
         }
         if name.name == b"PAGE".as_slice() {
-            return refused(field, "a word with more places than digits beside PAGE");
+            let why = "a word with more places than digits beside PAGE";
+            return Err(RuleStop::because(field.number, why));
         }
         self.check_value(at, field, name.name)
     }
@@ -127,14 +125,11 @@ impl Deck<'_> {
     /// Rejects a number that has a value before any calculation or that a line before it blanks.
     fn check_value(&self, at: LineAt, field: &Seen, name: &[u8]) -> Result<(), RuleStop> {
         if self.begins_with_value(name) && self.may_come_early(at.line, field) {
-            return refused(
-                field,
-                "a word with more places than digits, and the line may be put out before any calculation",
-            );
+            return Err(RuleStop::because(field.number, EARLY));
         }
         if self.may_be_blanked(at, name) {
             let why = "a word with more places than digits, and a line before it blanks %";
-            return Err(RuleStop::refused(field.number, Sentence::about(why, Word::of(name))));
+            return Err(RuleStop::about(field.number, why, Word::of(name)));
         }
         Ok(())
     }
@@ -152,26 +147,13 @@ impl Deck<'_> {
     /// Whether a field may be put out before any calculation.
     fn may_come_early(&self, line: &Line, field: &Seen) -> bool {
         is_field_put_first(self.printer, line, field)
-            || self.is_total_skipped && self.has_overflow(line)
-    }
-
-    /// Whether a line has an alternative of overflow.
-    fn has_overflow(&self, line: &Line) -> bool {
-        let Some(printer) = self.printer else {
-            return false;
-        };
-        for alternative in line.alternatives.iter() {
-            if printer.is_overflow(line, &alternative.condition) {
-                return true;
-            }
-        }
-        false
+            || self.is_total_skipped && has_overflow(self.printer, line)
     }
 
     /// Whether a field may be blanked between its copy and its line: by an earlier line of the same time, or by any where the line has an
     /// alternative of overflow.
     fn may_be_blanked(&self, at: LineAt, name: &[u8]) -> bool {
-        let at_overflow = self.has_overflow(at.line);
+        let at_overflow = has_overflow(self.printer, at.line);
         for (place, line) in self.lines.iter().enumerate() {
             let is_before = place < at.place && is_same_time(line.time, at.line.time);
             if (at_overflow || is_before) && blanks(line, name) {
@@ -192,7 +174,7 @@ impl Deck<'_> {
     ) -> Result<(), RuleStop> {
         let when = PutOut {
             time: at.line.time,
-            has_overflow: self.has_overflow(at.line),
+            has_overflow: has_overflow(self.printer, at.line),
         };
         let name = wide.field_for(alloc, editor, number, when)?;
         let field = number.field;
@@ -222,10 +204,9 @@ pub(crate) struct ShortNumber {
     pub places: usize,
 }
 
-/// The deck is refused for a field.
-fn refused(field: &Seen, why: &'static str) -> Result<(), RuleStop> {
-    Err(RuleStop::refused(field.number, Sentence::of(why)))
-}
+/// Why a number with a value before any calculation isn't copied.
+const EARLY: &str =
+    "a word with more places than digits, and the line may be put out before any calculation";
 
 /// Whether a name is the date or a part of it.
 fn is_date(name: &[u8]) -> bool {

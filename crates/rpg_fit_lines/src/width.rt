@@ -1,6 +1,6 @@
 //! How many columns an output field fills.
 
-use crate::constant::Constant;
+use crate::field::constant_on;
 use rpg_edit_marks::{EditCode, Fill};
 use rpg_edit_widths::{How, width};
 use rpg_fit_deck::Card;
@@ -8,7 +8,7 @@ use rpg_fit_words::Form;
 
 /// How many columns a field fills, edited as its card asks. A name without a form fills one.
 pub(crate) fn field_width(field: &Card, form: Option<Form>) -> usize {
-    let constant = Constant::of(field);
+    let constant = constant_on(field);
     if field.is_blank(32, 37) {
         return constant.text().len();
     }

@@ -1,46 +1,12 @@
 //! How lines become lines that EXCPT puts out, and overflow output where they fetch it.
 
-use crate::overflow::Overflow;
-use crate::page_reset::fetches;
+use crate::overflow::{Overflow, Part, fetches};
 use rpg_fit_deck::{Address, Editor, Sentence, View, Word};
 use rpg_fit_words::{
-    Calculation, Conjunction, FreeIndicators, Indicator, Line, List, NewCard, Place, RuleStop,
-    Term, Time, insert_at, is_card, name_files, push_conditioned, put_cards,
+    Calculation, Conjunction, FreeIndicators, Indicator, Line, List, NewCard, RuleStop, Term,
+    insert_at, is_card, name_files, push_conditioned, put_cards,
 };
 use std::alloc::Global;
-
-/// A time of the cycle at which lines are put out.
-#[derive(Clone, Copy)]
-enum Part {
-    Total,
-    /// Heading and detail lines.
-    Detail,
-}
-
-impl Part {
-    fn has(self, time: Time) -> bool {
-        match self {
-            Part::Total => time == Time::Total,
-            Part::Detail => time.is_detail(),
-        }
-    }
-
-    /// What stands in 7 to 8 of its calculations.
-    fn level(self) -> Indicator {
-        match self {
-            Part::Total => Indicator::ALWAYS,
-            Part::Detail => Indicator::BLANK,
-        }
-    }
-
-    /// The place for calculations before its lines.
-    fn end(self) -> Place {
-        match self {
-            Part::Total => Place::TotalEnd,
-            Part::Detail => Place::DetailEnd,
-        }
-    }
-}
 
 /// Lines that are to be put out by EXCPT.
 #[derive(Clone, Copy)]

@@ -1,7 +1,67 @@
 //! Overflow output.
 
 use rpg_fit_deck::View;
-use rpg_fit_words::{Conjunction, Indicator, Line, List, Printer, Term, printer_of};
+use rpg_fit_words::{
+    Conjunction, Indicator, Line, List, Place, Printer, Term, Time, has_overflow, is_overflow,
+    printer_of,
+};
+
+/// A time of the cycle at which lines are put out.
+#[derive(Clone, Copy)]
+pub(crate) enum Part {
+    Total,
+    /// Heading and detail lines.
+    Detail,
+}
+
+impl Part {
+    /// That of a line's time, which is no exception.
+    pub fn of(time: Time) -> Part {
+        if time == Time::Total {
+            Part::Total
+        } else {
+            Part::Detail
+        }
+    }
+
+    pub fn has(self, time: Time) -> bool {
+        match self {
+            Part::Total => time == Time::Total,
+            Part::Detail => time.is_detail(),
+        }
+    }
+
+    /// What stands in 7 to 8 of its calculations.
+    pub fn level(self) -> Indicator {
+        match self {
+            Part::Total => Indicator::ALWAYS,
+            Part::Detail => Indicator::BLANK,
+        }
+    }
+
+    /// The place for calculations before its lines.
+    pub fn end(self) -> Place {
+        match self {
+            Part::Total => Place::TotalEnd,
+            Part::Detail => Place::DetailEnd,
+        }
+    }
+}
+
+/// Whether a line fetches overflow output.
+pub(crate) fn fetches(line: &Line) -> bool {
+    line.head.card.column(16) == b'F'
+}
+
+/// The number of the card of the first line that fetches overflow output.
+pub(crate) fn first_fetching(lines: &[Line]) -> Option<usize> {
+    for line in lines {
+        if fetches(line) {
+            return Some(line.head.number);
+        }
+    }
+    None
+}
 
 /// What a deck does at overflow.
 #[derive(Clone, Copy)]
@@ -36,10 +96,7 @@ impl Overflow {
 
     /// Whether a line is put out at overflow under a condition.
     pub fn is_output(&self, line: &Line, condition: &Conjunction) -> bool {
-        match self.printer {
-            Some(printer) => printer.is_overflow(line, condition),
-            None => false,
-        }
+        is_overflow(self.printer, line, condition)
     }
 
     /// Whether a line's condition is one of a kind of its alternatives.
@@ -49,12 +106,7 @@ impl Overflow {
 
     /// Whether a line has an alternative of overflow.
     pub fn has(&self, line: &Line) -> bool {
-        for alternative in line.alternatives.iter() {
-            if self.is_output(line, &alternative.condition) {
-                return true;
-            }
-        }
-        false
+        has_overflow(self.printer, line)
     }
 
     /// Appends the conditions under which a line is put out at overflow, in their order.

@@ -1,8 +1,8 @@
 //! The output fields that print PAGE.
 
-use crate::overflow::{Kind, Overflow};
+use crate::overflow::{Kind, Overflow, Part};
 use rpg_fit_deck::Seen;
-use rpg_fit_words::{Conjunction, Indicator, Line, List, Term, Time};
+use rpg_fit_words::{Conjunction, Indicator, Line, List, Term};
 use std::alloc::Global;
 
 /// A field that prints PAGE, and its line.
@@ -54,13 +54,9 @@ impl PageField<'_> {
         found
     }
 
-    /// Whether a line is put out at the same time of the cycle.
-    pub fn is_at_time_of(&self, line: &Line) -> bool {
-        if self.line.time == Time::Total {
-            line.time == Time::Total
-        } else {
-            line.time.is_detail()
-        }
+    /// The time of the cycle at which its line is put out.
+    pub fn part(&self) -> Part {
+        Part::of(self.line.time)
     }
 }
 

@@ -1,24 +1,23 @@
 //! PAGE under conditions: it is printed in any case, and set back to 0 before that where they hold.
 
-use crate::overflow::{Kind, Overflow};
+use crate::overflow::{Kind, Overflow, first_fetching};
 use crate::page_field::{PageField, is_page, page_card};
 use crate::page_steps::{Marks, reset, reset_at_overflow};
 use rpg_fit_deck::{Card, Editor, Sentence, View, Word};
 use rpg_fit_words::{
-    Conjunction, Indicator, Line, List, RuleStop, Term, Time, is_card, is_field_put_first,
-    is_put_first, is_total_skipped_late, lines, settle,
+    Conjunction, DeckLines, Line, List, RuleStop, Time, is_card, is_field_put_first, is_put_first,
+    is_total_skipped_late,
 };
 use std::alloc::Global;
 
 /// Sets PAGE back by calculations where it is printed under conditions.
-pub fn pages(alloc: Global, editor: &mut Editor) {
-    let outcome = reset_pages(alloc, editor);
-    settle(editor, outcome);
-}
-
-fn reset_pages(alloc: Global, editor: &mut Editor) -> Result<(), RuleStop> {
-    let view = editor.view(alloc)?;
-    reset_lines(alloc, editor, &view, lines(alloc, &view)?.as_slice())
+///
+/// # Errors
+///
+/// The deck is rejected, or memory is refused.
+pub fn pages(alloc: Global, editor: &mut Editor) -> Result<(), RuleStop> {
+    let deck = DeckLines::of(alloc, editor)?;
+    reset_lines(alloc, editor, &deck.view, deck.lines.as_slice())
 }
 
 fn reset_lines(
@@ -32,25 +31,10 @@ fn reset_lines(
         view,
         overflow,
         lines,
-        fetches: has_fetching(lines),
+        fetches: first_fetching(lines).is_some(),
         is_total_skipped: is_total_skipped_late(alloc, view, overflow.printer, lines)?,
     };
     deck.reset_lines(alloc, editor)
-}
-
-/// Whether a line fetches overflow output.
-pub(crate) fn fetches(line: &Line) -> bool {
-    line.head.card.column(16) == b'F'
-}
-
-/// Whether one of some lines fetches overflow output.
-fn has_fetching(lines: &[Line]) -> bool {
-    for line in lines {
-        if fetches(line) {
-            return true;
-        }
-    }
-    false
 }
 
 /// A deck before any PAGE is set back.
@@ -185,7 +169,7 @@ impl Deck<'_> {
         let is_first = is_field_put_first(self.overflow.printer, page.line, page.field);
         for line in earlier {
             if let Some(card) = page_card(line) {
-                if page.is_at_time_of(line) {
+                if page.part().has(line.time) {
                     self.check_earlier_line(page, line, card, is_reset)?;
                     if is_first && is_put_first(self.overflow.printer, line) {
                         return refused_by(
@@ -273,7 +257,7 @@ impl Deck<'_> {
         let card = page.field.number;
         if !resets.normal.is_empty() {
             let conditions = resets.normal.as_slice();
-            reset(alloc, editor, page.line.time, conditions, card)?;
+            reset(alloc, editor, page.part(), conditions, card)?;
         }
         if !resets.at_overflow.is_empty() {
             let conditions = resets.at_overflow.as_slice();
@@ -320,13 +304,10 @@ fn spelled(field: &Card) -> Word {
 
 /// The deck is refused for a field.
 fn refused(page: PageField, why: &'static str) -> Result<(), RuleStop> {
-    Err(RuleStop::refused(page.field.number, Sentence::of(why)))
+    Err(RuleStop::because(page.field.number, why))
 }
 
 /// The deck is refused for a field, because of another card.
 fn refused_by(page: PageField, why: &'static str, card: usize) -> Result<(), RuleStop> {
-    Err(RuleStop::refused(
-        page.field.number,
-        Sentence::about(why, Word::of_number(card)),
-    ))
+    Err(RuleStop::about(page.field.number, why, Word::of_number(card)))
 }

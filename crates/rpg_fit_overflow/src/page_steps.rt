@@ -1,9 +1,10 @@
 //! The calculations that set PAGE back.
 
+use crate::overflow::Part;
 use rpg_fit_deck::{Editor, View, Word};
 use rpg_fit_words::{
     Calculation, Conjunction, FreeIndicators, FreshNames, Indicator, List, NewCard, Place,
-    RuleStop, Term, Time, insert_at, push_conditioned,
+    RuleStop, Term, insert_at, push_conditioned,
 };
 use std::alloc::Global;
 
@@ -33,24 +34,18 @@ fn to_zero() -> Calculation {
 pub(crate) fn reset(
     alloc: Global,
     editor: &mut Editor,
-    time: Time,
+    part: Part,
     conditions: &[Conjunction],
     card: usize,
 ) -> Result<(), RuleStop> {
-    let is_total = time == Time::Total;
-    let level = if is_total {
-        Indicator::ALWAYS
-    } else {
-        Indicator::BLANK
-    };
-    let place = if is_total {
-        Place::TotalEnd
-    } else {
-        Place::DetailEnd
-    };
     let mut cards = List::new(alloc);
-    push_conditioned(&mut cards, level, conditions, to_zero().made_of(card))?;
-    insert_at(alloc, editor, place, cards.checked()?, card)
+    push_conditioned(
+        &mut cards,
+        part.level(),
+        conditions,
+        to_zero().made_of(card),
+    )?;
+    insert_at(alloc, editor, part.end(), cards.checked()?, card)
 }
 
 /// How PAGE is set back before overflow output.

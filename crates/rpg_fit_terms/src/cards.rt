@@ -1,6 +1,6 @@
 //! Cards of a deck, and cards that rules make.
 
-use rpg_fit_deck::{Address, Card, Editor, Seen, View};
+use rpg_fit_deck::{Address, Card, Editor, Seen, View, Word};
 
 /// A card that a rule makes, and the number of the card that it is made of.
 #[derive(Clone, Copy)]
@@ -27,6 +27,15 @@ impl NewCard {
     pub fn with(self, first: usize, last: usize, text: &[u8]) -> NewCard {
         NewCard {
             card: self.card.with(first, last, text),
+            number: self.number,
+        }
+    }
+
+    /// This card with a number at the end of columns.
+    pub fn with_number(self, first: usize, last: usize, number: usize) -> NewCard {
+        let digits = Word::of_number(number);
+        NewCard {
+            card: self.card.with_right(first, last, digits.text()),
             number: self.number,
         }
     }

@@ -14,11 +14,11 @@ mod stop;
 
 pub use cards::{NewCard, address_after, is_card, put_cards};
 pub use condition::{Conjunction, Term};
-pub use form::{Array, Form, array_of, arrays, form_of};
+pub use form::{Array, Form, array_of, form_of};
 pub use free_indicator::{FreeIndicators, free_halt};
 pub use fresh::{FreshNames, fresh_name, unused_prefix};
 pub use indicator::Indicator;
 pub use name::{is_date_part, is_name_used};
-pub use operand::Operand;
+pub use operand::{Operand, entry};
 pub use renaming::{rename, with_room};
 pub use stop::{Reason, RuleStop, settle};

@@ -3,6 +3,8 @@
 ghost use Rattle.std.specs.Prelude.{◌≡◌, ◌<◌, length, position, IfSome};
 ghost use Rattle.rpg_fit_terms.specs.Names.{index_in, ends_name, name_in};
 
+use rpg_fit_deck::Word;
+
 /// A name, and the index after its comma; both may be empty.
 #[derive(Clone, Copy)]
 pub struct Operand<'a> {
@@ -42,6 +44,11 @@ impl<'a> Operand<'a> {
         }
         false
     }
+}
+
+/// An entry of an array: a name with an index.
+pub fn entry(name: Word, index: Word) -> Word {
+    name.and(b",").and(index.text())
 }
 
 /// The place of the first comma.

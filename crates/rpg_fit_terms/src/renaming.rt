@@ -82,8 +82,8 @@ fn shorter_name(view: &View, name: &[u8], room: usize, card: usize) -> Result<Wo
     }
 }
 
-/// An array's name with room for a tail of some characters in a result. If its own has none, all cards have a shorter one from now
-/// on, and its card gets a sentence about that.
+/// An array's name with room for a comma and an index in a result. If its own has none, all cards have a shorter one from now on, and its
+/// card gets a sentence about that.
 ///
 /// # Errors
 ///
@@ -92,15 +92,16 @@ pub fn with_room(
     alloc: Global,
     editor: &mut Editor,
     name: &[u8],
-    tail: usize,
+    index: Word,
 ) -> Result<Word, RuleStop> {
     let old = Word::of(name);
-    if old.len().saturating_add(tail) <= RESULT {
+    let room = RESULT.saturating_sub(index.len().saturating_add(1));
+    if old.len() <= room {
         return Ok(old);
     }
     let view = editor.view(alloc)?;
     let card = card_of(&view, name);
-    let new = shorter_name(&view, name, RESULT.saturating_sub(tail), card)?;
+    let new = shorter_name(&view, name, room, card)?;
     editor.tell(
         card,
         Sentence::of_two("% is called %, so that an index has room", old, new),

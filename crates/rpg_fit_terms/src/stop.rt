@@ -3,7 +3,7 @@
 ghost use Rattle.std.specs.Prelude.{◌≡◌, MatchResult};
 ghost use Rattle.rpg_fit_terms.specs.Stops.{IsStoppedBy};
 
-use rpg_fit_deck::{Editor, Sentence};
+use rpg_fit_deck::{Editor, Sentence, Word};
 use std::alloc::{AllocError, AllocFailed};
 
 /// Why a deck is rejected, and for which card of the source.
@@ -24,6 +24,16 @@ impl RuleStop {
     /// The deck is rejected for a card.
     pub fn refused(card: usize, why: Sentence) -> RuleStop {
         RuleStop::Refused(Reason { card, why })
+    }
+
+    /// The deck is rejected for a card, by a sentence without words of its own.
+    pub fn because(card: usize, why: &'static str) -> RuleStop {
+        RuleStop::refused(card, Sentence::of(why))
+    }
+
+    /// The deck is rejected for a card, by a sentence about a word.
+    pub fn about(card: usize, why: &'static str, word: Word) -> RuleStop {
+        RuleStop::refused(card, Sentence::about(why, word))
     }
 }
 

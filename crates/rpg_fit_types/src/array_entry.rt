@@ -5,18 +5,12 @@ use rpg_fit_terms::{Form, FreeIndicators, FreshNames, Indicator, NewCard, RuleSt
 use rpg_fit_words::{Calculation, List};
 use std::alloc::Global;
 
-/// An entry of an array: the array's name, and what stands after the comma.
-#[derive(Clone, Copy)]
-pub(crate) struct Entry {
-    pub name: Word,
-    pub index: Word,
-}
-
-/// The field that an entry is read into for the types of an indicator.
+/// The field that an entry of an array is read into for the types of an indicator.
 #[derive(Clone, Copy)]
 struct Shadow {
     indicator: Indicator,
-    entry: Entry,
+    /// The array's name and the index.
+    entry: Word,
     field: Word,
 }
 
@@ -25,9 +19,9 @@ struct Shadow {
 pub(crate) struct Filling {
     pub free: FreeIndicators,
     names: FreshNames,
-    shadows: Vec<Shadow>,
+    shadows: List<Shadow>,
     /// The calculations that fill the entries, of all types.
-    pub moves: List<NewCard>,
+    moves: List<NewCard>,
 }
 
 /// An array or an entry on a card: the card, its type's indicator, and the form of an entry.
@@ -51,15 +45,21 @@ impl Filling {
         Filling {
             free: FreeIndicators::new(),
             names: FreshNames::of(b"I#", 6),
-            shadows: Vec::new(alloc),
+            shadows: List::new(alloc),
             moves: List::new(alloc),
         }
     }
 
+    /// The calculations that fill the entries.
+    pub fn calculations(&self) -> Result<&[NewCard], RuleStop> {
+        self.shadows.check()?;
+        self.moves.checked()
+    }
+
     /// The field that an entry is read into already.
-    fn shadow(&self, indicator: Indicator, entry: &Entry) -> Option<Word> {
-        for shadow in self.shadows.iter() {
-            if shadow.indicator == indicator && is_same(&shadow.entry, entry) {
+    fn shadow(&self, indicator: Indicator, entry: Word) -> Option<Word> {
+        for shadow in self.shadows.as_slice() {
+            if shadow.indicator == indicator && shadow.entry.text() == entry.text() {
                 return Some(shadow.field);
             }
         }
@@ -67,22 +67,17 @@ impl Filling {
     }
 
     /// The field that an entry is read into. A new one is moved to the entry.
-    fn field_of(
-        &mut self,
-        view: &View,
-        reading: &Reading,
-        entry: &Entry,
-    ) -> Result<Word, RuleStop> {
+    fn field_of(&mut self, view: &View, reading: &Reading, entry: Word) -> Result<Word, RuleStop> {
         if let Some(field) = self.shadow(reading.indicator, entry) {
             return Ok(field);
         }
         let field = self.names.take(view, reading.seen.number)?;
         self.shadows.push(Shadow {
             indicator: reading.indicator,
-            entry: *entry,
+            entry,
             field,
-        })?;
-        self.moves.push(move_to(reading, entry, &field));
+        });
+        self.moves.push(move_to(reading, entry, field));
         Ok(field)
     }
 
@@ -92,44 +87,36 @@ impl Filling {
         editor: &mut Editor,
         view: &View,
         reading: &Reading,
-        entry: &Entry,
+        entry: Word,
         span: Span,
     ) -> Result<(), RuleStop> {
         let field = self.field_of(view, reading, entry)?;
-        let card = field_card(reading, &field, span);
+        let card = field_card(reading, field, span);
         editor.insert(reading.seen.at, card, reading.seen.number);
         Ok(())
     }
 }
 
 /// The card of a field that an entry is read into.
-fn field_card(reading: &Reading, field: &Word, span: Span) -> Card {
-    reading
-        .seen
-        .card
-        .made()
-        .with_right(44, 47, Word::of_number(span.first).text())
-        .with_right(48, 51, Word::of_number(span.last).text())
+fn field_card(reading: &Reading, field: Word, span: Span) -> Card {
+    NewCard::copy(&reading.seen)
+        .with_number(44, 47, span.first)
+        .with_number(48, 51, span.last)
         .with(52, 52, &[reading.form.decimals])
         .with(53, 58, field.text())
-}
-
-/// Whether two entries are the same.
-fn is_same(one: &Entry, other: &Entry) -> bool {
-    one.name.text() == other.name.text() && one.index.text() == other.index.text()
+        .card
 }
 
 /// The calculation that moves a field to an entry.
-fn move_to(reading: &Reading, entry: &Entry, field: &Word) -> NewCard {
+fn move_to(reading: &Reading, entry: Word, field: Word) -> NewCard {
     let operation: &[u8] = if reading.form.is_number() {
         b"Z-ADD"
     } else {
         b"MOVE"
     };
-    let result = entry.name.and(b",").and(entry.index.text());
     Calculation::of(operation)
         .when(reading.indicator)
         .factor2(field.text())
-        .result(result.text())
+        .result(entry.text())
         .made_of(reading.seen.number)
 }

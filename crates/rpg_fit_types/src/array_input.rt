@@ -1,42 +1,24 @@
 //! Arrays that are read: each entry through a field of its own.
 
-use crate::array_entry::{Entry, Filling, Reading, Span};
+use crate::array_entry::{Filling, Reading, Span};
 use rpg_fit_deck::{Card, Editor, Seen, Sentence, View, Word};
-use rpg_fit_terms::{Array, Indicator, Operand, RuleStop, array_of, arrays, settle, with_room};
-use rpg_fit_words::{List, Place, RecordType, check_only_type, groups, insert_at, record_types};
+use rpg_fit_terms::{Array, Indicator, Operand, RuleStop, array_of, entry, with_room};
+use rpg_fit_words::{List, Place, RecordType, check_only_type, insert_at, record_types};
 use std::alloc::Global;
 
 /// A field for each entry of an array that is read, and calculations that fill the entries at the front of detail.
-pub fn input_arrays(alloc: Global, editor: &mut Editor) {
-    let outcome = fill_all(alloc, editor);
-    settle(editor, outcome);
-}
-
-fn fill_all(alloc: Global, editor: &mut Editor) -> Result<(), RuleStop> {
+///
+/// # Errors
+///
+/// The deck is rejected, or memory is refused.
+pub fn input_arrays(alloc: Global, editor: &mut Editor) -> Result<(), RuleStop> {
     let view = editor.view(alloc)?;
     let types = record_types(alloc, &view)?;
-    let arrays = arrays(alloc, &view)?;
-    let mut filling = Filling::new(alloc);
-    for kind in types.iter() {
-        fill_type(
-            alloc,
-            editor,
-            &mut filling,
-            types.as_slice(),
-            arrays.as_slice(),
-            kind,
-        )?;
-    }
-    insert_moves(alloc, editor, &filling)
-}
-
-/// Puts the calculations of all types at the front of detail.
-fn insert_moves(alloc: Global, editor: &mut Editor, filling: &Filling) -> Result<(), RuleStop> {
-    let moves = filling.moves.checked()?;
-    match moves.first() {
-        Some(first) => insert_at(alloc, editor, Place::DetailFront, moves, first.number),
-        None => Ok(()),
-    }
+    let deck = Deck {
+        view: &view,
+        types: types.as_slice(),
+    };
+    deck.fill_types(alloc, editor)
 }
 
 /// The name and index of an input field.
@@ -44,44 +26,118 @@ fn field_of(card: &Card) -> Operand<'_> {
     Operand::of(card.value(53, 58))
 }
 
-/// Whether a field is an array or an entry.
-fn is_array(seen: &Seen, arrays: &[Array]) -> bool {
-    array_of(arrays, field_of(&seen.card).name).is_some()
+/// A record type that reads arrays, the fields that are arrays or entries, and the indicator that it has now.
+#[derive(Clone, Copy)]
+struct Reader<'a> {
+    kind: &'a RecordType,
+    fields: &'a [Seen],
+    indicator: Indicator,
 }
 
-/// The fields of a type that are arrays or entries.
-fn array_fields(alloc: Global, kind: &RecordType, arrays: &[Array]) -> Result<Vec<Seen>, RuleStop> {
-    let mut found = List::new(alloc);
-    for field in kind.fields.iter() {
-        if is_array(field, arrays) {
-            found.push(*field);
+impl Reader<'_> {
+    /// The deck is rejected for its type.
+    fn refused(&self, why: &'static str) -> RuleStop {
+        RuleStop::about(self.kind.head.number, why, self.indicator.word())
+    }
+}
+
+/// A deck before its arrays are rewritten.
+#[derive(Clone, Copy)]
+struct Deck<'a> {
+    view: &'a View,
+    types: &'a [RecordType],
+}
+
+impl Deck<'_> {
+    fn fill_types(&self, alloc: Global, editor: &mut Editor) -> Result<(), RuleStop> {
+        let mut filling = Filling::new(alloc);
+        for kind in self.types {
+            self.fill_type(alloc, editor, &mut filling, kind)?;
         }
+        insert_moves(alloc, editor, &filling)
     }
-    found.finish()
+
+    /// Reads the arrays of a type.
+    fn fill_type(
+        &self,
+        alloc: Global,
+        editor: &mut Editor,
+        filling: &mut Filling,
+        kind: &RecordType,
+    ) -> Result<(), RuleStop> {
+        let fields = self.array_fields(alloc, kind);
+        let fields = fields.checked()?;
+        let Some(first) = fields.first() else {
+            return Ok(());
+        };
+        let reader = Reader {
+            kind,
+            fields,
+            indicator: indicator_of(alloc, editor, filling, kind, first.number)?,
+        };
+        self.fill_fields(alloc, editor, filling, reader)
+    }
+
+    /// The fields of a type that are arrays or entries.
+    fn array_fields(&self, alloc: Global, kind: &RecordType) -> List<Seen> {
+        let mut found = List::new(alloc);
+        for field in kind.fields.iter() {
+            if array_of(self.view, field_of(&field.card).name).is_some() {
+                found.push(*field);
+            }
+        }
+        found
+    }
+
+    /// Reads the fields of a type that are arrays or entries.
+    fn fill_fields(
+        &self,
+        alloc: Global,
+        editor: &mut Editor,
+        filling: &mut Filling,
+        reader: Reader,
+    ) -> Result<(), RuleStop> {
+        self.check_types(alloc, reader)?;
+        check_indicator(alloc, editor, reader)?;
+        for field in reader.fields {
+            check_field(reader.kind, field)?;
+            fill_field(alloc, editor, filling, field, reader.indicator)?;
+        }
+        Ok(())
+    }
+
+    /// Refuses a type's indicator that a type which fills other entries has too.
+    fn check_types(&self, alloc: Global, reader: Reader) -> Result<(), RuleStop> {
+        for other in self.types {
+            if Indicator::at(&other.head.card, 19) == reader.indicator {
+                self.check_same(alloc, other, reader)?;
+            }
+        }
+        Ok(())
+    }
+
+    /// Refuses a type beside which another one with its indicator fills other entries, or in another order.
+    fn check_same(
+        &self,
+        alloc: Global,
+        other: &RecordType,
+        reader: Reader,
+    ) -> Result<(), RuleStop> {
+        let fields = self.array_fields(alloc, other);
+        if fill_same(fields.checked()?, reader.fields) {
+            return Ok(());
+        }
+        Err(reader.refused("another type has indicator % too, and fills other entries"))
+    }
 }
 
-/// Reads the arrays of a type.
-fn fill_type(
-    alloc: Global,
-    editor: &mut Editor,
-    filling: &mut Filling,
-    types: &[RecordType],
-    arrays: &[Array],
-    kind: &RecordType,
-) -> Result<(), RuleStop> {
-    let fields = array_fields(alloc, kind, arrays)?;
-    let with = match fields.first() {
-        Some(first) => first.number,
-        None => return Ok(()),
-    };
-    let indicator = indicator_of(alloc, editor, filling, kind, with)?;
-    check_types(alloc, types, arrays, kind, indicator)?;
-    check_indicator(alloc, editor, kind, indicator)?;
-    for field in fields.iter() {
-        check_field(kind, field)?;
-        fill_field(alloc, editor, filling, field, indicator)?;
+/// Puts the calculations of all types at the front of detail.
+fn insert_moves(alloc: Global, editor: &mut Editor, filling: &Filling) -> Result<(), RuleStop> {
+    let moves = filling.calculations()?;
+    match moves.first() {
+        Some(first) => insert_at(alloc, editor, Place::DetailFront, moves, first.number),
+        None => Ok(()),
     }
-    Ok(())
 }
 
 /// The indicator of a type: its own, or a free one.
@@ -97,13 +153,8 @@ fn indicator_of(
         return Ok(own);
     }
     if !own.is_blank() {
-        return Err(RuleStop::refused(
-            kind.head.number,
-            Sentence::about(
-                "its indicator is %, and may be on in other cycles",
-                own.word(),
-            ),
-        ));
+        let why = "its indicator is %, and may be on in other cycles";
+        return Err(RuleStop::about(kind.head.number, why, own.word()));
     }
     let view = editor.view(alloc)?;
     let free = filling.free.take(&view, kind.head.number)?;
@@ -113,63 +164,20 @@ fn indicator_of(
 }
 
 /// Refuses a type's indicator that anything but its types may have turned on or off.
-fn check_indicator(
-    alloc: Global,
-    editor: &Editor,
-    kind: &RecordType,
-    indicator: Indicator,
-) -> Result<(), RuleStop> {
+fn check_indicator(alloc: Global, editor: &Editor, reader: Reader) -> Result<(), RuleStop> {
     let view = editor.view(alloc)?;
-    let groups = groups(alloc, &view)?;
-    check_only_type(alloc, &view, groups.as_slice(), indicator, kind.head.number)
+    check_only_type(alloc, &view, reader.indicator, reader.kind.head.number)
 }
 
-/// Refuses a type's indicator that a type which fills other entries has too.
-fn check_types(
-    alloc: Global,
-    types: &[RecordType],
-    arrays: &[Array],
-    kind: &RecordType,
-    indicator: Indicator,
-) -> Result<(), RuleStop> {
-    for other in types {
-        if Indicator::at(&other.head.card, 19) == indicator
-            && !fill_same(alloc, other, kind, arrays)?
-        {
-            return Err(RuleStop::refused(
-                kind.head.number,
-                Sentence::about(
-                    "another type has indicator % too, and fills other entries",
-                    indicator.word(),
-                ),
-            ));
-        }
-    }
-    Ok(())
-}
-
-/// Whether two types fill the same entries, in the same order.
-fn fill_same(
-    alloc: Global,
-    one: &RecordType,
-    other: &RecordType,
-    arrays: &[Array],
-) -> Result<bool, RuleStop> {
-    let first = array_fields(alloc, one, arrays)?;
-    let second = array_fields(alloc, other, arrays)?;
-    Ok(first.len() == second.len() && all_fill_same(first.as_slice(), second.as_slice()))
-}
-
-/// Whether as many fields of two types as both have fill the same entries, in the same order.
-fn all_fill_same(first: &[Seen], second: &[Seen]) -> bool {
+/// Whether the fields of two types fill the same entries, in the same order.
+fn fill_same(first: &[Seen], second: &[Seen]) -> bool {
     for (place, field) in first.iter().enumerate() {
-        if let Some(other) = second.get(place) {
-            if !fills_same(&field.card, &other.card) {
-                return false;
-            }
+        match second.get(place) {
+            Some(other) if fills_same(&field.card, &other.card) => {}
+            _ => return false,
         }
     }
-    true
+    first.len() == second.len()
 }
 
 /// Whether two fields fill the same entries.
@@ -200,17 +208,13 @@ fn is_filled_from(kind: &RecordType, field: &Seen, name: &[u8]) -> bool {
 /// Rejects a field that is packed, or whose index a later card fills.
 fn check_field(kind: &RecordType, field: &Seen) -> Result<(), RuleStop> {
     if field.card.column(43) != b' ' {
-        return Err(RuleStop::refused(
-            field.number,
-            Sentence::of("packed or binary: rpg2 records first"),
-        ));
+        let why = "packed or binary: rpg2 records first";
+        return Err(RuleStop::because(field.number, why));
     }
-    let index = field_of(&field.card).index;
-    if field_of(&field.card).has_index_field() && is_filled_from(kind, field, index) {
-        return Err(RuleStop::refused(
-            field.number,
-            Sentence::about("the index % is filled by a card after it", Word::of(index)),
-        ));
+    let read = field_of(&field.card);
+    if read.has_index_field() && is_filled_from(kind, field, read.index) {
+        let why = "the index % is filled by a card after it";
+        return Err(RuleStop::about(field.number, why, Word::of(read.index)));
     }
     Ok(())
 }
@@ -235,31 +239,29 @@ fn fill_field(
 ) -> Result<(), RuleStop> {
     let view = editor.view(alloc)?;
     let name = name_now(&view, field);
-    let arrays = arrays(alloc, &view)?;
-    match array_of(arrays.as_slice(), Operand::of(name.text()).name) {
-        Some(array) => {
-            let reading = Reading {
-                seen: *field,
-                indicator,
-                form: array.form,
-            };
-            if Operand::of(name.text()).has_index() {
-                fill_entry(alloc, editor, filling, &reading, &name)
-            } else {
-                fill_array(alloc, editor, filling, &reading, &array)
-            }
-        }
-        None => Ok(()),
+    let operand = Operand::of(name.text());
+    let Some(array) = array_of(&view, operand.name) else {
+        return Ok(());
+    };
+    let reading = Reading {
+        seen: *field,
+        indicator,
+        form: array.form,
+    };
+    if operand.has_index() {
+        fill_entry(editor, filling, &view, &reading, name)
+    } else {
+        fill_array(alloc, editor, filling, &reading, &array)
     }
 }
 
 /// Adds the sentence that says how many calculations fill an array or an entry.
-fn tell_filled(editor: &mut Editor, reading: &Reading, name: &Word, count: usize) {
+fn tell_filled(editor: &mut Editor, reading: &Reading, name: Word, count: usize) {
     editor.tell(
         reading.seen.number,
         Sentence::of_three(
             "% is filled by % calculations under % at the front of detail",
-            *name,
+            name,
             Word::of_number(count),
             reading.indicator.word(),
         ),
@@ -268,27 +270,20 @@ fn tell_filled(editor: &mut Editor, reading: &Reading, name: &Word, count: usize
 
 /// Reads an entry.
 fn fill_entry(
-    alloc: Global,
     editor: &mut Editor,
     filling: &mut Filling,
+    view: &View,
     reading: &Reading,
-    name: &Word,
+    entry: Word,
 ) -> Result<(), RuleStop> {
     let seen = &reading.seen;
     if width(&seen.card) != Some(reading.form.length) {
-        return Err(RuleStop::refused(
-            seen.number,
-            Sentence::of("columns of another length than an entry"),
-        ));
+        let why = "columns of another length than an entry";
+        return Err(RuleStop::because(seen.number, why));
     }
-    tell_filled(editor, reading, name, 1);
-    let entry = Entry {
-        name: Word::of(Operand::of(name.text()).name),
-        index: Word::of(Operand::of(name.text()).index),
-    };
-    let view = editor.view(alloc)?;
-    let span = span_of(seen, reading.form.length, 0);
-    filling.read_entry(editor, &view, reading, &entry, span)?;
+    tell_filled(editor, reading, entry, 1);
+    let span = span_of(reading, 0);
+    filling.read_entry(editor, view, reading, entry, span)?;
     editor.remove(seen.at, seen.number);
     Ok(())
 }
@@ -296,13 +291,12 @@ fn fill_entry(
 /// How many entries of an array a field has, if it ends with one, hasn't too many, and has no levels or indicators.
 fn entries_of(reading: &Reading, most: usize) -> Option<usize> {
     let card = &reading.seen.card;
+    let length = reading.form.length;
     let width = width(card)?;
-    let rest = width.checked_rem(reading.form.length)?;
-    let count = width.checked_div(reading.form.length)?;
-    if rest != 0 || count > most || !card.is_blank(59, 62) || !card.is_blank(65, 70) {
+    if length == 0 || width % length != 0 || width / length > most {
         return None;
     }
-    Some(count)
+    (card.is_blank(59, 62) && card.is_blank(65, 70)).then_some(width / length)
 }
 
 /// Reads a whole array.
@@ -314,23 +308,20 @@ fn fill_array(
     array: &Array,
 ) -> Result<(), RuleStop> {
     let seen = &reading.seen;
-    match entries_of(reading, array.entries) {
-        Some(count) => {
-            let tail = Word::of_number(array.entries).len().saturating_add(1);
-            let short = with_room(alloc, editor, array.name.text(), tail)?;
-            tell_filled(editor, reading, &array.name, count);
-            read_entries(alloc, editor, filling, reading, &short, count)?;
-            editor.remove(seen.at, seen.number);
-            Ok(())
-        }
-        None => Err(RuleStop::refused(
-            seen.number,
-            Sentence::of(
-                "a whole array that doesn't end with an entry, has too many, or has levels or indicators",
-            ),
-        )),
-    }
+    let Some(count) = entries_of(reading, array.entries) else {
+        return Err(RuleStop::because(seen.number, NO_ENTRIES));
+    };
+    let last = Word::of_number(array.entries);
+    let short = with_room(alloc, editor, array.name.text(), last)?;
+    tell_filled(editor, reading, array.name, count);
+    read_entries(alloc, editor, filling, reading, short, count)?;
+    editor.remove(seen.at, seen.number);
+    Ok(())
 }
+
+/// Why a field isn't read entry by entry.
+const NO_ENTRIES: &str =
+    "a whole array that doesn't end with an entry, has too many, or has levels or indicators";
 
 /// Reads the first entries of an array, so many.
 fn read_entries(
@@ -338,28 +329,23 @@ fn read_entries(
     editor: &mut Editor,
     filling: &mut Filling,
     reading: &Reading,
-    name: &Word,
+    name: Word,
     count: usize,
 ) -> Result<(), RuleStop> {
     let view = editor.view(alloc)?;
     for place in 0..count {
-        let entry = Entry {
-            name: *name,
-            index: Word::of_number(place.saturating_add(1)),
-        };
-        let span = span_of(&reading.seen, reading.form.length, place);
-        filling.read_entry(editor, &view, reading, &entry, span)?;
+        let number = Word::of_number(place.saturating_add(1));
+        let span = span_of(reading, place);
+        filling.read_entry(editor, &view, reading, entry(name, number), span)?;
     }
     Ok(())
 }
 
-/// The columns of an entry of an array on a card, by its place from 0.
-fn span_of(seen: &Seen, length: usize, place: usize) -> Span {
-    let first = seen
-        .card
-        .number(44, 47)
-        .unwrap_or(0)
-        .saturating_add(length.saturating_mul(place));
+/// The columns of an entry, by its place from 0.
+fn span_of(reading: &Reading, place: usize) -> Span {
+    let length = reading.form.length;
+    let begin = reading.seen.card.number(44, 47).unwrap_or(0);
+    let first = begin.saturating_add(length.saturating_mul(place));
     Span {
         first,
         last: first.saturating_add(length).saturating_sub(1),

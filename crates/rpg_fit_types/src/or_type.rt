@@ -1,18 +1,17 @@
 //! A type in place of each OR, and fields without a field record relation.
 
 use rpg_fit_deck::{Address, Card, Editor, Seen, Sentence, Word};
-use rpg_fit_terms::{Indicator, NewCard, RuleStop, address_after, put_cards, settle};
+use rpg_fit_terms::{Indicator, NewCard, RuleStop, address_after, put_cards};
 use rpg_fit_words::{List, RecordType, record_types};
 use std::alloc::Global;
 
 /// A type of its own for each OR card, with the fields that belong to it. A field record relation that names the type's own indicator
 /// goes.
-pub fn or_types(alloc: Global, editor: &mut Editor) {
-    let outcome = separate_all(alloc, editor);
-    settle(editor, outcome);
-}
-
-fn separate_all(alloc: Global, editor: &mut Editor) -> Result<(), RuleStop> {
+///
+/// # Errors
+///
+/// The deck is rejected, or memory is refused.
+pub fn or_types(alloc: Global, editor: &mut Editor) -> Result<(), RuleStop> {
     let view = editor.view(alloc)?;
     let types = record_types(alloc, &view)?;
     for kind in types.iter() {
@@ -29,7 +28,7 @@ fn separate_all(alloc: Global, editor: &mut Editor) -> Result<(), RuleStop> {
 
 /// Whether a card of a type begins another alternative.
 fn is_or(seen: &Seen) -> bool {
-    seen.card.columns(14, 15) == b"OR".as_slice()
+    matches!(seen.card.columns(14, 15), b"OR")
 }
 
 /// How many alternatives a type has.
@@ -81,13 +80,8 @@ fn is_level_unrelated(kind: &RecordType, column: usize, level: &[u8]) -> bool {
 fn check_level(kind: &RecordType, field: &Seen, column: usize) -> Result<(), RuleStop> {
     let level = field.card.value(column, column.saturating_add(1));
     if !level.is_empty() && is_level_unrelated(kind, column, level) {
-        return Err(RuleStop::refused(
-            field.number,
-            Sentence::about(
-                "% stands with and without a field record relation",
-                Word::of(level),
-            ),
-        ));
+        let why = "% stands with and without a field record relation";
+        return Err(RuleStop::about(field.number, why, Word::of(level)));
     }
     Ok(())
 }
@@ -95,22 +89,22 @@ fn check_level(kind: &RecordType, field: &Seen, column: usize) -> Result<(), Rul
 /// Refuses relations that no alternative of the type has, and levels that stand with and without one.
 fn check_relations(kind: &RecordType) -> Result<(), RuleStop> {
     for field in kind.fields.iter() {
-        let relation = relation(field);
-        if !relation.is_blank() {
-            if !has_indicator(kind, relation) {
-                return Err(RuleStop::refused(
-                    field.number,
-                    Sentence::about(
-                        "field record relation % is no indicator of this type",
-                        relation.word(),
-                    ),
-                ));
-            }
-            check_level(kind, field, 59)?;
-            check_level(kind, field, 61)?;
+        if !relation(field).is_blank() {
+            check_relation(kind, field)?;
         }
     }
     Ok(())
+}
+
+/// Refuses a field's relation that no alternative of its type has, and levels that stand without one too.
+fn check_relation(kind: &RecordType, field: &Seen) -> Result<(), RuleStop> {
+    let relation = relation(field);
+    if !has_indicator(kind, relation) {
+        let why = "field record relation % is no indicator of this type";
+        return Err(RuleStop::about(field.number, why, relation.word()));
+    }
+    check_level(kind, field, 59)?;
+    check_level(kind, field, 61)
 }
 
 /// A field without its relation.

@@ -1,7 +1,7 @@
 //! The order of record types by number.
 
 use rpg_fit_deck::{Seen, Word};
-use rpg_fit_terms::{Indicator, RuleStop};
+use rpg_fit_terms::Indicator;
 use rpg_fit_words::List;
 use std::alloc::Global;
 
@@ -27,7 +27,7 @@ pub(crate) struct Step {
 const BEHIND_ALL: usize = 100;
 
 /// The steps of numbered types, in the order of their first cards.
-pub(crate) fn steps_of(alloc: Global, numbered: &[Numbered]) -> Result<Vec<Step>, RuleStop> {
+pub(crate) fn steps_of(alloc: Global, numbered: &[Numbered]) -> List<Step> {
     let mut steps = List::new(alloc);
     for one in numbered {
         if !is_step(steps.as_slice(), one.number) {
@@ -38,7 +38,7 @@ pub(crate) fn steps_of(alloc: Global, numbered: &[Numbered]) -> Result<Vec<Step>
             });
         }
     }
-    steps.finish()
+    steps
 }
 
 /// Whether a number is one of the steps.
@@ -70,11 +70,7 @@ fn may_follow(steps: &[Step], last: usize, step: &Step) -> bool {
 }
 
 /// The numbers after which a record of a step may come, 0 first.
-pub(crate) fn numbers_before(
-    alloc: Global,
-    steps: &[Step],
-    step: &Step,
-) -> Result<Vec<usize>, RuleStop> {
+pub(crate) fn numbers_before(alloc: Global, steps: &[Step], step: &Step) -> List<usize> {
     let mut numbers = List::new(alloc);
     if may_follow(steps, 0, step) {
         numbers.push(0);
@@ -84,7 +80,7 @@ pub(crate) fn numbers_before(
             numbers.push(number);
         }
     }
-    numbers.finish()
+    numbers
 }
 
 /// Letters for columns 15 to 16 in place of a number, by their place: NA to NZ, then XA and so on; none after ZZ.

@@ -19,29 +19,25 @@ pub(crate) struct Marks {
     pub card: usize,
 }
 
-/// Whether an indicator is one of some.
-fn is_among(indicators: &[Indicator], indicator: Indicator) -> bool {
-    for other in indicators {
-        if *other == indicator {
+/// Whether a type of the same number and indicator is one of some.
+fn is_among(types: &[Numbered], one: &Numbered) -> bool {
+    for other in types {
+        if other.number == one.number && other.indicator == one.indicator {
             return true;
         }
     }
     false
 }
 
-/// The indicators of a step's types, each once.
-fn indicators_of(
-    alloc: Global,
-    numbered: &[Numbered],
-    number: usize,
-) -> Result<Vec<Indicator>, RuleStop> {
+/// The types with which a number has an indicator first.
+fn with_new_indicators(alloc: Global, numbered: &[Numbered]) -> List<Numbered> {
     let mut found = List::new(alloc);
     for one in numbered {
-        if one.number == number && !is_among(found.as_slice(), one.indicator) {
-            found.push(one.indicator);
+        if !is_among(found.as_slice(), one) {
+            found.push(*one);
         }
     }
-    found.finish()
+    found
 }
 
 /// Appends the comparison with a number after which the record may come.
@@ -76,59 +72,71 @@ fn push_test(cards: &mut List<NewCard>, marks: &Marks, indicator: Indicator, bef
     }
 }
 
-/// Appends the tests of a step, unless its records may come after every number.
-fn push_step(
-    alloc: Global,
-    cards: &mut List<NewCard>,
-    marks: &Marks,
-    numbered: &[Numbered],
-    steps: &[Step],
-    step: &Step,
-) -> Result<(), RuleStop> {
-    let before = numbers_before(alloc, steps, step)?;
-    if before.len() > steps.len() {
-        return Ok(());
-    }
-    let indicators = indicators_of(alloc, numbered, step.number)?;
-    for indicator in indicators.iter() {
-        push_test(cards, marks, *indicator, before.as_slice());
-    }
-    Ok(())
+/// The order of a file's types.
+#[derive(Clone, Copy)]
+struct Order<'a> {
+    marks: &'a Marks,
+    /// The types, without those whose number and indicator an earlier one has.
+    types: &'a [Numbered],
+    steps: &'a [Step],
 }
 
-/// Appends that a step's records are the last ones.
-fn push_last(
-    alloc: Global,
-    cards: &mut List<NewCard>,
-    marks: &Marks,
-    numbered: &[Numbered],
-    step: &Step,
-) -> Result<(), RuleStop> {
-    let indicators = indicators_of(alloc, numbered, step.number)?;
-    for indicator in indicators.iter() {
-        cards.push(
-            Calculation::of(b"Z-ADD")
-                .when(*indicator)
-                .factor2(Word::of_number(step.number).text())
-                .result(marks.last.text())
-                .of_length(2, b'0')
-                .made_of(marks.card),
-        );
+impl Order<'_> {
+    /// The tests of all steps, and then that a step's records are the last ones.
+    fn cards(&self, alloc: Global) -> Result<List<NewCard>, RuleStop> {
+        let mut cards = List::new(alloc);
+        for step in self.steps {
+            self.push_step(alloc, &mut cards, step)?;
+        }
+        self.push_all_last(&mut cards);
+        Ok(cards)
     }
-    Ok(())
-}
 
-fn push_all_last(
-    alloc: Global,
-    cards: &mut List<NewCard>,
-    marks: &Marks,
-    numbered: &[Numbered],
-    steps: &[Step],
-) -> Result<(), RuleStop> {
-    for step in steps {
-        push_last(alloc, cards, marks, numbered, step)?;
+    fn push_all_last(&self, cards: &mut List<NewCard>) {
+        for step in self.steps {
+            self.push_last(cards, step.number);
+        }
     }
-    Ok(())
+
+    /// Appends the tests of a step, unless its records may come after every number.
+    fn push_step(
+        &self,
+        alloc: Global,
+        cards: &mut List<NewCard>,
+        step: &Step,
+    ) -> Result<(), RuleStop> {
+        let before = numbers_before(alloc, self.steps, step);
+        let before = before.checked()?;
+        if before.len() <= self.steps.len() {
+            self.push_tests(cards, step.number, before);
+        }
+        Ok(())
+    }
+
+    /// Appends the tests of a number's records.
+    fn push_tests(&self, cards: &mut List<NewCard>, number: usize, before: &[usize]) {
+        for one in self.types {
+            if one.number == number {
+                push_test(cards, self.marks, one.indicator, before);
+            }
+        }
+    }
+
+    /// Appends that a number's records are the last ones.
+    fn push_last(&self, cards: &mut List<NewCard>, number: usize) {
+        for one in self.types {
+            if one.number == number {
+                cards.push(
+                    Calculation::of(b"Z-ADD")
+                        .when(one.indicator)
+                        .factor2(Word::of_number(number).text())
+                        .result(self.marks.last.text())
+                        .of_length(2, b'0')
+                        .made_of(self.marks.card),
+                );
+            }
+        }
+    }
 }
 
 /// The calculations that test the order of numbered types.
@@ -136,12 +144,13 @@ pub(crate) fn order_cards(
     alloc: Global,
     marks: &Marks,
     numbered: &[Numbered],
-) -> Result<Vec<NewCard>, RuleStop> {
-    let steps = steps_of(alloc, numbered)?;
-    let mut cards = List::new(alloc);
-    for step in steps.iter() {
-        push_step(alloc, &mut cards, marks, numbered, steps.as_slice(), step)?;
-    }
-    push_all_last(alloc, &mut cards, marks, numbered, steps.as_slice())?;
-    cards.finish()
+) -> Result<List<NewCard>, RuleStop> {
+    let types = with_new_indicators(alloc, numbered);
+    let steps = steps_of(alloc, numbered);
+    let order = Order {
+        marks,
+        types: types.checked()?,
+        steps: steps.checked()?,
+    };
+    order.cards(alloc)
 }

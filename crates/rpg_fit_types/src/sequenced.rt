@@ -3,15 +3,9 @@
 use crate::order::{Numbered, letters};
 use crate::order_test::{Marks, order_cards};
 use rpg_fit_deck::{Card, Editor, Sentence, View, Word};
-use rpg_fit_terms::{FreeIndicators, Indicator, RuleStop, free_halt, fresh_name, settle};
-use rpg_fit_words::{List, Place, RecordType, check_only_type, groups, insert_at, record_types};
+use rpg_fit_terms::{FreeIndicators, Indicator, RuleStop, free_halt, fresh_name};
+use rpg_fit_words::{List, Place, RecordType, check_only_type, insert_at, record_types};
 use std::alloc::Global;
-
-/// Letters in place of numbers in 15 to 16, and calculations that test the order of the records.
-pub fn sequence(alloc: Global, editor: &mut Editor) {
-    let outcome = order_all(alloc, editor);
-    settle(editor, outcome);
-}
 
 /// What was given to types so far.
 #[derive(Clone, Copy)]
@@ -21,7 +15,24 @@ struct Given {
     letters: usize,
 }
 
-fn order_all(alloc: Global, editor: &mut Editor) -> Result<(), RuleStop> {
+impl Given {
+    /// What the calculations of an order use, made for a card.
+    fn marks(&mut self, view: &View, card: usize) -> Result<Marks, RuleStop> {
+        Ok(Marks {
+            halt: free_halt(view, card)?,
+            last: fresh_name(view, b"SEQ#", card)?,
+            equal: self.free.take(view, card)?,
+            card,
+        })
+    }
+}
+
+/// Puts letters in place of numbers in 15 to 16, and calculations that test the order of the records.
+///
+/// # Errors
+///
+/// The deck is rejected, or memory is refused.
+pub fn sequence(alloc: Global, editor: &mut Editor) -> Result<(), RuleStop> {
     let view = editor.view(alloc)?;
     let types = record_types(alloc, &view)?;
     let mut given = Given {
@@ -61,21 +72,33 @@ fn order_file(
     let view = editor.view(alloc)?;
     let types = record_types(alloc, &view)?;
     let numbered = numbered_types(alloc, given, &view, types.as_slice(), file)?;
-    match numbered.first() {
-        Some(first) => {
-            let card = first.head.number;
-            let marks = Marks {
-                halt: free_halt(&view, card)?,
-                last: fresh_name(&view, b"SEQ#", card)?,
-                equal: given.free.take(&view, card)?,
-                card,
-            };
+    match numbered.checked()? {
+        [first, ..] => {
+            let marks = given.marks(&view, first.head.number)?;
             tell_order(editor, file, &marks);
-            change_types(editor, given, numbered.as_slice(), card)?;
-            insert_tests(alloc, editor, &marks, numbered.as_slice())
+            order_types(alloc, editor, given, &marks, numbered.as_slice())
         }
-        None => Ok(()),
+        [] => Ok(()),
     }
+}
+
+/// Gives numbered types letters, and tests their order.
+fn order_types(
+    alloc: Global,
+    editor: &mut Editor,
+    given: &mut Given,
+    marks: &Marks,
+    numbered: &[Numbered],
+) -> Result<(), RuleStop> {
+    change_types(editor, given, numbered, marks.card)?;
+    let cards = order_cards(alloc, marks, numbered)?;
+    insert_at(
+        alloc,
+        editor,
+        Place::DetailFront,
+        cards.checked()?,
+        marks.card,
+    )
 }
 
 fn tell_order(editor: &mut Editor, file: &Word, marks: &Marks) {
@@ -89,32 +112,13 @@ fn tell_order(editor: &mut Editor, file: &Word, marks: &Marks) {
     );
 }
 
-/// Puts the tests at the front of detail.
-fn insert_tests(
-    alloc: Global,
-    editor: &mut Editor,
-    marks: &Marks,
-    numbered: &[Numbered],
-) -> Result<(), RuleStop> {
-    let cards = order_cards(alloc, marks, numbered)?;
-    insert_at(
-        alloc,
-        editor,
-        Place::DetailFront,
-        cards.as_slice(),
-        marks.card,
-    )
-}
-
 /// Refuses columns 17 and 18 that say nothing of an order.
 fn check_columns(kind: &RecordType) -> Result<(), RuleStop> {
     let many = kind.head.card.column(17);
     let optional = kind.head.card.column(18);
     if (many != b'1' && many != b'N') || (optional != b' ' && optional != b'O') {
-        return Err(RuleStop::refused(
-            kind.head.number,
-            Sentence::of("17 and 18 of a sequence by number are 1 or N, and O or blank"),
-        ));
+        let why = "17 and 18 of a sequence by number are 1 or N, and O or blank";
+        return Err(RuleStop::because(kind.head.number, why));
     }
     Ok(())
 }
@@ -141,7 +145,7 @@ fn numbered_types(
     view: &View,
     types: &[RecordType],
     file: &Word,
-) -> Result<Vec<Numbered>, RuleStop> {
+) -> Result<List<Numbered>, RuleStop> {
     check_all_columns(types, file)?;
     let mut numbered = List::new(alloc);
     for kind in types {
@@ -154,7 +158,7 @@ fn numbered_types(
             });
         }
     }
-    numbered.finish()
+    Ok(numbered)
 }
 
 /// Whether another type has an indicator, and another number or none, or another file.
@@ -183,13 +187,10 @@ fn indicator_of(
         return given.free.take(view, kind.head.number);
     }
     if is_of_another(types, kind, own) {
-        return Err(RuleStop::refused(
-            kind.head.number,
-            Sentence::about("two types of other numbers have indicator %", own.word()),
-        ));
+        let why = "two types of other numbers have indicator %";
+        return Err(RuleStop::about(kind.head.number, why, own.word()));
     }
-    let groups = groups(alloc, view)?;
-    check_only_type(alloc, view, groups.as_slice(), own, kind.head.number)?;
+    check_only_type(alloc, view, own, kind.head.number)?;
     Ok(own)
 }
 
@@ -201,14 +202,9 @@ fn change_types(
     with: usize,
 ) -> Result<(), RuleStop> {
     for one in numbered {
-        let letters = match letters(given.letters) {
-            Some(letters) => letters,
-            None => {
-                return Err(RuleStop::refused(
-                    one.head.number,
-                    Sentence::of("more than 104 types with a number"),
-                ));
-            }
+        let Some(letters) = letters(given.letters) else {
+            let why = "more than 104 types with a number";
+            return Err(RuleStop::because(one.head.number, why));
         };
         given.letters = given.letters.saturating_add(1);
         let card = one

@@ -11,11 +11,21 @@ use std::alloc::Global;
 const OVERFLOW_LINE: usize = 60;
 
 /// Whether a line is put out at overflow under a condition.
-fn is_overflow(printer: Option<Printer>, line: &Line, condition: &Conjunction) -> bool {
+pub fn is_overflow(printer: Option<Printer>, line: &Line, condition: &Conjunction) -> bool {
     match printer {
         Some(printer) => printer.is_overflow(line, condition),
         None => false,
     }
+}
+
+/// Whether a line has an alternative of overflow.
+pub fn has_overflow(printer: Option<Printer>, line: &Line) -> bool {
+    for alternative in line.alternatives.iter() {
+        if is_overflow(printer, line, &alternative.condition) {
+            return true;
+        }
+    }
+    false
 }
 
 /// Whether a line is put out at the first output.

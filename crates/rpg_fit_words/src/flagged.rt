@@ -2,6 +2,7 @@
 
 use crate::calculation::Calculation;
 use crate::group::{Group, Section};
+use crate::line::push_copies;
 use crate::list::List;
 use rpg_fit_deck::{View, Word};
 use rpg_fit_terms::{Conjunction, FreeIndicators, Indicator, NewCard, RuleStop};
@@ -30,9 +31,7 @@ fn flag_cards(alloc: Global, group: &Group, level: Indicator, flag: Indicator) -
             .high(flag)
             .made_of(number),
     );
-    for seen in group.leading.iter() {
-        cards.push(NewCard::copy(seen));
-    }
+    push_copies(&mut cards, group.leading.as_slice());
     cards.push(
         Calculation::of(b"SETON")
             .high(flag)

@@ -1,6 +1,6 @@
 //! Calculations with their AN and OR cards.
 
-use rpg_fit_deck::{Address, Card, Seen, View};
+use rpg_fit_deck::{Address, Card, Editor, Seen, View};
 use rpg_fit_terms::{Indicator, RuleStop, is_card};
 use std::alloc::Global;
 
@@ -13,6 +13,18 @@ pub enum Section {
 }
 
 impl Section {
+    /// That of a calculation's first card.
+    fn of(card: &Card) -> Section {
+        let level = Indicator::at(card, 7);
+        if level == Indicator::SUBROUTINE {
+            Section::Subroutine
+        } else if level.is_blank() {
+            Section::Detail
+        } else {
+            Section::Total
+        }
+    }
+
     /// What stands in 7 to 8 of a calculation that is always done there.
     pub fn level(self) -> Indicator {
         match self {
@@ -41,29 +53,12 @@ impl Group {
 
     /// The section of its first card.
     pub fn section(&self) -> Section {
-        let level = Indicator::at(&self.first().card, 7);
-        if level == Indicator::SUBROUTINE {
-            Section::Subroutine
-        } else if level.is_blank() {
-            Section::Detail
-        } else {
-            Section::Total
-        }
+        Section::of(&self.first().card)
     }
 
     /// Its operation, without blanks.
     pub fn operation(&self) -> &[u8] {
         self.last.card.value(28, 32)
-    }
-
-    /// Whether one of its cards is at an address.
-    pub(crate) fn has(&self, at: Address) -> bool {
-        for seen in self.leading.iter() {
-            if seen.at == at {
-                return true;
-            }
-        }
-        self.last.at == at
     }
 
     /// One more card, which is its last one now.
@@ -76,8 +71,7 @@ impl Group {
 
 /// Whether a card continues the calculation before it.
 fn continues(card: &Card) -> bool {
-    let level = card.columns(7, 8);
-    level == b"AN".as_slice() || level == b"OR".as_slice()
+    matches!(card.columns(7, 8), b"AN" | b"OR")
 }
 
 fn push_card(alloc: Global, found: &mut Vec<Group>, seen: &Seen) -> Result<(), RuleStop> {
@@ -91,6 +85,32 @@ fn push_card(alloc: Global, found: &mut Vec<Group>, seen: &Seen) -> Result<(), R
         last: *seen,
     })?;
     Ok(())
+}
+
+/// Whether the card at an address belongs to a detail calculation.
+pub(crate) fn is_in_detail(view: &View, at: Address) -> bool {
+    let mut is_detail = false;
+    for seen in view.cards.iter() {
+        if is_card(seen, b'C') {
+            if !continues(&seen.card) {
+                is_detail = Section::of(&seen.card) == Section::Detail;
+            }
+            if seen.at == at {
+                return is_detail;
+            }
+        }
+    }
+    false
+}
+
+/// The calculations of a deck as it is now, in their order.
+///
+/// # Errors
+///
+/// Memory is refused.
+pub fn groups_now(alloc: Global, editor: &Editor) -> Result<Vec<Group>, RuleStop> {
+    let view = editor.view(alloc)?;
+    groups(alloc, &view)
 }
 
 /// The calculations of a deck, in their order.

@@ -1,9 +1,9 @@
 //! Where a deck has indicators.
 
-use crate::group::{Group, Section};
+use crate::group::is_in_detail;
 use crate::list::List;
 use rpg_fit_deck::{Address, Seen, Sentence, View, Word};
-use rpg_fit_terms::{Conjunction, Indicator, RuleStop, is_card};
+use rpg_fit_terms::{Conjunction, Indicator, RuleStop};
 use std::alloc::Global;
 
 /// What a card does with an indicator.
@@ -82,35 +82,21 @@ fn push_card(found: &mut List<IndicatorUse>, seen: &Seen) {
 }
 
 /// The indicators of a deck, card by card.
-///
-/// # Errors
-///
-/// Memory is refused.
-pub fn indicator_uses(alloc: Global, view: &View) -> Result<Vec<IndicatorUse>, RuleStop> {
+pub fn indicator_uses(alloc: Global, view: &View) -> List<IndicatorUse> {
     let mut found = List::new(alloc);
     for seen in view.cards.iter() {
         if !seen.card.is_comment() {
             push_card(&mut found, seen);
         }
     }
-    found.finish()
-}
-
-/// Whether a card belongs to a detail calculation.
-fn is_in_detail(groups: &[Group], at: Address) -> bool {
-    for group in groups {
-        if group.section() == Section::Detail && group.has(at) {
-            return true;
-        }
-    }
-    false
+    found
 }
 
 /// Whether an indicator is turned on or off by an input field, or outside detail calculations.
-fn is_set_elsewhere(groups: &[Group], one: &IndicatorUse) -> bool {
+fn is_set_elsewhere(view: &View, one: &IndicatorUse) -> bool {
     match one.kind {
         UseKind::Field => true,
-        UseKind::Result => !is_in_detail(groups, one.at),
+        UseKind::Result => !is_in_detail(view, one.at),
         UseKind::Type | UseKind::Asked => false,
     }
 }
@@ -124,13 +110,12 @@ fn is_set_elsewhere(groups: &[Group], one: &IndicatorUse) -> bool {
 pub fn check_only_type(
     alloc: Global,
     view: &View,
-    groups: &[Group],
     indicator: Indicator,
     card: usize,
 ) -> Result<(), RuleStop> {
-    let uses = indicator_uses(alloc, view)?;
-    for one in uses.iter() {
-        if one.indicator == indicator && is_set_elsewhere(groups, one) {
+    let uses = indicator_uses(alloc, view);
+    for one in uses.checked()? {
+        if one.indicator == indicator && is_set_elsewhere(view, one) {
             return Err(RuleStop::refused(
                 card,
                 Sentence::of_two(

@@ -3,6 +3,7 @@
 
 mod calculation;
 mod columns;
+mod constant;
 mod first_output;
 mod flagged;
 mod group;
@@ -15,17 +16,21 @@ mod record_type;
 
 pub use calculation::Calculation;
 pub use columns::Columns;
-pub use first_output::{is_field_put_first, is_put_first, is_total_skipped_late, reaches_overflow};
+pub use constant::Constant;
+pub use first_output::{
+    has_overflow, is_field_put_first, is_overflow, is_put_first, is_total_skipped_late,
+    reaches_overflow,
+};
 pub use flagged::{Flagged, push_conditioned, under_flag};
-pub use group::{Group, Section, groups};
+pub use group::{Group, Section, groups, groups_now};
 pub use indicator_use::{IndicatorUse, UseKind, check_only_type, indicator_uses};
-pub use line::{Alternative, Line, Time, lines, lines_now, name_files};
+pub use line::{Alternative, DeckLines, Line, Time, lines, name_files, remove_cards};
 pub use list::List;
 pub use place::{Place, insert_at};
 pub use printer::{Printer, printer_of};
 pub use record_type::{RecordType, record_types};
 pub use rpg_fit_terms::{
-    Array, Conjunction, Form, FreeIndicators, FreshNames, Indicator, NewCard, Operand, Reason,
-    RuleStop, Term, address_after, array_of, arrays, form_of, free_halt, fresh_name, is_card,
-    is_date_part, is_name_used, put_cards, rename, settle, unused_prefix, with_room,
+    Array, Conjunction, Form, FreeIndicators, FreshNames, Indicator, NewCard, Operand, RuleStop,
+    Term, array_of, entry, form_of, fresh_name, is_card, is_date_part, is_name_used, put_cards,
+    unused_prefix, with_room,
 };

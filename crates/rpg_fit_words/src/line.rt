@@ -64,12 +64,12 @@ pub struct Line {
 
 /// Whether a card continues the conditions of a line: AND or OR in 14 to 16.
 fn continues(card: &Card) -> bool {
-    card.is_blank(7, 13) && (card.columns(14, 16) == b"AND".as_slice() || is_or(card))
+    card.is_blank(7, 13) && (matches!(card.columns(14, 16), b"AND") || is_or(card))
 }
 
 /// Whether a card of a line begins another alternative.
 fn is_or(card: &Card) -> bool {
-    card.columns(14, 15) == b"OR".as_slice()
+    matches!(card.columns(14, 15), b"OR")
 }
 
 fn alternative_at(seen: &Seen) -> Alternative {
@@ -158,13 +158,15 @@ fn push_and_cards(cards: &mut List<NewCard>, condition: &Conjunction, number: us
     }
 }
 
-fn push_copies(copies: &mut List<NewCard>, cards: &[Seen]) {
+/// Appends copies of cards.
+pub(crate) fn push_copies(copies: &mut List<NewCard>, cards: &[Seen]) {
     for seen in cards {
         copies.push(NewCard::copy(seen));
     }
 }
 
-fn remove_cards(editor: &mut Editor, cards: &[Seen], with: usize) {
+/// Takes cards out, as part of the change of the card `with`.
+pub fn remove_cards(editor: &mut Editor, cards: &[Seen], with: usize) {
     for seen in cards {
         editor.remove(seen.at, with);
     }
@@ -216,14 +218,24 @@ pub fn lines(alloc: Global, view: &View) -> Result<Vec<Line>, RuleStop> {
     Ok(found)
 }
 
-/// The lines of a deck as it is now.
-///
-/// # Errors
-///
-/// An alternative has more than 60 conditions, or memory is refused.
-pub fn lines_now(alloc: Global, editor: &Editor) -> Result<Vec<Line>, RuleStop> {
-    let view = editor.view(alloc)?;
-    lines(alloc, &view)
+/// A deck's cards, and its lines.
+#[derive(Drop)]
+pub struct DeckLines {
+    pub view: View,
+    pub lines: Vec<Line>,
+}
+
+impl DeckLines {
+    /// Those of a deck as it is now.
+    ///
+    /// # Errors
+    ///
+    /// An alternative has more than 60 conditions, or memory is refused.
+    pub fn of(alloc: Global, editor: &Editor) -> Result<DeckLines, RuleStop> {
+        let view = editor.view(alloc)?;
+        let lines = lines(alloc, &view)?;
+        Ok(DeckLines { view, lines })
+    }
 }
 
 /// Puts the name of its file on each line's card, so that lines may be moved, as part of the change of the card `with`.

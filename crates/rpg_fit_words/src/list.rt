@@ -3,7 +3,7 @@
 use rpg_fit_terms::RuleStop;
 use std::alloc::Global;
 
-/// Values in their order. A list for which memory ran out remembers it, so that only `checked` and `finish` return an error.
+/// Values in their order. A list for which memory ran out remembers it, so that only `check` and `checked` return an error.
 #[derive(Drop)]
 pub struct List<T> {
     values: Vec<T>,
@@ -49,6 +49,19 @@ impl<T: Copy> List<T> {
         self.values.is_empty()
     }
 
+    /// Whether all values are there.
+    ///
+    /// # Errors
+    ///
+    /// Memory was refused for one of them.
+    pub fn check(&self) -> Result<(), RuleStop> {
+        if self.ran_out {
+            Err(RuleStop::NoMemory)
+        } else {
+            Ok(())
+        }
+    }
+
     /// All values, where they are.
     ///
     /// # Errors
@@ -59,19 +72,6 @@ impl<T: Copy> List<T> {
             Err(RuleStop::NoMemory)
         } else {
             Ok(self.values.as_slice())
-        }
-    }
-
-    /// All values.
-    ///
-    /// # Errors
-    ///
-    /// Memory was refused for one of them.
-    pub fn finish(self) -> Result<Vec<T>, RuleStop> {
-        if self.ran_out {
-            Err(RuleStop::NoMemory)
-        } else {
-            Ok(self.values)
         }
     }
 }

@@ -28,38 +28,27 @@ fn before_output(view: &View) -> Address {
     view.cards_end
 }
 
-/// Where the first calculation is that is no detail calculation; `behind` if there is none.
-fn first_total(groups: &[Group], behind: Address) -> Address {
-    for group in groups {
-        if group.section() != Section::Detail {
-            return group.first().at;
+impl Place {
+    /// Whether calculations of a section come after it.
+    fn is_before(self, section: Section) -> bool {
+        match self {
+            Place::DetailFront => true,
+            Place::DetailEnd | Place::TotalFront => section != Section::Detail,
+            Place::TotalEnd => section == Section::Subroutine,
         }
     }
-    behind
-}
-
-/// Where the first calculation of a subroutine is; `behind` if there is none.
-fn first_subroutine(groups: &[Group], behind: Address) -> Address {
-    for group in groups {
-        if group.section() == Section::Subroutine {
-            return group.first().at;
-        }
-    }
-    behind
 }
 
 /// The card that cards of a place come before.
 fn address_of(view: &View, groups: &[Group], place: Place) -> Address {
-    match (groups.first(), groups.last()) {
-        (Some(first), Some(last)) => {
-            let behind = address_after(view, last.last.at);
-            match place {
-                Place::DetailFront => first.first().at,
-                Place::DetailEnd | Place::TotalFront => first_total(groups, behind),
-                Place::TotalEnd => first_subroutine(groups, behind),
-            }
+    for group in groups {
+        if place.is_before(group.section()) {
+            return group.first().at;
         }
-        _ => before_output(view),
+    }
+    match groups.last() {
+        Some(last) => address_after(view, last.last.at),
+        None => before_output(view),
     }
 }
 

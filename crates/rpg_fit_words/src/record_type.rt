@@ -16,8 +16,7 @@ pub struct RecordType {
 
 /// Whether a card of I gives a type more codes, or other ones: AND or OR in 14 to 16.
 fn continues(card: &Card) -> bool {
-    card.is_blank(7, 13)
-        && (card.columns(14, 16) == b"OR ".as_slice() || card.columns(14, 16) == b"AND".as_slice())
+    card.is_blank(7, 13) && matches!(card.columns(14, 16), b"OR " | b"AND")
 }
 
 /// Appends a card to the type that it belongs to.

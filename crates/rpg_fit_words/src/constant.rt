@@ -1,14 +1,11 @@
-//! Constants and edit words: what stands between the quotes of an output field.
+//! Constants, literals and edit words: what stands between quotes.
 
-use rpg_fit_deck::Card;
-use rpg_text::trimmed;
-
-/// The most characters between the quotes of columns 45 to 70.
+/// The most characters between the quotes of columns 45 to 70 of an output field.
 const MOST: usize = 24;
 
-/// A constant or an edit word, without its quotes.
+/// A constant, a literal or an edit word, without its quotes.
 #[derive(Clone, Copy)]
-pub(crate) struct Constant {
+pub struct Constant {
     characters: [u8; 24],
     length: usize,
 }
@@ -22,11 +19,11 @@ impl Constant {
         }
     }
 
-    /// The constant in columns 45 to 70 of a field's card. Two quotes in it are one.
-    pub fn of(field: &Card) -> Constant {
+    /// The constant of a text with quotes around it. Two quotes in it are one.
+    pub fn of(quoted: &[u8]) -> Constant {
         let mut constant = Constant::empty();
         let mut is_second = false;
-        for character in between_quotes(trimmed(field.columns(45, 70))) {
+        for character in between_quotes(quoted) {
             if *character == b'\'' && is_second {
                 is_second = false;
             } else {
