@@ -3,11 +3,12 @@
 ghost use Rattle.std.specs.Prelude.{◌≡◌, ◌∷◌};
 ghost use Rattle.rpg_faults.specs.Rules as rules;
 ghost use Rattle.rpg_faults.specs.Seen.{AreCardsSeen};
+ghost use Rattle.rpg_faults_tree.specs.Marked.{AreBreaking};
 
 use crate::code::FaultCode;
 use crate::seen::Seen;
 use rpg_cards::{IndexedCards, SpecCard};
-use rpg_faults_flow::Labels;
+use rpg_faults_tree::Found;
 
 /// Whether a card breaks the rule of a code. Each card is asked for each code, so it is compiled in place.
 #[inline(always)]
@@ -15,16 +16,17 @@ use rpg_faults_flow::Labels;
 pub(crate) fn breaks(
     code: FaultCode,
     source: &IndexedCards,
-    labels: &Labels,
+    found: &Found,
     seen: &Seen,
     card: &SpecCard,
     after: &[SpecCard],
 ) -> bool
-    requires labels { labels.now ≡ source.now }
+    requires found { AreBreaking source.now found.now }
     requires seen { AreCardsSeen source.now (card.now ∷ after.now) seen.now }
     ensures { result ≡ rules.rule code seen.now.before.now card.now after.now }
 {
     let before = seen.before;
+    let labels = &found.labels;
     match code {
         FaultCode::F1 => rpg_faults_operands::lacks_name(source, card, after),
         FaultCode::F2 => rpg_faults_limits::redefines(source, &seen.limits, before, card, after),
@@ -45,13 +47,10 @@ pub(crate) fn breaks(
         FaultCode::F11 => rpg_faults_flow::names_twice(
             source, labels, &seen.flow, before, card, after,
         ),
-        FaultCode::F12 => {
-            rpg_faults_flow::breaks_order(&seen.flow, before, card, after)
-                || rpg_faults_limits::strays(source, &seen.sheets, before, card)
-        }
+        FaultCode::F12 => found.breaks_order(card),
         FaultCode::F13 => rpg_faults_flow::goes_apart(labels, &seen.flow, before, card, after),
         FaultCode::F14 => rpg_faults_flow::calls_itself(labels, &seen.flow, before, card, after),
-        FaultCode::F15 => rpg_faults_flow::bad_rounding(&seen.flow, before, card, after),
+        FaultCode::F15 => found.rounds_wrongly(card),
         FaultCode::F16 => crate::misplaces(source, &seen.sheets, &seen.places, before, card, after),
         FaultCode::F17 => rpg_faults_operands::bad_editing(source, card),
         FaultCode::F18 => rpg_faults_data::breaks_data(source, &seen.places.decks, before, card),

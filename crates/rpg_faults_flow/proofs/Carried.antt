@@ -1,12 +1,8 @@
 -- What the cards before a card come to, with one more card.
 use Rattle.std.proofs.Common.{◌≡◌, ℕ, suc, ◌+◌, ◌≤◌, ◌*◌, Bool, true, false, cond, ◌&&◌, ◌||◌, List, [], ◌∷◌, ◌++◌, length, Option, Some, None, refl, sym, ap, ◌∙◌, arith, append_assoc, append-nil, length-append}
-use Rattle.std.proofs.Math.Bool.{or-false}
-use Rattle.std.proofs.lemmas.Bool.Decides.{nat_tests}
-use Rattle.std.proofs.lemmas.List.Elements.{filter_map-append}
-use Rattle.std.proofs.lemmas.List.Folds.{list_any-append}
-use Rattle.std.specs.List.{cons_option, filter, last_or, list_any}
+use Rattle.std.specs.List.{filter, last_or}
 use Rattle.std.specs.Option.{option_and_then, option_map, option_map_or, option_to_list}
-use Rattle.std.specs.Prelude.{is_some, nat_lt}
+use Rattle.std.specs.Prelude.{is_some}
 use Rattle.rpg_cards.specs.Calculations.{CalculationGroup, alone, calculation_of, calculations_before, calculations_from, card_ending, goes_on, group_at, group_with, joined_group, last_card, open_calculation_group, open_with}
 use Rattle.rpg_cards.specs.Deeds.{Acts, Begins, Calculation, Deed, Ends, Executes, GoesTo, Marks, Nothing, PutsOut, deed_of}
 use Rattle.rpg_cards.specs.Keys.{Key}
@@ -15,15 +11,14 @@ use Rattle.rpg_cards.specs.Sections.{is_subroutine}
 use Rattle.rpg_cards.specs.declared.labels.Label.{Label}
 use Rattle.rpg_cards.specs.declared.labels.Named.{Named}
 use Rattle.rpg_cards.proofs.ItemLemmas.{definitions-push, few_definitions}
-use Rattle.rpg_cards.specs.Cards.{calculation_on, calculation_specs_in}
+use Rattle.rpg_cards.specs.Cards.{calculation_on}
 use Rattle.rpg_cards.specs.Groups.{joins}
 use Rattle.rpg_cards.specs.Names.{definitions, definitions_on}
 use Rattle.rpg_cards.specs.declared.spec_card.SpecCard.{SpecCard}
 use Rattle.rpg_faults_flow.proofs.Facts.{last_with}
 use Rattle.rpg_faults_flow.proofs.Walk.{calculations_from-push, open_behind-push}
-use Rattle.rpg_faults_flow.specs.Order.{is_bracket, is_closed, section_rank}
-use Rattle.rpg_faults_flow.specs.Rounding.{is_behind_division, leaves_remainder}
-use Rattle.rpg_faults_flow.specs.ByCard.{begun_behind, bracket_at, bracket_in, bracket_of, calculation_level, highest_with, inside_behind, is_label_at, level_with}
+use Rattle.rpg_faults_flow.specs.Order.{is_bracket}
+use Rattle.rpg_faults_flow.specs.ByCard.{begun_behind, bracket_at, bracket_in, bracket_of, calculation_level, inside_behind, is_label_at, level_with}
 use Rattle.rpg_faults_flow.specs.Seen.{IsFlow, level_of_group}
 use Rattle.rpg_faults_flow.specs.declared.flow.Flow.{Flow}
 use Rattle.rpg_sheet_specs.specs.declared.calculation.CalculationSpec.{CalculationSpec}
@@ -200,43 +195,6 @@ module _ (before : List SpecCard) (c : SpecCard) (after : List SpecCard) where
           count (gives (deed_of (last_card (group_with (open_calculation_group before) k)))) _
           ∙ ap (λ d. one_if (is_some (gives (deed_of d)))) (last_with (open_calculation_group before) k)
 
--- ---- the cards themselves
-
-calculation_specs_in-push : (before : List SpecCard) (c : SpecCard) → calculation_specs_in (before ++ c ∷ []) ≡ calculation_specs_in before ++ option_to_list (calculation_on c.spec)
-calculation_specs_in-push before c = filter_map-append (λ (c : SpecCard). calculation_on c.spec) before (c ∷ []) ∙ ap (λ (ks : List CalculationSpec). calculation_specs_in before ++ ks) (by (calculation_on c.spec))
-  where
-    by : (o : Option CalculationSpec) → cons_option o [] ≡ option_to_list o
-    by None = refl
-    by (Some k) = refl
-
-abbrev pub is_later : ℕ → CalculationSpec → Bool
-is_later r k = nat_lt r (section_rank k.control_level)
-
-highest-push : (before : List SpecCard) (c : SpecCard) (r : ℕ) → list_any (is_later r) (calculation_specs_in (before ++ c ∷ [])) ≡ (list_any (is_later r) (calculation_specs_in before) || option_map_or (is_later r) (calculation_on c.spec) false)
-highest-push before c r = ap (list_any (is_later r)) (calculation_specs_in-push before c) ∙ list_any-append (is_later r) (calculation_specs_in before) (option_to_list (calculation_on c.spec)) ∙ by (calculation_on c.spec)
-  where
-    by : (o : Option CalculationSpec) → (list_any (is_later r) (calculation_specs_in before) || list_any (is_later r) (option_to_list o)) ≡ (list_any (is_later r) (calculation_specs_in before) || option_map_or (is_later r) o false)
-    by None = refl
-    by (Some k) = ap (λ b. list_any (is_later r) (calculation_specs_in before) || b) (or-false (is_later r k))
-
-greater : (r a b : ℕ) → (nat_lt r a || nat_lt r b) ≡ nat_lt r (cond (nat_lt a b) b a)
-greater r a b = grind (arith, nat_tests)
-
-highest-next : (before : List SpecCard) (c : SpecCard) (highest : ℕ) → ((r : ℕ) → list_any (is_later r) (calculation_specs_in before) ≡ nat_lt r highest)
-    → (r : ℕ) → list_any (is_later r) (calculation_specs_in (before ++ c ∷ [])) ≡ nat_lt r (highest_with highest c)
-highest-next before c highest was r = highest-push before c r ∙ ap (λ b. b || option_map_or (is_later r) (calculation_on c.spec) false) (was r) ∙ by (calculation_on c.spec)
-  where
-    by : (o : Option CalculationSpec) → (nat_lt r highest || option_map_or (is_later r) o false) ≡ nat_lt r (option_map_or (λ k. cond (nat_lt highest (section_rank k.control_level)) (section_rank k.control_level) highest) o highest)
-    by None = or-false (nat_lt r highest)
-    by (Some k) = greater r highest (section_rank k.control_level)
-
-remainder-next : (before : List SpecCard) (c : SpecCard) → is_behind_division (before ++ c ∷ []) ≡ option_map_or leaves_remainder (calculation_on c.spec) false
-remainder-next before c = ap (λ o. option_map_or (λ (g : CalculationGroup). leaves_remainder (last_card g)) o false) (open_behind-push None before c) ∙ by (calculation_on c.spec)
-  where
-    by : (o : Option CalculationSpec) → option_map_or (λ g. leaves_remainder (last_card g)) (option_map (group_with (open_calculation_group before)) o) false ≡ option_map_or leaves_remainder o false
-    by None = refl
-    by (Some k) = ap leaves_remainder (last_with (open_calculation_group before) k)
-
 -- ---- few
 
 few_calculations : (o : Option CalculationGroup) (before after : List SpecCard) → length (calculations_from o before after) ≤ length before
@@ -280,38 +238,16 @@ few before rest f is =
 -- ---- all of it
 
 pub flow_with : (before : List SpecCard) (c : SpecCard) (after : List SpecCard) (f new : Flow) → IsFlow before (c ∷ after) f
-    → new.group ≡ level_with f.group c → new.highest ≡ highest_with f.highest c
+    → new.group ≡ level_with f.group c
     → new.is_inside ≡ inside_behind f.is_inside (bracket_at f.group c after) → new.begun ≡ begun_behind f.begun (bracket_at f.group c after)
     → new.labels ≡ f.labels + one_if (is_label_at c after) → new.definitions ≡ f.definitions + length (definitions_on c.spec)
-    → new.is_behind_division ≡ option_map_or leaves_remainder (calculation_on c.spec) false → IsFlow (before ++ c ∷ []) after new
-flow_with before c after f new was group highest inside begun given defined remainder = record {
+    → IsFlow (before ++ c ∷ []) after new
+flow_with before c after f new was group inside begun given defined = record {
   group = group ∙ ap (λ l. level_with l c) was.group ∙ sym (level_with-is (open_calculation_group before) c) ∙ ap level_of_group (sym (open_behind-push None before c));
-  highest = λ r. highest-next before c f.highest was.highest r ∙ ap (nat_lt r) (sym highest);
   inside = inside ∙ ap (λ b. inside_behind b (bracket_at f.group c after)) was.inside ∙ ap (λ l. inside_behind (is_inside_subroutine (calculations_before before (c ∷ after))) (bracket_at l c after)) was.group ∙ sym (inside-next before c after);
   begun = begun ∙ ap (λ n. begun_behind n (bracket_at f.group c after)) was.begun ∙ ap (λ l. begun_behind (begun_count (calculations_before before (c ∷ after))) (bracket_at l c after)) was.group ∙ sym (begun-next before c after);
   labels =
       given ∙ ap (λ n. n + one_if (is_label_at c after)) was.labels ∙ ap (λ n. length (labels (calculations_before before (c ∷ after))) + n) (sym (label_count before c after))
       ∙ sym (length-append (labels (calculations_before before (c ∷ after))) (option_to_list (label_here before c after))) ∙ ap length (sym (labels-next before c after));
   definitions = defined ∙ ap (λ n. n + length (definitions_on c.spec)) was.definitions ∙ sym (length-append (definitions before) (definitions_on c.spec)) ∙ ap length (sym (definitions-push before c));
-  remainder = remainder ∙ sym (remainder-next before c);
 }
-
--- ---- the next bracket
-
-abbrev pub closed_by : Option Bool → Bool → Bool
-closed_by o rest = option_map_or (λ b. b) o rest
-
-closed_with : (gs : List (Calculation Key)) (x : Option (Calculation Key)) → is_closed (brackets (option_to_list x ++ gs)) ≡ closed_by (option_and_then bracket_of x) (is_closed (brackets gs))
-closed_with gs None = refl
-closed_with gs (Some g) = by (begins_subroutine g || ends g)
-  where
-    by : (b : Bool) → is_closed (cond b (g ∷ brackets gs) (brackets gs)) ≡ closed_by (cond b (Some (ends g)) None) (is_closed (brackets gs))
-    by true = refl
-    by false = refl
-
-pub closed_step : (o : Option CalculationGroup) (c : SpecCard) (behind : List SpecCard)
-    → is_closed (brackets (calculations_from o (c ∷ behind) [])) ≡ closed_by (bracket_at (level_of_group o) c behind) (is_closed (brackets (calculations_from (open_with o c.spec) behind [])))
-closed_step o c behind =
-    ap (λ (cs : List SpecCard). is_closed (brackets (option_to_list (option_map calculation_of (group_at o c cs)) ++ calculations_from (open_with o c.spec) behind []))) (append-nil behind)
-    ∙ closed_with (calculations_from (open_with o c.spec) behind []) (option_map calculation_of (group_at o c behind))
-    ∙ ap (λ b. closed_by b (is_closed (brackets (calculations_from (open_with o c.spec) behind [])))) (bracket_at-is o c behind)

@@ -6,7 +6,6 @@ pub mod Found
 pub mod Goals
 pub mod Joined
 pub mod Listed
-pub mod Ordered
 pub mod Paired
 pub mod Placed
 pub mod Reaching

@@ -1,11 +1,11 @@
 -- The rules for a card, by what is known of the cards before it.
-use Rattle.std.specs.Prelude.{ℕ, ◌+◌, ◌-◌, nat_lt, List, [], Bool, true, false, not, ◌&&◌, ◌||◌, Option, None, Some, is_none, is_some, if◌then◌else◌}
+use Rattle.std.specs.Prelude.{ℕ, ◌+◌, ◌-◌, List, Bool, true, false, not, ◌&&◌, ◌||◌, Option, None, Some, is_none, is_some, if◌then◌else◌}
 use Rattle.std.specs.Option.{option_and_then, option_map, option_map_or}
-use Rattle.rpg_cards.specs.Calculations.{CalculationGroup, calculations, calculations_from, card_ending, depends, goes_on, group_end, group_with}
+use Rattle.rpg_cards.specs.Calculations.{calculations, card_ending, depends, goes_on, group_end}
 use Rattle.rpg_cards.specs.Deeds.{Calculation, deed_of}
 use Rattle.rpg_cards.specs.Keys.{Key}
 use Rattle.rpg_cards.specs.Calls.{called_subroutine, subroutine_in}
-use Rattle.rpg_cards.specs.Labels.{begins_subroutine, brackets, ends, gives, is_begsr, is_endsr, label_named, labels, wants}
+use Rattle.rpg_cards.specs.Labels.{begins_subroutine, ends, gives, is_begsr, is_endsr, label_named, labels, wants}
 use Rattle.rpg_cards.specs.declared.labels.Label.{Label}
 use Rattle.rpg_cards.specs.declared.labels.Named.{Named}
 use Rattle.rpg_cards.specs.declared.labels.Section.{Section}
@@ -17,7 +17,7 @@ use Rattle.rpg_cards.specs.declared.spec_card.SpecCard.{SpecCard}
 use Rattle.rpg_faults_flow.specs.Columns.{bad_by_end, may_depend}
 use Rattle.rpg_faults_flow.specs.Flow as flow
 use Rattle.rpg_faults_flow.specs.Flow.{is_given_as}
-use Rattle.rpg_faults_flow.specs.Order.{is_bracket, is_closed, section_rank}
+use Rattle.rpg_faults_flow.specs.Order.{is_bracket}
 use Rattle.rpg_faults_flow.specs.declared.flow.Flow.{Flow}
 use Rattle.rpg_sheet_specs.specs.declared.calculation.CalculationSpec.{CalculationSpec}
 use Rattle.rpg_sheet_specs.specs.declared.calculation.ControlLevel.{ControlLevel}
@@ -58,10 +58,6 @@ inside_behind inside bracket = option_map_or not bracket inside
 abbrev pub begun_behind : ℕ → Option Bool → ℕ
 begun_behind begun bracket = option_map_or (λ is_end. if is_end then begun else begun + 1) bracket begun
 
--- the rank of the last section so far, with one more card
-abbrev pub highest_with : ℕ → SpecCard → ℕ
-highest_with highest c = option_map_or (λ k. if nat_lt highest (section_rank k.control_level) then section_rank k.control_level else highest) (calculation_on c.spec) highest
-
 -- a label or a subroutine's name is given
 abbrev pub is_label_at : SpecCard → List SpecCard → Bool
 is_label_at c after = option_map_or (λ k. is_some (gives (deed_of k))) (card_ending c after) false
@@ -75,28 +71,6 @@ bad_dependence in_group on k after = ((on || (joins k.control_level && in_group)
 -- F9 of a C card, by whether a group is open
 abbrev pub bad_card : Bool → CalculationSpec → List SpecCard → Bool
 bad_card in_group k after = bad_dependence in_group (goes_on after) k after || ((is_some k.length && is_none k.result_field) || bad_by_end (goes_on after) k)
-
--- ---- F12
-
--- a group of an earlier section than a card before, or an SR group outside the subroutines that is neither BEGSR nor ENDSR
-abbrev pub misplaced : Flow → CalculationSpec → List SpecCard → Bool
-misplaced f k after = nat_lt (section_rank k.control_level) f.highest || (is_subroutine k.control_level && (not (is_bracket (deed_of (group_end k after))) && not f.is_inside))
-
--- BEGSR or ENDSR outside SR groups, ENDSR without BEGSR, or BEGSR without ENDSR
-abbrev pub unpaired_in : Bool → ControlLevel → CalculationSpec → Bool → Bool
-unpaired_in inside level k closed =
-    (is_bracket (deed_of k) && not (is_subroutine level))
-    || ((is_subroutine level && is_endsr (deed_of k) && not inside) || (is_subroutine level && is_begsr (deed_of k) && not closed))
-
--- the subroutine that begins on the last card of a group is closed after it
-abbrev pub closed_behind : Option CalculationGroup → CalculationSpec → List SpecCard → Bool
-closed_behind o k after = is_closed (brackets (calculations_from (Some (group_with o k)) after []))
-
--- F12 of a C card, by what is known of the cards before it
-abbrev pub breaks_card : Flow → Option CalculationGroup → CalculationSpec → List SpecCard → Bool
-breaks_card f o k after =
-    (if joins k.control_level then is_none f.group else misplaced f k after)
-    || (not (goes_on after) && unpaired_in f.is_inside (calculation_level f.group k) k (closed_behind o k after))
 
 -- ---- labels and calls
 

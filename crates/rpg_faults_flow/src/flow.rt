@@ -7,8 +7,7 @@ ghost use Rattle.rpg_cards.specs.declared.spec_card.SpecCard.{SpecCard};
 ghost use Rattle.rpg_faults_flow.specs.Seen.{IsFlow};
 ghost use Rattle.rpg_faults_flow.specs.ByCard as by_card;
 
-use crate::groups::{bracket_at, is_label_at, level_with, rank};
-use crate::rounding::leaves_remainder;
+use crate::groups::{bracket_at, is_label_at, level_with};
 use rpg_cards::SpecCard;
 use rpg_sheet_specs::{CalculationSpec, ControlLevel, InputSpec, Spec};
 
@@ -17,8 +16,6 @@ use rpg_sheet_specs::{CalculationSpec, ControlLevel, InputSpec, Spec};
 pub struct Flow {
     /// Columns 7 and 8 of the first card of the group that the card right before belongs to.
     pub(crate) group: Option<ControlLevel>,
-    /// The rank of the section that comes last so far.
-    pub(crate) highest: u8,
     /// Whether the last BEGSR or ENDSR of SR cards is a BEGSR.
     pub(crate) is_inside: bool,
     /// How many BEGSRs of SR cards there are.
@@ -27,8 +24,6 @@ pub struct Flow {
     pub(crate) labels: u16,
     /// How many definitions of names there are.
     pub(crate) definitions: u16,
-    /// Whether the card right before is the last one of a division without H.
-    pub(crate) is_behind_division: bool,
 }
 
 impl Flow {
@@ -38,12 +33,10 @@ impl Flow {
     {
         Flow {
             group: None,
-            highest: 0,
             is_inside: false,
             begun: 0,
             labels: 0,
             definitions: 0,
-            is_behind_division: false,
         }
     }
 
@@ -56,12 +49,10 @@ impl Flow {
         let bracket = bracket_at(&self.group, card, after);
         Flow {
             group: level_with(&self.group, card),
-            highest: highest_with(self.highest, card),
             is_inside: inside_behind(self.is_inside, bracket),
             begun: begun_behind(self.begun, bracket),
             labels: self.labels + u16::from(is_label_at(card, after)),
             definitions: self.definitions + definition_count(card),
-            is_behind_division: leaves_remainder(card),
         }
     }
 }
@@ -87,19 +78,6 @@ fn result_count(calculation: &CalculationSpec) -> u16
     match (&calculation.length, &calculation.result_field) {
         (Some(_), Some(_)) => 1,
         _ => 0,
-    }
-}
-
-/// The rank of the section that comes last, with one more card.
-fn highest_with(highest: u8, card: &SpecCard) -> u8
-    ensures { result ≡ by_card.highest_with highest card.now }
-{
-    match card.calculation() {
-        None => highest,
-        Some(calculation) => {
-            let rank = rank(calculation.control_level);
-            if highest < rank { rank } else { highest }
-        }
     }
 }
 

@@ -10,17 +10,6 @@ use rpg_cards::{
 };
 use rpg_sheet_specs::{CalculationSpec, ControlLevel};
 
-/// The order of the sections.
-pub(crate) fn rank(control_level: ControlLevel) -> u8
-    ensures { result ≡ order.section_rank control_level }
-{
-    match control_level {
-        ControlLevel::Detail | ControlLevel::And | ControlLevel::Or => 0,
-        ControlLevel::Total(_) => 1,
-        ControlLevel::Subroutine => 2,
-    }
-}
-
 /// Columns 7 and 8 of the first card of a card's group.
 pub(crate) fn level_in(group: &Option<ControlLevel>, calculation: &CalculationSpec) -> ControlLevel
     ensures { result ≡ by_card.calculation_level group.now calculation.now }

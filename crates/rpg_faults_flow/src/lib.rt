@@ -9,8 +9,6 @@ mod labels;
 mod laws;
 mod marks;
 mod names;
-mod order;
-mod rounding;
 mod targets;
 
 pub use columns::{bad_columns, has_more, may_depend};
@@ -21,6 +19,4 @@ pub use marks::{
     calculation_columns, further_range, order_columns, rounding_columns, target_range, twice_range,
 };
 pub use names::names_twice;
-pub use order::breaks_order;
-pub use rounding::bad_rounding;
 pub use targets::{calls_itself, goes_apart, goes_nowhere};

@@ -12,7 +12,6 @@ use crate::flow::Flow;
 use crate::groups::is_bracket;
 use crate::labels::Labels;
 use crate::names::gives_again;
-use crate::rounding::may_half_adjust;
 use rpg_cards::{IndexedCards, SpecCard, columns, goes_on, last_card};
 use rpg_sheet_specs::{CalculationSpec, ColumnRange, ConditionSpec, Indicator, Operation, Three};
 
@@ -173,5 +172,14 @@ fn is_rounded(card: &SpecCard, after: &[SpecCard]) -> bool
     match last_card(card, after) {
         None => false,
         Some(last) => may_half_adjust(last),
+    }
+}
+
+fn may_half_adjust(calculation: &CalculationSpec) -> bool
+    ensures { result ≡ rounding.operation_passes rounding.may_half_adjust calculation.now }
+{
+    match calculation.operation {
+        None => false,
+        Some(operation) => columns(operation).may_half_adjust,
     }
 }

@@ -33,9 +33,8 @@ overflow_add-result-2 c =
 pub returns : goal.returns
 returns c =
     flow_with c.args.before.now c.args.card.now c.args.after.now c.args.self _ c.requires.flow
-    c.level_with.ensures c.highest_with.ensures
+    c.level_with.ensures
     (c.inside_behind.ensures ∙ ap (inside_behind c.args.self.is_inside) c.bracket_at-bracket.ensures)
     (c.begun_behind.ensures ∙ ap (begun_behind c.args.self.begun) c.bracket_at-bracket.ensures)
     (ap (λ n. c.args.self.labels + n) (c.from.ensures ∙ byte c.is_label_at.result ∙ ap one_if c.is_label_at.ensures))
     (ap (λ n. c.args.self.definitions + n) c.definition_count.ensures)
-    c.leaves_remainder.ensures

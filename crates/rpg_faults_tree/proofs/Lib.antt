@@ -1,0 +1,10 @@
+pub mod Among
+pub mod Begins
+pub mod Broken
+pub mod Each
+pub mod Ends
+pub mod Here
+pub mod Marking
+pub mod Rounds
+pub mod Stepping
+pub mod Straying
