@@ -20,7 +20,7 @@ use Rattle.rpg_faults_flow.proofs.Carried.{bracket_at-is, closed_by, closed_step
 use Rattle.rpg_faults_flow.proofs.Facts.{last_with}
 use Rattle.rpg_faults_flow.specs.ByCard.{bracket_at, bracket_of, calculation_level, level_with}
 use Rattle.rpg_faults_flow.specs.Order.{breaks_calculation, breaks_group, breaks_order, is_bracket, is_closed, is_early, is_outside_subroutine, section_rank}
-use Rattle.rpg_faults_flow.specs.Seen.{level_of_group}
+use Rattle.rpg_faults_flow.specs.ByCard.{level_of_group}
 use Rattle.rpg_sheet_specs.specs.declared.calculation.CalculationSpec.{CalculationSpec}
 use Rattle.rpg_sheet_specs.specs.declared.calculation.ControlLevel.{ControlLevel}
 

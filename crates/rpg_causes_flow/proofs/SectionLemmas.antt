@@ -23,7 +23,7 @@ use Rattle.rpg_faults_flow.proofs.Listed.{asked}
 use Rattle.rpg_faults_flow.proofs.Walk.{open_behind-push}
 use Rattle.rpg_faults_flow.specs.ByCard.{calculation_level}
 use Rattle.rpg_faults_flow.specs.Flow.{are_apart, goes_apart, leaves_by, leaves_section}
-use Rattle.rpg_faults_flow.specs.Seen.{level_of_group}
+use Rattle.rpg_faults_flow.specs.ByCard.{level_of_group}
 use Rattle.rpg_sheet_specs.specs.declared.calculation.CalculationSpec.{CalculationSpec}
 use Rattle.rpg_sheet_specs.specs.declared.calculation.ControlLevel.{ControlLevel}
 use Rattle.rpg_sheet_specs.specs.declared.calculation.ControlLevel.TheVariants as control

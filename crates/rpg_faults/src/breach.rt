@@ -26,7 +26,6 @@ pub(crate) fn breaks(
     ensures { result ≡ rules.rule code seen.now.before.now card.now after.now }
 {
     let before = seen.before;
-    let labels = &found.labels;
     match code {
         FaultCode::F1 => rpg_faults_operands::lacks_name(source, card, after),
         FaultCode::F2 => rpg_faults_limits::redefines(source, &seen.limits, before, card, after),
@@ -39,17 +38,22 @@ pub(crate) fn breaks(
         FaultCode::F7 => rpg_faults_limits::breaks_files(source, &seen.sheets, before, card),
         FaultCode::F8 => rpg_faults_operands::bad_indicator(source, card),
         FaultCode::F9 => {
-            rpg_faults_flow::bad_columns(&seen.flow, before, card, after)
+            rpg_faults_flow::bad_columns(before, card, after)
                 || rpg_faults_operands::bad_columns(source, card, after)
                 || rpg_faults_limits::moves_disk(source, &seen.sheets, before, card)
         }
-        FaultCode::F10 => rpg_faults_flow::goes_nowhere(labels, before, card, after),
-        FaultCode::F11 => rpg_faults_flow::names_twice(
-            source, labels, &seen.flow, before, card, after,
+        FaultCode::F10 => found.goes_nowhere(card),
+        FaultCode::F11 => rpg_faults_tree::names_twice(
+            source,
+            found,
+            &seen.counts,
+            before,
+            card,
+            after,
         ),
         FaultCode::F12 => found.breaks_order(card),
-        FaultCode::F13 => rpg_faults_flow::goes_apart(labels, &seen.flow, before, card, after),
-        FaultCode::F14 => rpg_faults_flow::calls_itself(labels, &seen.flow, before, card, after),
+        FaultCode::F13 => found.goes_apart(card),
+        FaultCode::F14 => found.calls_itself(card),
         FaultCode::F15 => found.rounds_wrongly(card),
         FaultCode::F16 => crate::misplaces(source, &seen.sheets, &seen.places, before, card, after),
         FaultCode::F17 => rpg_faults_operands::bad_editing(source, card),

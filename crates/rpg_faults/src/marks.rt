@@ -1,6 +1,6 @@
 //! Which columns of a card a fault speaks of.
 
-ghost use Rattle.std.specs.Prelude.{◌≡◌, ◌∷◌, ◌++◌, Option};
+ghost use Rattle.std.specs.Prelude.{◌≡◌, ◌∷◌, Option};
 ghost use Rattle.std.specs.Option.{option_map};
 ghost use Rattle.rpg_cards.specs.Sheets.{AreSheets};
 ghost use Rattle.rpg_faults.specs.Marks as marks;
@@ -61,10 +61,10 @@ fn fault_range(
         FaultCode::F8 => rpg_faults_operands::indicator_columns(source, card),
         FaultCode::F9 => missing_columns(source, seen, card, after),
         FaultCode::F10 | FaultCode::F13 | FaultCode::F14 => Some(rpg_faults_flow::target_range()),
-        FaultCode::F11 => Some(rpg_faults_flow::twice_range(
+        FaultCode::F11 => Some(rpg_faults_tree::twice_range(
             source,
-            &found.labels,
-            &seen.flow,
+            found,
+            &seen.counts,
             before,
             card,
             after,
@@ -87,7 +87,7 @@ fn missing_columns(
     requires { AreCardsSeen source.now (card.now ∷ after.now) seen.now }
     ensures { result ≡ marks.missing_columns seen.now.before.now card.now after.now }
 {
-    if rpg_faults_flow::bad_columns(&seen.flow, seen.before, card, after) {
+    if rpg_faults_flow::bad_columns(seen.before, card, after) {
         rpg_faults_flow::calculation_columns(card, after)
     } else if rpg_faults_operands::bad_columns(source, card, after) {
         rpg_faults_operands::missing_columns(card, after)

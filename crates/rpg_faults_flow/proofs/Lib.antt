@@ -1,13 +1,8 @@
-pub mod Bits
-pub mod Carried
 pub mod Counted
 pub mod Facts
-pub mod Found
 pub mod Goals
 pub mod Joined
-pub mod Listed
 pub mod Paired
 pub mod Placed
 pub mod Reaching
-pub mod Twice
 pub mod Walk

@@ -1,10 +1,16 @@
 pub mod Among
 pub mod Begins
+pub mod Bits
 pub mod Broken
+pub mod Counting
 pub mod Each
 pub mod Ends
+pub mod Gathered
 pub mod Here
+pub mod Indexing
+pub mod LookedUp
 pub mod Marking
 pub mod Rounds
 pub mod Stepping
 pub mod Straying
+pub mod Twice

@@ -1,4 +1,6 @@
 pub mod Breaks
+pub mod Counted
+pub mod Index
 pub mod Marked
 pub mod Numbers
 pub mod Order

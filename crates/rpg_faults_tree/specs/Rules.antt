@@ -4,6 +4,7 @@ use Rattle.std.specs.Option.{option_map_or}
 use Rattle.rpg_cards.specs.Labels.{label_named, wants}
 use Rattle.rpg_cards.specs.declared.labels.Label.{Label}
 use Rattle.rpg_cards.specs.declared.labels.Named.{Named}
+use Rattle.rpg_cards.specs.declared.labels.Section.{Section}
 use Rattle.rpg_cards.specs.declared.spec_card.SpecCard.{SpecCard}
 use Rattle.rpg_deck.specs.Flat.{IsInOrder}
 use Rattle.rpg_deck.specs.Steps.{Step, call_of, calls_of_steps, deed, labels_of_steps, steps_in}
@@ -31,9 +32,13 @@ lost_cards t = at_operations (λ s after. step_goes_nowhere (labels_of_steps (st
 abbrev pub misplaced_cards : Tree → List ℕ
 misplaced_cards t = out_of_order (steps_in t) t.types t.lines
 
+-- a GOTO from that section to that name leaves the section
+abbrev pub name_leaves : List Label → Section → Named → Bool
+name_leaves given own n = option_map_or (leaves_by own n) (label_named n.name given) false
+
 -- a GOTO to a label of another section
 abbrev pub step_leaves_section : List Label → Step → Bool
-step_leaves_section given s = option_map_or (λ (n : Named). option_map_or (leaves_by s.section n) (label_named n.name given) false) (wants (deed s)) false
+step_leaves_section given s = option_map_or (name_leaves given s.section) (wants (deed s)) false
 
 -- F13: the cards with a GOTO to another section
 abbrev pub leaving_cards : Tree → List ℕ
