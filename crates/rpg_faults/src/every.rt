@@ -14,6 +14,7 @@ use crate::source_fault::{CardFault, SourceCode};
 use rpg_cards::{IndexedCards, SpecCard};
 use rpg_faults_flow::Labels;
 use rpg_faults_limits::lacks_input;
+use rpg_faults_operands::has_good_operands;
 use std::alloc::{AllocError, Global};
 
 /// All faults by card, then by code, each with the columns that it speaks of, found in one pass over the cards. There are none exactly where
@@ -91,8 +92,9 @@ fn put_faults_on(
     requires seen { AreCardsSeen source.now (card.now ∷ after.now) seen.now }
     ensures { OnOk result (faults.new.items ≡ faults.old.items ++ told.told_on seen.now.before.now card.now after.now) }
 {
+    let is_good = has_good_operands(source, card, after);
     for code in FaultCode::all() {
-        if breaks(code, source, labels, seen, card, after) {
+        if breaks(code, source, labels, seen, is_good, card, after) {
             faults.push(CardFault {
                 card: card.number,
                 code: SourceCode::Fault(code),

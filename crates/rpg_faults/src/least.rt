@@ -14,6 +14,7 @@ use crate::seen::Seen;
 use rpg_cards::{IndexedCards, SpecCard};
 use rpg_faults_flow::Labels;
 use rpg_faults_limits::lacks_input;
+use rpg_faults_operands::has_good_operands;
 use std::alloc::{AllocError, Global};
 
 /// The least fault by card, then by code, found in one pass over the cards. An error is for want of memory.
@@ -75,8 +76,9 @@ fn least_code(
     requires seen { AreCardsSeen source.now (card.now ∷ after.now) seen.now }
     ensures { result ≡ find (λ code. rules.rule code seen.now.before.now card.now after.now) faults.codes }
 {
+    let is_good = has_good_operands(source, card, after);
     for code in FaultCode::all() {
-        if breaks(code, source, labels, seen, card, after) {
+        if breaks(code, source, labels, seen, is_good, card, after) {
             return Some(code);
         }
     }

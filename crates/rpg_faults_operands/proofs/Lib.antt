@@ -1,3 +1,4 @@
+pub mod GoodLemmas
 pub mod Listed
 pub mod SizeLemmas
 pub mod Unedited

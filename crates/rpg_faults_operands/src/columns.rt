@@ -24,15 +24,9 @@ pub fn bad_columns(source: &IndexedCards, card: &SpecCard, after: &[SpecCard]) -
 fn is_bad_search_ending(source: &IndexedCards, card: &SpecCard, after: &[SpecCard]) -> bool
     ensures { result ≡ option_map_or (words.bad_search source.now) (card_ending card.now after.now) false }
 {
-    match last_card(card, after) {
-        None => false,
-        Some(calculation) => is_bad_search(source, calculation),
-    }
-}
-
-fn is_bad_search(source: &IndexedCards, calculation: &CalculationSpec) -> bool
-    ensures { result ≡ words.bad_search source.now calculation.now }
-{
+    let Some(calculation) = last_card(card, after) else {
+        return false;
+    };
     match calculation.operation {
         None => false,
         Some(operation) => is_unordered(source, calculation, columns(operation)),
@@ -48,21 +42,12 @@ fn is_unordered(
     ensures { result ≡ words.is_unordered source.now calculation.now columns }
 {
     let shown = calculation.resulting_indicators;
-    searches(columns.indicators)
+    matches!(columns.indicators, Shown::Search)
         && (shown.first.is_some() || shown.second.is_some())
         && match factor_form(source, columns.factor_2, &calculation.factor_2) {
             None => false,
             Some(form) => lacks_sequence(form),
         }
-}
-
-fn searches(shown: Shown) -> bool
-    ensures { result ≡ words.searches shown }
-{
-    match shown {
-        Shown::Search => true,
-        Shown::Unused | Shown::Any | Shown::Some => false,
-    }
 }
 
 fn lacks_sequence(form: FieldForm) -> bool

@@ -121,7 +121,7 @@ fn is_badly_edited(source: &IndexedCards, field: &OutputField) -> bool
 }
 
 /// Whether a field has neither a code nor a word, so that its form doesn't matter: of most fields nothing is looked up.
-pub(crate) fn is_unedited(field: &OutputField) -> bool
+fn is_unedited(field: &OutputField) -> bool
     ensures { result ≡ (is_none field.now.code && is_none field.now.text) }
 {
     field.code.is_none() && field.text.is_none()

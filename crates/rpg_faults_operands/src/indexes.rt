@@ -2,44 +2,25 @@
 
 ghost use Rattle.std.specs.Prelude.{◌≡◌, false};
 ghost use Rattle.std.specs.Option.{option_map_or};
-ghost use Rattle.std.specs.List.{list_any};
-ghost use Rattle.rpg_cards.specs.Calculations.{card_ending};
 ghost use Rattle.rpg_faults_operands.specs.Indexes as indexes;
-ghost use Rattle.rpg_faults_operands.specs.Operands.{operands_listed, operands_of};
 
 use crate::forms::can_index;
 use crate::names::index_name;
-use crate::operands::{Operand, entry_form, form_in, operands_of, output_operand};
-use rpg_cards::{Content, IndexedCards, SpecCard, last_card};
+use crate::operands::{Operand, entry_form, form_in, operands_ending, output_operand};
+use rpg_cards::{Content, IndexedCards, SpecCard};
 use rpg_program::form::{FieldForm, fits_digits, is_array};
-use rpg_sheet_specs::{CalculationSpec, Entry, EntryIndex};
+use rpg_sheet_specs::{Entry, EntryIndex};
 
 /// F5: an index that is missing or not allowed, a literal out of range, or a field that can't be an index.
-#[tactic(auto, using(crate::proofs::Listed::any_on))]
+#[tactic(auto, using(crate::proofs::Listed::any_listed))]
 pub fn bad_index(source: &IndexedCards, card: &SpecCard, after: &[SpecCard]) -> bool
     ensures { result ≡ indexes.bad_index source.now card.now after.now }
 {
-    ending_indexes_badly(source, card, after) || is_badly_indexed(source, &output_operand(card))
-}
-
-/// Of the calculation that ends on the card.
-fn ending_indexes_badly(source: &IndexedCards, card: &SpecCard, after: &[SpecCard]) -> bool
-    ensures { result ≡ option_map_or (λ k. list_any (indexes.bad_index_of source.now) (operands_listed (operands_of k))) (card_ending card.now after.now) false }
-{
-    match last_card(card, after) {
-        None => false,
-        Some(calculation) => indexes_badly(source, calculation),
-    }
-}
-
-#[tactic(auto, using(crate::proofs::Listed::any_of_three))]
-fn indexes_badly(source: &IndexedCards, calculation: &CalculationSpec) -> bool
-    ensures { result ≡ list_any (indexes.bad_index_of source.now) (operands_listed (operands_of calculation.now)) }
-{
-    let operands = operands_of(calculation);
+    let operands = operands_ending(card, after);
     is_badly_indexed(source, &operands.first)
         || is_badly_indexed(source, &operands.second)
         || is_badly_indexed(source, &operands.third)
+        || is_badly_indexed(source, &output_operand(card))
 }
 
 pub(crate) fn is_badly_indexed(source: &IndexedCards, operand: &Option<Operand>) -> bool
@@ -64,7 +45,7 @@ fn index_form(source: &IndexedCards, entry: &Entry) -> Option<FieldForm>
 }
 
 /// Whether an index, or none, is wrong for a field of this form. `index_form` is the form of the index's own field, if it is known.
-fn is_misindexed(
+pub(crate) fn is_misindexed(
     content: Content,
     index: &Option<EntryIndex>,
     index_form: Option<FieldForm>,
@@ -124,26 +105,13 @@ fn lacks_digits(content: Content, form: FieldForm, index_form: Option<FieldForm>
 fn is_too_short(content: Content, form: FieldForm, field: FieldForm) -> bool
     ensures { result ≡ indexes.is_too_short content form field }
 {
-    is_searched(content)
+    matches!(content, Content::Searched)
         && is_array(form.class)
         && can_index(field)
         && !fits_digits(form.entries, field.length)
 }
 
-fn is_searched(content: Content) -> bool
-    ensures { result ≡ indexes.is_searched_content content }
-{
-    match content {
-        Content::Searched => true,
-        Content::Value
-        | Content::WholeArray
-        | Content::Table
-        | Content::Label
-        | Content::Subroutine => false,
-    }
-}
-
-fn is_bad_index_field(form: Option<FieldForm>) -> bool
+pub(crate) fn is_bad_index_field(form: Option<FieldForm>) -> bool
     ensures { result ≡ indexes.bad_index_field form }
 {
     match form {

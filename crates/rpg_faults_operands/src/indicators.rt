@@ -113,15 +113,9 @@ pub(crate) fn is_bad_in_output(source: &IndexedCards, condition: Option<Conditio
     }
 }
 
+/// Conditions may name MR only in sources that match the records of their files.
 fn is_barred_mr(source: &IndexedCards, indicator: Indicator) -> bool
     ensures { result ≡ indicators.is_barred_mr source.now indicator }
 {
-    indicator.number() == 129 && !may_ask(source)
-}
-
-/// Whether conditions may name MR, which is for sources that match the records of their files.
-fn may_ask(source: &IndexedCards) -> bool
-    ensures { result ≡ indicators.may_name_mr source.now }
-{
-    source.has_match_field()
+    indicator.number() == 129 && !source.has_match_field()
 }

@@ -1,18 +1,17 @@
 //! F4: an operand or output field of the wrong kind, a field that can't be written, a table with too few entries.
 
-ghost use Rattle.std.specs.Prelude.{◌≡◌, ◌&&◌, false, not};
-ghost use Rattle.std.specs.Option.{is_none, option_map_or};
+ghost use Rattle.std.specs.Prelude.{◌≡◌, false};
+ghost use Rattle.std.specs.Option.{option_map_or};
 ghost use Rattle.rpg_cards.specs.Calculations.{card_ending};
 ghost use Rattle.rpg_cards.specs.Cards.{output_field_on};
 ghost use Rattle.rpg_faults_operands.specs.Kinds as words;
 ghost use Rattle.rpg_faults_operands.specs.Operands.{field_content};
 
-use crate::editing::is_unedited;
 use crate::forms::{is_text, is_unwritable};
 use crate::operands::{factor_form, field_content, output_form, result_form};
 use rpg_cards::{Content, IndexedCards, Kinds, OperationColumns, SpecCard, columns, last_card};
 use rpg_program::form::{FieldForm, is_array, is_table, same_kind};
-use rpg_sheet_specs::{CalculationSpec, OutputField};
+use rpg_sheet_specs::OutputField;
 
 /// F4: an operand or output field of the wrong kind, a field that can't be written, a table with too few entries.
 pub fn wrong_operand(source: &IndexedCards, card: &SpecCard, after: &[SpecCard]) -> bool
@@ -24,15 +23,9 @@ pub fn wrong_operand(source: &IndexedCards, card: &SpecCard, after: &[SpecCard])
 fn is_wrong_ending(source: &IndexedCards, card: &SpecCard, after: &[SpecCard]) -> bool
     ensures { result ≡ option_map_or (words.wrong_in_calculation source.now) (card_ending card.now after.now) false }
 {
-    match last_card(card, after) {
-        None => false,
-        Some(calculation) => is_wrong_calculation(source, calculation),
-    }
-}
-
-fn is_wrong_calculation(source: &IndexedCards, calculation: &CalculationSpec) -> bool
-    ensures { result ≡ words.wrong_in_calculation source.now calculation.now }
-{
+    let Some(calculation) = last_card(card, after) else {
+        return false;
+    };
     let Some(operation) = calculation.operation else {
         return false;
     };
@@ -48,33 +41,17 @@ fn is_wrong_calculation(source: &IndexedCards, calculation: &CalculationSpec) ->
 fn is_wrong_output(source: &IndexedCards, card: &SpecCard) -> bool
     ensures { result ≡ option_map_or (words.wrong_in_output source.now) (output_field_on card.now.spec) false }
 {
-    match card.output_field() {
-        None => false,
-        Some(field) => is_wrong_field(source, field),
-    }
-}
-
-fn is_wrong_field(source: &IndexedCards, field: &OutputField) -> bool
-    ensures { result ≡ words.wrong_in_output source.now field.now }
-{
-    if is_put_out_alone(field) {
+    let Some(field) = card.output_field() else {
         return false;
-    }
+    };
     match output_form(source, field) {
         None => false,
         Some(form) => is_wrong_as_output(field, form),
     }
 }
 
-/// Whether a field is neither edited nor blanked, so that its form doesn't matter: of most fields nothing is looked up.
-fn is_put_out_alone(field: &OutputField) -> bool
-    ensures { result ≡ (is_none field.now.code && is_none field.now.text && not field.now.blank_after) }
-{
-    is_unedited(field) && !field.blank_after
-}
-
 /// Takes the forms of the contents of factor 1, factor 2 and the result field.
-fn are_wrong(
+pub(crate) fn are_wrong(
     columns: OperationColumns,
     factor_1: Option<FieldForm>,
     factor_2: Option<FieldForm>,
@@ -159,20 +136,14 @@ fn is_wrong_result(
 {
     match content {
         None => false,
-        Some(Content::Value) => is_never_written(result_field),
+        Some(Content::Value) => match result_field {
+            None => false,
+            Some(form) => is_unwritable(form),
+        },
         Some(Content::Table) => finds_too_few(searched, result_field),
         Some(Content::WholeArray | Content::Searched | Content::Label | Content::Subroutine) => {
             false
         }
-    }
-}
-
-fn is_never_written(form: Option<FieldForm>) -> bool
-    ensures { result ≡ option_map_or words.is_unwritable form false }
-{
-    match form {
-        None => false,
-        Some(form) => is_unwritable(form),
     }
 }
 
@@ -194,7 +165,7 @@ fn finds_too_few(searched: Option<FieldForm>, found: Option<FieldForm>) -> bool
 }
 
 /// A text that is edited, or the date that is blanked.
-fn is_wrong_as_output(field: &OutputField, form: FieldForm) -> bool
+pub(crate) fn is_wrong_as_output(field: &OutputField, form: FieldForm) -> bool
     ensures { result ≡ words.wrong_as_output field.now form }
 {
     ((field.code.is_some() || field.text.is_some()) && is_text(form))

@@ -5,6 +5,7 @@
 mod columns;
 mod editing;
 mod forms;
+mod good;
 mod indexes;
 mod indicator_marks;
 mod indicators;
@@ -15,6 +16,7 @@ mod operands;
 
 pub use columns::bad_columns;
 pub use editing::{bad_editing, fill_in, width};
+pub use good::has_good_operands;
 pub use indexes::bad_index;
 pub use indicator_marks::indicator_columns;
 pub use indicators::bad_indicator;

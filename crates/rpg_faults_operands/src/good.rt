@@ -1,0 +1,142 @@
+//! Cards whose operands are surely good, so that F1, F4 and F5 need not be asked one by one: each name is looked up once.
+
+ghost use Rattle.std.specs.Prelude.{◌≡◌, false, Some, option_and_then, IfSome};
+ghost use Rattle.std.specs.Bool.{OnTrue};
+ghost use Rattle.std.specs.Option.{option_map_or};
+ghost use Rattle.rpg_cards.specs.Calculations.{card_ending};
+ghost use Rattle.rpg_cards.specs.Cards.{output_field_on};
+ghost use Rattle.rpg_faults_operands.specs.Good.{HasGoodOperands, IsGoodCalculation, IsGoodForm, IsGoodOperand};
+ghost use Rattle.rpg_faults_operands.specs.Indexes as indexes;
+ghost use Rattle.rpg_faults_operands.specs.Kinds as kinds;
+ghost use Rattle.rpg_faults_operands.specs.Operands as operands;
+
+use crate::indexes::{is_bad_index_field, is_misindexed};
+use crate::kinds::{are_wrong, is_wrong_as_output};
+use crate::names::index_name;
+use crate::operands::{field_content, form_in};
+use rpg_cards::{Column, Content, Defined, IndexedCards, SpecCard, columns, last_card};
+use rpg_program::form::FieldForm;
+use rpg_sheet_specs::{CalculationSpec, Entry, Factor};
+
+/// Whether all names on a card are defined and its operands good, so that it breaks neither F1 nor F4 nor F5.
+pub fn has_good_operands(source: &IndexedCards, card: &SpecCard, after: &[SpecCard]) -> bool
+    ensures { OnTrue result (HasGoodOperands source.now card.now after.now) }
+{
+    is_good_ending(source, card, after) && is_good_output(source, card)
+}
+
+/// Of the calculation that ends on the card.
+fn is_good_ending(source: &IndexedCards, card: &SpecCard, after: &[SpecCard]) -> bool
+    ensures { OnTrue result (IfSome (card_ending card.now after.now) (IsGoodCalculation source.now)) }
+{
+    match last_card(card, after) {
+        None => true,
+        Some(calculation) => is_good_calculation(source, calculation),
+    }
+}
+
+fn is_good_calculation(source: &IndexedCards, calculation: &CalculationSpec) -> bool
+    ensures { OnTrue result (IsGoodCalculation source.now calculation.now) }
+{
+    let Some(operation) = calculation.operation else {
+        return true;
+    };
+    let columns = columns(operation);
+    let Some(factor_1) = good_factor(source, columns.factor_1, &calculation.factor_1) else {
+        return false;
+    };
+    let Some(factor_2) = good_factor(source, columns.factor_2, &calculation.factor_2) else {
+        return false;
+    };
+    match good_result(source, columns.result_field, &calculation.result_field) {
+        None => false,
+        Some(result_field) => !are_wrong(columns, factor_1, factor_2, result_field),
+    }
+}
+
+/// The form of a factor, which has none in a column that isn't for a field: nothing if it may be bad.
+fn good_factor(
+    source: &IndexedCards,
+    column: Column,
+    factor: &Option<Factor>,
+) -> Option<Option<FieldForm>>
+    ensures { IfSome result (IsGoodForm source.now (operands.operand_in column (option_and_then operands.factor_entry factor.now)) (operands.factor_form source.now column factor.now)) }
+{
+    let Some(content) = field_content(column) else {
+        return Some(None);
+    };
+    let Some(factor) = factor else {
+        return Some(None);
+    };
+    match factor {
+        Factor::Entry(field) => good_form(source, content, field).map(Some),
+        Factor::Literal(_) => Some(form_in(source.form_of_factor(factor))),
+    }
+}
+
+/// The same of a result field.
+fn good_result(
+    source: &IndexedCards,
+    column: Column,
+    field: &Option<Entry>,
+) -> Option<Option<FieldForm>>
+    ensures { IfSome result (IsGoodForm source.now (operands.operand_in column field.now) (operands.result_form source.now column field.now)) }
+{
+    let Some(content) = field_content(column) else {
+        return Some(None);
+    };
+    match field {
+        None => Some(None),
+        Some(field) => good_form(source, content, field).map(Some),
+    }
+}
+
+/// The form of a field that is defined and well indexed.
+fn good_form(source: &IndexedCards, content: Content, field: &Entry) -> Option<FieldForm>
+    ensures good { IfSome result (λ form. IsGoodOperand source.now (Some (operands.operand_with content field.now))) }
+    ensures form { IfSome result (λ form. operands.card_entry_form source.now field.now ≡ Some form) }
+{
+    let Defined::Good(form) = source.form_of_name(&field.name) else {
+        return None;
+    };
+    if has_good_index(source, content, field, form) {
+        Some(form)
+    } else {
+        None
+    }
+}
+
+/// Whether an index, or none, is right for a field of this form.
+fn has_good_index(source: &IndexedCards, content: Content, field: &Entry, form: FieldForm) -> bool
+    requires { operands.card_entry_form source.now field.now ≡ Some form }
+    ensures { OnTrue result (IsGoodOperand source.now (Some (operands.operand_with content field.now))) }
+{
+    let Some(name) = index_name(field) else {
+        return !is_misindexed(content, &field.index, None, form);
+    };
+    match source.form_of_name(name) {
+        Defined::Missing | Defined::Bad => false,
+        Defined::Good(index_form) => {
+            let index_form = Some(index_form);
+            !is_bad_index_field(index_form)
+                && !is_misindexed(content, &field.index, index_form, form)
+        }
+    }
+}
+
+/// Of an output field.
+fn is_good_output(source: &IndexedCards, card: &SpecCard) -> bool
+    ensures operand { OnTrue result (IsGoodOperand source.now (operands.output_operand_on card.now)) }
+    ensures kind { OnTrue result (option_map_or (kinds.wrong_in_output source.now) (output_field_on card.now.spec) false ≡ false) }
+{
+    let Some(field) = card.output_field() else {
+        return true;
+    };
+    let Some(entry) = &field.operand else {
+        return true;
+    };
+    match good_form(source, Content::Value, entry) {
+        None => false,
+        Some(form) => !is_wrong_as_output(field, form),
+    }
+}
