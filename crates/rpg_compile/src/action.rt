@@ -26,7 +26,6 @@ pub(crate) fn action_of(
 {
     let half = calculation.half_adjust;
     let shows = shows_of(calculation.resulting_indicators);
-    let result = result_of(table, &calculation.result_field);
     Some(match operation {
         Operation::Add => compute(Operator::Add, table, calculation),
         Operation::Subtract => compute(Operator::Subtract, table, calculation),
@@ -35,16 +34,19 @@ pub(crate) fn action_of(
             half,
             factor1: first_or_result(table, calculation),
             factor2: factor_of(table, &calculation.factor_2),
-            result,
+            result: result_of(table, &calculation.result_field),
             shows,
         },
         Operation::ZeroAdd => assign(false, table, calculation),
         Operation::ZeroSubtract => assign(true, table, calculation),
-        Operation::MoveRemainder => Action::TakeRemainder { result, shows },
+        Operation::MoveRemainder => Action::TakeRemainder {
+            result: result_of(table, &calculation.result_field),
+            shows,
+        },
         Operation::CrossFoot => Action::CrossFoot {
             half,
             factor2: factor_of(table, &calculation.factor_2),
-            result,
+            result: result_of(table, &calculation.result_field),
             shows,
         },
         Operation::Compare => Action::Compare {
