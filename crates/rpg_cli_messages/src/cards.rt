@@ -1,6 +1,7 @@
 //! The cards of a source that are on a sheet, with their numbers.
 
 use rpg_cards::SpecCard;
+use rpg_faults::{CardFault, SourceCode};
 use rpg_sheet::{SheetFault, Spec};
 use std::alloc::{AllocError, Global};
 
@@ -14,7 +15,7 @@ fn put_card(known: &mut Vec<SpecCard>, number: u16, spec: Option<Spec>) -> Resul
 
 /// The cards that are on a sheet, with their numbers.
 fn numbered(alloc: Global, cards: Vec<Option<Spec>>) -> Result<Vec<SpecCard>, AllocError> {
-    let mut known = Vec::new(alloc);
+    let mut known = Vec::with_capacity(alloc, cards.len())?;
     let mut number = 1u16;
     let mut ran_out = false;
     for spec in cards {
@@ -26,11 +27,27 @@ fn numbered(alloc: Global, cards: Vec<Option<Spec>>) -> Result<Vec<SpecCard>, Al
     if ran_out { Err(AllocError) } else { Ok(known) }
 }
 
-/// The cards of a source that are on a sheet, or none where one of them can't be read.
-pub(crate) fn readable_cards(alloc: Global, source: &[u8]) -> Result<Vec<SpecCard>, AllocError> {
+/// The cards of a source with these faults that are on a sheet, or none where one of them can't be read. That is the first fault then, so
+/// that the source isn't read to find it once more.
+pub(crate) fn readable_cards(
+    alloc: Global,
+    source: &[u8],
+    faults: &[CardFault],
+) -> Result<Vec<SpecCard>, AllocError> {
+    if has_unreadable(faults) {
+        return Ok(Vec::new(alloc));
+    }
     match rpg_sheet::cards(alloc, source) {
         Ok(cards) => numbered(alloc, cards.into_vec()),
         Err(SheetFault::At { .. }) => Ok(Vec::new(alloc)),
         Err(SheetFault::NoMemory) => Err(AllocError),
+    }
+}
+
+/// Whether a card can't be read: a source with such cards has no other faults.
+fn has_unreadable(faults: &[CardFault]) -> bool {
+    match faults.first() {
+        None => false,
+        Some(fault) => matches!(fault.code, SourceCode::Sheet(_)),
     }
 }

@@ -24,7 +24,7 @@ pub fn source_messages(
     faults: &[CardFault],
     most: u16,
 ) -> Result<String, AllocError> {
-    let cards = readable_cards(alloc, source)?;
+    let cards = readable_cards(alloc, source, faults)?;
     let cards = IndexedCards::new(alloc, &cards)?;
     let labels = labels_of(alloc, &cards)?;
     let known = SourceCards {
