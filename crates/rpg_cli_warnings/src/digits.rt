@@ -90,12 +90,16 @@ fn product_digits(a: Option<u16>, b: Option<u16>) -> Option<u16>
 fn wanted_digits(source: &IndexedCards, calculation: &CalculationSpec) -> Option<u16>
     ensures { result ≡ digits.wanted_digits source.now calculation.now }
 {
-    let a = factor_digits(source, &calculation.factor_1);
-    let b = factor_digits(source, &calculation.factor_2);
     match calculation.operation {
         Some(Operation::Add | Operation::Subtract | Operation::ZeroAdd | Operation::ZeroSubtract) =>
-            greater_of(a, b),
-        Some(Operation::Multiply) => product_digits(a, b),
+            greater_of(
+                factor_digits(source, &calculation.factor_1),
+                factor_digits(source, &calculation.factor_2),
+            ),
+        Some(Operation::Multiply) => product_digits(
+            factor_digits(source, &calculation.factor_1),
+            factor_digits(source, &calculation.factor_2),
+        ),
         _ => None,
     }
 }
@@ -116,8 +120,11 @@ fn shorter_on(source: &IndexedCards, card: &SpecCard) -> Option<Warning>
     ensures { result ≡ digits.shorter_on source.now card.now }
 {
     let calculation = card.calculation()?;
-    let wanted = wanted_digits(source, calculation);
-    let kind = shorter(wanted, result_digits(source, &calculation.result_field))?;
+    let wanted = wanted_digits(source, calculation)?;
+    let kind = shorter(
+        Some(wanted),
+        result_digits(source, &calculation.result_field),
+    )?;
     Some(Warning {
         card: card.number,
         columns: RESULT,
