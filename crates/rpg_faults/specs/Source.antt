@@ -25,6 +25,19 @@ pub record AreFaultless (text : List ℕ) (cards : List SpecCard) : Type 0 where
   pub numbered : Numbered 1 cards
   pub few : length cards ≤ 2000
 
+-- these are the cards of a source, which can all be read
+pub record AreReadable (text : List ℕ) (cards : List SpecCard) : Type 0 where
+  pub readable : first_sheet_fault (source text) ≡ None
+  pub are : cards ≡ cards_in text
+  pub numbered : Numbered 1 cards
+  pub few : length cards ≤ 2000
+
+-- what a refusal says of cards that can be read: their least fault, and nothing where memory was wanted
+abbrev pub IsCardRefusal : SourceFault → List SpecCard → Type 0
+IsCardRefusal (At card (Sheet code) columns) cards = ⊥
+IsCardRefusal (At card (Fault code) columns) cards = IsLeastFault cards (record { card = card; code = code }) × (columns ≡ None)
+IsCardRefusal NoMemory cards = Unit {0}
+
 -- a fault of the sheets, as it is answered
 abbrev pub of_sheet : SheetFault → SourceFault
 of_sheet (sheet.At card code columns) = At card (Sheet code) columns

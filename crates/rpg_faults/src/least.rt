@@ -24,8 +24,20 @@ pub fn first_fault(alloc: Global, cards: &[SpecCard]) -> Result<Option<Fault>, A
     ensures { IfOk result (λ found. MatchOption found (faults.Faultless cards.now) (λ fault. faults.IsLeastFault cards.now fault)) }
 {
     let source = IndexedCards::new(alloc, cards)?;
-    let labels = Labels::new(alloc, cards)?;
-    Ok(least_fault(&source, &labels))
+    first_fault_in(alloc, &source)
+}
+
+/// The same for cards that have an index.
+pub(crate) fn first_fault_in(
+    alloc: Global,
+    source: &IndexedCards,
+) -> Result<Option<Fault>, AllocError>
+    requires numbered { Numbered 1 source.now }
+    requires few { length source.now ≤ 2000 }
+    ensures { IfOk result (λ found. MatchOption found (faults.Faultless source.now) (λ fault. faults.IsLeastFault source.now fault)) }
+{
+    let labels = Labels::new(alloc, source.as_slice())?;
+    Ok(least_fault(source, &labels))
 }
 
 fn least_fault(source: &IndexedCards, labels: &Labels) -> Option<Fault>

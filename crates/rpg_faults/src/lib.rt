@@ -25,6 +25,6 @@ pub use every::all_faults;
 pub use every_source::source_faults;
 pub use fault::Fault;
 pub use least::first_fault;
-pub use source::faultless_cards;
+pub use source::{faultless_cards, judge, readable_cards};
 pub use source_fault::{CardFault, SourceCode, SourceFault};
 pub use state::Places;
