@@ -2,10 +2,9 @@
 
 use crate::telling::tell_source_fault;
 use rpg_cli_answers::{Answer, CommandStop, Listener, line, named, source_object};
-use rpg_cli_run::{judge_warnings, source_bytes, tell_faults};
+use rpg_cli_run::{checked, source_bytes, tell_faults};
 use rpg_cli_text::TextWriter;
 use rpg_cli_words::{CheckWords, FileWord, Format, SameFile, Shared, WarningWords, is_standard};
-use rpg_faults::faultless_cards;
 use std::alloc::{AllocError, Global};
 use std::rt::Files;
 
@@ -17,13 +16,11 @@ fn check_source<R: Files + Input + AllocGlobal, L: Listener>(
     listener: &mut L,
 ) -> Result<(), Answer> {
     let source = named(FileWord::Source, source_bytes(rt, path))?;
-    match faultless_cards(rt.alloc(), &source) {
-        Ok(cards) => judge_warnings(rt.alloc(), path, &source, &cards, words, listener),
-        Err(fault) => {
-            tell_faults(rt.alloc(), path, &source, words.most, listener);
-            Err(fault.into())
-        }
+    let answer = checked(rt.alloc(), path, &source, words, listener);
+    if let Err(Answer::Source(_)) = answer {
+        tell_faults(rt.alloc(), path, &source, words.most, listener);
     }
+    answer
 }
 
 fn answer_of<R: Files + Input + AllocGlobal, L: Listener>(

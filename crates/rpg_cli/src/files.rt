@@ -1,10 +1,9 @@
 //! The commands that read one file, and the object that one of them writes.
 
 use rpg_cli_answers::{Answer, CommandStop, Listener, NamedFile, named, refuse_same_file};
-use rpg_cli_files::{CompiledObject, file_bytes, write_bytes};
+use rpg_cli_files::{file_bytes, write_bytes};
 use rpg_cli_run::{
-    OwnSource, compiled, judge_warnings, own_source, source_bytes, system_path, tell_faults,
-    tell_object, verified,
+    OwnSource, compiled, own_source, source_bytes, system_path, tell_faults, tell_object, verified,
 };
 use rpg_cli_show::{program_overview, program_text};
 use rpg_cli_words::{CompileWords, FileWord, Format, ShowWords, VerifyWords};
@@ -12,30 +11,16 @@ use rpg_engine::{Program, decode_object};
 use std::alloc::{AllocError, Global};
 use std::rt::Files;
 
-/// Writes a compiled object to its file, unless a warning rejects its source or that is the file.
-fn write_object<R: Files + AllocGlobal, L: Listener>(
+/// Writes a compiled object to its file, unless its source is the file.
+fn write_object<R: Files + AllocGlobal>(
     rt: &R,
     words: &CompileWords,
-    source: &[u8],
-    object: &CompiledObject,
-    listener: &mut L,
+    object: &[u8],
 ) -> Result<(), CommandStop> {
-    let cards = &object.cards;
-    judge_warnings(
-        rt.alloc(),
-        words.source,
-        source,
-        cards,
-        words.warnings,
-        listener,
-    )?;
     let source = NamedFile::at(rt, FileWord::Source, system_path(words.source));
     let written = NamedFile::at(rt, FileWord::Object, words.object);
     refuse_same_file(written, &[source])?;
-    Ok(named(
-        FileWord::Object,
-        write_bytes(rt, words.object, &object.bytes),
-    )?)
+    Ok(named(FileWord::Object, write_bytes(rt, words.object, object))?)
 }
 
 /// Compiles a source to an object file.
@@ -48,11 +33,21 @@ pub(crate) fn compile_files<R: Files + Input + AllocGlobal, L: Listener>(
     listener: &mut L,
 ) -> Result<(), CommandStop> {
     let source = named(FileWord::Source, source_bytes(rt, words.source))?;
-    match compiled(rt.alloc(), &source, words.allowance) {
-        Ok(object) => write_object(rt, words, &source, &object, listener),
+    let object = compiled(
+        rt.alloc(),
+        words.source,
+        &source,
+        words.allowance,
+        words.warnings,
+        listener,
+    );
+    match object {
+        Ok(object) => write_object(rt, words, &object),
         Err(answer) => {
-            let most = words.warnings.most;
-            tell_faults(rt.alloc(), words.source, &source, most, listener);
+            if let Answer::Source(_) = answer {
+                let most = words.warnings.most;
+                tell_faults(rt.alloc(), words.source, &source, most, listener);
+            }
             Err(answer.into())
         }
     }

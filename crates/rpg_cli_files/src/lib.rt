@@ -22,4 +22,4 @@ pub use replacing::write_bytes;
 pub use rpg_compile::{SourceCode, SourceFault};
 pub use sending::{send_line, send_text};
 pub use streams::{LineTarget, Opened, RecordSource, lines, records};
-pub use translation::{CompiledObject, compile_to_object};
+pub use translation::{CompiledObject, cards_to_object, compile_to_object};

@@ -1,25 +1,15 @@
 //! Sources and object programs by their bytes.
 
 ghost use Rattle.std.specs.Prelude.{◌≡◌, ◌<◌, IfErr, IfOk};
-ghost use Rattle.rpg_cli_run.specs.Judging.{IsSourceOf, TellsMismatch, TellsObject, TellsSource};
-ghost use Rattle.rpg_cli_files.specs.Spelling.{CompilesTo};
+ghost use Rattle.rpg_cli_run.specs.Judging.{IsSourceOf, TellsMismatch, TellsObject};
 ghost use Rattle.rpg_engine.specs.Objects.{IsAcceptedWith};
 
 use rpg_cli_answers::Answer;
-use rpg_cli_files::{CompiledObject, SourceFault, compile_to_object, is_written_as};
+use rpg_cli_files::{SourceFault, is_written_as};
 use rpg_engine::{Program, decode_object, verify_bytes};
 use rpg_meaning::CompiledSource;
 use rpg_object::laws::a_spelling_is_read_again;
 use std::alloc::Global;
-
-/// The object program that a source is compiled to.
-pub fn compiled(alloc: Global, source: &[u8], allowance: u16) -> Result<CompiledObject, Answer>
-    requires { 0 < allowance }
-    ensures compiled { IfOk result (λ object. CompilesTo source.now allowance object.bytes.items) }
-    ensures refused { IfErr result (λ answer. TellsSource answer source.now) }
-{
-    Ok(compile_to_object(alloc, source, allowance)?)
-}
 
 /// The bound of the program that the bytes are.
 pub fn verified(alloc: Global, object: &[u8]) -> Result<u64, Answer>

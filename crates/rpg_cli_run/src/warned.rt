@@ -1,19 +1,20 @@
 //! The warnings of a source, and whether they reject it.
 
-ghost use Rattle.std.specs.Prelude.{IfErr, OnOk};
+ghost use Rattle.std.specs.Prelude.{◌≡◌, true, IfErr, OnErr, OnOk};
 ghost use Rattle.rpg_cli_run.specs.Warned.{IsDenied, PassesWarnings};
 
-use rpg_cards::SpecCard;
+use crate::compiling::checked;
+use rpg_cards::IndexedCards;
 use rpg_cli_answers::{Answer, Listener};
 use rpg_cli_warnings::{Warning, wanted_warnings, warning_messages};
 use rpg_cli_words::WarningWords;
-use rpg_faults::faultless_cards;
 use std::alloc::Global;
 
 /// Rejects a source that has these warnings, if the words deny them, by the first.
 fn judged(words: WarningWords, warnings: &[Warning]) -> Result<(), Answer>
     ensures ok { OnOk result (PassesWarnings words.denies warnings.now) }
     ensures err { IfErr result (λ answer. IsDenied answer warnings.now) }
+    ensures denies { OnErr result (words.denies ≡ true) }
 {
     match warnings.first() {
         None => Ok(()),
@@ -47,14 +48,16 @@ fn tell_warnings<L: Listener>(
 /// Reports the warnings of a source without a fault, which has these cards, and rejects it if it has one and the words deny it.
 ///
 /// If there is no memory to look for them, the source is rejected only if the words deny warnings.
-pub fn judge_warnings<L: Listener>(
+pub(crate) fn judge_warnings<L: Listener>(
     alloc: Global,
     path: &str,
     source: &[u8],
-    cards: &[SpecCard],
+    cards: &IndexedCards,
     words: WarningWords,
     listener: &mut L,
-) -> Result<(), Answer> {
+) -> Result<(), Answer>
+    ensures { OnErr result (words.denies ≡ true) }
+{
     match wanted_warnings(alloc, cards, words.allowed) {
         Ok(warnings) => {
             tell_warnings(alloc, path, source, words, &warnings, listener);
@@ -73,8 +76,8 @@ pub(crate) fn deny_warnings<L: Listener>(
     words: WarningWords,
     listener: &mut L,
 ) -> Result<(), Answer> {
-    match faultless_cards(alloc, source) {
-        Ok(cards) => judge_warnings(alloc, path, source, &cards, words, listener),
-        Err(_) => Ok(()),
+    match checked(alloc, path, source, words, listener) {
+        Err(Answer::Source(_)) => Ok(()),
+        answer => answer,
     }
 }

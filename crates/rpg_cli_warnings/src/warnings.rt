@@ -10,7 +10,7 @@ use crate::indicators::put_indicators;
 use crate::overlaps::put_overlaps;
 use crate::pages::put_pages;
 use crate::warning::Warning;
-use rpg_cards::{IndexedCards, SpecCard};
+use rpg_cards::IndexedCards;
 use rpg_cli_values::{WarningCode, WarningCodes};
 use std::alloc::{AllocError, Global};
 
@@ -66,13 +66,12 @@ fn without(
 /// The warnings of a source without a fault, in the order of its cards, except those whose codes are allowed.
 pub fn wanted_warnings(
     alloc: Global,
-    cards: &[SpecCard],
+    cards: &IndexedCards,
     allowed: WarningCodes,
 ) -> Result<Vec<Warning>, AllocError>
     ensures { IfOk result (λ warnings. IsPermutation (warned.wanted_of allowed cards.now) warnings.items) }
 {
-    let cards = IndexedCards::new(alloc, cards)?;
-    let warnings = source_warnings(alloc, &cards)?;
+    let warnings = source_warnings(alloc, cards)?;
     let mut wanted = without(alloc, &warnings, allowed)?;
     wanted.sort_by_key(|warning| warning.card)?;
     Ok(wanted)

@@ -1,11 +1,18 @@
 -- What a source is compiled to.
 use Rattle.std.specs.Prelude.{◌≡◌, ℕ, List, None}
+use Rattle.rpg_cards.specs.declared.spec_card.SpecCard.{SpecCard}
 use Rattle.rpg_faults.specs.Faults.{Faultless}
 use Rattle.rpg_program.specs.Object.{Object}
 use Rattle.rpg_verify_rules.specs.Accepted.{IsAccepted}
 use Rattle.rpg_sheet.specs.Sheet.{first_sheet_fault, source}
 use Rattle.rpg_faults.specs.Source.{cards_in}
 use Rattle.rpg_compile_program.specs.Program.{program_of}
+
+-- cards without faults, and the program that they stand for, which keeps all rules
+pub record CompilesCards (cards : List SpecCard) (allowance : ℕ) (p : Object) : Type 0 where
+  pub faultless : Faultless cards
+  pub program : p ≡ program_of cards allowance
+  pub accepted : IsAccepted p
 
 -- a source without faults, and the program that it stands for, which keeps all rules
 pub record Compiles (text : List ℕ) (allowance : ℕ) (p : Object) : Type 0 where

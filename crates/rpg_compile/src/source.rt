@@ -1,12 +1,13 @@
 //! From the text of a source to its program.
 
-ghost use Rattle.std.specs.Prelude.{◌<◌, IfOk, IfErr};
-ghost use Rattle.rpg_compile.specs.Compile.{Compiles};
-ghost use Rattle.rpg_faults.specs.Source.{AreFaultless, IsSourceRefusal};
+ghost use Rattle.std.specs.Prelude.{◌<◌, ◌≤◌, ℕ, List, length, IfOk, IfErr};
+ghost use Rattle.rpg_cards.specs.Cards.{Numbered};
+ghost use Rattle.rpg_compile.specs.Compile.{Compiles, CompilesCards};
+ghost use Rattle.rpg_faults.specs.Source.{AreFaultless, AreReadable, IsCardRefusal, IsSourceRefusal};
 
 use crate::program::translate;
-use rpg_cards::SpecCard;
-use rpg_faults::{SourceFault, faultless_cards};
+use rpg_cards::{IndexedCards, SpecCard};
+use rpg_faults::{SourceFault, faultless_cards, judge};
 use rpg_program::Program;
 use std::alloc::Global;
 
@@ -41,4 +42,21 @@ pub fn compile(alloc: Global, text: &[u8], allowance: u16) -> Result<Program, So
 {
     let cards = faultless_cards(alloc, text)?;
     Ok(translate(alloc, &cards, allowance)?)
+}
+
+/// Compiles cards that have an index, for callers that need it again.
+pub fn compile_cards(
+    alloc: Global,
+    source: &IndexedCards,
+    allowance: u16,
+) -> Result<Program, SourceFault>
+    requires allowed { 0 < allowance }
+    requires numbered { Numbered 1 source.now }
+    requires few { length source.now ≤ 2000 }
+    ensures ok { IfOk result (λ program. CompilesCards source.now allowance program) }
+    ensures err { IfErr result (λ fault. IsCardRefusal fault source.now) }
+    ensures text { IfErr result (λ fault. (text : List ℕ) → AreReadable text source.now → IsSourceRefusal fault text) }
+{
+    judge(alloc, source)?;
+    Ok(translate(alloc, source.as_slice(), allowance)?)
 }
