@@ -13,7 +13,7 @@ use Rattle.rpg_program.specs.declared.condition.Conditions.{Conditions}
 use Rattle.rpg_sheet_specs.specs.declared.calculation.CalculationSpec.{CalculationSpec}
 use Rattle.rpg_sheet_specs.specs.declared.calculation.ControlLevel.{ControlLevel}
 use Rattle.rpg_sheet_specs.specs.declared.calculation.ControlLevel.TheVariants as control
-use Rattle.rpg_sheet_specs.specs.declared.indicator.Condition as sheet
+use Rattle.rpg_sheet_specs.specs.declared.indicator.ConditionSpec as sheet
 use Rattle.rpg_sheet_specs.specs.declared.indicator.Three.{Three}
 use Rattle.rpg_sheet_specs.specs.declared.spec.Spec.{Spec}
 
@@ -28,11 +28,11 @@ awaited_level control.And = None
 awaited_level control.Or = None
 
 -- a condition on a card as one of a program's rows
-abbrev pub condition_of : sheet.Condition → Condition
+abbrev pub condition_of : sheet.ConditionSpec → Condition
 condition_of c = record { indicator = c.indicator; is_negated = c.negated }
 
 -- those that stand, in the order of the columns, from the first place on
-abbrev pub standing : Three (Option sheet.Condition) → List Condition
+abbrev pub standing : Three (Option sheet.ConditionSpec) → List Condition
 standing t = map condition_of (filter_map (λ c. c) (t.first ∷ t.second ∷ t.third ∷ []))
 
 -- at most three conditions, in the three places of a row

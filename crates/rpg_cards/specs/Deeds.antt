@@ -59,20 +59,20 @@ shows_of t = record { plus = t.first; minus = t.second; zero = t.third }
 
 module _ (k : CalculationSpec) where
   -- the operand in factor 1
-  abbrev pub first : Operand Key
-  first = unwrap_or (option_map factor_operand k.factor_1) nowhere
+  abbrev pub factor_1_operand : Operand Key
+  factor_1_operand = unwrap_or (option_map factor_operand k.factor_1) nowhere
 
   -- the operand in factor 2
-  abbrev pub second : Operand Key
-  second = unwrap_or (option_map factor_operand k.factor_2) nowhere
+  abbrev pub factor_2_operand : Operand Key
+  factor_2_operand = unwrap_or (option_map factor_operand k.factor_2) nowhere
 
   -- the operand in the result field
-  abbrev pub result : Operand Key
-  result = unwrap_or (option_map entry_operand k.result_field) nowhere
+  abbrev pub result_operand : Operand Key
+  result_operand = unwrap_or (option_map entry_operand k.result_field) nowhere
 
   -- a blank factor 1 is the result field
   abbrev pub first_or_result : Operand Key
-  first_or_result = unwrap_or (option_map factor_operand k.factor_1) result
+  first_or_result = unwrap_or (option_map factor_operand k.factor_1) result_operand
 
   -- the resulting indicators
   abbrev pub resulting_shows : Shows
@@ -88,22 +88,22 @@ module _ (k : CalculationSpec) where
 
   -- arithmetic on factor 1 and factor 2, where a blank factor 1 stands for the result field
   abbrev pub computes : Operator → Deed Key
-  computes o = Acts (Compute o k.half_adjust first_or_result second result resulting_shows)
+  computes o = Acts (Compute o k.half_adjust first_or_result factor_2_operand result_operand resulting_shows)
 
   -- what the operation does with the columns of its card
   abbrev pub deed_by : Operation → Deed Key
   deed_by op.Add = computes operator.Add
   deed_by op.Subtract = computes operator.Subtract
   deed_by op.Multiply = computes operator.Multiply
-  deed_by op.Divide = Acts (Divide k.half_adjust first_or_result second result resulting_shows)
-  deed_by op.ZeroAdd = Acts (Assign false k.half_adjust second result resulting_shows)
-  deed_by op.ZeroSubtract = Acts (Assign true k.half_adjust second result resulting_shows)
-  deed_by op.MoveRemainder = Acts (TakeRemainder result resulting_shows)
-  deed_by op.CrossFoot = Acts (CrossFoot k.half_adjust second result resulting_shows)
-  deed_by op.Move = Acts (Move Right second result)
-  deed_by op.MoveLeft = Acts (Move Left second result)
-  deed_by op.Compare = Acts (Compare first second resulting_shows)
-  deed_by op.LookUp = Acts (LookUp first second (option_map entry_operand k.result_field) resulting_shows)
+  deed_by op.Divide = Acts (Divide k.half_adjust first_or_result factor_2_operand result_operand resulting_shows)
+  deed_by op.ZeroAdd = Acts (Assign false k.half_adjust factor_2_operand result_operand resulting_shows)
+  deed_by op.ZeroSubtract = Acts (Assign true k.half_adjust factor_2_operand result_operand resulting_shows)
+  deed_by op.MoveRemainder = Acts (TakeRemainder result_operand resulting_shows)
+  deed_by op.CrossFoot = Acts (CrossFoot k.half_adjust factor_2_operand result_operand resulting_shows)
+  deed_by op.Move = Acts (Move Right factor_2_operand result_operand)
+  deed_by op.MoveLeft = Acts (Move Left factor_2_operand result_operand)
+  deed_by op.Compare = Acts (Compare factor_1_operand factor_2_operand resulting_shows)
+  deed_by op.LookUp = Acts (LookUp factor_1_operand factor_2_operand (option_map entry_operand k.result_field) resulting_shows)
   deed_by op.SetOn = Acts (SetIndicators true resulting_shows)
   deed_by op.SetOff = Acts (SetIndicators false resulting_shows)
   deed_by op.GoTo = GoesTo wanted_name

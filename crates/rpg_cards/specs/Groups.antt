@@ -132,10 +132,10 @@ abbrev pub output_role : Spec → Role OutputRecord OutputSpec
 output_role s = role_on output_card_role (output_on s)
 
 -- a `**` card, and the data after it
-abbrev pub data_card : DataSpec → Role (Unit {0}) (List ℕ)
-data_card deck.Begin = Heading tt None
-data_card (deck.Card text) = Follower text
+abbrev pub data_card_role : DataSpec → Role (Unit {0}) (List ℕ)
+data_card_role deck.Begin = Heading tt None
+data_card_role (deck.Card text) = Follower text
 
 -- the part of a card among those of table data
 abbrev pub data_role : Spec → Role (Unit {0}) (List ℕ)
-data_role s = role_on data_card (data_on s)
+data_role s = role_on data_card_role (data_on s)

@@ -18,7 +18,7 @@ use Rattle.rpg_program.specs.declared.form.Kind.TheVariants as kind
 use Rattle.rpg_sheet_specs.specs.declared.calculation.CalculationSpec.{CalculationSpec}
 use Rattle.rpg_sheet_specs.specs.declared.extension.ExtensionSpec.{ExtensionSpec}
 use Rattle.rpg_sheet_specs.specs.declared.extension.TableSpec.{TableSpec}
-use Rattle.rpg_sheet_specs.specs.declared.input.InputField.{InputField}
+use Rattle.rpg_sheet_specs.specs.declared.input.InputFieldSpec.{InputFieldSpec}
 use Rattle.rpg_sheet_specs.specs.declared.spec.Spec.{Spec}
 use Rattle.rpg_text.specs.Texts.{is_between}
 
@@ -41,11 +41,11 @@ sized_form len decimals = sized (form_with class.Plain false 1) len decimals
 -- ---- definitions
 
 -- the form of an input field, by its columns in the record and its decimals
-abbrev pub field_form : InputField → Option FieldForm
+abbrev pub field_form : InputFieldSpec → Option FieldForm
 field_form f = if nat_le f.from f.to then sized_form (f.to + 1 - f.from) f.decimals else None
 
 -- what an input field defines
-abbrev pub definition_of : InputField → Definition
+abbrev pub definition_of : InputFieldSpec → Definition
 definition_of f = record { name = f.name; form = field_form f }
 
 -- a result field, or the array of an entry, is defined where the card has a length

@@ -64,7 +64,7 @@ pub fn test(calculation: &CalculationSpec) -> Option<Conditions>
     }
 }
 
-pub fn condition_of(condition: rpg_sheet_specs::Condition) -> Condition
+pub fn condition_of(condition: rpg_sheet_specs::ConditionSpec) -> Condition
     ensures value { result ≡ calculations.condition_of condition }
     ensures kept { IsConditionRow result }
 {
@@ -75,7 +75,7 @@ pub fn condition_of(condition: rpg_sheet_specs::Condition) -> Condition
 }
 
 /// Conditions in three places, filled from the first on.
-pub fn in_places(conditions: Three<Option<rpg_sheet_specs::Condition>>) -> Conditions
+pub fn in_places(conditions: Three<Option<rpg_sheet_specs::ConditionSpec>>) -> Conditions
     ensures value { result ≡ calculations.in_places (calculations.standing conditions) }
     ensures kept { AreConditions result }
 {

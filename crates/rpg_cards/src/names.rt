@@ -9,7 +9,7 @@ ghost use Rattle.rpg_symbols.specs.Fields as fields;
 use crate::spec_card::SpecCard;
 use arrayvec::ArrayVec;
 use rpg_program::form::{Class, FieldForm, Kind};
-use rpg_sheet_specs::{CalculationSpec, ExtensionSpec, InputField, InputSpec, Spec, TableSpec};
+use rpg_sheet_specs::{CalculationSpec, ExtensionSpec, InputFieldSpec, InputSpec, Spec, TableSpec};
 use rpg_symbols::{Name, number_form};
 
 /// A name that a card defines, with its form: none where its length, decimals or entries are past their limit.
@@ -47,7 +47,7 @@ pub fn sized_form(length: u16, decimals: Option<u8>) -> Option<FieldForm>
 }
 
 /// The form of an input field: none where its columns are turned round.
-pub fn field_form(field: &InputField) -> Option<FieldForm>
+pub fn field_form(field: &InputFieldSpec) -> Option<FieldForm>
     ensures { result ≡ names.field_form field.now }
 {
     if field.from <= field.to {
@@ -162,7 +162,7 @@ fn of_table(entries: u16, table: &TableSpec) -> Definition
     }
 }
 
-fn of_field(field: &InputField) -> Definition
+fn of_field(field: &InputFieldSpec) -> Definition
     ensures { result ≡ names.definition_of field.now }
 {
     Definition {

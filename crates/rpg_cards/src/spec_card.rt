@@ -4,7 +4,7 @@ ghost use Rattle.std.specs.Prelude.{◌≡◌, option_copied};
 ghost use Rattle.rpg_cards.specs.Cards as cards_of;
 
 use rpg_sheet_specs::{
-    CalculationSpec, DataSpec, ExtensionSpec, FileSpec, InputField, InputSpec, OutputField,
+    CalculationSpec, DataSpec, ExtensionSpec, FileSpec, InputFieldSpec, InputSpec, OutputField,
     OutputRecord, OutputSpec, RecordType, Spec,
 };
 
@@ -52,7 +52,7 @@ impl SpecCard {
         }
     }
 
-    pub fn input_field(&self) -> Option<&InputField>
+    pub fn input_field(&self) -> Option<&InputFieldSpec>
         ensures { option_copied result ≡ cards_of.input_field_on self.now.spec }
     {
         match &self.spec {

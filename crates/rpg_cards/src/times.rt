@@ -4,7 +4,7 @@ ghost use Rattle.std.specs.Prelude.{◌≡◌};
 ghost use Rattle.rpg_cards.specs.Times as times;
 
 use rpg_program::line::Time;
-use rpg_sheet_specs::{Condition, LineTime, OutputSpec, Three};
+use rpg_sheet_specs::{ConditionSpec, LineTime, OutputSpec, Three};
 
 /// When a line of a card is put out.
 pub fn time_of(time: LineTime) -> Time
@@ -19,7 +19,7 @@ pub fn time_of(time: LineTime) -> Time
 }
 
 /// The conditions of a card, be it of a line, of an AND or OR, or of a field.
-pub fn line_conditions_on(output: &OutputSpec) -> Three<Option<Condition>>
+pub fn line_conditions_on(output: &OutputSpec) -> Three<Option<ConditionSpec>>
     ensures { result ≡ times.line_conditions_on output.now }
 {
     match output {

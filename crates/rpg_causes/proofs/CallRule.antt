@@ -11,7 +11,7 @@ use Rattle.rpg_cards.specs.declared.labels.Named.{Named}
 use Rattle.rpg_cards.specs.declared.spec_card.SpecCard.{SpecCard}
 use Rattle.rpg_causes.specs.Causes.{recursion}
 use Rattle.rpg_causes_flow.proofs.LabelLemmas.{is_given_is}
-use Rattle.rpg_causes_flow.specs.Labels.{giver, target, target_by, target_of}
+use Rattle.rpg_causes_flow.specs.Labels.{giver, card_target, target_by, target_of}
 use Rattle.rpg_causes_flow.specs.declared.labels.Giver.{Giver}
 use Rattle.rpg_causes_flow.specs.declared.labels.Target.{Target}
 use Rattle.rpg_faults_flow.proofs.Facts.{last_with}
@@ -77,7 +77,7 @@ module _ (cards before : List SpecCard) (c : SpecCard) (after : List SpecCard) w
 -- there is a cause exactly if the rule is broken
 pub recursion_rule : (before : List SpecCard) (c : SpecCard) (after : List SpecCard) → is_some (recursion before c after) ≡ calls_itself (before ++ c ∷ after) before c after
 recursion_rule before c after =
-    kept_if (calls_itself cards before c after) (target cards c after)
+    kept_if (calls_itself cards before c after) (card_target cards c after)
     (λ e. names_one cards before c after (card_ending c after) (sym (by_card cards before c after) ∙ e))
   where
     cards : List SpecCard

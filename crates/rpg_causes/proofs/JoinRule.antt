@@ -11,13 +11,13 @@ use Rattle.rpg_cards.specs.Levels.{is_at, match_level}
 use Rattle.rpg_cards.specs.declared.spec_card.SpecCard.{SpecCard}
 use Rattle.rpg_faults_limits.proofs.LimitRule.{if_some, or_some}
 use Rattle.rpg_causes.specs.JoinSums.{any_bad, good_lengths}
-use Rattle.rpg_causes.specs.Joins.{apart, behind_last, first_cause, first_matched, first_on, join_cause, length_at, level_cause, long_level, long_matches, match_cause, matched, matched_on, matches_at, of_lengths, of_level, of_match, of_matches, on_input, open_cards, other_length, other_matches}
+use Rattle.rpg_causes.specs.Joins.{first_difference, behind_last, first_cause_in_list, first_matched, first_on, join_cause, length_on_card, level_cause, long_level, long_matches, match_level_cause, matched, matched_on, matches_on_card, of_lengths, of_level, of_match, of_matches, input_join_cause, open_cards, other_length, other_matches}
 use Rattle.rpg_causes.specs.Places.{is_outside}
 use Rattle.rpg_causes.specs.declared.joins.FirstLength.{FirstLength}
 use Rattle.rpg_causes.specs.declared.joins.FirstMatched.{FirstMatched}
 use Rattle.rpg_causes.specs.declared.joins.JoinCause.TheVariants.{LongLevel, LongMatches, MatchedTwice, OtherLength, OtherMatches}
-use Rattle.rpg_faults.specs.Places.{first_length, first_matches, good_matches, has_bad, has_other_lengths, has_other_matches, has_twice, input_columns, joined_length, joins_badly, level_length, lengths_differ, levels, match_fields, match_lengths, matches_differ, misplaces, open_matches, open_specs, outside_line, outside_on_input, own_file, passes_length, refuses, repeats}
-use Rattle.rpg_sheet_specs.specs.declared.input.InputField.{InputField}
+use Rattle.rpg_faults.specs.Places.{first_length, first_good_matches, good_matches, has_bad, has_other_lengths, has_other_matches, has_twice, input_columns, joined_length, joins_badly, level_length, lengths_differ, levels, matched_fields, match_lengths, matches_differ, misplaces, open_matches, open_specs, outside_line, outside_on_input, own_file, passes_length, refuses, repeats}
+use Rattle.rpg_sheet_specs.specs.declared.input.InputFieldSpec.{InputFieldSpec}
 use Rattle.rpg_sheet_specs.specs.declared.input.InputSpec.{InputSpec}
 use Rattle.rpg_sheet_specs.specs.declared.input.InputSpec.TheVariants as input
 use Rattle.rpg_sheet_specs.specs.declared.input.RecordType.{RecordType}
@@ -59,28 +59,28 @@ first_on-is : (level : ℕ) (file : Option (List ℕ)) (cards : List SpecCard) �
 first_on-is level file [] = refl
 first_on-is level file (c ∷ cs) = by (input_on c.spec) (λ next. first_on-is level next cs)
   where
-    own : (o : Option ℕ) (next : Option (List ℕ)) → ((next : Option (List ℕ)) → first_length level (groups_from input_role next cs) ≡ option_map (λ (f : FirstLength). f.length) (first_on level cs)) → option_or o (first_length level (groups_from input_role next cs)) ≡ option_map (λ (f : FirstLength). f.length) (option_or (option_map (length_at c) o) (first_on level cs))
+    own : (o : Option ℕ) (next : Option (List ℕ)) → ((next : Option (List ℕ)) → first_length level (groups_from input_role next cs) ≡ option_map (λ (f : FirstLength). f.length) (first_on level cs)) → option_or o (first_length level (groups_from input_role next cs)) ≡ option_map (λ (f : FirstLength). f.length) (option_or (option_map (length_on_card c) o) (first_on level cs))
     own None next rest = rest next
     own (Some n) next rest = refl
 
     by : (x : Option InputSpec) → ((next : Option (List ℕ)) → first_length level (groups_from input_role next cs) ≡ option_map (λ (f : FirstLength). f.length) (first_on level cs)) → first_length level (opening (role_on input_card_role x) file (followers input_role cs) (λ next. groups_from input_role next cs))
         ≡ option_map (λ (f : FirstLength). f.length)
-        (cond (is_some (option_and_then type_in x)) (option_or (option_map (length_at c) (level_length level (followers input_role cs))) (first_on level cs)) (first_on level cs))
+        (cond (is_some (option_and_then type_in x)) (option_or (option_map (length_on_card c) (level_length level (followers input_role cs))) (first_on level cs)) (first_on level cs))
     by None rest = rest file
     by (Some (input.Type t)) rest = own (level_length level (followers input_role cs)) (option_or t.file file) rest
     by (Some (input.And codes)) rest = rest file
     by (Some (input.Field f)) rest = rest file
 
-first_matched-is : (file : Option (List ℕ)) (cards : List SpecCard) → first_matches (groups_from input_role file cards) ≡ option_map (λ (f : FirstMatched). f.lengths) (first_matched cards)
+first_matched-is : (file : Option (List ℕ)) (cards : List SpecCard) → first_good_matches (groups_from input_role file cards) ≡ option_map (λ (f : FirstMatched). f.lengths) (first_matched cards)
 first_matched-is file [] = refl
 first_matched-is file (c ∷ cs) = by (input_on c.spec) (λ next. first_matched-is next cs)
   where
-    own : (o : Option (List ℕ)) (next : Option (List ℕ)) → ((next : Option (List ℕ)) → first_matches (groups_from input_role next cs) ≡ option_map (λ (f : FirstMatched). f.lengths) (first_matched cs)) → option_or o (first_matches (groups_from input_role next cs)) ≡ option_map (λ (f : FirstMatched). f.lengths) (option_or (option_map (matches_at c) o) (first_matched cs))
+    own : (o : Option (List ℕ)) (next : Option (List ℕ)) → ((next : Option (List ℕ)) → first_good_matches (groups_from input_role next cs) ≡ option_map (λ (f : FirstMatched). f.lengths) (first_matched cs)) → option_or o (first_good_matches (groups_from input_role next cs)) ≡ option_map (λ (f : FirstMatched). f.lengths) (option_or (option_map (matches_on_card c) o) (first_matched cs))
     own None next rest = rest next
     own (Some n) next rest = refl
 
-    by : (x : Option InputSpec) → ((next : Option (List ℕ)) → first_matches (groups_from input_role next cs) ≡ option_map (λ (f : FirstMatched). f.lengths) (first_matched cs)) → first_matches (opening (role_on input_card_role x) file (followers input_role cs) (λ next. groups_from input_role next cs))
-        ≡ option_map (λ (f : FirstMatched). f.lengths) (cond (is_some (option_and_then type_in x)) (option_or (option_map (matches_at c) (good_matches (matched cs))) (first_matched cs)) (first_matched cs))
+    by : (x : Option InputSpec) → ((next : Option (List ℕ)) → first_good_matches (groups_from input_role next cs) ≡ option_map (λ (f : FirstMatched). f.lengths) (first_matched cs)) → first_good_matches (opening (role_on input_card_role x) file (followers input_role cs) (λ next. groups_from input_role next cs))
+        ≡ option_map (λ (f : FirstMatched). f.lengths) (cond (is_some (option_and_then type_in x)) (option_or (option_map (matches_on_card c) (good_matches (matched cs))) (first_matched cs)) (first_matched cs))
     by None rest = rest file
     by (Some (input.Type t)) rest = own (good_matches (matched cs)) (option_or t.file file) rest
     by (Some (input.And codes)) rest = rest file
@@ -93,10 +93,10 @@ of_lengths-some level None own = refl
 of_lengths-some level (Some f) None = refl
 of_lengths-some level (Some f) (Some n) = unless_some (f.length == n) (OtherLength level n f.length f.card)
 
-first_cause-some : {X C : Type 0} (cause : X → Option C) (test : X → Bool) → ((x : X) → is_some (cause x) ≡ test x) → (xs : List X) → is_some (first_cause cause xs) ≡ list_any test xs
+first_cause-some : {X C : Type 0} (cause : X → Option C) (test : X → Bool) → ((x : X) → is_some (cause x) ≡ test x) → (xs : List X) → is_some (first_cause_in_list cause xs) ≡ list_any test xs
 first_cause-some cause test each [] = refl
 first_cause-some cause test each (x ∷ xs) =
-    or_some (cause x) (first_cause cause xs) ∙ ap (λ b. b || is_some (first_cause cause xs)) (each x) ∙ ap (λ b. test x || b) (first_cause-some cause test each xs)
+    or_some (cause x) (first_cause_in_list cause xs) ∙ ap (λ b. b || is_some (first_cause_in_list cause xs)) (each x) ∙ ap (λ b. test x || b) (first_cause-some cause test each xs)
 
 lengths_rule : (before after : List SpecCard) → is_some (other_length before after) ≡ has_other_lengths before after
 lengths_rule before after =
@@ -104,13 +104,13 @@ lengths_rule before after =
     (λ level. of_lengths-some level (first_on level before) (level_length level (followers input_role after)) ∙ ap (λ m. lengths_differ m (level_length level (followers input_role after))) (sym (first_on-is level None before)))
     levels
 
-apart-some : (card level : ℕ) (ms ns : List ℕ) → is_some (apart card level ms ns) ≡ not (pointwise nat_eq ms ns)
+apart-some : (card level : ℕ) (ms ns : List ℕ) → is_some (first_difference card level ms ns) ≡ not (pointwise nat_eq ms ns)
 apart-some card level [] [] = refl
 apart-some card level [] (n ∷ ns) = refl
 apart-some card level (m ∷ ms) [] = refl
 apart-some card level (m ∷ ms) (n ∷ ns) = by (m == n) (apart-some card (level + 1) ms ns)
   where
-    by : (b : Bool) → is_some (apart card (level + 1) ms ns) ≡ not (pointwise nat_eq ms ns) → is_some (cond b (apart card (level + 1) ms ns) (Some (OtherMatches level n m card))) ≡ not (b && pointwise nat_eq ms ns)
+    by : (b : Bool) → is_some (first_difference card (level + 1) ms ns) ≡ not (pointwise nat_eq ms ns) → is_some (cond b (first_difference card (level + 1) ms ns) (Some (OtherMatches level n m card))) ≡ not (b && pointwise nat_eq ms ns)
     by true rest = rest
     by false rest = refl
 
@@ -129,24 +129,24 @@ pub matched_on_some : (level : ℕ) (cards : List SpecCard) → is_some (matched
 matched_on_some level [] = refl
 matched_on_some level (c ∷ cs) = by (input_on c.spec) (matched_on_some level cs)
   where
-    at : (f : InputField) → is_some (matched_on level cs) ≡ list_any (is_at match_level level) (matched cs) → is_some (option_or (cond (is_at match_level level f) (Some c.number) None) (matched_on level cs)) ≡ (is_at match_level level f || list_any (is_at match_level level) (matched cs))
+    at : (f : InputFieldSpec) → is_some (matched_on level cs) ≡ list_any (is_at match_level level) (matched cs) → is_some (option_or (cond (is_at match_level level f) (Some c.number) None) (matched_on level cs)) ≡ (is_at match_level level f || list_any (is_at match_level level) (matched cs))
     at f rest =
         or_some (cond (is_at match_level level f) (Some c.number) None) (matched_on level cs)
         ∙ ap (λ b. b || is_some (matched_on level cs)) (if_some (is_at match_level level f) c.number)
         ∙ ap (λ b. is_at match_level level f || b) rest
 
-    kept : (f : InputField) (o : Option ℕ) → f.match_level ≡ o → (is_at match_level level f || list_any (is_at match_level level) (matched cs)) ≡ list_any (is_at match_level level) (cond (is_some o) (f ∷ matched cs) (matched cs))
+    kept : (f : InputFieldSpec) (o : Option ℕ) → f.match_level ≡ o → (is_at match_level level f || list_any (is_at match_level level) (matched cs)) ≡ list_any (is_at match_level level) (cond (is_some o) (f ∷ matched cs) (matched cs))
     kept f None e = ap (λ o. option_map_or (λ l. l == level) o false || list_any (is_at match_level level) (matched cs)) e
     kept f (Some n) e = refl
 
     by : (x : Option InputSpec) → is_some (matched_on level cs) ≡ list_any (is_at match_level level) (matched cs) → is_some (cond (is_some (option_and_then type_in x)) None (option_or (option_and_then (λ f. cond (is_at match_level level f) (Some c.number) None) (option_and_then input_field_in x)) (matched_on level cs)))
-        ≡ list_any (is_at match_level level) (match_fields (following (role_on input_card_role x) (followers input_role cs)))
+        ≡ list_any (is_at match_level level) (matched_fields (following (role_on input_card_role x) (followers input_role cs)))
     by None rest = rest
     by (Some (input.Type t)) rest = refl
     by (Some (input.And codes)) rest = rest
     by (Some (input.Field f)) rest = at f rest ∙ kept f f.match_level refl
 
-level_rule : (before : List SpecCard) (f : InputField) → is_some (level_cause (open_cards before) f) ≡ passes_length before f
+level_rule : (before : List SpecCard) (f : InputFieldSpec) → is_some (level_cause (open_cards before) f) ≡ passes_length before f
 level_rule before f = by f.level
   where
     long : (level k : ℕ) → k ≡ joined_length level (open_specs before) → is_some (long_level level k (input_columns f)) ≡ (nat_le (joined_length level (open_specs before)) 256 && nat_lt 256 (joined_length level (open_specs before) + input_columns f))
@@ -157,8 +157,8 @@ level_rule before f = by f.level
     by None = refl
     by (Some level) = long level (joined_length level (followers input_role (open_cards before))) (ap (joined_length level) (sym (open_is before)))
 
-match_rule : (before : List SpecCard) (f : InputField) → is_some (match_cause (open_cards before) f) ≡ refuses (open_matches before) f
-match_rule before f = on (open_cards before) ∙ ap (λ specs. refuses (match_fields specs) f) (sym (open_is before))
+match_rule : (before : List SpecCard) (f : InputFieldSpec) → is_some (match_level_cause (open_cards before) f) ≡ refuses (open_matches before) f
+match_rule before f = on (open_cards before) ∙ ap (λ specs. refuses (matched_fields specs) f) (sym (open_is before))
   where
     at : (own : List SpecCard) (level : ℕ) → is_some (of_match own f level)
         ≡ (list_any (is_at match_level level) (matched own) || (nat_le (sum_by input_columns (matched own)) 256 && nat_lt 256 (sum_by input_columns (matched own) + input_columns f)))
@@ -169,7 +169,7 @@ match_rule before f = on (open_cards before) ∙ ap (λ specs. refuses (match_fi
         ∙ ap (λ b. b || is_some (long_matches joined n)) (mapped_some (MatchedTwice level) (matched_on level own) ∙ matched_on_some level own)
         ∙ ap (λ b. list_any (is_at match_level level) (matched own) || b) (if_some (nat_le joined 256 && nat_lt 256 (joined + n)) (LongMatches (joined + n)))
 
-    on : (own : List SpecCard) → is_some (match_cause own f) ≡ refuses (matched own) f
+    on : (own : List SpecCard) → is_some (match_level_cause own f) ≡ refuses (matched own) f
     on own = by f.match_level
       where
         by : (o : Option ℕ) → is_some (option_and_then (of_match own f) o)
@@ -184,7 +184,7 @@ pub join_rule : (before : List SpecCard) (c : SpecCard) (after : List SpecCard) 
 unfolding join_cause
 join_rule before c after = by (input_on c.spec)
   where
-    by : (x : Option InputSpec) → is_some (option_and_then (on_input before after) x) ≡ option_map_or (joins_badly before after) x false
+    by : (x : Option InputSpec) → is_some (option_and_then (input_join_cause before after) x) ≡ option_map_or (joins_badly before after) x false
     by None = refl
     by (Some (input.Type t)) =
         or_some (other_length before after) (other_matches before after)
@@ -192,8 +192,8 @@ join_rule before c after = by (input_on c.spec)
         ∙ ap (λ b. has_other_lengths before after || b) (matches_rule before after)
     by (Some (input.And codes)) = refl
     by (Some (input.Field f)) =
-        or_some (level_cause (open_cards before) f) (match_cause (open_cards before) f)
-        ∙ ap (λ b. b || is_some (match_cause (open_cards before) f)) (level_rule before f)
+        or_some (level_cause (open_cards before) f) (match_level_cause (open_cards before) f)
+        ∙ ap (λ b. b || is_some (match_level_cause (open_cards before) f)) (level_rule before f)
         ∙ ap (λ b. passes_length before f || b) (match_rule before f)
 
 -- ---- match fields that are good
@@ -205,12 +205,12 @@ swapped false true false d = refl
 swapped false false true d = refl
 swapped false false false d = refl
 
-any_bad-is : (fs : List InputField) → any_bad fs ≡ (has_bad fs || has_twice fs)
+any_bad-is : (fs : List InputFieldSpec) → any_bad fs ≡ (has_bad fs || has_twice fs)
 any_bad-is [] = refl
 any_bad-is (f ∷ fs) =
     ap (λ b. (input_columns f == 0 || repeats fs f) || b) (any_bad-is fs) ∙ swapped (input_columns f == 0) (repeats fs f) (has_bad fs) (has_twice fs)
 
-pub good_lengths-is : (fs : List InputField) → good_lengths fs ≡ good_matches fs
+pub good_lengths-is : (fs : List InputFieldSpec) → good_lengths fs ≡ good_matches fs
 good_lengths-is [] = refl
 good_lengths-is (f ∷ fs) = ap (λ b. cond (not b) (Some (match_lengths (f ∷ fs))) None) (any_bad-is (f ∷ fs)) ∙ by (has_bad (f ∷ fs) || has_twice (f ∷ fs))
   where

@@ -4,7 +4,7 @@ use Rattle.std.specs.List.{range_with_len}
 use Rattle.std.specs.Option.{option_or}
 use Rattle.rpg_cards.specs.declared.spec_card.SpecCard.{SpecCard}
 use Rattle.rpg_causes.specs.Editing.{first_fitting}
-use Rattle.rpg_causes.specs.Joins.{first_cause, of_level}
+use Rattle.rpg_causes.specs.Joins.{first_cause_in_list, of_level}
 use Rattle.rpg_program.specs.LineFaults.{fits_word}
 
 pub fitting_from : (word : List ℕ) (digits : ℕ) → digits < 25
@@ -14,7 +14,7 @@ fitting_from word digits less =
     ap (λ k. first_fitting word (range_with_len digits k)) one_more
 
 pub level_from : (before after : List SpecCard) (level : ℕ) → level < 10
-    → first_cause (of_level before after) (range_with_len level (10 - level)) ≡ option_or (of_level before after level) (first_cause (of_level before after) (range_with_len (level + 1) (10 - (level + 1))))
+    → first_cause_in_list (of_level before after) (range_with_len level (10 - level)) ≡ option_or (of_level before after level) (first_cause_in_list (of_level before after) (range_with_len (level + 1) (10 - (level + 1))))
 level_from before after level less =
     let one_more : 10 - level ≡ suc (10 - (level + 1)) = omega arith in
-    ap (λ k. first_cause (of_level before after) (range_with_len level k)) one_more
+    ap (λ k. first_cause_in_list (of_level before after) (range_with_len level k)) one_more

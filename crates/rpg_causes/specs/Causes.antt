@@ -11,8 +11,8 @@ use Rattle.rpg_causes.specs.Places.{outside}
 use Rattle.rpg_causes.specs.declared.cause.Cause.{Cause}
 use Rattle.rpg_causes.specs.declared.cause.Cause.TheVariants as cause
 use Rattle.rpg_faults_data.specs.Causes.{data_cause}
-use Rattle.rpg_causes_flow.specs.Columns.{on_calculation}
-use Rattle.rpg_causes_flow.specs.Labels.{nowhere, target, twice}
+use Rattle.rpg_causes_flow.specs.Columns.{card_column_cause}
+use Rattle.rpg_causes_flow.specs.Labels.{nowhere_cause, card_target, twice}
 use Rattle.rpg_causes_flow.specs.Order.{order_cause}
 use Rattle.rpg_causes_flow.specs.Rounding.{rounding_cause}
 use Rattle.rpg_causes_flow.specs.Sections.{apart}
@@ -31,9 +31,9 @@ use Rattle.rpg_faults.specs.declared.code.FaultCode.{FaultCode}
 use Rattle.rpg_faults.specs.declared.code.FaultCode.TheVariants.{F1, F2, F3, F4, F5, F6, F7, F8, F9, F10, F11, F12, F13, F14, F15, F16, F17, F18}
 
 -- F9: of a calculation, of what is searched and output fields, or of a line
-abbrev pub missing : List SpecCard → SpecCard → List SpecCard → Option Cause
-missing before c after =
-    option_or (option_map cause.Column (on_calculation before c after))
+abbrev pub missing_cause : List SpecCard → SpecCard → List SpecCard → Option Cause
+missing_cause before c after =
+    option_or (option_map cause.Column (card_column_cause before c after))
     (option_or (option_map cause.Field (field_cause (before ++ c ∷ after) c after))
     (option_map cause.Movement (option_and_then (moved_disk (before ++ c ∷ after) before) (output_record_on c.spec))))
 
@@ -43,11 +43,11 @@ misordered before c after = option_or (option_map cause.Order (order_cause befor
 
 -- F14: the subroutine that the calculation calls, if that one reaches the one it is in
 abbrev pub recursion : List SpecCard → SpecCard → List SpecCard → Option Target
-recursion before c after = if calls_itself (before ++ c ∷ after) before c after then target (before ++ c ∷ after) c after else None
+recursion before c after = if calls_itself (before ++ c ∷ after) before c after then card_target (before ++ c ∷ after) c after else None
 
 -- F16: of the card's own columns, or of control fields and match fields
-abbrev pub misplaced : List SpecCard → SpecCard → List SpecCard → Option Cause
-misplaced before c after = option_or (option_map cause.Outside (outside (before ++ c ∷ after) before c)) (option_map cause.Join (join_cause before c after))
+abbrev pub misplaced_cause : List SpecCard → SpecCard → List SpecCard → Option Cause
+misplaced_cause before c after = option_or (option_map cause.Outside (outside (before ++ c ∷ after) before c)) (option_map cause.Join (join_cause before c after))
 
 -- ---- each code
 
@@ -60,15 +60,15 @@ cause_of F4 before c after = option_map cause.Operand (operand_cause (before ++ 
 cause_of F5 before c after = option_map cause.Index (index_cause (before ++ c ∷ after) c after)
 cause_of F6 before c after = option_map cause.Limit (limit_cause (before ++ c ∷ after) before c after)
 cause_of F7 before c after = option_map cause.File (file_cause (before ++ c ∷ after) before c)
-cause_of F8 before c after = option_map cause.Indicator (indicators.on_card (before ++ c ∷ after) c.spec)
-cause_of F9 before c after = missing before c after
-cause_of F10 before c after = option_map cause.Nowhere (nowhere (before ++ c ∷ after) c after)
+cause_of F8 before c after = option_map cause.Indicator (indicators.card_indicator_cause (before ++ c ∷ after) c.spec)
+cause_of F9 before c after = missing_cause before c after
+cause_of F10 before c after = option_map cause.Nowhere (nowhere_cause (before ++ c ∷ after) c after)
 cause_of F11 before c after = option_map cause.Twice (twice before c after)
 cause_of F12 before c after = misordered before c after
 cause_of F13 before c after = option_map cause.Apart (apart (before ++ c ∷ after) before c after)
 cause_of F14 before c after = option_map cause.Recursion (recursion before c after)
 cause_of F15 before c after = option_map cause.Rounding (rounding_cause before c after)
-cause_of F16 before c after = misplaced before c after
+cause_of F16 before c after = misplaced_cause before c after
 cause_of F17 before c after = option_map cause.Editing (editing_cause (before ++ c ∷ after) c)
 cause_of F18 before c after = option_map cause.Data (data_cause (before ++ c ∷ after) before c)
 

@@ -24,8 +24,8 @@ first_fitting word [] = None
 first_fitting word (d ∷ ds) = if fits_word d word then Some d else first_fitting word ds
 
 -- how many digits a word has places for; none where it fits no number
-abbrev pub places_of : List ℕ → Option ℕ
-places_of word = first_fitting word (range_with_len 0 25)
+abbrev pub digits_that_fit : List ℕ → Option ℕ
+digits_that_fit word = first_fitting word (range_with_len 0 25)
 
 -- code Y edits 6 digits without decimals
 abbrev pub date_misfit : FieldForm → Misfit
@@ -38,7 +38,7 @@ number_misfit form (Some X) text = Fill
 number_misfit form (Some Z) text = Fill
 number_misfit form (Some (Combination commas zeros ending)) text = Fill
 number_misfit form None None = Fill
-number_misfit form None (Some word) = Word (places_of word) form.length form.decimals
+number_misfit form None (Some word) = Word (digits_that_fit word) form.length form.decimals
 
 -- codes and words edit numbers
 abbrev pub kind_misfit : Kind → FieldForm → OutputField → Misfit
@@ -51,10 +51,10 @@ misfit None f = Fill
 misfit (Some form) f = kind_misfit form.kind form f
 
 -- of the field of that name
-abbrev pub editing_of : List SpecCard → OutputField → Entry → EditingCause
-editing_of cards f e = record { name = e.name; misfit = misfit (form_in (form_of_name e.name cards)) f }
+abbrev pub named_editing_cause : List SpecCard → OutputField → Entry → EditingCause
+named_editing_cause cards f e = record { name = e.name; misfit = misfit (form_in (form_of_name e.name cards)) f }
 
 -- F17 of a card
 abbrev pub editing_cause : List SpecCard → SpecCard → Option EditingCause
 editing_cause cards c =
-    if bad_editing cards c then option_and_then (λ (f : OutputField). option_map (editing_of cards f) f.operand) (output_field_on c.spec) else None
+    if bad_editing cards c then option_and_then (λ (f : OutputField). option_map (named_editing_cause cards f) f.operand) (output_field_on c.spec) else None

@@ -85,12 +85,12 @@ file_cause cards before c =
 -- ---- the file of the open line, and of the open record type
 
 -- with one more card: that of its line, if it names one
-abbrev pub line_file : SpecCard → Option (List ℕ) → Option (List ℕ)
-line_file c kept = option_or (option_and_then (λ (r : OutputRecord). r.file) (output_record_on c.spec)) kept
+abbrev pub with_line_file : SpecCard → Option (List ℕ) → Option (List ℕ)
+with_line_file c kept = option_or (option_and_then (λ (r : OutputRecord). r.file) (output_record_on c.spec)) kept
 
 -- with one more card: that of its record type, if it names one
-abbrev pub type_file : SpecCard → Option (List ℕ) → Option (List ℕ)
-type_file c kept = option_or (option_and_then (λ (t : RecordType). t.file) (type_on c.spec)) kept
+abbrev pub with_type_file : SpecCard → Option (List ℕ) → Option (List ℕ)
+with_type_file c kept = option_or (option_and_then (λ (t : RecordType). t.file) (type_on c.spec)) kept
 
 -- ---- F9 of lines
 

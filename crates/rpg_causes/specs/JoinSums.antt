@@ -5,26 +5,26 @@ use Rattle.rpg_cards.specs.Levels.{is_at, is_match_field, match_level}
 use Rattle.rpg_cards.specs.declared.spec_card.SpecCard.{SpecCard}
 use Rattle.rpg_causes.specs.Joins.{matched}
 use Rattle.rpg_faults.specs.Places.{input_columns, match_lengths, repeats}
-use Rattle.rpg_sheet_specs.specs.declared.input.InputField.{InputField}
+use Rattle.rpg_sheet_specs.specs.declared.input.InputFieldSpec.{InputFieldSpec}
 
 -- the columns of a match level up to the next type
 abbrev pub match_length : ℕ → List SpecCard → ℕ
 match_length level cards = sum_by input_columns (filter (is_at match_level level) (matched cards))
 
 -- there are match fields
-abbrev pub are_some : List InputField → Bool
+abbrev pub are_some : List InputFieldSpec → Bool
 are_some [] = false
 are_some (f ∷ fs) = true
 
 -- a match field without columns, or whose level stands after it
-abbrev pub is_bad_match : InputField → List InputField → Bool
+abbrev pub is_bad_match : InputFieldSpec → List InputFieldSpec → Bool
 is_bad_match f fs = is_match_field f && (input_columns f == 0 || repeats fs f)
 
 -- a match field is such
-abbrev pub any_bad : List InputField → Bool
+abbrev pub any_bad : List InputFieldSpec → Bool
 any_bad [] = false
 any_bad (f ∷ fs) = (input_columns f == 0 || repeats fs f) || any_bad fs
 
 -- the lengths of all match levels, where there are match fields and none is bad
-abbrev pub good_lengths : List InputField → Option (List ℕ)
+abbrev pub good_lengths : List InputFieldSpec → Option (List ℕ)
 good_lengths fs = if are_some fs && not (any_bad fs) then Some (match_lengths fs) else None

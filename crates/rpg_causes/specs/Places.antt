@@ -15,7 +15,7 @@ use Rattle.rpg_sheet_specs.specs.declared.column_range.ColumnRange.{ColumnRange}
 use Rattle.rpg_sheet_specs.specs.declared.column_range.ColumnRange.TheVariants as range
 use Rattle.rpg_sheet_specs.specs.declared.file.FileSpec.{FileSpec}
 use Rattle.rpg_sheet_specs.specs.declared.indicator.Three.{Three}
-use Rattle.rpg_sheet_specs.specs.declared.input.InputField.{InputField}
+use Rattle.rpg_sheet_specs.specs.declared.input.InputFieldSpec.{InputFieldSpec}
 use Rattle.rpg_sheet_specs.specs.declared.input.InputSpec.{InputSpec}
 use Rattle.rpg_sheet_specs.specs.declared.input.InputSpec.TheVariants as input
 use Rattle.rpg_sheet_specs.specs.declared.input.RecordCode.{RecordCode}
@@ -32,12 +32,12 @@ abbrev pub if_past : ℕ → FileOnCard → Option FileOnCard
 if_past column f = if nat_lt f.record_length column then Some f else None
 
 -- that file, if it is known
-abbrev pub past : ℕ → Option FileOnCard → Option FileOnCard
-past column file = option_and_then (if_past column) file
+abbrev pub file_passed : ℕ → Option FileOnCard → Option FileOnCard
+file_passed column file = option_and_then (if_past column) file
 
 -- of a code: columns of a record are counted from 1
 abbrev pub of_code : Option FileOnCard → ColumnRange → RecordCode → Option PlaceCause
-of_code file at c = if c.position == 0 then Some (NoPosition at) else option_map (PositionPast at c.position) (past c.position file)
+of_code file at c = if c.position == 0 then Some (NoPosition at) else option_map (PositionPast at c.position) (file_passed c.position file)
 
 -- the first of three codes that is outside
 abbrev pub of_codes : Option FileOnCard → Three (Option RecordCode) → Option PlaceCause
@@ -47,11 +47,11 @@ of_codes file t =
     (option_and_then (of_code file range.ThirdCode) t.third))
 
 -- of a field: columns from 0 or to 0, turned round, or past the record
-abbrev pub of_field : Option FileOnCard → InputField → Option PlaceCause
+abbrev pub of_field : Option FileOnCard → InputFieldSpec → Option PlaceCause
 of_field file f =
     if f.from == 0 || f.to == 0 then Some NoColumn
     else if nat_lt f.to f.from then Some (TurnedRound f.from f.to)
-    else option_map (PastRecord f.from f.to) (past f.to file)
+    else option_map (PastRecord f.from f.to) (file_passed f.to file)
 
 -- of an I card, whose file that is
 abbrev pub of_input : Option FileOnCard → InputSpec → Option PlaceCause
@@ -69,7 +69,7 @@ if_wider end n = if nat_lt end n then Some (Wider n end) else None
 abbrev pub of_output : List SpecCard → Option FileOnCard → OutputField → Option PlaceCause
 of_output cards file f =
     if f.end == 0 then Some NoEnd
-    else option_or (option_map (PastLine f.end) (past f.end file)) (option_and_then (if_wider f.end) (width cards f))
+    else option_or (option_map (PastLine f.end) (file_passed f.end file)) (option_and_then (if_wider f.end) (width cards f))
 
 -- ---- of a card
 

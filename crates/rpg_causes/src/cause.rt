@@ -224,7 +224,7 @@ fn missing(
     after: &[SpecCard],
 ) -> Option<Cause>
     requires { source.now ≡ before.now ++ card.now ∷ after.now }
-    ensures cause { result ≡ causes.missing before.now card.now after.now }
+    ensures cause { result ≡ causes.missing_cause before.now card.now after.now }
     ensures rule { is_some result ≡ rules.rule F9 before.now card.now after.now }
 {
     if let Some(cause) = on_calculation(before, card, after) {
@@ -267,7 +267,7 @@ fn misplaced(
     requires split { source.now ≡ before.now ++ card.now ∷ after.now }
     requires few { length before.now ≤ 2000 }
     requires few_behind { length after.now ≤ 2000 }
-    ensures cause { result ≡ causes.misplaced before.now card.now after.now }
+    ensures cause { result ≡ causes.misplaced_cause before.now card.now after.now }
     ensures rule { is_some result ≡ rules.rule F16 before.now card.now after.now }
 {
     if let Some(cause) = outside_cause(source, before, card) {

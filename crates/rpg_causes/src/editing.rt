@@ -101,7 +101,7 @@ fn fits(word: &[u8], digits: u8) -> bool
 /// How many digits a word has places for; none where it fits no number.
 #[tactic(auto, using(crate::proofs::Ranges::fitting_from))]
 fn places_of(word: &[u8]) -> Option<u8>
-    ensures { result ≡ causes.places_of word.now }
+    ensures { result ≡ causes.digits_that_fit word.now }
 {
     for digits in 0..25 {
         if fits(word, digits) {

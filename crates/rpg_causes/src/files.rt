@@ -255,7 +255,7 @@ pub(crate) fn open_line_file(before: &[SpecCard]) -> Option<&Word<8>>
 
 /// The file of the open line, with one more card.
 fn line_file<'a>(card: &'a SpecCard, kept: Option<&'a Word<8>>) -> Option<&'a Word<8>>
-    ensures { option_copied result ≡ causes.line_file card.now (option_copied kept.entry) }
+    ensures { option_copied result ≡ causes.with_line_file card.now (option_copied kept.entry) }
 {
     match card.line() {
         None => kept,

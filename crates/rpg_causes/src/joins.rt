@@ -11,7 +11,7 @@ ghost use Rattle.rpg_faults.specs.Lengths.{some_length};
 ghost use Rattle.rpg_faults.specs.Places as rules;
 
 use rpg_cards::SpecCard;
-use rpg_sheet_specs::{InputField, InputSpec};
+use rpg_sheet_specs::{InputFieldSpec, InputSpec};
 
 /// The most columns of a level, and of all match fields.
 const LIMIT: u32 = 256;
@@ -96,7 +96,7 @@ fn on_card(before: &[SpecCard], card: &SpecCard, after: &[SpecCard]) -> Option<J
     }
 }
 
-fn on_field(own: &[SpecCard], field: &InputField) -> Option<JoinCause>
+fn on_field(own: &[SpecCard], field: &InputFieldSpec) -> Option<JoinCause>
     requires { length own.now ≤ 2000 }
     ensures { result ≡ causes.on_field own.now field.now }
 {
@@ -124,7 +124,7 @@ fn open_cards(before: &[SpecCard]) -> &[SpecCard]
 }
 
 /// How many columns a field has: 0 where they begin at 0 or are turned round.
-fn columns_of(field: &InputField) -> u32
+fn columns_of(field: &InputFieldSpec) -> u32
     ensures value { result ≡ rules.input_columns field.now }
     ensures few { result ≤ 65535 }
 {
@@ -136,7 +136,7 @@ fn columns_of(field: &InputField) -> u32
 
 // ---- control fields
 
-fn is_at_level(level: u8, field: &InputField) -> bool
+fn is_at_level(level: u8, field: &InputFieldSpec) -> bool
     ensures { result ≡ rules.is_at_level level field.now }
 {
     match field.level {
@@ -244,7 +244,7 @@ fn joined_length(level: u8, cards: &[SpecCard]) -> u32
 }
 
 /// The field with which its level is too long.
-fn level_cause(own: &[SpecCard], field: &InputField) -> Option<JoinCause>
+fn level_cause(own: &[SpecCard], field: &InputFieldSpec) -> Option<JoinCause>
     requires { length own.now ≤ 2000 }
     ensures { result ≡ causes.level_cause own.now field.now }
 {
@@ -259,7 +259,7 @@ fn level_cause(own: &[SpecCard], field: &InputField) -> Option<JoinCause>
 
 // ---- match fields
 
-fn is_matched_at(level: u8, field: &InputField) -> bool
+fn is_matched_at(level: u8, field: &InputFieldSpec) -> bool
     ensures { result ≡ is_at match_level level field.now }
 {
     match field.match_level {
@@ -304,9 +304,9 @@ fn matched_columns(cards: &[SpecCard]) -> u32
 }
 
 /// A match level that stands before, or a field with which all match fields are too long.
-fn match_cause(own: &[SpecCard], field: &InputField) -> Option<JoinCause>
+fn match_cause(own: &[SpecCard], field: &InputFieldSpec) -> Option<JoinCause>
     requires { length own.now ≤ 2000 }
-    ensures { result ≡ causes.match_cause own.now field.now }
+    ensures { result ≡ causes.match_level_cause own.now field.now }
 {
     let level = field.match_level?.number();
     if let Some(card) = matched_on(level, own) {
@@ -336,7 +336,7 @@ fn has_matches(cards: &[SpecCard]) -> bool
 
 /// Whether a field is a match field without columns, or one whose level stands on the cards after it.
 #[tactic(auto, using(crate::proofs::JoinRule::matched_on_some))]
-fn is_bad_match(field: &InputField, behind: &[SpecCard]) -> bool
+fn is_bad_match(field: &InputFieldSpec, behind: &[SpecCard]) -> bool
     ensures { result ≡ sums.is_bad_match field.now (causes.matched behind.now) }
 {
     match field.match_level {
@@ -428,7 +428,7 @@ fn first_matched(cards: &[SpecCard]) -> Option<FirstMatched>
 
 /// The first level at which the lengths differ.
 fn apart(first: FirstMatched, own: &[u32; 9]) -> Option<JoinCause>
-    ensures { result ≡ causes.apart first.card 1 first.lengths own.now }
+    ensures { result ≡ causes.first_difference first.card 1 first.lengths own.now }
 {
     for (i, length) in own.iter().enumerate() {
         let other = first.lengths[i];

@@ -12,7 +12,9 @@ ghost use Rattle.rpg_sheet_specs.specs.declared.file.FileSpec.{FileSpec};
 use crate::files::{FileOnCard, file_of_name, open_line_file};
 use rpg_cards::{IndexedCards, SpecCard};
 use rpg_faults_operands::width;
-use rpg_sheet_specs::{ColumnRange, InputField, InputSpec, OutputField, RecordCode, Three, Word};
+use rpg_sheet_specs::{
+    ColumnRange, InputFieldSpec, InputSpec, OutputField, RecordCode, Three, Word,
+};
 
 /// What is outside a record or a line.
 #[derive(Drop)]
@@ -83,7 +85,7 @@ fn open_type_file(before: &[SpecCard]) -> Option<&Word<8>>
 
 /// The file of the open record type, with one more card.
 fn type_file<'a>(card: &'a SpecCard, kept: Option<&'a Word<8>>) -> Option<&'a Word<8>>
-    ensures { option_copied result ≡ files.type_file card.now (option_copied kept.entry) }
+    ensures { option_copied result ≡ files.with_type_file card.now (option_copied kept.entry) }
 {
     match card.record_type() {
         None => kept,
@@ -127,7 +129,7 @@ fn copied(file: &FileOnCard) -> FileOnCard
 
 /// The file, if a column is past its records.
 fn if_past(file: &Option<FileOnCard>, column: u16) -> Option<FileOnCard>
-    ensures file { result ≡ causes.past column file.now }
+    ensures file { result ≡ causes.file_passed column file.now }
     ensures rule { (known : Option FileSpec) → SameLength file.now known → is_some result ≡ rules.is_past known column }
 {
     let file = file.as_ref()?;
@@ -181,7 +183,7 @@ fn of_code(
     Some(PlaceCause::PositionPast { at, position, file })
 }
 
-fn of_field(file: &Option<FileOnCard>, field: &InputField) -> Option<PlaceCause>
+fn of_field(file: &Option<FileOnCard>, field: &InputFieldSpec) -> Option<PlaceCause>
     ensures cause { result ≡ causes.of_field file.now field.now }
     ensures rule { (known : Option FileSpec) → SameLength file.now known → is_some result ≡ rules.outside_record known field.now }
 {

@@ -13,7 +13,7 @@ use Rattle.rpg_cards.specs.Names.{definitions, definitions_on, given_names, is_o
 use Rattle.rpg_cards.specs.declared.labels.Label.{Label}
 use Rattle.rpg_cards.specs.declared.labels.Named.{Named}
 use Rattle.rpg_cards.specs.declared.spec_card.SpecCard.{SpecCard}
-use Rattle.rpg_causes_flow.specs.Labels.{given_on, giver, giver_if, if_field, nowhere, of_target, of_wanted, unless_alike}
+use Rattle.rpg_causes_flow.specs.Labels.{name_given_on, giver, giver_if, if_names_field, nowhere_cause, of_target, of_wanted, unless_alike}
 use Rattle.rpg_causes_operands.specs.Names.{defines, first_defining}
 use Rattle.rpg_causes_flow.specs.declared.labels.Giver.{Giver}
 use Rattle.rpg_causes_flow.specs.declared.labels.NowhereCause.TheVariants.{Absent, Other}
@@ -103,7 +103,7 @@ wanted_rule : (cards : List SpecCard) (n : Named) → is_some (of_wanted cards n
 wanted_rule cards n = wanted_is n (label_named n.name (labels (calculations cards))) (giver n.name cards []) (giver_is n.name cards [])
 
 -- there is a cause where the rule is broken
-pub nowhere_rule : (cards before : List SpecCard) (c : SpecCard) (after : List SpecCard) → is_some (nowhere cards c after) ≡ goes_nowhere cards before c after
+pub nowhere_rule : (cards before : List SpecCard) (c : SpecCard) (after : List SpecCard) → is_some (nowhere_cause cards c after) ≡ goes_nowhere cards before c after
 nowhere_rule cards before c after = by (card_ending c after) ∙ sym (nowhere-is cards before c after)
   where
     target : (w : Option Named) → is_some (option_and_then (of_wanted cards) w) ≡ option_map_or (λ n. not (is_given_as (labels (calculations cards)) n)) w false
@@ -121,7 +121,7 @@ abbrev pub is_again : List SpecCard → SpecCard → List SpecCard → Named →
 is_again before c after n = is_some (label_named n.name (labels (calculations_before before (c ∷ after)))) || is_defined n.name (definitions (before ++ c ∷ []))
 
 -- the calculation that ends on a card gives the name that the card gives
-pub again_is : (before : List SpecCard) (c : SpecCard) (after : List SpecCard) → option_map_or (gives_again before c after) (calculation_ending before c after) false ≡ option_map_or (is_again before c after) (given_on c after) false
+pub again_is : (before : List SpecCard) (c : SpecCard) (after : List SpecCard) → option_map_or (gives_again before c after) (calculation_ending before c after) false ≡ option_map_or (is_again before c after) (name_given_on c after) false
 again_is before c after =
     asked before c after (gives_again before c after) (λ k. option_map_or (is_again before c after) (gives (deed_of k)) false)
     (λ k. ap (λ d. option_map_or (is_again before c after) (gives (deed_of d)) false) (last_with (open_calculation_group before) k))
@@ -142,7 +142,7 @@ first_defining_is name (c ∷ cs) = by (defines name c) ∙ ap (λ b. defines na
     by false = refl
 
 -- a name is a field's where one of the definitions has it
-pub field_rule : (name : Name) (cards : List SpecCard) → is_some (if_field cards name) ≡ is_defined name (definitions cards)
+pub field_rule : (name : Name) (cards : List SpecCard) → is_some (if_names_field cards name) ≡ is_defined name (definitions cards)
 field_rule name cards = by (list_any (is_of name) given_names)
   where
     by : (b : Bool) → is_some (cond b (Some (EveryProgram name)) (option_map (Field name) (first_defining name cards))) ≡ (b || list_any (is_of name) (definitions cards))

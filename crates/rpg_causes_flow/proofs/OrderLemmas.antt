@@ -12,7 +12,7 @@ use Rattle.rpg_cards.specs.Labels.{begins_subroutine, begun_count, brackets, end
 use Rattle.rpg_cards.specs.Sections.{is_subroutine}
 use Rattle.rpg_cards.specs.declared.spec_card.SpecCard.{SpecCard}
 use Rattle.rpg_causes_flow.proofs.Options.{or_none, some_if, some_or, unless_some}
-use Rattle.rpg_causes_flow.specs.Order.{begun_name, bracket_on, card_of, closes, first_later, if_later, if_outside, last_bracket, next_bracket, of_end, of_group, opens, order_cause}
+use Rattle.rpg_causes_flow.specs.Order.{begun_name, bracket_on, bracket_card, closes, first_later, if_later, if_outside, last_bracket, next_bracket, of_end, of_group, opens, order_cause}
 use Rattle.rpg_causes_flow.specs.declared.brackets.Bracket.{Bracket}
 use Rattle.rpg_causes_flow.specs.declared.order.OrderCause.{OrderCause}
 use Rattle.rpg_causes_flow.specs.declared.order.OrderCause.TheVariants.{Early, NoBegsr, NoEndsr, Outside, OutsideSection, Unjoined}
@@ -195,7 +195,7 @@ module _ (before : List SpecCard) (c : SpecCard) (after : List SpecCard) where
 
   outside_is : (k : CalculationSpec) → is_some (if_outside k after last) ≡ is_outside_subroutine front (completed (alone k) after)
   outside_is k =
-      some_if (Outside (card_of last)) (outside k k (opens last))
+      some_if (Outside (bracket_card last)) (outside k k (opens last))
       ∙ ap (outside k k) (sym (inside_is before (c ∷ after)))
       ∙ ap (λ (j : CalculationSpec). outside j k (is_inside_subroutine front)) (sym (first_completed (alone k) after))
 
@@ -231,7 +231,7 @@ module _ (before : List SpecCard) (c : SpecCard) (after : List SpecCard) where
 
   end_rule : (k : CalculationSpec) → is_some (of_end before c after k) ≡ breaks_calculation before c after (group_with (open_calculation_group before) k)
   end_rule k =
-      section_cases (NoBegsr (card_of last)) (NoEndsr (begun_name k) (card_of (next_bracket (Some level) after))) (OutsideSection (is_endsr (deed_of k))) (is_subroutine level) (is_begsr (deed_of k)) (is_endsr (deed_of k)) (opens last) (closes (next_bracket (Some level) after))
+      section_cases (NoBegsr (bracket_card last)) (NoEndsr (begun_name k) (bracket_card (next_bracket (Some level) after))) (OutsideSection (is_endsr (deed_of k))) (is_subroutine level) (is_begsr (deed_of k)) (is_endsr (deed_of k)) (opens last) (closes (next_bracket (Some level) after))
       ∙ ap (λ i. unpaired_by level i (closes (next_bracket (Some level) after)) (deed_of k)) (sym (inside_is before (c ∷ after)))
       ∙ ap (λ l. unpaired_by l (is_inside_subroutine front) (closes (next_bracket (Some l) after)) (deed_of k)) (sym (level_in-is (open_calculation_group before) k))
       ∙ ap (λ cl. unpaired_by g.first.control_level (is_inside_subroutine front) cl (deed_of k)) (sym (closed_is (Some g) after))

@@ -14,7 +14,7 @@ use Rattle.rpg_cards.specs.declared.labels.Named.{Named}
 use Rattle.rpg_cards.specs.declared.labels.Section.{Section}
 use Rattle.rpg_cards.specs.declared.spec_card.SpecCard.{SpecCard}
 use Rattle.rpg_causes_flow.proofs.Options.{some_if}
-use Rattle.rpg_causes_flow.specs.Sections.{apart, apart_by, apart_on, first_label, if_apart, label_by, label_if, section_by, section_on}
+use Rattle.rpg_causes_flow.specs.Sections.{apart, apart_by, apart_on, first_label_on_cards, if_apart, label_by, label_if, section_by_state, section_on}
 use Rattle.rpg_causes_flow.specs.declared.labels.Target.{Target}
 use Rattle.rpg_causes_flow.specs.declared.sections.LabelOnCard.{LabelOnCard}
 use Rattle.rpg_faults_flow.proofs.Carried.{group_at-is, level_in-is, pushed}
@@ -31,7 +31,7 @@ use Rattle.rpg_sheet_specs.specs.declared.calculation.ControlLevel.TheVariants a
 -- ---- the section of a calculation
 
 section_cases : (acc : List (Calculation Key)) (b : Bool) (l : ControlLevel)
-    → section_by l b (is_inside_subroutine acc) (begun_count acc) ≡ labels_of.section_by acc (is_subroutine l && b) l
+    → section_by_state l b (is_inside_subroutine acc) (begun_count acc) ≡ labels_of.section_by acc (is_subroutine l && b) l
 section_cases acc b control.Detail = refl
 section_cases acc b (control.Total i) = refl
 section_cases acc true control.Subroutine = refl
@@ -40,10 +40,10 @@ section_cases acc b control.And = refl
 section_cases acc b control.Or = refl
 
 pub section_rule : (front : List SpecCard) (c : SpecCard) (after : List SpecCard) (k : CalculationSpec)
-    → section_by (calculation_level (level_of_group (open_calculation_group front)) k) (is_begsr (deed_of k)) (is_inside_subroutine (calculations_before front (c ∷ after))) (begun_count (calculations_before front (c ∷ after)))
+    → section_by_state (calculation_level (level_of_group (open_calculation_group front)) k) (is_begsr (deed_of k)) (is_inside_subroutine (calculations_before front (c ∷ after))) (begun_count (calculations_before front (c ∷ after)))
     ≡ section_on front c after k
 section_rule front c after k =
-    ap (λ l. section_by l (is_begsr (deed_of k)) (is_inside_subroutine acc) (begun_count acc)) (sym (level_in-is (open_calculation_group front) k))
+    ap (λ l. section_by_state l (is_begsr (deed_of k)) (is_inside_subroutine acc) (begun_count acc)) (sym (level_in-is (open_calculation_group front) k))
     ∙ section_cases acc (is_begsr (deed_of k)) g.first.control_level
     ∙ ap (λ (j : CalculationSpec). labels_of.section_by acc (is_subroutine g.first.control_level && is_begsr (deed_of j)) g.first.control_level) (sym (last_with (open_calculation_group front) k))
   where
@@ -65,12 +65,12 @@ module _ (name : Name) where
   -- what is left to compare after a card
   abbrev Same : List SpecCard → List SpecCard → Type 0
   Same front cards =
-      of_label (label_named name (labels_behind (calculations_before front cards) (calculations_from (open_calculation_group front) cards []))) ≡ of_found (first_label name front cards)
+      of_label (label_named name (labels_behind (calculations_before front cards) (calculations_from (open_calculation_group front) cards []))) ≡ of_found (first_label_on_cards name front cards)
 
   step : (front : List SpecCard) (c : SpecCard) (cs : List SpecCard) (rest : List (Calculation Key)) (x : Option CalculationSpec)
-      → of_label (label_named name (labels_behind (calculations_before front (c ∷ cs) ++ option_to_list (option_map calculation_of (option_map (group_with (open_calculation_group front)) x))) rest)) ≡ of_found (first_label name (front ++ c ∷ []) cs)
+      → of_label (label_named name (labels_behind (calculations_before front (c ∷ cs) ++ option_to_list (option_map calculation_of (option_map (group_with (open_calculation_group front)) x))) rest)) ≡ of_found (first_label_on_cards name (front ++ c ∷ []) cs)
       → of_label (label_named name (labels_behind (calculations_before front (c ∷ cs)) (option_to_list (option_map calculation_of (option_map (group_with (open_calculation_group front)) x)) ++ rest)))
-      ≡ of_found (option_or (option_and_then (label_by name front c cs) x) (first_label name (front ++ c ∷ []) cs))
+      ≡ of_found (option_or (option_and_then (label_by name front c cs) x) (first_label_on_cards name (front ++ c ∷ []) cs))
   step front c cs rest None known = ap (λ (acc : List (Calculation Key)). of_label (label_named name (labels_behind acc rest))) (sym (append-nil (calculations_before front (c ∷ cs)))) ∙ known
   step front c cs rest (Some k) known =
       ap (λ d. of_label (label_named name (option_to_list (option_map label (gives (deed_of d))) ++ more))) (last_with (open_calculation_group front) k)
@@ -90,13 +90,13 @@ module _ (name : Name) where
 
       test : (n : Named) (b : Bool)
           → of_label (cond b (Some (label n)) (label_named name more))
-          ≡ of_found (option_or (cond b (Some (record { card = c.number; is_subroutine = n.is_subroutine; section = section_on front c cs k })) None) (first_label name (front ++ c ∷ []) cs))
+          ≡ of_found (option_or (cond b (Some (record { card = c.number; is_subroutine = n.is_subroutine; section = section_on front c cs k })) None) (first_label_on_cards name (front ++ c ∷ []) cs))
       test n true = refl
       test n false = known
 
       named : (x : Option Named)
           → of_label (label_named name (option_to_list (option_map label x) ++ more))
-          ≡ of_found (option_or (option_and_then (label_if name front c cs k) x) (first_label name (front ++ c ∷ []) cs))
+          ≡ of_found (option_or (option_and_then (label_if name front c cs k) x) (first_label_on_cards name (front ++ c ∷ []) cs))
       named None = known
       named (Some n) = test n (pointwise nat_eq name n.name)
 
@@ -111,7 +111,7 @@ module _ (name : Name) where
       ∙ ap (λ o. of_label (label_named name (labels_behind (calculations_before (front ++ c ∷ []) cs) (calculations_from o cs [])))) (sym (open_behind-push None front c))
       ∙ from (front ++ c ∷ []) cs)
 
-first_is : (name : Name) (cards : List SpecCard) → of_label (label_named name (labels (calculations cards))) ≡ of_found (first_label name [] cards)
+first_is : (name : Name) (cards : List SpecCard) → of_label (label_named name (labels (calculations cards))) ≡ of_found (first_label_on_cards name [] cards)
 first_is name cards = from name [] cards
 
 -- ---- F13
@@ -139,7 +139,7 @@ apart_rule cards before c after =
         → is_some (option_and_then (apart_by cards (section_on before c after k)) w)
         ≡ option_map_or (λ (n : Named). option_map_or (leaves_by (section_on before c after k) n) (label_named n.name (labels (calculations cards))) false) w false
     wanted k None = refl
-    wanted k (Some n) = if_same (section_on before c after k) n (label_named n.name (labels (calculations cards))) (first_label n.name [] cards) (first_is n.name cards)
+    wanted k (Some n) = if_same (section_on before c after k) n (label_named n.name (labels (calculations cards))) (first_label_on_cards n.name [] cards) (first_is n.name cards)
 
     by : (x : Option CalculationSpec) → is_some (option_and_then (apart_on cards before c after) x) ≡ option_map_or own x false
     by None = refl

@@ -6,30 +6,30 @@ use Rattle.rpg_cards.specs.Cards.{input_on, output_on}
 use Rattle.rpg_cards.specs.Groups.{input_role, open_group, output_role}
 use Rattle.rpg_cards.specs.declared.spec_card.SpecCard.{SpecCard}
 use Rattle.rpg_causes_flow.proofs.Options.{some_or, unless, unless_some}
-use Rattle.rpg_causes_flow.specs.Strays.{number_before, on_input, on_output, stray_cause}
+use Rattle.rpg_causes_flow.specs.Strays.{number_before, input_stray_cause, output_stray_cause, stray_cause}
 use Rattle.rpg_causes_flow.specs.declared.strays.StrayCause.TheVariants.{NoLine, NoType, OtherThanLine, OtherThanType}
-use Rattle.rpg_faults_limits.specs.Order.{is_behind_codes, is_behind_conditions, strays, strays_on_input, strays_on_output}
+use Rattle.rpg_faults_limits.specs.Order.{is_behind_codes, is_behind_conditions, is_stray, is_stray_input, is_stray_output}
 use Rattle.rpg_sheet_specs.specs.declared.input.InputSpec.{InputSpec}
 use Rattle.rpg_sheet_specs.specs.declared.input.InputSpec.TheVariants as input
 use Rattle.rpg_sheet_specs.specs.declared.output.OutputSpec.{OutputSpec}
 use Rattle.rpg_sheet_specs.specs.declared.output.OutputSpec.TheVariants as output
 
 module _ (before : List SpecCard) where
-  input_is : (o : Option InputSpec) → is_some (option_and_then (on_input (is_some (open_group input_role before)) before) o) ≡ option_map_or (strays_on_input before) o false
+  input_is : (o : Option InputSpec) → is_some (option_and_then (input_stray_cause (is_some (open_group input_role before)) before) o) ≡ option_map_or (is_stray_input before) o false
   input_is None = refl
   input_is (Some (input.Type t)) = refl
   input_is (Some (input.And codes)) = unless (OtherThanType (number_before before)) (is_behind_codes before)
   input_is (Some (input.Field f)) = unless_some NoType (open_group input_role before)
 
-  output_is : (o : Option OutputSpec) → is_some (option_and_then (on_output (is_some (open_group output_role before)) before) o) ≡ option_map_or (strays_on_output before) o false
+  output_is : (o : Option OutputSpec) → is_some (option_and_then (output_stray_cause (is_some (open_group output_role before)) before) o) ≡ option_map_or (is_stray_output before) o false
   output_is None = refl
   output_is (Some (output.Record r)) = refl
   output_is (Some (output.And t)) = unless (OtherThanLine (number_before before)) (is_behind_conditions before)
   output_is (Some (output.Or t)) = unless (OtherThanLine (number_before before)) (is_behind_conditions before)
   output_is (Some (output.Field f)) = unless_some NoLine (open_group output_role before)
 
-  pub stray_rule : (c : SpecCard) → is_some (stray_cause before c) ≡ strays before c
+  pub stray_rule : (c : SpecCard) → is_some (stray_cause before c) ≡ is_stray before c
   stray_rule c =
-      some_or (option_and_then (on_input (is_some (open_group input_role before)) before) (input_on c.spec)) (option_and_then (on_output (is_some (open_group output_role before)) before) (output_on c.spec))
-      ∙ ap (λ b. b || is_some (option_and_then (on_output (is_some (open_group output_role before)) before) (output_on c.spec))) (input_is (input_on c.spec))
-      ∙ ap (λ b. option_map_or (strays_on_input before) (input_on c.spec) false || b) (output_is (output_on c.spec))
+      some_or (option_and_then (input_stray_cause (is_some (open_group input_role before)) before) (input_on c.spec)) (option_and_then (output_stray_cause (is_some (open_group output_role before)) before) (output_on c.spec))
+      ∙ ap (λ b. b || is_some (option_and_then (output_stray_cause (is_some (open_group output_role before)) before) (output_on c.spec))) (input_is (input_on c.spec))
+      ∙ ap (λ b. option_map_or (is_stray_input before) (input_on c.spec) false || b) (output_is (output_on c.spec))

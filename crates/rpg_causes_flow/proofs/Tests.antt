@@ -3,7 +3,7 @@ use Rattle.std.proofs.Common.{◌≡◌, List, Bool, true, false, ◌||◌, Opti
 use Rattle.std.specs.Prelude.{◌&&◌, is_none, is_some}
 use Rattle.rpg_cards.specs.Calculations.{CalculationGroup, goes_on}
 use Rattle.rpg_cards.specs.declared.spec_card.SpecCard.{SpecCard}
-use Rattle.rpg_causes_flow.specs.Columns.{is_bad}
+use Rattle.rpg_causes_flow.specs.Columns.{has_bad_columns}
 use Rattle.rpg_faults_flow.specs.Columns.{bad_by_end, bad_calculation, bad_conditions}
 use Rattle.rpg_sheet_specs.specs.declared.calculation.CalculationSpec.{CalculationSpec}
 
@@ -16,5 +16,5 @@ last_first false false true = refl
 last_first false false false = refl
 
 -- a length, the end of the group and the conditions: the same as the conditions, a length and the end
-pub bad_is : (group : Option CalculationGroup) (k : CalculationSpec) (after : List SpecCard) → is_bad group k after ≡ bad_calculation group k after
+pub bad_is : (group : Option CalculationGroup) (k : CalculationSpec) (after : List SpecCard) → has_bad_columns group k after ≡ bad_calculation group k after
 bad_is group k after = last_first (is_some k.length && is_none k.result_field) (bad_by_end (goes_on after) k) (bad_conditions group k after)

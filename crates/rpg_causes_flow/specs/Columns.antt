@@ -45,8 +45,8 @@ of_shown shown.Some t = if filled_count t == 0 then Some IndicatorNeeded else No
 of_shown shown.Search t = if filled_count t == 0 then Some IndicatorNeeded else (if is_some t.first && is_some t.second then Some HighAndLow else None)
 
 -- the first of the operation's columns that is wrong
-abbrev pub of_operation : CalculationSpec → Operation → Option ColumnCause
-of_operation k o =
+abbrev pub operation_column_cause : CalculationSpec → Operation → Option ColumnCause
+operation_column_cause k o =
     option_or (of_column range.FirstFactor (card_columns o).factor_1 k.factor_1)
     (option_or (of_column range.SecondFactor (card_columns o).factor_2 k.factor_2)
     (option_or (of_column range.ResultName (card_columns o).result_field (option_map factor.Entry k.result_field))
@@ -55,14 +55,14 @@ of_operation k o =
 -- ---- the cards of a group
 
 -- the last card of a group has the operation
-abbrev pub of_last : CalculationSpec → Option Operation → Option ColumnCause
-of_last k None = Some NoOperation
-of_last k (Some o) = of_operation k o
+abbrev pub last_card_column_cause : CalculationSpec → Option Operation → Option ColumnCause
+last_card_column_cause k None = Some NoOperation
+last_card_column_cause k (Some o) = operation_column_cause k o
 
 -- a card before the last has conditions alone
-abbrev pub of_end : Bool → CalculationSpec → Option ColumnCause
-of_end true k = if has_more k then Some (LastCardAlone (further_range k)) else None
-of_end false k = of_last k k.operation
+abbrev pub end_column_cause : Bool → CalculationSpec → Option ColumnCause
+end_column_cause true k = if has_more k then Some (LastCardAlone (further_range k)) else None
+end_column_cause false k = last_card_column_cause k k.operation
 
 -- of several cards each has conditions, and none has any where the operation has none
 abbrev pub of_conditions : Option CalculationGroup → CalculationSpec → List SpecCard → Option ColumnCause
@@ -71,17 +71,17 @@ of_conditions group k after =
     else (if goes_on after || (joins k.control_level && is_some group) then Some ConditionsNeeded else None)
 
 -- a length without a result field
-abbrev pub of_length : CalculationSpec → Option ColumnCause
-of_length k = if is_some k.length && is_none k.result_field then Some LengthAlone else None
+abbrev pub length_column_cause : CalculationSpec → Option ColumnCause
+length_column_cause k = if is_some k.length && is_none k.result_field then Some LengthAlone else None
 
 -- F9 of a calculation card, with the group that is open before it
-abbrev pub of_calculation : Option CalculationGroup → CalculationSpec → List SpecCard → Option ColumnCause
-of_calculation group k after = option_or (of_length k) (option_or (of_end (goes_on after) k) (of_conditions group k after))
+abbrev pub calculation_column_cause : Option CalculationGroup → CalculationSpec → List SpecCard → Option ColumnCause
+calculation_column_cause group k after = option_or (length_column_cause k) (option_or (end_column_cause (goes_on after) k) (of_conditions group k after))
 
 -- the same as a test
-abbrev pub is_bad : Option CalculationGroup → CalculationSpec → List SpecCard → Bool
-is_bad group k after = (is_some k.length && is_none k.result_field) || (bad_by_end (goes_on after) k || bad_conditions group k after)
+abbrev pub has_bad_columns : Option CalculationGroup → CalculationSpec → List SpecCard → Bool
+has_bad_columns group k after = (is_some k.length && is_none k.result_field) || (bad_by_end (goes_on after) k || bad_conditions group k after)
 
 -- F9 of a card, if it is a C card
-abbrev pub on_calculation : List SpecCard → SpecCard → List SpecCard → Option ColumnCause
-on_calculation before c after = option_and_then (λ k. of_calculation (open_calculation_group before) k after) (calculation_on c.spec)
+abbrev pub card_column_cause : List SpecCard → SpecCard → List SpecCard → Option ColumnCause
+card_column_cause before c after = option_and_then (λ k. calculation_column_cause (open_calculation_group before) k after) (calculation_on c.spec)

@@ -23,8 +23,8 @@ use Rattle.rpg_sheet_specs.specs.declared.calculation.CalculationSpec.{Calculati
 -- ---- the card that gives a name
 
 -- the name that the calculation that ends on a card gives
-abbrev pub given_on : SpecCard → List SpecCard → Option Named
-given_on c after = option_and_then (λ k. gives (deed_of k)) (card_ending c after)
+abbrev pub name_given_on : SpecCard → List SpecCard → Option Named
+name_given_on c after = option_and_then (λ k. gives (deed_of k)) (card_ending c after)
 
 -- the card as the giver, if it is that name
 abbrev pub giver_if : List ℕ → ℕ → Named → Option Giver
@@ -33,7 +33,7 @@ giver_if name card n = if pointwise nat_eq name n.name then Some (record { card 
 -- the first of the cards at the front that gives the name, seen with those after it
 abbrev pub giver : List ℕ → List SpecCard → List SpecCard → Option Giver
 giver name [] after = None
-giver name (c ∷ cs) after = option_or (option_and_then (giver_if name c.number) (given_on c (cs ++ after))) (giver name cs after)
+giver name (c ∷ cs) after = option_or (option_and_then (giver_if name c.number) (name_given_on c (cs ++ after))) (giver name cs after)
 
 -- ---- F10: GOTO a label, EXSR a subroutine
 
@@ -50,8 +50,8 @@ abbrev pub of_target : List SpecCard → CalculationSpec → Option NowhereCause
 of_target cards k = option_and_then (of_wanted cards) (wants (deed_of k))
 
 -- F10 of a card
-abbrev pub nowhere : List SpecCard → SpecCard → List SpecCard → Option NowhereCause
-nowhere cards c after = option_and_then (of_target cards) (card_ending c after)
+abbrev pub nowhere_cause : List SpecCard → SpecCard → List SpecCard → Option NowhereCause
+nowhere_cause cards c after = option_and_then (of_target cards) (card_ending c after)
 
 -- ---- F11: at the later of the two cards
 
@@ -60,12 +60,12 @@ abbrev pub if_given : List SpecCard → SpecCard → List SpecCard → List ℕ 
 if_given before c after name = option_map (Given name) (giver name before (c ∷ after))
 
 -- a name that is a field: one that every program has, or one that these cards define
-abbrev pub if_field : List SpecCard → List ℕ → Option TwiceCause
-if_field cards name = if list_any (is_of name) given_names then Some (EveryProgram name) else option_map (Field name) (first_defining name cards)
+abbrev pub if_names_field : List SpecCard → List ℕ → Option TwiceCause
+if_names_field cards name = if list_any (is_of name) given_names then Some (EveryProgram name) else option_map (Field name) (first_defining name cards)
 
 -- a label or a subroutine whose name is given before, or is a field by then
 abbrev pub of_given : List SpecCard → SpecCard → List SpecCard → Named → Option TwiceCause
-of_given before c after n = option_or (if_given before c after n.name) (if_field (before ++ c ∷ []) n.name)
+of_given before c after n = option_or (if_given before c after n.name) (if_names_field (before ++ c ∷ []) n.name)
 
 -- a field whose name is a label's or a subroutine's before
 abbrev pub of_definition : List SpecCard → SpecCard → List SpecCard → Definition → Option TwiceCause
@@ -78,7 +78,7 @@ any_given before c after ds = list_any (λ (d : Definition). is_some (label_name
 -- F11 of a card
 abbrev pub twice : List SpecCard → SpecCard → List SpecCard → Option TwiceCause
 twice before c after =
-    option_or (option_and_then (of_given before c after) (given_on c after))
+    option_or (option_and_then (of_given before c after) (name_given_on c after))
     (first_some (of_definition before c after) (definitions_on c.spec))
 
 -- ---- F13, F14: the label or the subroutine that a card names
@@ -92,5 +92,5 @@ abbrev pub target_of : List SpecCard → CalculationSpec → Option Target
 target_of cards k = option_and_then (target_by cards) (wants (deed_of k))
 
 -- that of a card
-abbrev pub target : List SpecCard → SpecCard → List SpecCard → Option Target
-target cards c after = option_and_then (target_of cards) (card_ending c after)
+abbrev pub card_target : List SpecCard → SpecCard → List SpecCard → Option Target
+card_target cards c after = option_and_then (target_of cards) (card_ending c after)

@@ -43,8 +43,8 @@ abbrev pub closes : Option Bracket → Bool
 closes b = option_map_or (λ (x : Bracket). x.is_end) b false
 
 -- the card that it ends on
-abbrev pub card_of : Option Bracket → Option ℕ
-card_of b = option_map (λ (x : Bracket). x.card) b
+abbrev pub bracket_card : Option Bracket → Option ℕ
+bracket_card b = option_map (λ (x : Bracket). x.card) b
 
 -- ---- on the first card of a group
 
@@ -60,7 +60,7 @@ first_later own (c ∷ cs) = option_or (option_and_then (if_later own c) (calcul
 -- SR in no subroutine, with the last BEGSR or ENDSR before
 abbrev pub if_outside : CalculationSpec → List SpecCard → Option Bracket → Option OrderCause
 if_outside k after last =
-    if is_subroutine k.control_level && (not (is_bracket (deed_of (group_end k after))) && not (opens last)) then Some (Outside (card_of last)) else None
+    if is_subroutine k.control_level && (not (is_bracket (deed_of (group_end k after))) && not (opens last)) then Some (Outside (bracket_card last)) else None
 
 -- an AN or OR card that has no calculation right before it
 abbrev pub unless_open : List SpecCard → Option OrderCause
@@ -83,7 +83,7 @@ if_elsewhere k = if is_bracket (deed_of k) then Some (OutsideSection (is_endsr (
 
 -- ENDSR without BEGSR, with the last BEGSR or ENDSR before
 abbrev pub if_unbegun : CalculationSpec → Option Bracket → Option OrderCause
-if_unbegun k last = if is_endsr (deed_of k) && not (opens last) then Some (NoBegsr (card_of last)) else None
+if_unbegun k last = if is_endsr (deed_of k) && not (opens last) then Some (NoBegsr (bracket_card last)) else None
 
 -- the name that a BEGSR gives
 abbrev pub begun_name : CalculationSpec → Option (List ℕ)
@@ -91,7 +91,7 @@ begun_name k = option_map (λ (n : Named). n.name) (gives (deed_of k))
 
 -- BEGSR without ENDSR, with the next BEGSR or ENDSR
 abbrev pub if_unended : CalculationSpec → Option Bracket → Option OrderCause
-if_unended k next = if is_begsr (deed_of k) && not (closes next) then Some (NoEndsr (begun_name k) (card_of next)) else None
+if_unended k next = if is_begsr (deed_of k) && not (closes next) then Some (NoEndsr (begun_name k) (bracket_card next)) else None
 
 -- of a group of that section
 abbrev pub of_section : ControlLevel → List SpecCard → SpecCard → List SpecCard → CalculationSpec → Option OrderCause

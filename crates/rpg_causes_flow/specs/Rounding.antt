@@ -26,15 +26,15 @@ abbrev pub of_half_adjust : CalculationSpec → Option CalculationSpec → Optio
 of_half_adjust k last = if k.half_adjust then of_last last else None
 
 -- MVR in a group of several cards, or where no division without H comes right before
-abbrev pub unless_behind : Bool → Bool → Option RoundingCause
-unless_behind true behind = Some SeveralCards
-unless_behind false behind = if behind then None else Some NoDivision
+abbrev pub unless_after_division : Bool → Bool → Option RoundingCause
+unless_after_division true behind = Some SeveralCards
+unless_after_division false behind = if behind then None else Some NoDivision
 
 -- MVR that has no remainder
 abbrev pub of_remainder : List SpecCard → CalculationSpec → Option CalculationSpec → Option RoundingCause
 of_remainder before k last =
     if option_map_or (operation_passes is_remainder) last false
-    then unless_behind (joins k.control_level) (is_behind_division before) else None
+    then unless_after_division (joins k.control_level) (is_behind_division before) else None
 
 -- F15 of a calculation card
 abbrev pub of_calculation : List SpecCard → CalculationSpec → Option CalculationSpec → Option RoundingCause

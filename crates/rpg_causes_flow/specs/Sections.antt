@@ -28,12 +28,12 @@ subroutine_by true inside begun = Subroutine begun
 subroutine_by false inside begun = if inside then Subroutine (begun - 1) else Outside
 
 -- by columns 7 and 8 of its group, whether it is BEGSR, whether a subroutine is open, and how many have begun
-abbrev pub section_by : ControlLevel → Bool → Bool → ℕ → Section
-section_by control.Detail begins inside begun = Detail
-section_by (control.Total i) begins inside begun = Total
-section_by control.Subroutine begins inside begun = subroutine_by begins inside begun
-section_by control.And begins inside begun = Outside
-section_by control.Or begins inside begun = Outside
+abbrev pub section_by_state : ControlLevel → Bool → Bool → ℕ → Section
+section_by_state control.Detail begins inside begun = Detail
+section_by_state (control.Total i) begins inside begun = Total
+section_by_state control.Subroutine begins inside begun = subroutine_by begins inside begun
+section_by_state control.And begins inside begun = Outside
+section_by_state control.Or begins inside begun = Outside
 
 -- ---- the label, or the subroutine, of a name
 
@@ -47,13 +47,13 @@ abbrev pub label_by : List ℕ → List SpecCard → SpecCard → List SpecCard 
 label_by name front c after k = option_and_then (label_if name front c after k) (gives (deed_of k))
 
 -- the same for any card
-abbrev pub label_on : List ℕ → List SpecCard → SpecCard → List SpecCard → Option LabelOnCard
-label_on name front c after = option_and_then (label_by name front c after) (card_ending c after)
+abbrev pub label_on_card : List ℕ → List SpecCard → SpecCard → List SpecCard → Option LabelOnCard
+label_on_card name front c after = option_and_then (label_by name front c after) (card_ending c after)
 
 -- the first on the cards after those at the front
-abbrev pub first_label : List ℕ → List SpecCard → List SpecCard → Option LabelOnCard
-first_label name front [] = None
-first_label name front (c ∷ cs) = option_or (label_on name front c cs) (first_label name (front ++ c ∷ []) cs)
+abbrev pub first_label_on_cards : List ℕ → List SpecCard → List SpecCard → Option LabelOnCard
+first_label_on_cards name front [] = None
+first_label_on_cards name front (c ∷ cs) = option_or (label_on_card name front c cs) (first_label_on_cards name (front ++ c ∷ []) cs)
 
 -- ---- F13
 
@@ -63,7 +63,7 @@ if_apart own n l = if not l.is_subroutine && (not n.is_subroutine && are_apart o
 
 -- of a name that a calculation of that section wants
 abbrev pub apart_by : List SpecCard → Section → Named → Option Target
-apart_by cards own n = option_and_then (if_apart own n) (first_label n.name [] cards)
+apart_by cards own n = option_and_then (if_apart own n) (first_label_on_cards n.name [] cards)
 
 -- the label or subroutine that a C card leads to, if that is in another section
 abbrev pub apart_on : List SpecCard → List SpecCard → SpecCard → List SpecCard → CalculationSpec → Option Target

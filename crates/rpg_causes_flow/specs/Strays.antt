@@ -17,24 +17,24 @@ abbrev pub number_before : List SpecCard → Option ℕ
 number_before before = option_map (λ (c : SpecCard). c.number) (card_right_before before)
 
 -- an AND card that continues no type, or a field where none is open
-abbrev pub on_input : Bool → List SpecCard → InputSpec → Option StrayCause
-on_input is_open before (input.Type t) = None
-on_input is_open before (input.And codes) = if is_behind_codes before then None else Some (OtherThanType (number_before before))
-on_input is_open before (input.Field f) = if is_open then None else Some NoType
+abbrev pub input_stray_cause : Bool → List SpecCard → InputSpec → Option StrayCause
+input_stray_cause is_open before (input.Type t) = None
+input_stray_cause is_open before (input.And codes) = if is_behind_codes before then None else Some (OtherThanType (number_before before))
+input_stray_cause is_open before (input.Field f) = if is_open then None else Some NoType
 
 -- an AND or OR card that continues no line
-abbrev pub unless_behind : List SpecCard → Option StrayCause
-unless_behind before = if is_behind_conditions before then None else Some (OtherThanLine (number_before before))
+abbrev pub unless_after_conditions : List SpecCard → Option StrayCause
+unless_after_conditions before = if is_behind_conditions before then None else Some (OtherThanLine (number_before before))
 
 -- such a card, or a field where no line is open
-abbrev pub on_output : Bool → List SpecCard → OutputSpec → Option StrayCause
-on_output is_open before (output.Record r) = None
-on_output is_open before (output.And t) = unless_behind before
-on_output is_open before (output.Or t) = unless_behind before
-on_output is_open before (output.Field f) = if is_open then None else Some NoLine
+abbrev pub output_stray_cause : Bool → List SpecCard → OutputSpec → Option StrayCause
+output_stray_cause is_open before (output.Record r) = None
+output_stray_cause is_open before (output.And t) = unless_after_conditions before
+output_stray_cause is_open before (output.Or t) = unless_after_conditions before
+output_stray_cause is_open before (output.Field f) = if is_open then None else Some NoLine
 
 -- F12 of a card
 abbrev pub stray_cause : List SpecCard → SpecCard → Option StrayCause
 stray_cause before c =
-    option_or (option_and_then (on_input (is_some (open_group input_role before)) before) (input_on c.spec))
-    (option_and_then (on_output (is_some (open_group output_role before)) before) (output_on c.spec))
+    option_or (option_and_then (input_stray_cause (is_some (open_group input_role before)) before) (input_on c.spec))
+    (option_and_then (output_stray_cause (is_some (open_group output_role before)) before) (output_on c.spec))

@@ -49,7 +49,7 @@ pub fn on_calculation(
     card: &SpecCard,
     after: &[SpecCard],
 ) -> Option<ColumnCause>
-    ensures cause { result ≡ causes.on_calculation before.now card.now after.now }
+    ensures cause { result ≡ causes.card_column_cause before.now card.now after.now }
     ensures rule { is_some result ≡ rules.bad_calculation_columns before.now card.now after.now }
 {
     match card.calculation() {
@@ -80,8 +80,8 @@ fn of_calculation(
     calculation: &CalculationSpec,
     after: &[SpecCard],
 ) -> Option<ColumnCause>
-    ensures cause { (group : Option CalculationGroup) → is_in_group ≡ is_some group → result ≡ causes.of_calculation group calculation.now after.now }
-    ensures rule { (group : Option CalculationGroup) → is_in_group ≡ is_some group → is_some result ≡ causes.is_bad group calculation.now after.now }
+    ensures cause { (group : Option CalculationGroup) → is_in_group ≡ is_some group → result ≡ causes.calculation_column_cause group calculation.now after.now }
+    ensures rule { (group : Option CalculationGroup) → is_in_group ≡ is_some group → is_some result ≡ causes.has_bad_columns group calculation.now after.now }
 {
     if calculation.length.is_some() && calculation.result_field.is_none() {
         return Some(ColumnCause::LengthAlone);
@@ -114,7 +114,7 @@ fn of_conditions(
 }
 
 fn of_end(goes_on: bool, calculation: &CalculationSpec) -> Option<ColumnCause>
-    ensures cause { result ≡ causes.of_end goes_on calculation.now }
+    ensures cause { result ≡ causes.end_column_cause goes_on calculation.now }
     ensures rule { is_some result ≡ rules.bad_by_end goes_on calculation.now }
 {
     if !goes_on {
@@ -130,7 +130,7 @@ fn of_end(goes_on: bool, calculation: &CalculationSpec) -> Option<ColumnCause>
 }
 
 fn of_operation(calculation: &CalculationSpec, operation: Operation) -> Option<ColumnCause>
-    ensures cause { result ≡ causes.of_operation calculation.now operation }
+    ensures cause { result ≡ causes.operation_column_cause calculation.now operation }
     ensures rule { is_some result ≡ rules.bad_operation calculation.now operation }
 {
     let columns = columns(operation);

@@ -53,13 +53,13 @@ pub struct Target {
 
 /// The name that the calculation that ends on a card gives.
 fn given_on(card: &SpecCard, after: &[SpecCard]) -> Option<Named>
-    ensures { result ≡ causes.given_on card.now after.now }
+    ensures { result ≡ causes.name_given_on card.now after.now }
 {
     gives(last_card(card, after)?)
 }
 
 fn giver_on(name: &Name, card: &SpecCard, after: &[SpecCard]) -> Option<Giver>
-    ensures { result ≡ option_and_then (causes.giver_if name.now card.now.number) (causes.given_on card.now after.now) }
+    ensures { result ≡ option_and_then (causes.giver_if name.now card.now.number) (causes.name_given_on card.now after.now) }
 {
     let named = given_on(card, after)?;
     if *name == named.name {
@@ -98,14 +98,14 @@ pub fn nowhere_cause(
     card: &SpecCard,
     after: &[SpecCard],
 ) -> Option<NowhereCause>
-    ensures cause { result ≡ causes.nowhere source.now card.now after.now }
+    ensures cause { result ≡ causes.nowhere_cause source.now card.now after.now }
     ensures rule { is_some result ≡ rules.goes_nowhere source.now before.now card.now after.now }
 {
     of_ending(source, card, after)
 }
 
 fn of_ending(source: &IndexedCards, card: &SpecCard, after: &[SpecCard]) -> Option<NowhereCause>
-    ensures { result ≡ causes.nowhere source.now card.now after.now }
+    ensures { result ≡ causes.nowhere_cause source.now card.now after.now }
 {
     of_target(source, last_card(card, after)?)
 }
@@ -157,7 +157,7 @@ fn of_given_on(
     after: &[SpecCard],
 ) -> Option<TwiceCause>
     requires { source.now ≡ before.now ++ card.now ∷ after.now }
-    ensures cause { result ≡ option_and_then (causes.of_given before.now card.now after.now) (causes.given_on card.now after.now) }
+    ensures cause { result ≡ option_and_then (causes.of_given before.now card.now after.now) (causes.name_given_on card.now after.now) }
     ensures rule { is_some result ≡ option_map_or (rules.gives_again before.now card.now after.now) (calculation_ending before.now card.now after.now) false }
 {
     let named = given_on(card, after)?;
@@ -196,14 +196,14 @@ fn if_field(
     name: &Name,
 ) -> Option<TwiceCause>
     requires { source.now ≡ before.now ++ card.now ∷ after.now }
-    ensures cause { result ≡ causes.if_field (before.now ++ card.now ∷ []) name.now }
+    ensures cause { result ≡ causes.if_names_field (before.now ++ card.now ∷ []) name.now }
     ensures rule { is_some result ≡ rules.is_defined name.now (names.definitions (before.now ++ card.now ∷ [])) }
 {
     of_field(source, with_card(source, before, card, after), name)
 }
 
 fn of_field(source: &IndexedCards, cards: &[SpecCard], name: &Name) -> Option<TwiceCause>
-    ensures { result ≡ causes.if_field cards.now name.now }
+    ensures { result ≡ causes.if_names_field cards.now name.now }
 {
     let own = Word::new(name.as_slice());
     if !source.is_new_name(0, name) {
@@ -252,7 +252,7 @@ fn of_definitions_among(
 
 /// The label or the subroutine that a card names.
 pub fn target_on(source: &IndexedCards, card: &SpecCard, after: &[SpecCard]) -> Option<Target>
-    ensures { result ≡ causes.target source.now card.now after.now }
+    ensures { result ≡ causes.card_target source.now card.now after.now }
 {
     target_of(source, last_card(card, after)?)
 }

@@ -165,7 +165,7 @@ fn closes(bracket: Option<Bracket>) -> bool
 }
 
 fn card_of(bracket: Option<Bracket>) -> Option<u16>
-    ensures { result ≡ causes.card_of bracket }
+    ensures { result ≡ causes.bracket_card bracket }
 {
     Some(bracket?.card)
 }

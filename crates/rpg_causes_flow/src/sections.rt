@@ -94,7 +94,7 @@ fn are_apart(own: Section, other: Section) -> bool
 
 fn first_label(name: &Name, source: &IndexedCards) -> Option<LabelOnCard>
     requires { length source.now ≤ 2000 }
-    ensures { result ≡ causes.first_label name.now [] source.now }
+    ensures { result ≡ causes.first_label_on_cards name.now [] source.now }
 {
     let mut front = &source.as_slice()[..0];
     let mut rest = source.as_slice();
@@ -118,7 +118,7 @@ fn label_on(
 ) -> Option<LabelOnCard>
     requires split { source.now ≡ front.now ++ card.now ∷ after.now }
     requires few { length source.now ≤ 2000 }
-    ensures { result ≡ causes.label_on name.now front.now card.now after.now }
+    ensures { result ≡ causes.label_on_card name.now front.now card.now after.now }
 {
     let calculation = last_card(card, after)?;
     let named = gives(calculation)?;
@@ -158,7 +158,7 @@ fn section_on(
 }
 
 fn section_by(level: ControlLevel, begins: bool, is_inside: bool, begun: u16) -> Section
-    ensures { result ≡ causes.section_by level begins is_inside begun }
+    ensures { result ≡ causes.section_by_state level begins is_inside begun }
 {
     match level {
         ControlLevel::Detail => Section::Detail,

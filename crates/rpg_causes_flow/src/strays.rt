@@ -30,7 +30,7 @@ pub fn stray_cause(
 ) -> Option<StrayCause>
     requires { AreSheets source.now before.now sheets.now }
     ensures cause { result ≡ causes.stray_cause before.now card.now }
-    ensures rule { is_some result ≡ rules.strays before.now card.now }
+    ensures rule { is_some result ≡ rules.is_stray before.now card.now }
 {
     on_card(source, sheets, before, card)
 }
@@ -51,7 +51,7 @@ fn on_card(
 }
 
 fn on_input(is_open: bool, before: &[SpecCard], input: &InputSpec) -> Option<StrayCause>
-    ensures { result ≡ causes.on_input is_open before.now input.now }
+    ensures { result ≡ causes.input_stray_cause is_open before.now input.now }
 {
     match input {
         InputSpec::Type(_) => None,
@@ -63,7 +63,7 @@ fn on_input(is_open: bool, before: &[SpecCard], input: &InputSpec) -> Option<Str
 }
 
 fn on_output(is_open: bool, before: &[SpecCard], output: &OutputSpec) -> Option<StrayCause>
-    ensures { result ≡ causes.on_output is_open before.now output.now }
+    ensures { result ≡ causes.output_stray_cause is_open before.now output.now }
 {
     match output {
         OutputSpec::Record(_) => None,

@@ -16,12 +16,12 @@ use Rattle.rpg_sheet_specs.specs.declared.entry.Entry.{Entry}
 use Rattle.rpg_sheet_specs.specs.declared.output.OutputField.{OutputField}
 
 -- the name that is searched, with the card that defines it
-abbrev pub searched : List SpecCard → Option Entry → FieldCause
-searched cards e = Unordered (option_map (λ (x : Entry). x.name) e) (option_and_then (λ (x : Entry). definer x.name cards) e)
+abbrev pub searched_name_cause : List SpecCard → Option Entry → FieldCause
+searched_name_cause cards e = Unordered (option_map (λ (x : Entry). x.name) e) (option_and_then (λ (x : Entry). definer x.name cards) e)
 
 -- high or low of what isn't in ascending sequence
 abbrev pub of_search_by : List SpecCard → CalculationSpec → OperationColumns → Option FieldCause
-of_search_by cards k t = if is_unordered cards k t then Some (searched cards (option_and_then factor_entry k.factor_2)) else None
+of_search_by cards k t = if is_unordered cards k t then Some (searched_name_cause cards (option_and_then factor_entry k.factor_2)) else None
 
 -- F9 of a search
 abbrev pub of_search : List SpecCard → CalculationSpec → Option FieldCause

@@ -38,12 +38,12 @@ abbrev pub if_too_short : Content → List ℕ → FieldForm → List ℕ → Fi
 if_too_short content name form x field = if is_too_short content form field then Some (TooShort name form.entries x) else None
 
 -- a number that no entry has
-abbrev pub if_outside : List ℕ → FieldForm → ℕ → Option IndexCause
-if_outside name form n = if is_between 1 form.entries n then None else Some (OutOfRange name form.entries n)
+abbrev pub if_out_of_range : List ℕ → FieldForm → ℕ → Option IndexCause
+if_out_of_range name form n = if is_between 1 form.entries n then None else Some (OutOfRange name form.entries n)
 
 -- an index that is there, and may be: a number that no entry has, or such a field
 abbrev pub of_entry : Content → List ℕ → FieldForm → EntryIndex → Option FieldForm → Option IndexCause
-of_entry content name form (index.Literal n) field = if_outside name form n
+of_entry content name form (index.Literal n) field = if_out_of_range name form n
 of_entry content name form (index.Name x) field = option_and_then (if_too_short content name form x) field
 
 -- an index that is missing, or is there and not allowed or wrong

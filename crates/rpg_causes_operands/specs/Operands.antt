@@ -100,20 +100,20 @@ abbrev pub of_operands : List SpecCard → Kinds → Held → Held → Held → 
 of_operands cards kinds f g r = option_or (of_one cards kinds f) (option_or (of_second cards kinds f g) (of_third cards kinds g r))
 
 -- the same as tests: of an operand by itself, of factors 1 and 2 together, and of the result
-abbrev pub is_wrong : Kinds → Held → Bool
-is_wrong kinds h = has_wrong_class h.content h.form || wrong_kinds kinds h.form None None
+abbrev pub is_wrong_operand : Kinds → Held → Bool
+is_wrong_operand kinds h = has_wrong_class h.content h.form || wrong_kinds kinds h.form None None
 
 -- factor 2 holds what it may not, by itself or beside factor 1
 abbrev pub is_wrong_second : Kinds → Held → Held → Bool
-is_wrong_second kinds f g = is_wrong kinds g || is_some (of_pair kinds f.form g.form)
+is_wrong_second kinds f g = is_wrong_operand kinds g || is_some (of_pair kinds f.form g.form)
 
 -- the result field holds what it may not, by itself or beside factor 2
 abbrev pub is_wrong_third : Kinds → Held → Held → Bool
-is_wrong_third kinds g r = is_wrong kinds r || option_map_or (λ c. wrong_result c g.form r.form) r.content false
+is_wrong_third kinds g r = is_wrong_operand kinds r || option_map_or (λ c. wrong_result c g.form r.form) r.content false
 
 -- one of three operands holds what it may not
 abbrev pub are_wrong : Kinds → Held → Held → Held → Bool
-are_wrong kinds f g r = is_wrong kinds f || (is_wrong_second kinds f g || is_wrong_third kinds g r)
+are_wrong kinds f g r = is_wrong_operand kinds f || (is_wrong_second kinds f g || is_wrong_third kinds g r)
 
 -- the name of an entry, if there is one
 abbrev pub entry_name : Option Entry → Option (List ℕ)

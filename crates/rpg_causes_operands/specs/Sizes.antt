@@ -9,7 +9,7 @@ use Rattle.rpg_causes_operands.specs.declared.sizes.SizeCause.TheVariants.{Decim
 use Rattle.rpg_sheet_specs.specs.declared.calculation.CalculationSpec.{CalculationSpec}
 use Rattle.rpg_sheet_specs.specs.declared.extension.ExtensionSpec.{ExtensionSpec}
 use Rattle.rpg_sheet_specs.specs.declared.extension.TableSpec.{TableSpec}
-use Rattle.rpg_sheet_specs.specs.declared.input.InputField.{InputField}
+use Rattle.rpg_sheet_specs.specs.declared.input.InputFieldSpec.{InputFieldSpec}
 use Rattle.rpg_text.specs.Texts.{is_between}
 
 -- of a size that is past a limit: a text's length, a number's digits, or else its decimals
@@ -22,25 +22,25 @@ abbrev pub size_by : ℕ → Option ℕ → Option SizeCause
 size_by len decimals = if is_none (sized_form len decimals) then Some (size_past len decimals) else None
 
 -- that of a table
-abbrev pub of_table : TableSpec → Option SizeCause
-of_table t = size_by t.length t.decimals
+abbrev pub table_size_cause : TableSpec → Option SizeCause
+table_size_cause t = size_by t.length t.decimals
 
 -- that of an E card's table, else of its alternating one
-abbrev pub of_tables : ExtensionSpec → Option SizeCause
-of_tables e = option_or (of_table e.table) (option_and_then of_table e.alternating)
+abbrev pub tables_size_cause : ExtensionSpec → Option SizeCause
+tables_size_cause e = option_or (table_size_cause e.table) (option_and_then table_size_cause e.alternating)
 
 -- that of an input field whose columns aren't turned round
-abbrev pub of_field : InputField → Option SizeCause
-of_field f = if nat_le f.from f.to then size_by (f.to + 1 - f.from) f.decimals else None
+abbrev pub input_field_size_cause : InputFieldSpec → Option SizeCause
+input_field_size_cause f = if nat_le f.from f.to then size_by (f.to + 1 - f.from) f.decimals else None
 
 -- that of a result field: decimals need a length
-abbrev pub of_result : Option ℕ → Option ℕ → Option SizeCause
-of_result None decimals = option_map (λ n. NoLength) decimals
-of_result (Some len) decimals = size_by len decimals
+abbrev pub result_size_cause : Option ℕ → Option ℕ → Option SizeCause
+result_size_cause None decimals = option_map (λ n. NoLength) decimals
+result_size_cause (Some len) decimals = size_by len decimals
 
 -- F3 of a card
 abbrev pub size_cause : SpecCard → Option SizeCause
 size_cause c =
-    option_or (option_and_then of_tables (extension_on c.spec))
-    (option_or (option_and_then of_field (input_field_on c.spec))
-    (option_and_then (λ (k : CalculationSpec). of_result k.length k.decimals) (calculation_on c.spec)))
+    option_or (option_and_then tables_size_cause (extension_on c.spec))
+    (option_or (option_and_then input_field_size_cause (input_field_on c.spec))
+    (option_and_then (λ (k : CalculationSpec). result_size_cause k.length k.decimals) (calculation_on c.spec)))

@@ -166,7 +166,7 @@ fn superfluous(name: &Name, form: FieldForm) -> IndexCause
 }
 
 fn of_literal(name: &Name, form: FieldForm, index: u16) -> Option<IndexCause>
-    ensures cause { result ≡ causes.if_outside name.now form index }
+    ensures cause { result ≡ causes.if_out_of_range name.now form index }
     ensures rule { is_some result ≡ not (is_between 1 form.entries index) }
 {
     if 1 <= index && index <= form.entries {

@@ -7,7 +7,8 @@ ghost use Rattle.rpg_faults_operands.specs.Indicators as rules;
 
 use rpg_cards::{IndexedCards, SpecCard};
 use rpg_sheet_specs::{
-    CalculationSpec, Condition, Indicator, InputField, InputSpec, OutputSpec, Spec, Three, Word,
+    CalculationSpec, ConditionSpec, Indicator, InputFieldSpec, InputSpec, OutputSpec, Spec, Three,
+    Word,
 };
 
 /// Why an indicator isn't allowed.
@@ -27,7 +28,7 @@ pub enum IndicatorCause {
 
 /// F8: which indicator isn't allowed, and why.
 pub fn indicator_cause(source: &IndexedCards, card: &SpecCard) -> Option<IndicatorCause>
-    ensures cause { result ≡ causes.on_card source.now card.now.spec }
+    ensures cause { result ≡ causes.card_indicator_cause source.now card.now.spec }
     ensures rule { is_some result ≡ rules.bad_indicator source.now card.now }
 {
     match &card.spec {
@@ -39,7 +40,7 @@ pub fn indicator_cause(source: &IndexedCards, card: &SpecCard) -> Option<Indicat
 }
 
 fn on_input(input: &InputSpec) -> Option<IndicatorCause>
-    ensures cause { result ≡ causes.on_input input.now }
+    ensures cause { result ≡ causes.input_indicator_cause input.now }
     ensures rule { is_some result ≡ rules.bad_on_input input.now }
 {
     match input {
@@ -53,7 +54,7 @@ fn on_input(input: &InputSpec) -> Option<IndicatorCause>
 }
 
 fn on_calculation(source: &IndexedCards, calculation: &CalculationSpec) -> Option<IndicatorCause>
-    ensures cause { result ≡ causes.on_calculation source.now calculation.now }
+    ensures cause { result ≡ causes.calculation_indicator_cause source.now calculation.now }
     ensures rule { is_some result ≡ rules.bad_on_calculation source.now calculation.now }
 {
     match first_condition(source, &calculation.conditions) {
@@ -63,7 +64,7 @@ fn on_calculation(source: &IndexedCards, calculation: &CalculationSpec) -> Optio
 }
 
 fn on_output(source: &IndexedCards, output: &OutputSpec) -> Option<IndicatorCause>
-    ensures cause { result ≡ causes.on_output source.now output.now }
+    ensures cause { result ≡ causes.output_indicator_cause source.now output.now }
     ensures rule { is_some result ≡ rules.bad_on_output source.now output.now }
 {
     match output {
@@ -76,7 +77,7 @@ fn on_output(source: &IndexedCards, output: &OutputSpec) -> Option<IndicatorCaus
 
 /// Record types turn on 01 to 99, L1 to L9, LR and H1 to H9.
 fn of_type(indicator: Indicator) -> Option<IndicatorCause>
-    ensures cause { result ≡ causes.of_type indicator }
+    ensures cause { result ≡ causes.type_indicator_cause indicator }
     ensures rule { is_some result ≡ rules.cannot_mark_type indicator }
 {
     match indicator.number() {
@@ -86,7 +87,7 @@ fn of_type(indicator: Indicator) -> Option<IndicatorCause>
 }
 
 /// A text is only blank or not.
-fn of_text(field: &InputField) -> Option<IndicatorCause>
+fn of_text(field: &InputFieldSpec) -> Option<IndicatorCause>
     ensures { result ≡ causes.of_text field.now }
 {
     let indicators = field.indicators;
@@ -109,7 +110,7 @@ fn of_setting(indicator: Option<Indicator>) -> Option<IndicatorCause>
 }
 
 fn first_never_set(three: &Three<Option<Indicator>>) -> Option<IndicatorCause>
-    ensures cause { result ≡ causes.first_cause causes.of_setting three.now }
+    ensures cause { result ≡ causes.first_cause_of_three causes.of_setting three.now }
     ensures rule { is_some result ≡ rules.any_of rules.cannot_be_set three.now }
 {
     of_setting(three.first)
@@ -117,8 +118,8 @@ fn first_never_set(three: &Three<Option<Indicator>>) -> Option<IndicatorCause>
         .or(of_setting(three.third))
 }
 
-fn of_line(source: &IndexedCards, condition: Option<Condition>) -> Option<IndicatorCause>
-    ensures cause { result ≡ option_and_then (causes.of_line source.now) condition }
+fn of_line(source: &IndexedCards, condition: Option<ConditionSpec>) -> Option<IndicatorCause>
+    ensures cause { result ≡ option_and_then (causes.line_indicator_cause source.now) condition }
     ensures rule { is_some result ≡ option_map_or (rules.bad_in_output source.now) condition false }
 {
     if condition?.indicator.number() == 129 && !source.has_match_field() {
@@ -127,8 +128,11 @@ fn of_line(source: &IndexedCards, condition: Option<Condition>) -> Option<Indica
     None
 }
 
-fn first_of_line(source: &IndexedCards, three: &Three<Option<Condition>>) -> Option<IndicatorCause>
-    ensures cause { result ≡ causes.first_cause (causes.of_line source.now) three.now }
+fn first_of_line(
+    source: &IndexedCards,
+    three: &Three<Option<ConditionSpec>>,
+) -> Option<IndicatorCause>
+    ensures cause { result ≡ causes.first_cause_of_three (causes.line_indicator_cause source.now) three.now }
     ensures rule { is_some result ≡ rules.any_of (rules.bad_in_output source.now) three.now }
 {
     of_line(source, three.first)
@@ -136,7 +140,7 @@ fn first_of_line(source: &IndexedCards, three: &Three<Option<Condition>>) -> Opt
         .or(of_line(source, three.third))
 }
 
-fn of_condition(source: &IndexedCards, condition: Option<Condition>) -> Option<IndicatorCause>
+fn of_condition(source: &IndexedCards, condition: Option<ConditionSpec>) -> Option<IndicatorCause>
     ensures cause { result ≡ option_and_then (causes.of_condition source.now) condition }
     ensures rule { is_some result ≡ option_map_or (rules.bad_in_calculation source.now) condition false }
 {
@@ -148,9 +152,9 @@ fn of_condition(source: &IndexedCards, condition: Option<Condition>) -> Option<I
 
 fn first_condition(
     source: &IndexedCards,
-    three: &Three<Option<Condition>>,
+    three: &Three<Option<ConditionSpec>>,
 ) -> Option<IndicatorCause>
-    ensures cause { result ≡ causes.first_cause (causes.of_condition source.now) three.now }
+    ensures cause { result ≡ causes.first_cause_of_three (causes.of_condition source.now) three.now }
     ensures rule { is_some result ≡ rules.any_of (rules.bad_in_calculation source.now) three.now }
 {
     of_condition(source, three.first)

@@ -204,7 +204,7 @@ fn of_third(
 /// An operand that is wrong by itself.
 fn of_one(source: &IndexedCards, kinds: Kinds, held: &Held) -> Option<OperandCause>
     ensures cause { result ≡ causes.of_one source.now kinds held.now }
-    ensures rule { is_some result ≡ causes.is_wrong kinds held.now }
+    ensures rule { is_some result ≡ causes.is_wrong_operand kinds held.now }
 {
     match of_class(held) {
         Some(cause) => Some(cause),

@@ -6,7 +6,7 @@ ghost use Rattle.rpg_causes_operands.specs.Sizes as causes;
 ghost use Rattle.rpg_faults_limits.specs.Names as rules;
 
 use rpg_cards::{SpecCard, field_form, sized_form};
-use rpg_sheet_specs::{ExtensionSpec, InputField, TableSpec};
+use rpg_sheet_specs::{ExtensionSpec, InputFieldSpec, TableSpec};
 
 /// What is wrong with a length and decimals.
 #[derive(Clone, Copy)]
@@ -62,14 +62,14 @@ fn size_by(length: u16, decimals: Option<u8>) -> Option<SizeCause>
 }
 
 fn of_table(table: &TableSpec) -> Option<SizeCause>
-    ensures cause { result ≡ causes.of_table table.now }
+    ensures cause { result ≡ causes.table_size_cause table.now }
     ensures rule { is_some result ≡ rules.bad_size_of_table table.now }
 {
     size_by(table.length, table.decimals)
 }
 
 fn of_tables(extension: &ExtensionSpec) -> Option<SizeCause>
-    ensures cause { result ≡ causes.of_tables extension.now }
+    ensures cause { result ≡ causes.tables_size_cause extension.now }
     ensures rule { is_some result ≡ rules.bad_size_of_tables extension.now }
 {
     match of_table(&extension.table) {
@@ -78,8 +78,8 @@ fn of_tables(extension: &ExtensionSpec) -> Option<SizeCause>
     }
 }
 
-fn of_field(field: &InputField) -> Option<SizeCause>
-    ensures cause { result ≡ causes.of_field field.now }
+fn of_field(field: &InputFieldSpec) -> Option<SizeCause>
+    ensures cause { result ≡ causes.input_field_size_cause field.now }
     ensures rule { is_some result ≡ rules.bad_size_of_field field.now }
 {
     if field.to < field.from || field_form(field).is_some() {
@@ -90,7 +90,7 @@ fn of_field(field: &InputField) -> Option<SizeCause>
 }
 
 fn of_result(length: Option<u16>, decimals: Option<u8>) -> Option<SizeCause>
-    ensures cause { result ≡ causes.of_result length decimals }
+    ensures cause { result ≡ causes.result_size_cause length decimals }
     ensures rule { is_some result ≡ rules.bad_size_by length decimals }
 {
     match length {

@@ -10,9 +10,9 @@ use Rattle.rpg_cli_words.specs.declared.format.Format.{Format}
 use Rattle.rpg_cli_words.specs.declared.format.Format.TheVariants.{Text, Json}
 
 -- what is printed for an answer
-abbrev pub text_of : Format → Answer → List ℕ
-text_of Text answer = line_text answer
-text_of Json answer = json_text answer
+abbrev pub answer_text : Format → Answer → List ℕ
+answer_text Text answer = line_text answer
+answer_text Json answer = json_text answer
 
 -- a line and the answer's status; where not all of the line could be written, a first part of it and status 1
 abbrev pub SaysLine : Option (List ℕ) → Option (List ℕ) → ℕ → Answer → List ℕ → Type 0
@@ -21,7 +21,7 @@ SaysLine old new status answer text =
 
 -- the answer's line and its status
 abbrev pub Says : Format → Option (List ℕ) → Option (List ℕ) → ℕ → Answer → Type 0
-Says format old new status answer = SaysLine old new status answer (text_of format answer)
+Says format old new status answer = SaysLine old new status answer (answer_text format answer)
 
 -- its line and its status; or, where the words are quiet, nothing of a good end
 abbrev pub SaysOrIsQuiet : Bool → Format → Option (List ℕ) → Option (List ℕ) → ℕ → Answer → Type 0

@@ -1,7 +1,7 @@
 //! The command that checks sources.
 
 use crate::telling::tell_source_fault;
-use rpg_cli_answers::{Answer, Listener, Stop, line, named, source_object};
+use rpg_cli_answers::{Answer, CommandStop, Listener, line, named, source_object};
 use rpg_cli_run::{judge_warnings, source_bytes, tell_faults};
 use rpg_cli_text::TextWriter;
 use rpg_cli_words::{CheckWords, FileWord, Format, SameFile, Shared, WarningWords, is_standard};
@@ -76,7 +76,7 @@ fn show_source<L: Listener>(
     path: &str,
     answer: &Answer,
     listener: &mut L,
-) -> Result<(), Stop> {
+) -> Result<(), CommandStop> {
     if let Answer::File { fault, .. } = answer {
         tell_source_fault(alloc, path, *fault, listener);
     }
@@ -125,7 +125,7 @@ fn check_each<R: Files + Input + AllocGlobal, L: Listener>(
     rt: &R,
     words: &CheckWords,
     listener: &mut L,
-) -> Result<Answer, Stop> {
+) -> Result<Answer, CommandStop> {
     let mut tally = Tally::NONE;
     for path in &words.sources {
         let answer = answer_of(rt, path, words.warnings, listener);
@@ -161,7 +161,7 @@ pub(crate) fn check_files<R: Files + Input + AllocGlobal, L: Listener>(
     rt: &R,
     words: &CheckWords,
     listener: &mut L,
-) -> Result<Answer, Stop> {
+) -> Result<Answer, CommandStop> {
     if let Some(same) = shared_input(&words.sources) {
         return Err(same.into());
     }

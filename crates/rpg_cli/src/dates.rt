@@ -1,6 +1,6 @@
 //! The date of a job: today's, or one that may be none.
 
-use rpg_cli_answers::{Answer, Listener, Stop};
+use rpg_cli_answers::{Answer, CommandStop, Listener};
 use rpg_cli_text::TextWriter;
 use rpg_cli_values::{DateOrder, may_be_date};
 use rpg_cli_words::{DateWord, RunWords};
@@ -33,7 +33,7 @@ impl JobDate {
     pub fn of<R: Clock + Env + Files + AllocGlobal>(
         rt: &R,
         words: &RunWords,
-    ) -> Result<JobDate, Stop> {
+    ) -> Result<JobDate, CommandStop> {
         let today = match words.date {
             Some(DateWord::Today(order)) => Some(todays_digits(rt, order)?),
             _ => None,

@@ -1,6 +1,6 @@
 //! The command that makes cards of shorthand, and shorthand of cards.
 
-use rpg_cli_answers::{Answer, Listener, Stop, named};
+use rpg_cli_answers::{Answer, CommandStop, Listener, named};
 use rpg_cli_columns::{RULER, ShorthandFault, deck_of, line_message, shorthand_of};
 use rpg_cli_messages::card_message;
 use rpg_cli_run::source_bytes;
@@ -85,7 +85,11 @@ fn wanted_text<L: Listener>(
 }
 
 /// Shows cards, below a ruler if the words want one, or shorthand.
-fn show_text<L: Listener>(words: &CardsWords, text: &str, listener: &mut L) -> Result<(), Stop> {
+fn show_text<L: Listener>(
+    words: &CardsWords,
+    text: &str,
+    listener: &mut L,
+) -> Result<(), CommandStop> {
     if let CardsWanted::RuledCards = words.wanted {
         listener.show(RULER)?;
     }
@@ -97,7 +101,7 @@ pub(crate) fn cards_file<R: Files + Input + AllocGlobal, L: Listener>(
     rt: &R,
     words: &CardsWords,
     listener: &mut L,
-) -> Result<(), Stop> {
+) -> Result<(), CommandStop> {
     let source = named(FileWord::Source, source_bytes(rt, words.source))?;
     let text = wanted_text(rt.alloc(), words, &source, listener)?;
     show_text(words, text.as_str(), listener)

@@ -1,6 +1,6 @@
 //! The pages of codes.
 
-use rpg_cli_answers::{Answer, Listener, Stop};
+use rpg_cli_answers::{Answer, CommandStop, Listener};
 use rpg_cli_explain::{HALTS, Topic, all_pages, list_text, pages_text, topic_of};
 use rpg_cli_words::ExplainWords;
 use std::alloc::{AllocError, Global};
@@ -104,7 +104,7 @@ pub(crate) fn explain<L: Listener>(
     alloc: Global,
     words: &ExplainWords,
     listener: &mut L,
-) -> Result<Answer, Stop> {
+) -> Result<Answer, CommandStop> {
     match text_of(alloc, words) {
         Ok(Some(text)) => {
             listener.show(text.as_str())?;

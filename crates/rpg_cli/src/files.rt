@@ -1,6 +1,6 @@
 //! The commands that read one file, and the object that one of them writes.
 
-use rpg_cli_answers::{Answer, Listener, NamedFile, Stop, named, refuse_same_file};
+use rpg_cli_answers::{Answer, CommandStop, Listener, NamedFile, named, refuse_same_file};
 use rpg_cli_files::{CompiledObject, file_bytes, write_bytes};
 use rpg_cli_run::{
     OwnSource, compiled, judge_warnings, own_source, source_bytes, system_path, tell_faults,
@@ -19,7 +19,7 @@ fn write_object<R: Files + AllocGlobal, L: Listener>(
     source: &[u8],
     object: &CompiledObject,
     listener: &mut L,
-) -> Result<(), Stop> {
+) -> Result<(), CommandStop> {
     let cards = &object.cards;
     judge_warnings(
         rt.alloc(),
@@ -46,7 +46,7 @@ pub(crate) fn compile_files<R: Files + Input + AllocGlobal, L: Listener>(
     rt: &R,
     words: &CompileWords,
     listener: &mut L,
-) -> Result<(), Stop> {
+) -> Result<(), CommandStop> {
     let source = named(FileWord::Source, source_bytes(rt, words.source))?;
     match compiled(rt.alloc(), &source, words.allowance) {
         Ok(object) => write_object(rt, words, &source, &object, listener),
@@ -136,7 +136,7 @@ pub(crate) fn show_file<R: Files + AllocGlobal, L: Listener>(
     rt: &R,
     words: &ShowWords,
     listener: &mut L,
-) -> Result<u64, Stop> {
+) -> Result<u64, CommandStop> {
     let object = named(FileWord::Object, file_bytes(rt, words.object))?;
     let text = text_or_told(rt, words, &object, listener)?;
     let bound = verified(rt.alloc(), &object);

@@ -1,6 +1,6 @@
 //! The commands that show a source.
 
-use rpg_cli_answers::{Answer, Listener, Stop, named};
+use rpg_cli_answers::{Answer, CommandStop, Listener, named};
 use rpg_cli_list::source_listing;
 use rpg_cli_run::{source_bytes, tell_faults};
 use rpg_cli_words::{FileWord, Format, ListWords};
@@ -21,7 +21,7 @@ fn show_listing<L: Listener>(
     words: &ListWords,
     source: &[u8],
     listener: &mut L,
-) -> Result<(), Stop> {
+) -> Result<(), CommandStop> {
     let fault = faultless_cards(alloc, source).err();
     if let Some(SourceFault::NoMemory) = fault {
         return Err(Answer::NoMemory.into());
@@ -40,7 +40,7 @@ pub(crate) fn list_file<R: Files + Input + AllocGlobal, L: Listener>(
     rt: &R,
     words: &ListWords,
     listener: &mut L,
-) -> Result<(), Stop> {
+) -> Result<(), CommandStop> {
     let source = named(FileWord::Source, source_bytes(rt, words.source))?;
     show_listing(rt.alloc(), words, &source, listener)
 }

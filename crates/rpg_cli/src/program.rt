@@ -16,7 +16,7 @@ use crate::naming::{files_of, form_of};
 use crate::outlet::Outlet;
 use crate::telling::{tell_answer, tell_unwritten};
 use crate::told::{StandardError, StandardStreams};
-use rpg_cli_answers::{Answer, FormedListener, Listener, Reasons, Stop, json_line, line};
+use rpg_cli_answers::{Answer, CommandStop, FormedListener, Listener, Reasons, json_line, line};
 use rpg_cli_conversions::{fit_file, records_file};
 use rpg_cli_files::send_line;
 use rpg_cli_run::{go_files, run_files};
@@ -34,7 +34,7 @@ fn run_on_date<R: Clock + Env + Files + Input + Print + AllocGlobal, L: Listener
     rt: &R,
     words: &RunWords,
     listener: &mut L,
-) -> Result<Answer, Stop> {
+) -> Result<Answer, CommandStop> {
     let date = JobDate::of(rt, words)?;
     tell_odd_date(rt.alloc(), words, listener);
     Ok(run_files(rt, &date.words(words), listener)?.into())
@@ -45,7 +45,7 @@ fn go_on_date<R: Clock + Env + Files + Input + Print + AllocGlobal, L: Listener>
     rt: &R,
     words: &GoWords,
     listener: &mut L,
-) -> Result<Answer, Stop> {
+) -> Result<Answer, CommandStop> {
     let date = JobDate::of(rt, &words.run)?;
     tell_odd_date(rt.alloc(), &words.run, listener);
     let words = words.with(date.words(&words.run));
@@ -56,7 +56,7 @@ fn answer_to<R: Clock + Env + Files + Input + Print + AllocGlobal, L: Listener>(
     rt: &R,
     request: &Request,
     listener: &mut L,
-) -> Result<Answer, Stop> {
+) -> Result<Answer, CommandStop> {
     match request {
         Request::Compile(words) => {
             compile_files(rt, words, listener)?;
@@ -240,14 +240,19 @@ fn obey_as_asked<
 {
     let alloc = rt.alloc();
     match answer_to(rt, request, listener) {
-        Ok(answer) | Err(Stop::Answer(answer)) => {
+        Ok(answer) | Err(CommandStop::Answer(answer)) => {
             conclude(alloc, request, &answer, Reasons::NONE, out, listener)
         }
-        Err(Stop::Job { answer, reasons }) => {
+        Err(CommandStop::Job { answer, reasons }) => {
             conclude(alloc, request, &answer, reasons, out, listener)
         }
-        Err(Stop::SameFile(same)) => refuse(rt, &refuse_same_file(alloc, same), out, listener),
-        Err(Stop::Unshown(reason)) => {
+        Err(CommandStop::SameFile(same)) => refuse(
+            rt,
+            &refuse_same_file(alloc, same),
+            out,
+            listener,
+        ),
+        Err(CommandStop::Unshown(reason)) => {
             tell_unwritten(Outlet::of(request), reason, listener);
             1
         }

@@ -17,7 +17,7 @@ use Rattle.rpg_engine.specs.declared.object.ObjectFault.TheVariants as objects
 use Rattle.rpg_engine.specs.declared.report.Report.{Report}
 use Rattle.rpg_cli_answers.specs.declared.answer.Answer.{Answer}
 use Rattle.rpg_cli_answers.specs.declared.answer.Answer.TheVariants as answer
-use Rattle.rpg_cli_values.specs.Codes.{code_text as warning_text}
+use Rattle.rpg_cli_values.specs.Codes.{warning_code_text as warning_text}
 use Rattle.rpg_cli_values.specs.declared.code.WarningCode.{WarningCode}
 
 -- ---- lines

@@ -34,19 +34,19 @@ abbrev pub record_members : (records dropped columns : ℕ) → List ℕ
 record_members records dropped columns = member (codes "records") records ++ member (codes "dropped") dropped ++ member (codes "columns") columns
 
 -- the numbers of an answer that counts
-abbrev pub counts_of : Answer → List ℕ
-counts_of (answers.Ended report) = report_members report
-counts_of (answers.Checked sources rejected status) = checked_members sources rejected
-counts_of (answers.Accepted bound) = member (codes "bound") bound
-counts_of (answers.OverLimit bound) = member (codes "bound") bound
-counts_of (answers.Records records dropped columns) = record_members records dropped columns
-counts_of (answers.Fitted changes) = member (codes "changes") changes
-counts_of a = []
+abbrev pub count_members : Answer → List ℕ
+count_members (answers.Ended report) = report_members report
+count_members (answers.Checked sources rejected status) = checked_members sources rejected
+count_members (answers.Accepted bound) = member (codes "bound") bound
+count_members (answers.OverLimit bound) = member (codes "bound") bound
+count_members (answers.Records records dropped columns) = record_members records dropped columns
+count_members (answers.Fitted changes) = member (codes "changes") changes
+count_members a = []
 
 -- the answer in words
-abbrev pub beginning : List ℕ → List ℕ
-beginning words = codes "{\"answer\":\"" ++ words ++ codes "\""
+abbrev pub answer_member : List ℕ → List ℕ
+answer_member words = codes "{\"answer\":\"" ++ words ++ codes "\""
 
 -- the line that is printed without JSON, which has no character that is escaped, the counts, and the exit status
 abbrev pub json_text : Answer → List ℕ
-json_text a = beginning (line_text a) ++ counts_of a ++ member (codes "status") (exit_status a) ++ codes "}"
+json_text a = answer_member (line_text a) ++ count_members a ++ member (codes "status") (exit_status a) ++ codes "}"

@@ -107,7 +107,7 @@ fn add_records(text: &mut Object, records: u64, dropped: u64, columns: u64)
 /// The numbers of an answer that counts.
 fn add_counts(text: &mut Object, answer: &Answer)
     requires { array_vec_len text.old ≤ 110 }
-    ensures items { text.new.items ≡ text.old.items ++ json.counts_of answer.now }
+    ensures items { text.new.items ≡ text.old.items ++ json.count_members answer.now }
     ensures len { array_vec_len text.new ≤ array_vec_len text.old + 100 }
 {
     match *answer {
@@ -133,7 +133,7 @@ fn add_counts(text: &mut Object, answer: &Answer)
 /// Begins an object with the answer in words.
 fn begin(words: &[u8]) -> Object
     requires { length words.now ≤ 96 }
-    ensures items { result.items ≡ json.beginning words.now }
+    ensures items { result.items ≡ json.answer_member words.now }
     ensures len { array_vec_len result ≤ 110 }
 {
     let mut text = ArrayVec::new();

@@ -20,5 +20,5 @@ pub use json::{JsonLine, json_line};
 pub use listener::Listener;
 pub use objects::source_object;
 pub use sharing::{NamedFile, refuse_same_file};
-pub use stop::{Reasons, Stop};
+pub use stop::{CommandStop, Reasons};
 pub use text::line;

@@ -6,7 +6,7 @@ use rpg_cli_words::SameFile;
 
 /// What ends a command before its work is done.
 #[derive(Clone, Copy)]
-pub enum Stop {
+pub enum CommandStop {
     Answer(Answer),
     /// A file would be emptied that another word names.
     SameFile(SameFile),
@@ -34,20 +34,20 @@ impl Reasons {
     };
 }
 
-impl From<Answer> for Stop {
-    fn from(answer: Answer) -> Stop {
-        Stop::Answer(answer)
+impl From<Answer> for CommandStop {
+    fn from(answer: Answer) -> CommandStop {
+        CommandStop::Answer(answer)
     }
 }
 
-impl From<SameFile> for Stop {
-    fn from(same: SameFile) -> Stop {
-        Stop::SameFile(same)
+impl From<SameFile> for CommandStop {
+    fn from(same: SameFile) -> CommandStop {
+        CommandStop::SameFile(same)
     }
 }
 
-impl From<Reason> for Stop {
-    fn from(reason: Reason) -> Stop {
-        Stop::Unshown(reason)
+impl From<Reason> for CommandStop {
+    fn from(reason: Reason) -> CommandStop {
+        CommandStop::Unshown(reason)
     }
 }

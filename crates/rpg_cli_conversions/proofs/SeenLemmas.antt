@@ -9,19 +9,19 @@ use Rattle.rpg_records.specs.declared.digits.NumberFault.{NumberFault}
 use Rattle.rpg_records.specs.declared.translation.Page.{Page}
 use Rattle.rpg_records.specs.declared.translation.Page.TheVariants as pages
 use Rattle.rpg_records.specs.Seen.{LayoutSeen, NumberSeen, TypeSeen, columns_seen, digits_seen, layout_seen, number_seen, type_seen}
-use Rattle.rpg_records.specs.Sizes.{columns_of, counted, field_digits, field_size}
+use Rattle.rpg_records.specs.Sizes.{longest_line, counted, field_digits, field_size}
 use Rattle.rpg_records.specs.declared.layout.Layout.{Layout}
 use Rattle.rpg_records.specs.declared.layout.NumberField.{NumberField}
 use Rattle.rpg_records.specs.declared.layout.RecordType.{RecordType}
 use Rattle.rpg_record_decks.proofs.SeenLemmas.{columns_are_seen}
-use Rattle.rpg_record_lines.specs.Conversions.{Made, Way, conversion}
-use Rattle.rpg_record_lines.specs.Lines.{characters_of, line_after, line_of, of_type, other_line, whole_line_of}
-use Rattle.rpg_record_lines.specs.Numbers.{bytes_at, digits_at, digits_in, digits_of, field_bytes, field_outcome, field_text, filled, number_bytes, with_bytes, with_number, with_numbers}
-use Rattle.rpg_record_lines.specs.Outcomes.{Outcome, and_then, joined}
-use Rattle.rpg_record_lines.specs.Records.{bytes_from, checked_record, other_record, record_of, typed_record, widened}
-use Rattle.rpg_record_lines.specs.Types.{card_of, code_holds, first_type, is_card, is_of}
+use Rattle.rpg_record_lines.specs.Conversions.{Made, ConversionSettings, conversion}
+use Rattle.rpg_record_lines.specs.Lines.{record_characters, line_after, line_of_record, type_and_then, other_line, whole_line_of}
+use Rattle.rpg_record_lines.specs.Numbers.{bytes_of_field, digits_at, digits_in, digits_of_fields, field_bytes, field_outcome, field_text, filled, bytes_of_digits, with_bytes, with_number, with_numbers}
+use Rattle.rpg_record_lines.specs.Outcomes.{TextOrFault, text_and_then, joined_texts}
+use Rattle.rpg_record_lines.specs.Records.{bytes_of_characters, checked_record, other_record, record_of_line, typed_record, widened}
+use Rattle.rpg_record_lines.specs.Types.{card_of_type, code_fits_record, first_type, is_card, fits_type}
 use Rattle.rpg_record_lines.specs.Frames.{frame}
-use Rattle.rpg_record_lines.specs.Ways.{is_dropped, made, padded, to_lines, to_records}
+use Rattle.rpg_record_lines.specs.Ways.{is_dropped, made_text, padded_to, to_lines, to_records}
 use Rattle.rpg_text.specs.Lines.{with_line_feed}
 use Rattle.rpg_record_lines.specs.declared.conversion.RecordFormat.{RecordFormat}
 use Rattle.rpg_record_lines.specs.declared.fault.RecordFault.{RecordFault}
@@ -29,14 +29,14 @@ use Rattle.rpg_record_lines.specs.declared.fault.RecordFault.TheVariants as faul
 use Rattle.rpg_record_lines.specs.declared.frames.Framing.TheVariants as framings
 use Rattle.rpg_cli_conversions.specs.Laws.{CardsSayTheOutput}
 
-then_same : (o : Outcome) (f g : List ℕ → Outcome) → ((text : List ℕ) → f text ≡ g text) → and_then o f ≡ and_then o g
+then_same : (o : TextOrFault) (f g : List ℕ → TextOrFault) → ((text : List ℕ) → f text ≡ g text) → text_and_then o f ≡ text_and_then o g
 then_same (Ok text) f g h = h text
 then_same (Err fault) f g h = refl
 
 -- ---- types
 
 abbrev seen_is_of : Page → Bool → List ℕ → TypeSeen → Bool
-seen_is_of page low r s = length s.columns == length r && list_all (code_holds page low r) s.codes
+seen_is_of page low r s = length s.columns == length r && list_all (code_fits_record page low r) s.codes
 
 abbrev seen_first : Page → Bool → List ℕ → List TypeSeen → Option TypeSeen
 seen_first page low r [] = None
@@ -44,7 +44,7 @@ seen_first page low r (s ∷ ss) = if seen_is_of page low r s then Some s else s
 
 first_is_seen : (page : Page) (low : Bool) (r : List ℕ) (ts : List RecordType) → option_map type_seen (first_type page low r ts) ≡ seen_first page low r (map type_seen ts)
 first_is_seen page low r [] = refl
-first_is_seen page low r (t ∷ ts) = at (is_of page low r t) (first_is_seen page low r ts)
+first_is_seen page low r (t ∷ ts) = at (fits_type page low r t) (first_is_seen page low r ts)
   where
     at : (b : Bool) → option_map type_seen (first_type page low r ts) ≡ seen_first page low r (map type_seen ts)
         → option_map type_seen (if b then Some t else first_type page low r ts) ≡ (if b then Some (type_seen t) else seen_first page low r (map type_seen ts))
@@ -60,28 +60,28 @@ seen_card None = None
 seen_card (Some s) = Some s.card
 
 -- what follows where a type is found again, or not
-abbrev seen_checked : ℕ → (ℕ → Option ℕ → RecordFault) → Option TypeSeen → Outcome → Outcome
+abbrev seen_checked : ℕ → (ℕ → Option ℕ → RecordFault) → Option TypeSeen → TextOrFault → TextOrFault
 seen_checked card other found o = if seen_is_card card found then o else Err (other card (seen_card found))
 
-line_checked : (t : RecordType) (found : Option RecordType) (o : Outcome) → (if is_card t.card found then o else Err (other_line t found)) ≡ seen_checked t.card faults.OtherLine (option_map type_seen found) o
+line_checked : (t : RecordType) (found : Option RecordType) (o : TextOrFault) → (if is_card t.card found then o else Err (other_line t found)) ≡ seen_checked t.card faults.OtherLine (option_map type_seen found) o
 line_checked t None o = refl
 line_checked t (Some u) o = refl
 
-record_checked : (t : RecordType) (found : Option RecordType) (o : Outcome) → (if is_card t.card found then o else Err (other_record t found)) ≡ seen_checked t.card faults.OtherRecord (option_map type_seen found) o
+record_checked : (t : RecordType) (found : Option RecordType) (o : TextOrFault) → (if is_card t.card found then o else Err (other_record t found)) ≡ seen_checked t.card faults.OtherRecord (option_map type_seen found) o
 record_checked t None o = refl
 record_checked t (Some u) o = refl
 
-abbrev seen_of_type : Option TypeSeen → (TypeSeen → Outcome) → Outcome
+abbrev seen_of_type : Option TypeSeen → (TypeSeen → TextOrFault) → TextOrFault
 seen_of_type None next = Err faults.NoType
 seen_of_type (Some s) next = next s
 
-type_is_seen : (found : Option RecordType) (f : RecordType → Outcome) (g : TypeSeen → Outcome) → ((t : RecordType) → f t ≡ g (type_seen t)) → of_type found f ≡ seen_of_type (option_map type_seen found) g
+type_is_seen : (found : Option RecordType) (f : RecordType → TextOrFault) (g : TypeSeen → TextOrFault) → ((t : RecordType) → f t ≡ g (type_seen t)) → type_and_then found f ≡ seen_of_type (option_map type_seen found) g
 type_is_seen None f g h = refl
 type_is_seen (Some t) f g h = h t
 
 -- ---- digits of bytes
 
-abbrev seen_outcome : NumberSeen → List ℕ → Result (List ℕ) NumberFault → Outcome
+abbrev seen_outcome : NumberSeen → List ℕ → Result (List ℕ) NumberFault → TextOrFault
 seen_outcome s bytes (Ok digits) = Ok digits
 seen_outcome s bytes (Err fault) = Err (faults.BadNumber s.card s.first s.last (field_bytes bytes) fault)
 
@@ -89,51 +89,51 @@ outcome_is_seen : (f : NumberField) (bytes : List ℕ) (r : Result (List ℕ) Nu
 outcome_is_seen f bytes (Ok digits) = refl
 outcome_is_seen f bytes (Err fault) = refl
 
-abbrev seen_text : List ℕ → NumberSeen → Outcome
+abbrev seen_text : List ℕ → NumberSeen → TextOrFault
 seen_text r s =
     if nat_le s.last (length r) then seen_outcome s (slice_range r (s.first - 1) s.last) (digits_in s.form (slice_range r (s.first - 1) s.last)) else Err faults.NoType
 
 text_is_seen : (r : List ℕ) (f : NumberField) → field_text r f ≡ seen_text r (number_seen f)
-text_is_seen r f = ap (λ (o : Outcome). if nat_le f.last (length r) then o else Err faults.NoType) (outcome_is_seen f (bytes_at f r) (digits_in f.form (bytes_at f r)))
+text_is_seen r f = ap (λ (o : TextOrFault). if nat_le f.last (length r) then o else Err faults.NoType) (outcome_is_seen f (bytes_of_field f r) (digits_in f.form (bytes_of_field f r)))
 
-abbrev seen_digits : List ℕ → List NumberSeen → Outcome
+abbrev seen_digits : List ℕ → List NumberSeen → TextOrFault
 seen_digits r [] = Ok []
-seen_digits r (s ∷ ss) = joined (seen_text r s) (seen_digits r ss)
+seen_digits r (s ∷ ss) = joined_texts (seen_text r s) (seen_digits r ss)
 
-digits_are_seen : (r : List ℕ) (fs : List NumberField) → digits_of r fs ≡ seen_digits r (map number_seen fs)
+digits_are_seen : (r : List ℕ) (fs : List NumberField) → digits_of_fields r fs ≡ seen_digits r (map number_seen fs)
 digits_are_seen r [] = refl
-digits_are_seen r (f ∷ fs) = ap₂ joined (text_is_seen r f) (digits_are_seen r fs)
+digits_are_seen r (f ∷ fs) = ap₂ joined_texts (text_is_seen r f) (digits_are_seen r fs)
 
 -- ---- lines
 
-abbrev seen_after : List TypeSeen → List ℕ → TypeSeen → List ℕ → Outcome
-seen_after ss r s columns = seen_checked s.card faults.OtherLine (seen_first pages.Ascii false columns ss) (joined (Ok columns) (seen_digits r s.numbers))
+abbrev seen_after : List TypeSeen → List ℕ → TypeSeen → List ℕ → TextOrFault
+seen_after ss r s columns = seen_checked s.card faults.OtherLine (seen_first pages.Ascii false columns ss) (joined_texts (Ok columns) (seen_digits r s.numbers))
 
 after_is_seen : (ts : List RecordType) (r : List ℕ) (t : RecordType) (columns : List ℕ) → line_after ts r t columns ≡ seen_after (map type_seen ts) r (type_seen t) columns
 after_is_seen ts r t columns =
-    line_checked t (first_type pages.Ascii false columns ts) (joined (Ok columns) (digits_of r t.numbers.items))
-    ∙ ap₂ (λ (found : Option TypeSeen) (o : Outcome). seen_checked t.card faults.OtherLine found (joined (Ok columns) o)) (first_is_seen pages.Ascii false columns ts) (digits_are_seen r t.numbers.items)
+    line_checked t (first_type pages.Ascii false columns ts) (joined_texts (Ok columns) (digits_of_fields r t.numbers.items))
+    ∙ ap₂ (λ (found : Option TypeSeen) (o : TextOrFault). seen_checked t.card faults.OtherLine found (joined_texts (Ok columns) o)) (first_is_seen pages.Ascii false columns ts) (digits_are_seen r t.numbers.items)
 
-abbrev seen_whole : Page → Bool → List TypeSeen → List ℕ → TypeSeen → Outcome
-seen_whole page low ss r s = and_then (and_then (characters_of page low s.columns r) (seen_after ss r s)) (λ line. Ok (trimmed line))
+abbrev seen_whole : Page → Bool → List TypeSeen → List ℕ → TypeSeen → TextOrFault
+seen_whole page low ss r s = text_and_then (text_and_then (record_characters page low s.columns r) (seen_after ss r s)) (λ line. Ok (trimmed line))
 
 whole_is_seen : (page : Page) (low : Bool) (ts : List RecordType) (r : List ℕ) (t : RecordType)
-    → and_then (whole_line_of page low ts r t) (λ line. Ok (trimmed line)) ≡ seen_whole page low (map type_seen ts) r (type_seen t)
+    → text_and_then (whole_line_of page low ts r t) (λ line. Ok (trimmed line)) ≡ seen_whole page low (map type_seen ts) r (type_seen t)
 whole_is_seen page low ts r t =
-    ap (λ (o : Outcome). and_then o (λ line. Ok (trimmed line)))
-    (then_same (characters_of page low t.columns.items r) (line_after ts r t) (seen_after (map type_seen ts) r (type_seen t)) (after_is_seen ts r t))
+    ap (λ (o : TextOrFault). text_and_then o (λ line. Ok (trimmed line)))
+    (then_same (record_characters page low t.columns.items r) (line_after ts r t) (seen_after (map type_seen ts) r (type_seen t)) (after_is_seen ts r t))
 
-abbrev seen_line : Page → Bool → List TypeSeen → List ℕ → Outcome
+abbrev seen_line : Page → Bool → List TypeSeen → List ℕ → TextOrFault
 seen_line page low ss r = seen_of_type (seen_first page low r ss) (seen_whole page low ss r)
 
-line_is_seen : (page : Page) (low : Bool) (ts : List RecordType) (r : List ℕ) → line_of page low ts r ≡ seen_line page low (map type_seen ts) r
+line_is_seen : (page : Page) (low : Bool) (ts : List RecordType) (r : List ℕ) → line_of_record page low ts r ≡ seen_line page low (map type_seen ts) r
 line_is_seen page low ts r =
-    type_is_seen (first_type page low r ts) (λ t. and_then (whole_line_of page low ts r t) (λ line. Ok (trimmed line))) (seen_whole page low (map type_seen ts) r) (whole_is_seen page low ts r)
+    type_is_seen (first_type page low r ts) (λ t. text_and_then (whole_line_of page low ts r t) (λ line. Ok (trimmed line))) (seen_whole page low (map type_seen ts) r) (whole_is_seen page low ts r)
     ∙ ap (λ (found : Option TypeSeen). seen_of_type found (seen_whole page low (map type_seen ts) r)) (first_is_seen page low r ts)
 
 -- ---- bytes of digits
 
-abbrev seen_bytes : NumberSeen → ℕ → List ℕ → Option (List ℕ) → Outcome
+abbrev seen_bytes : NumberSeen → ℕ → List ℕ → Option (List ℕ) → TextOrFault
 seen_bytes s place r (Some bytes) = Ok ((take (s.first - 1) r ++ bytes) ++ drop s.last r)
 seen_bytes s place r None = Err (faults.BadDigits s.card (counted (place + 1)) (counted (place + digits_seen s)))
 
@@ -141,51 +141,51 @@ bytes_are_seen : (f : NumberField) (place : ℕ) (r : List ℕ) (o : Option (Lis
 bytes_are_seen f place r (Some bytes) = refl
 bytes_are_seen f place r None = refl
 
-abbrev seen_number : List ℕ → ℕ → List ℕ → NumberSeen → Outcome
+abbrev seen_number : List ℕ → ℕ → List ℕ → NumberSeen → TextOrFault
 seen_number line place r s =
-    if nat_le s.last (length r) then seen_bytes s place r (number_bytes s.form (s.last - s.first + 1) (filled (digits_seen s) (drop place line))) else Err faults.NoType
+    if nat_le s.last (length r) then seen_bytes s place r (bytes_of_digits s.form (s.last - s.first + 1) (filled (digits_seen s) (drop place line))) else Err faults.NoType
 
 number_is_seen : (line : List ℕ) (place : ℕ) (r : List ℕ) (f : NumberField) → with_number line place r f ≡ seen_number line place r (number_seen f)
 number_is_seen line place r f =
-    ap (λ (o : Outcome). if nat_le f.last (length r) then o else Err faults.NoType) (bytes_are_seen f place r (number_bytes f.form (field_size f) (digits_at line place f)))
+    ap (λ (o : TextOrFault). if nat_le f.last (length r) then o else Err faults.NoType) (bytes_are_seen f place r (bytes_of_digits f.form (field_size f) (digits_at line place f)))
 
-abbrev seen_numbers : List ℕ → List NumberSeen → ℕ → List ℕ → Outcome
+abbrev seen_numbers : List ℕ → List NumberSeen → ℕ → List ℕ → TextOrFault
 seen_numbers line [] place r = if nat_lt place (length line) then Err (faults.TooLong (length line)) else Ok r
-seen_numbers line (s ∷ ss) place r = and_then (seen_number line place r s) (seen_numbers line ss (counted (place + digits_seen s)))
+seen_numbers line (s ∷ ss) place r = text_and_then (seen_number line place r s) (seen_numbers line ss (counted (place + digits_seen s)))
 
 numbers_are_seen : (line : List ℕ) (fs : List NumberField) (place : ℕ) (r : List ℕ) → with_numbers line fs place r ≡ seen_numbers line (map number_seen fs) place r
 numbers_are_seen line [] place r = refl
 numbers_are_seen line (f ∷ fs) place r =
-    ap (λ (o : Outcome). and_then o (with_numbers line fs (counted (place + field_digits f)))) (number_is_seen line place r f)
+    ap (λ (o : TextOrFault). text_and_then o (with_numbers line fs (counted (place + field_digits f)))) (number_is_seen line place r f)
     ∙ then_same (seen_number line place r (number_seen f)) (with_numbers line fs (counted (place + field_digits f))) (seen_numbers line (map number_seen fs) (counted (place + field_digits f)))
     (numbers_are_seen line fs (counted (place + field_digits f)))
 
 -- ---- records
 
-abbrev seen_record_checked : Page → Bool → List TypeSeen → TypeSeen → List ℕ → Outcome
+abbrev seen_record_checked : Page → Bool → List TypeSeen → TypeSeen → List ℕ → TextOrFault
 seen_record_checked page low ss s r = seen_checked s.card faults.OtherRecord (seen_first page low r ss) (Ok r)
 
 check_is_seen : (page : Page) (low : Bool) (ts : List RecordType) (t : RecordType) (r : List ℕ) → checked_record page low ts t r ≡ seen_record_checked page low (map type_seen ts) (type_seen t) r
 check_is_seen page low ts t r =
     record_checked t (first_type page low r ts) (Ok r) ∙ ap (λ (found : Option TypeSeen). seen_checked t.card faults.OtherRecord found (Ok r)) (first_is_seen page low r ts)
 
-abbrev seen_typed : Page → Bool → List TypeSeen → List ℕ → List ℕ → TypeSeen → Outcome
-seen_typed page low ss columns line s = and_then (bytes_from page 0 columns) (λ r. and_then (seen_numbers line s.numbers (length columns) r) (seen_record_checked page low ss s))
+abbrev seen_typed : Page → Bool → List TypeSeen → List ℕ → List ℕ → TypeSeen → TextOrFault
+seen_typed page low ss columns line s = text_and_then (bytes_of_characters page 0 columns) (λ r. text_and_then (seen_numbers line s.numbers (length columns) r) (seen_record_checked page low ss s))
 
 typed_is_seen : (page : Page) (low : Bool) (ts : List RecordType) (columns line : List ℕ) (t : RecordType)
     → typed_record page low ts columns line t ≡ seen_typed page low (map type_seen ts) columns line (type_seen t)
 typed_is_seen page low ts columns line t =
-    then_same (bytes_from page 0 columns) (λ r. and_then (with_numbers line t.numbers.items (length columns) r) (checked_record page low ts t))
-    (λ r. and_then (seen_numbers line (map number_seen t.numbers.items) (length columns) r) (seen_record_checked page low (map type_seen ts) (type_seen t)))
-    (λ r. ap (λ (o : Outcome). and_then o (checked_record page low ts t)) (numbers_are_seen line t.numbers.items (length columns) r)
+    then_same (bytes_of_characters page 0 columns) (λ r. text_and_then (with_numbers line t.numbers.items (length columns) r) (checked_record page low ts t))
+    (λ r. text_and_then (seen_numbers line (map number_seen t.numbers.items) (length columns) r) (seen_record_checked page low (map type_seen ts) (type_seen t)))
+    (λ r. ap (λ (o : TextOrFault). text_and_then o (checked_record page low ts t)) (numbers_are_seen line t.numbers.items (length columns) r)
     ∙ then_same (seen_numbers line (map number_seen t.numbers.items) (length columns) r) (checked_record page low ts t) (seen_record_checked page low (map type_seen ts) (type_seen t))
     (check_is_seen page low ts t))
 
-abbrev seen_record : Page → Bool → List TypeSeen → ℕ → List ℕ → Outcome
+abbrev seen_record : Page → Bool → List TypeSeen → ℕ → List ℕ → TextOrFault
 seen_record page low ss n line =
     seen_of_type (seen_first pages.Ascii false (take n (widened n line)) ss) (seen_typed page low ss (take n (widened n line)) (trimmed (widened n line)))
 
-record_is_seen : (page : Page) (low : Bool) (ts : List RecordType) (n : ℕ) (line : List ℕ) → record_of page low ts n line ≡ seen_record page low (map type_seen ts) n line
+record_is_seen : (page : Page) (low : Bool) (ts : List RecordType) (n : ℕ) (line : List ℕ) → record_of_line page low ts n line ≡ seen_record page low (map type_seen ts) n line
 record_is_seen page low ts n line =
     let columns = take n (widened n line) in
     let whole = trimmed (widened n line) in
@@ -194,29 +194,29 @@ record_is_seen page low ts n line =
 
 -- ---- conversions
 
-abbrev seen_lines : RecordFormat → LayoutSeen → Way
+abbrev seen_lines : RecordFormat → LayoutSeen → ConversionSettings
 seen_lines format s = record {
   framing = format.framing;
   most = s.length;
-  text_of = λ r. if is_dropped format.dropped r then Ok None else made with_line_feed (seen_line format.page format.low_blank s.types (padded format.page s.length r));
+  text_of = λ r. if is_dropped format.dropped r then Ok None else made_text with_line_feed (seen_line format.page format.low_blank s.types (padded_to format.page s.length r));
 }
 
 lines_are_seen : (layout : Layout) (format : RecordFormat) → to_lines layout format ≡ seen_lines format (layout_seen layout)
 lines_are_seen layout format =
     ap (λ (text : List ℕ → Made). record { framing = format.framing; most = layout.length; text_of = text })
-    (fun_ext (λ r. ap (λ (o : Outcome). if is_dropped format.dropped r then Ok None else made with_line_feed o) (line_is_seen format.page format.low_blank layout.types.items (padded format.page layout.length r))))
+    (fun_ext (λ r. ap (λ (o : TextOrFault). if is_dropped format.dropped r then Ok None else made_text with_line_feed o) (line_is_seen format.page format.low_blank layout.types.items (padded_to format.page layout.length r))))
 
-abbrev seen_records : RecordFormat → LayoutSeen → Way
+abbrev seen_records : RecordFormat → LayoutSeen → ConversionSettings
 seen_records format s = record {
   framing = framings.Lines;
   most = columns_seen s;
-  text_of = λ line. made (frame format.framing) (seen_record format.page false s.types s.length line);
+  text_of = λ line. made_text (frame format.framing) (seen_record format.page false s.types s.length line);
 }
 
 records_are_seen : (layout : Layout) (format : RecordFormat) → to_records layout format ≡ seen_records format (layout_seen layout)
 records_are_seen layout format =
     ap₂ (λ (n : ℕ) (text : List ℕ → Made). record { framing = framings.Lines; most = n; text_of = text }) (columns_are_seen layout)
-    (fun_ext (λ line. ap (made (frame format.framing)) (record_is_seen format.page false layout.types.items layout.length line)))
+    (fun_ext (λ line. ap (made_text (frame format.framing)) (record_is_seen format.page false layout.types.items layout.length line)))
 
 -- what a result has, or this
 abbrev value_or : {E : Type 0} → LayoutSeen → Result LayoutSeen E → LayoutSeen
@@ -226,6 +226,6 @@ value_or s (Err fault) = s
 pub by_cards : CardsSayTheOutput
 by_cards words deck input format one other e f =
     let same : layout_seen one ≡ layout_seen other = ap (value_or (layout_seen one)) (sym e ∙ f) in (
-      ap (λ (way : Way). conversion way input) (lines_are_seen one format ∙ ap (seen_lines format) same ∙ sym (lines_are_seen other format)),
-      ap (λ (way : Way). conversion way input) (records_are_seen one format ∙ ap (seen_records format) same ∙ sym (records_are_seen other format)),
+      ap (λ (way : ConversionSettings). conversion way input) (lines_are_seen one format ∙ ap (seen_lines format) same ∙ sym (lines_are_seen other format)),
+      ap (λ (way : ConversionSettings). conversion way input) (records_are_seen one format ∙ ap (seen_records format) same ∙ sym (records_are_seen other format)),
     )

@@ -2,7 +2,7 @@
 
 use crate::changes::{change_messages, refusal_message, too_many_message};
 use crate::new_deck::new_deck_messages;
-use rpg_cli_answers::{Answer, Listener, NamedFile, Stop, named, refuse_same_file};
+use rpg_cli_answers::{Answer, CommandStop, Listener, NamedFile, named, refuse_same_file};
 use rpg_cli_files::{FileFault, Opened, Reason, SourceCode, file_bytes, lines, write_bytes};
 use rpg_cli_words::{FileWord, FitWords, is_standard};
 use rpg_faults::{CardFault, SourceFault};
@@ -99,7 +99,7 @@ fn refuse<L: Listener>(
 }
 
 /// Refuses to write the new deck over a file that is read.
-fn keep_files<R: Files>(rt: &R, words: &FitWords, path: &str) -> Result<(), Stop> {
+fn keep_files<R: Files>(rt: &R, words: &FitWords, path: &str) -> Result<(), CommandStop> {
     let written = NamedFile::at(rt, FileWord::Fitted, path);
     let source = NamedFile::at(rt, FileWord::Source, words.source);
     refuse_same_file(written, &[source])?;
@@ -127,7 +127,7 @@ fn write_new_deck<R: Files + Print + AllocGlobal>(
     rt: &R,
     words: &FitWords,
     new: &[u8],
-) -> Result<(), Stop> {
+) -> Result<(), CommandStop> {
     match words.new_deck {
         None => Ok(()),
         Some(path) if is_standard(path) => Ok(show_new_deck(rt, new)?),
@@ -181,7 +181,7 @@ fn conclude<R: Files + Print + AllocGlobal, L: Listener>(
     source: &[u8],
     fit: &FittedDeck,
     listener: &mut L,
-) -> Result<Answer, Stop> {
+) -> Result<Answer, CommandStop> {
     write_new_deck(rt, words, fit.fitted.new.as_slice())?;
     tell_fit(rt.alloc(), words, source, fit, listener);
     Ok(answer_of(fit))
@@ -192,7 +192,7 @@ pub fn fit_file<R: Files + Print + AllocGlobal, L: Listener>(
     rt: &R,
     words: &FitWords,
     listener: &mut L,
-) -> Result<Answer, Stop> {
+) -> Result<Answer, CommandStop> {
     let source = named(FileWord::Source, file_bytes(rt, words.source))?;
     let records = table_records(rt, words)?;
     match rewrite(rt.alloc(), words, &source, records.as_slice()) {

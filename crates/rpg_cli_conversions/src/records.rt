@@ -1,7 +1,7 @@
 //! The command that makes lines of a shop's records, and records of such lines.
 
 use crate::refused::{deck_message, record_message};
-use rpg_cli_answers::{Answer, Listener, NamedFile, Stop, named, refuse_same_file};
+use rpg_cli_answers::{Answer, CommandStop, Listener, NamedFile, named, refuse_same_file};
 use rpg_cli_files::{
     FileFault, KeptFile, LineTarget, Opened, Pending, Reason, RecordSource, file_bytes, input_file,
     kept_file, lines, records, write_bytes,
@@ -101,7 +101,7 @@ fn keep_files<R: Files + AllocGlobal>(
     words: &RecordsWords,
     input: &Opened<R::File>,
     pending: &Option<Pending<'_>>,
-) -> Result<(), Stop> {
+) -> Result<(), CommandStop> {
     let deck = NamedFile::at(rt, words.deck_word(), words.deck);
     let input = NamedFile::opened(rt, FileWord::In, input, "/dev/stdin");
     let output = NamedFile::at(rt, FileWord::Out, words.output);
@@ -109,7 +109,7 @@ fn keep_files<R: Files + AllocGlobal>(
     refuse_same_file(output, &[input, deck])?;
     refuse_same_file(new_deck, &[input, output, deck])?;
     if is_shared(rt, words, pending)? {
-        return Err(Stop::SameFile(SameFile {
+        return Err(CommandStop::SameFile(SameFile {
             earlier: FileWord::Out,
             written: FileWord::NewDeck,
             shared: Shared::File,
@@ -208,7 +208,7 @@ fn empty_output<R: Files + AllocGlobal>(
     input: &Opened<R::File>,
     output: &Opened<R::File>,
     pending: &Option<Pending<'_>>,
-) -> Result<(), Stop> {
+) -> Result<(), CommandStop> {
     keep_files(rt, words, input, pending)?;
     Ok(named(FileWord::Out, output.empty())?)
 }
@@ -222,7 +222,7 @@ fn convert_opened<R: Files + Input + Print + AllocGlobal, L: Listener>(
     output: Opened<R::File>,
     pending: &Option<Pending<'_>>,
     listener: &mut L,
-) -> Result<Counts, Stop> {
+) -> Result<Counts, CommandStop> {
     empty_output(rt, words, &input, &output, pending)?;
     let (source, target) = (records(rt, input), lines(rt, output));
     Ok(convert(rt.alloc(), words, layout, source, target, listener)?)
@@ -248,8 +248,8 @@ fn write_deck<R: Files + AllocGlobal>(
 fn conclude<R: Files>(
     rt: &R,
     pending: &Pending<'_>,
-    converted: Result<Counts, Stop>,
-) -> Result<Counts, Stop> {
+    converted: Result<Counts, CommandStop>,
+) -> Result<Counts, CommandStop> {
     let concluded = match converted {
         Ok(counts) => match named(FileWord::Out, pending.put_in_place(rt)) {
             Ok(()) => Ok(counts),
@@ -269,7 +269,7 @@ fn convert_file<R: Files + Input + Print + AllocGlobal, L: Listener>(
     words: &RecordsWords,
     layout: &Layout,
     listener: &mut L,
-) -> Result<Counts, Stop> {
+) -> Result<Counts, CommandStop> {
     let input = opened_input(rt, words)?;
     let KeptFile { opened, pending } = named(FileWord::Out, kept_file(rt, words.output))?;
     let converted = convert_opened(rt, words, layout, input, opened, &pending, listener);
@@ -286,7 +286,7 @@ pub fn records_file<R: Files + Input + Print + AllocGlobal, L: Listener>(
     rt: &R,
     words: &RecordsWords,
     listener: &mut L,
-) -> Result<Answer, Stop> {
+) -> Result<Answer, CommandStop> {
     let source = named(words.deck_word(), file_bytes(rt, words.deck))?;
     let layout = layout(rt.alloc(), words, &source, listener)?;
     let Counts { records, dropped } = convert_file(rt, words, &layout, listener)?;

@@ -7,7 +7,7 @@ use rpg_cards::{IndexedCards, number_of, shows_of};
 use rpg_cli_show_fields::{name_text, write_named, write_quoted, write_shows};
 use rpg_cli_text::TextWriter;
 use rpg_deck::{Card, Tree};
-use rpg_sheet_specs::{FileSpec, InputField, InputSpec, RecordCode, RecordType, Three};
+use rpg_sheet_specs::{FileSpec, InputFieldSpec, InputSpec, RecordCode, RecordType, Three};
 
 /// Which type it is, and what it turns on.
 fn write_head(out: &mut TextWriter, card: u16, record_type: &RecordType) {
@@ -52,7 +52,7 @@ fn write_all_codes(
     }
 }
 
-fn write_field(out: &mut TextWriter, card: u16, field: &InputField) {
+fn write_field(out: &mut TextWriter, card: u16, field: &InputFieldSpec) {
     let name = name_text(field.name.as_slice());
     let from = field.from;
     let to = field.to;

@@ -4,7 +4,9 @@ use crate::turning::{Turning, machine_words, results_of};
 use rpg_cards::{SpecCard, level, line_conditions_on, number_of};
 use rpg_cli_show_fields::Indicator;
 use rpg_cli_text::{Piece, TextWriter};
-use rpg_sheet_specs::{CalculationSpec, Condition, FileSpec, InputField, InputSpec, Spec, Three};
+use rpg_sheet_specs::{
+    CalculationSpec, ConditionSpec, FileSpec, InputFieldSpec, InputSpec, Spec, Three,
+};
 use std::alloc::{AllocError, Global};
 
 /// One more than the greatest number of an indicator.
@@ -139,7 +141,7 @@ impl Indicators {
         self.turned(number_of(indicators.third), turning)
     }
 
-    fn note_field(&mut self, card: u16, field: &InputField) -> Result<(), AllocError> {
+    fn note_field(&mut self, card: u16, field: &InputFieldSpec) -> Result<(), AllocError> {
         if let Some(level) = field.level {
             let number = level.number().saturating_add(100);
             self.turned(Some(number), Turning::of("control field", card))?;
@@ -176,7 +178,7 @@ impl Indicators {
     fn note_conditions(
         &mut self,
         card: u16,
-        conditions: Three<Option<Condition>>,
+        conditions: Three<Option<ConditionSpec>>,
     ) -> Result<(), AllocError> {
         self.note_condition(card, conditions.first)?;
         self.note_condition(card, conditions.second)?;
@@ -186,7 +188,7 @@ impl Indicators {
     fn note_condition(
         &mut self,
         card: u16,
-        condition: Option<Condition>,
+        condition: Option<ConditionSpec>,
     ) -> Result<(), AllocError> {
         let Some(condition) = condition else {
             return Ok(());

@@ -5,7 +5,7 @@ use crate::reading::source_bytes;
 use crate::refusing::tell_wanted;
 use crate::sources::{OwnSource, tell_faults};
 use crate::warned::deny_warnings;
-use rpg_cli_answers::{Answer, Listener, Stop, named};
+use rpg_cli_answers::{Answer, CommandStop, Listener, named};
 use rpg_cli_words::{FileWord, GoWords};
 use rpg_engine::Report;
 use rpg_meaning::CompiledSource;
@@ -32,12 +32,12 @@ fn run_compiled<R: Files + Input + Print + AllocGlobal, L: Listener>(
     words: &GoWords,
     compiled: CompiledSource,
     listener: &mut L,
-) -> Result<Report, Stop> {
+) -> Result<Report, CommandStop> {
     let path = words.run.object;
     deny_warned(rt.alloc(), words, compiled.text(), listener)?;
     let source = OwnSource::of(rt.alloc(), path, compiled)?;
     let ran = run_own(rt, &words.run, &source, listener);
-    if let Err(Stop::Answer(answer)) = ran {
+    if let Err(CommandStop::Answer(answer)) = ran {
         let program = source.compiled.program().program();
         tell_wanted(rt.alloc(), path, program, answer, listener);
     }
@@ -49,7 +49,7 @@ pub fn go_files<R: Files + Input + Print + AllocGlobal, L: Listener>(
     rt: &R,
     words: &GoWords,
     listener: &mut L,
-) -> Result<Report, Stop> {
+) -> Result<Report, CommandStop> {
     if let Some(same) = words.run.shared_stream() {
         return Err(same.into());
     }

@@ -14,7 +14,7 @@ use crate::reading::system_path;
 use crate::refusing::tell_refused;
 use crate::running::{run_over, run_source_over};
 use crate::sources::{OwnSource, own_source};
-use rpg_cli_answers::{Answer, Listener, NamedFile, Reasons, Stop, named, refuse_same_file};
+use rpg_cli_answers::{Answer, CommandStop, Listener, NamedFile, Reasons, named, refuse_same_file};
 use rpg_cli_files::{
     KeptFile, LineTarget, Opened, Pending, RecordSource, file_bytes, input_file, kept_file, lines,
     output_file, records,
@@ -200,7 +200,7 @@ fn refuse_shared<R: Files + AllocGlobal>(
     words: &RunWords,
     files: &RunFiles<R::File>,
     kept: &Kept<'_>,
-) -> Result<(), Stop> {
+) -> Result<(), CommandStop> {
     let stream = "/dev/stdout";
     let [object, source, primary, secondary] = read_files(rt, words, files);
     let print = NamedFile::written(rt, FileWord::Print, &files.print, &kept.print, stream);
@@ -217,7 +217,7 @@ fn empty_files<R: Files + AllocGlobal>(
     words: &RunWords,
     files: &RunFiles<R::File>,
     kept: &Kept<'_>,
-) -> Result<(), Stop> {
+) -> Result<(), CommandStop> {
     refuse_shared(rt, words, files, kept)?;
     named(FileWord::Print, files.print.empty())?;
     Ok(named(FileWord::Disk, files.disk.empty())?)
@@ -324,7 +324,7 @@ pub(crate) fn run_devices<
     date: &[u8],
     devices: Devices<F, S, P>,
     watcher: &mut W,
-) -> Result<Report, Stop> {
+) -> Result<Report, CommandStop> {
     let Devices {
         input,
         secondary,
@@ -353,7 +353,7 @@ pub(crate) fn run_devices<
     };
     match ran {
         Ok(report) => Ok(report),
-        Err(answer) => Err(Stop::Job { answer, reasons }),
+        Err(answer) => Err(CommandStop::Job { answer, reasons }),
     }
 }
 
@@ -365,7 +365,7 @@ fn run_opened<'a, R: Files + Input + Print + AllocGlobal, L: Listener>(
     wanted: WantedFiles<'a>,
     kept: &mut Kept<'a>,
     listener: &mut L,
-) -> Result<Report, Stop> {
+) -> Result<Report, CommandStop> {
     let files = open_files(rt, words, wanted, kept)?;
     empty_files(rt, words, &files, kept)?;
     match accepted {
@@ -381,7 +381,7 @@ fn run_accepted<R: Files + Input + Print + AllocGlobal, L: Listener>(
     accepted: Result<Runnable<'_>, ObjectFault>,
     wanted: WantedFiles<'_>,
     listener: &mut L,
-) -> Result<Report, Stop> {
+) -> Result<Report, CommandStop> {
     let mut kept = Kept::new();
     let ran = run_opened(rt, words, accepted, wanted, &mut kept, listener);
     if let (Ok(report), Ok(runnable)) = (ran, accepted) {
@@ -435,7 +435,7 @@ pub(crate) fn run_own<R: Files + Input + Print + AllocGlobal, L: Listener>(
     words: &RunWords,
     source: &OwnSource<'_>,
     listener: &mut L,
-) -> Result<Report, Stop> {
+) -> Result<Report, CommandStop> {
     let wanted = source_files(words, &source.compiled)?;
     run_accepted(rt, words, Ok(Runnable::Source(source)), wanted, listener)
 }
@@ -446,7 +446,7 @@ fn run_object<R: Files + Input + Print + AllocGlobal, L: Listener>(
     words: &RunWords,
     object: &[u8],
     listener: &mut L,
-) -> Result<Report, Stop> {
+) -> Result<Report, CommandStop> {
     let (accepted, wanted) = program_of(rt.alloc(), words, object)?;
     let runnable = match &accepted {
         Ok(program) => Ok(Runnable::Object(program)),
@@ -461,7 +461,7 @@ fn run_named<R: Files + Input + Print + AllocGlobal, L: Listener>(
     words: &RunWords,
     object: &[u8],
     listener: &mut L,
-) -> Result<Report, Stop> {
+) -> Result<Report, CommandStop> {
     match own_source(rt, words.source, object, listener)? {
         Some(source) => run_own(rt, words, &source, listener),
         None => run_object(rt, words, object, listener),
@@ -473,13 +473,13 @@ pub fn run_files<R: Files + Input + Print + AllocGlobal, L: Listener>(
     rt: &R,
     words: &RunWords,
     listener: &mut L,
-) -> Result<Report, Stop> {
+) -> Result<Report, CommandStop> {
     if let Some(same) = words.shared_stream() {
         return Err(same.into());
     }
     let object = named(FileWord::Object, file_bytes(rt, words.object))?;
     let ran = run_named(rt, words, &object, listener);
-    if let Err(Stop::Answer(answer)) = ran {
+    if let Err(CommandStop::Answer(answer)) = ran {
         tell_refused(rt.alloc(), words.object, &object, answer, listener);
     }
     ran

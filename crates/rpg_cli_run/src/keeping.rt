@@ -3,7 +3,7 @@
 ghost use Rattle.std.specs.Prelude.{◌≡◌, IfErr};
 ghost use Rattle.rpg_cli_run.specs.Keeping.{IsOfFile, KeepsAnswer, fate_of};
 
-use rpg_cli_answers::{Answer, Listener, NamedFile, Stop, refuse_same_file};
+use rpg_cli_answers::{Answer, CommandStop, Listener, NamedFile, refuse_same_file};
 use rpg_cli_files::{FileFault, Pending};
 use rpg_cli_text::TextWriter;
 use rpg_cli_words::{FileWord, SameFile, Shared};
@@ -30,7 +30,7 @@ pub(crate) enum Fate {
 }
 
 /// What becomes of the new files of a run. They are put in their places only at the end of a job, and not at a halt.
-fn end_of_files(ran: &Result<Report, Stop>) -> Fate
+fn end_of_files(ran: &Result<Report, CommandStop>) -> Fate
     ensures { result ≡ fate_of ran.now }
 {
     match ran {
@@ -38,7 +38,7 @@ fn end_of_files(ran: &Result<Report, Stop>) -> Fate
             JobEnd::EndOfJob => Fate::Placed,
             JobEnd::Halt(_) => Fate::Left,
         },
-        Err(Stop::Job { .. }) => Fate::Left,
+        Err(CommandStop::Job { .. }) => Fate::Left,
         Err(_) => Fate::Removed,
     }
 }
@@ -158,7 +158,7 @@ impl<'a> Kept<'a> {
         &self,
         rt: &R,
         others: &[NamedFile],
-    ) -> Result<(), Stop> {
+    ) -> Result<(), CommandStop> {
         refuse_part(rt, FileWord::Print, &self.print, others)?;
         refuse_part(rt, FileWord::Disk, &self.disk, others)?;
         let (Some(print), Some(disk)) = (&self.print, &self.disk) else {
@@ -166,8 +166,8 @@ impl<'a> Kept<'a> {
         };
         match shared_place(rt, print, disk) {
             Ok(None) => Ok(()),
-            Ok(Some(same)) => Err(Stop::SameFile(same)),
-            Err(_) => Err(Stop::Answer(Answer::NoMemory)),
+            Ok(Some(same)) => Err(CommandStop::SameFile(same)),
+            Err(_) => Err(CommandStop::Answer(Answer::NoMemory)),
         }
     }
 
@@ -210,15 +210,15 @@ impl<'a> Kept<'a> {
     pub fn finish<R: Files + AllocGlobal, L: Listener>(
         &self,
         rt: &R,
-        ran: Result<Report, Stop>,
+        ran: Result<Report, CommandStop>,
         listener: &mut L,
-    ) -> Result<Report, Stop>
+    ) -> Result<Report, CommandStop>
         ensures { KeepsAnswer ran result }
     {
         match end_of_files(&ran) {
             Fate::Placed => {
                 if let Err(answer) = self.put_all(rt, listener) {
-                    return Err(Stop::Answer(answer));
+                    return Err(CommandStop::Answer(answer));
                 }
             }
             Fate::Left => self.leave_all(rt, listener),

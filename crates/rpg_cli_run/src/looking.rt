@@ -1,7 +1,7 @@
 //! Runs a job, and looks at it between its cycles where the words ask for that.
 
 use crate::jobs::{Devices, Runnable, run_devices};
-use rpg_cli_answers::{Listener, Stop};
+use rpg_cli_answers::{CommandStop, Listener};
 use rpg_cli_trace::{JobNames, Looking};
 use rpg_cli_words::RunWords;
 use rpg_engine::Report;
@@ -21,7 +21,7 @@ pub(crate) fn run_as_asked<
     runnable: Runnable<'_>,
     devices: Devices<F, S, P>,
     listener: &mut L,
-) -> Result<Report, Stop> {
+) -> Result<Report, CommandStop> {
     let date = words.date_text().as_bytes();
     let names = JobNames {
         program: runnable.program(),

@@ -9,7 +9,7 @@ ghost use Rattle.rpg_engine.specs.Refusing.{IsToldOfDate};
 ghost use Rattle.rpg_engine.specs.Starting.{date_in};
 ghost use Rattle.rpg_faults.specs.Source.{cards_in};
 ghost use Rattle.rpg_files.specs.Counting.{device_of, faults_of};
-ghost use Rattle.rpg_meaning.specs.Sources.Running.{HasNoSecondary, IsFaultless, PrintsOn, StopsOn};
+ghost use Rattle.rpg_meaning.specs.Sources.Running.{HasNoSecondary, IsFaultlessSource, PrintsOn, StopsOn};
 
 use rpg_cli_answers::Answer;
 use rpg_cli_files::flush_device;
@@ -105,7 +105,7 @@ pub(crate) fn run_source_over<I: Read, S: Read, P: Write, D: Write, W: Watcher>(
     requires disk { faults_of disk.old < 2 ^ 64 - 1 }
 
     // The source has no fault. A bad date is reported.
-    ensures faultless { IsFaultless source.now.text.items }
+    ensures faultless { IsFaultlessSource source.now.text.items }
     ensures refused { TellsRun (λ ran. IsToldOfDate ran date.now) result }
     // Then nothing is read or written; and the secondary input is never read if no card names a secondary file.
     ensures untouched { date_in date.now ≡ None → (input.new ≡ input.old) × (secondary.new ≡ secondary.old) × (print.new ≡ print.old) × (disk.new ≡ disk.old) }

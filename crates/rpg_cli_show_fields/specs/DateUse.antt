@@ -2,7 +2,7 @@
 use Rattle.std.specs.Prelude.{ℕ, Bool, false, ◌||◌, List, Option, None, Some}
 use Rattle.std.specs.List.{list_any}
 use Rattle.rpg_program.specs.Forms.{form_at, is_date}
-use Rattle.rpg_program.specs.Instructions.{columns_of}
+use Rattle.rpg_program.specs.Instructions.{instruction_columns}
 use Rattle.rpg_program.specs.declared.form.FieldForm.{FieldForm}
 use Rattle.rpg_program.specs.declared.line.LineField.{LineField}
 use Rattle.rpg_program.specs.declared.operation.Index.{Index}
@@ -42,7 +42,7 @@ row_uses fields row = column_uses fields row.factor1 || column_uses fields row.f
 
 -- an instruction names the date
 abbrev pub instruction_uses : List FieldForm → Instruction ℕ → Bool
-instruction_uses fields i = row_uses fields (columns_of (form_at fields) i)
+instruction_uses fields i = row_uses fields (instruction_columns (form_at fields) i)
 
 -- an output field names the date
 abbrev pub field_uses : List FieldForm → LineField ℕ → Bool

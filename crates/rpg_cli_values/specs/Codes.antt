@@ -5,14 +5,14 @@ use Rattle.rpg_cli_values.specs.declared.code.WarningCode.TheVariants.{W1, W2, W
 use Rattle.rpg_cli_values.specs.declared.codes.WarningCodes.{WarningCodes}
 
 -- a code as it is printed
-abbrev pub code_text : WarningCode → List ℕ
-code_text W1 = codes "W1"
-code_text W2 = codes "W2"
-code_text W3 = codes "W3"
-code_text W4 = codes "W4"
-code_text W5 = codes "W5"
-code_text W6 = codes "W6"
-code_text W7 = codes "W7"
+abbrev pub warning_code_text : WarningCode → List ℕ
+warning_code_text W1 = codes "W1"
+warning_code_text W2 = codes "W2"
+warning_code_text W3 = codes "W3"
+warning_code_text W4 = codes "W4"
+warning_code_text W5 = codes "W5"
+warning_code_text W6 = codes "W6"
+warning_code_text W7 = codes "W7"
 
 -- the code is in the set
 abbrev pub has : WarningCodes → WarningCode → Bool

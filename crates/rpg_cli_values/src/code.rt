@@ -1,7 +1,7 @@
 //! The codes of warnings.
 
 ghost use Rattle.std.specs.Prelude.{◌≡◌};
-ghost use Rattle.rpg_cli_values.specs.Codes.{code_text};
+ghost use Rattle.rpg_cli_values.specs.Codes.{warning_code_text};
 
 /// What a source is warned of.
 #[derive(Clone, Copy, PartialEq, Eq)]
@@ -17,7 +17,7 @@ pub enum WarningCode {
 
 impl WarningCode {
     pub const fn text(self) -> &'static str
-        ensures { result.now ≡ code_text self }
+        ensures { result.now ≡ warning_code_text self }
     {
         match self {
             WarningCode::W1 => "W1",

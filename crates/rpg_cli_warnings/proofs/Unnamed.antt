@@ -5,7 +5,7 @@ use Rattle.std.specs.Option.{option_map}
 use Rattle.std.specs.Prelude.{find, is_some, nat_le}
 use Rattle.rpg_cards.specs.declared.spec_card.SpecCard.{SpecCard}
 use Rattle.rpg_cli_warnings.proofs.Marking.{none_found, one_found}
-use Rattle.rpg_cli_warnings.specs.Indicators.{asks, has_level, indicator_warnings, is_level, is_of_cards, listed, never_asked, never_asked_at, never_on, never_on_at, no_level, no_level_at, shows, turns_on}
+use Rattle.rpg_cli_warnings.specs.Indicators.{asks, card_has_level, indicator_warnings, is_level, is_of_cards, listed, never_asked, never_asked_at, never_on, never_on_at, no_level, no_level_at, shows, turns_on}
 use Rattle.rpg_cli_warnings.specs.declared.warning.Warning.{Warning}
 
 nothing : (b : Bool) (f : SpecCard → Warning) (found : Option SpecCard) → found ≡ None → cond b (option_map f found) None ≡ None
@@ -16,7 +16,7 @@ unasked_on : (n : ℕ) (cards : List SpecCard) → list_any (asks n) cards ≡ f
 unasked_on n cards is = nothing (is_of_cards n && not (list_any (turns_on n) cards)) (never_on_at n) (find (asks n) cards) (none_found (asks n) cards is)
 
 unasked_level : (n : ℕ) (cards : List SpecCard) → list_any (asks n) cards ≡ false → no_level n cards ≡ None
-unasked_level n cards is = nothing (is_level n && not (list_any (turns_on n) cards) && not (list_any (has_level n) cards)) (no_level_at n) (find (asks n) cards) (none_found (asks n) cards is)
+unasked_level n cards is = nothing (is_level n && not (list_any (turns_on n) cards) && not (list_any (card_has_level n) cards)) (no_level_at n) (find (asks n) cards) (none_found (asks n) cards is)
 
 unshown : (n : ℕ) (cards : List SpecCard) → list_any (shows n) cards ≡ false → never_asked n cards ≡ None
 unshown n cards is = nothing (nat_le n 99 && not (is_some (find (asks n) cards))) (never_asked_at n) (find (shows n) cards) (none_found (shows n) cards is)

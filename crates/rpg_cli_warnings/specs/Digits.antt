@@ -30,18 +30,18 @@ abbrev pub whole_digits : FieldForm → Option ℕ
 whole_digits f = digits_by f.kind f
 
 -- the same for a name or constant, if it has a form
-abbrev pub digits_of : Defined → Option ℕ
-digits_of (defined.Good f) = whole_digits f
-digits_of defined.Missing = None
-digits_of defined.Bad = None
+abbrev pub whole_digits_of : Defined → Option ℕ
+whole_digits_of (defined.Good f) = whole_digits f
+whole_digits_of defined.Missing = None
+whole_digits_of defined.Bad = None
 
 -- the same for a factor
 unfoldable pub factor_digits : List SpecCard → Option Factor → Option ℕ
-factor_digits cards f = option_and_then (λ x. digits_of (form_of_factor x cards)) f
+factor_digits cards f = option_and_then (λ x. whole_digits_of (form_of_factor x cards)) f
 
 -- the same for the result field
 unfoldable pub result_digits : List SpecCard → Option Entry → Option ℕ
-result_digits cards r = option_and_then (λ (e : Entry). digits_of (form_of_name e.name cards)) r
+result_digits cards r = option_and_then (λ (e : Entry). whole_digits_of (form_of_name e.name cards)) r
 
 -- the greater of two, or the one that is there
 abbrev pub greater_of : Option ℕ → Option ℕ → Option ℕ

@@ -42,13 +42,13 @@ halt_in c columns None = None
 halt_in c columns (Some n) = if is_halt n then Some (halt_at c columns n) else None
 
 -- the first of two warnings
-abbrev pub first_of : Option Warning → Option Warning → Option Warning
-first_of None b = b
-first_of (Some a) b = Some a
+abbrev pub first_warning : Option Warning → Option Warning → Option Warning
+first_warning None b = b
+first_warning (Some a) b = Some a
 
 -- the first halt indicator of three
 abbrev pub first_halt : SpecCard → Three (Option ℕ) → Option Warning
-first_halt c t = first_of (halt_in c plus_columns t.first) (first_of (halt_in c minus_columns t.second) (halt_in c zero_columns t.third))
+first_halt c t = first_warning (halt_in c plus_columns t.first) (first_warning (halt_in c minus_columns t.second) (halt_in c zero_columns t.third))
 
 -- the warning about a calculation, which is SETON of a halt indicator
 abbrev pub halt_by : SpecCard → CalculationSpec → Option Warning

@@ -8,7 +8,7 @@ use Rattle.rpg_sheet_specs.specs.declared.calculation.CalculationSpec.{Calculati
 use Rattle.rpg_sheet_specs.specs.declared.calculation.Operation.{Operation}
 use Rattle.rpg_sheet_specs.specs.declared.calculation.Operation.TheVariants as operation
 use Rattle.rpg_sheet_specs.specs.declared.column.ColumnFault.{ColumnFault}
-use Rattle.rpg_sheet_specs.specs.declared.indicator.Condition.{Condition}
+use Rattle.rpg_sheet_specs.specs.declared.indicator.ConditionSpec.{ConditionSpec}
 use Rattle.rpg_sheet_specs.specs.declared.indicator.Three.{Three}
 use Rattle.rpg_sheet_specs.specs.declared.input.InputSpec.{InputSpec}
 use Rattle.rpg_sheet_specs.specs.declared.input.InputSpec.TheVariants as input
@@ -20,14 +20,14 @@ use Rattle.rpg_cli_warnings.specs.declared.warning.WarningKind.TheVariants as ki
 -- ---- asking
 
 -- the conditions of a card
-abbrev pub asked_on : Spec → Option (Three (Option Condition))
-asked_on (spec.Header h) = None
-asked_on (spec.File f) = None
-asked_on (spec.Extension e) = None
-asked_on (spec.Input i) = None
-asked_on (spec.Calculation k) = Some k.conditions
-asked_on (spec.Output o) = Some (line_conditions_on o)
-asked_on (spec.Data d) = None
+abbrev pub conditions_on_card : Spec → Option (Three (Option ConditionSpec))
+conditions_on_card (spec.Header h) = None
+conditions_on_card (spec.File f) = None
+conditions_on_card (spec.Extension e) = None
+conditions_on_card (spec.Input i) = None
+conditions_on_card (spec.Calculation k) = Some k.conditions
+conditions_on_card (spec.Output o) = Some (line_conditions_on o)
+conditions_on_card (spec.Data d) = None
 
 -- the first of a card's nine columns of conditions
 abbrev pub conditions_begin : Spec → ℕ
@@ -35,16 +35,16 @@ conditions_begin (spec.Calculation k) = 9
 conditions_begin s = 23
 
 -- the condition is on that indicator
-abbrev pub one_asks : ℕ → Option Condition → Bool
+abbrev pub one_asks : ℕ → Option ConditionSpec → Bool
 one_asks n c = option_map_or (λ x. x.indicator == n) c false
 
 -- one of three conditions is on that indicator
-abbrev pub any_asks : ℕ → Three (Option Condition) → Bool
+abbrev pub any_asks : ℕ → Three (Option ConditionSpec) → Bool
 any_asks n t = one_asks n t.first || one_asks n t.second || one_asks n t.third
 
 -- a condition of the card is on that indicator
 abbrev pub asks : ℕ → SpecCard → Bool
-asks n c = option_map_or (any_asks n) (asked_on c.spec) false
+asks n c = option_map_or (any_asks n) (conditions_on_card c.spec) false
 
 -- the place of the first of three that is so, of which each takes so many columns
 abbrev pub place_of : {X : Type 0} → (X → Bool) → ℕ → Three X → ℕ
@@ -56,7 +56,7 @@ columns_from column more = record { column = column; last = column + more }
 
 -- the columns of the condition on an indicator
 abbrev pub asked_columns : ℕ → SpecCard → ColumnFault
-asked_columns n c = columns_from (conditions_begin c.spec + option_map_or (place_of (one_asks n) 3) (asked_on c.spec) 6) 2
+asked_columns n c = columns_from (conditions_begin c.spec + option_map_or (place_of (one_asks n) 3) (conditions_on_card c.spec) 6) 2
 
 -- ---- turning on
 
@@ -100,15 +100,15 @@ turns_on n c = spec_turns_on n c.spec
 -- ---- turning on for others to ask
 
 -- a search has to have an indicator
-abbrev pub is_silent : Option Operation → Bool
-is_silent (Some operation.SetOff) = true
-is_silent (Some operation.LookUp) = true
-is_silent o = false
+abbrev pub need_not_be_asked : Option Operation → Bool
+need_not_be_asked (Some operation.SetOff) = true
+need_not_be_asked (Some operation.LookUp) = true
+need_not_be_asked o = false
 
 -- the indicators that a card sets; those of SETOF and LOKUP need not be asked
 abbrev pub shown_on : Spec → Option (Three (Option ℕ))
 shown_on (spec.Input (input.Field f)) = Some f.indicators
-shown_on (spec.Calculation k) = if is_silent k.operation then None else Some k.resulting_indicators
+shown_on (spec.Calculation k) = if need_not_be_asked k.operation then None else Some k.resulting_indicators
 shown_on s = None
 
 -- a resulting indicator of the card is that one
@@ -153,14 +153,14 @@ abbrev pub is_level : ℕ → Bool
 is_level n = nat_le 101 n && nat_le n 109
 
 -- the control level's indicator is that one
-abbrev pub is_of_level : ℕ → Option ℕ → Bool
-is_of_level n l = option_map_or (λ x. 100 + x == n) l false
+abbrev pub is_level_indicator : ℕ → Option ℕ → Bool
+is_level_indicator n l = option_map_or (λ x. 100 + x == n) l false
 
 -- the I card has a field of that control level
 abbrev pub input_has_level : ℕ → InputSpec → Bool
 input_has_level n (input.Type t) = false
 input_has_level n (input.And codes) = false
-input_has_level n (input.Field f) = is_of_level n f.level
+input_has_level n (input.Field f) = is_level_indicator n f.level
 
 -- the card has a field of that control level
 abbrev pub spec_has_level : ℕ → Spec → Bool
@@ -168,8 +168,8 @@ spec_has_level n (spec.Input i) = input_has_level n i
 spec_has_level n s = false
 
 -- the card of a control field of a level
-abbrev pub has_level : ℕ → SpecCard → Bool
-has_level n c = spec_has_level n c.spec
+abbrev pub card_has_level : ℕ → SpecCard → Bool
+card_has_level n c = spec_has_level n c.spec
 
 -- the warning about a control level that no field has
 abbrev pub no_level_at : ℕ → SpecCard → Warning
@@ -177,7 +177,7 @@ no_level_at n c = record { card = c.number; columns = asked_columns n c; kind = 
 
 -- a level that is asked, that no card turns on, and that no field has: at the first card that asks
 abbrev pub no_level : ℕ → List SpecCard → Option Warning
-no_level n cards = if is_level n && not (list_any (turns_on n) cards) && not (list_any (has_level n) cards) then option_map (no_level_at n) (find (asks n) cards) else None
+no_level n cards = if is_level n && not (list_any (turns_on n) cards) && not (list_any (card_has_level n) cards) then option_map (no_level_at n) (find (asks n) cards) else None
 
 -- one warning, or none
 abbrev pub listed : Option Warning → List Warning

@@ -23,8 +23,8 @@ abbrev pub placed_by : List SpecCard → SpecCard → OutputField → Option Pla
 placed_by cards c f = if is_always_out f then option_map (placed_with c f) (width cards f) else None
 
 -- the places that a card's field has in each line
-unfoldable pub placed_on : List SpecCard → SpecCard → Option Placed
-placed_on cards c = option_and_then (placed_by cards c) (output_field_on c.spec)
+unfoldable pub field_places_on : List SpecCard → SpecCard → Option Placed
+field_places_on cards c = option_and_then (placed_by cards c) (output_field_on c.spec)
 
 -- two fields share a column
 unfoldable pub meet : Placed → Placed → Bool
@@ -57,8 +57,8 @@ abbrev pub noted_field : List Placed → Placed → List Placed
 noted_field placed field = noted_beside placed field (find (meet field) placed)
 
 -- a line begins with no field
-abbrev pub at_card : SpecCard → List Placed → List Placed
-at_card c placed = if is_some (output_record_on c.spec) then [] else placed
+abbrev pub unless_line_begins : SpecCard → List Placed → List Placed
+unless_line_begins c placed = if is_some (output_record_on c.spec) then [] else placed
 
 -- the warning about a card's field, if it has one
 abbrev pub warned_on : List Placed → Option Placed → List Warning
@@ -74,4 +74,4 @@ noted_on placed (Some field) = noted_field placed field
 abbrev pub overlaps_from : List SpecCard → List Placed → List SpecCard → List Warning
 overlaps_from source placed [] = []
 overlaps_from source placed (c ∷ cards) =
-    warned_on (at_card c placed) (placed_on source c) ++ overlaps_from source (noted_on (at_card c placed) (placed_on source c)) cards
+    warned_on (unless_line_begins c placed) (field_places_on source c) ++ overlaps_from source (noted_on (unless_line_begins c placed) (field_places_on source c)) cards

@@ -12,20 +12,20 @@ use Rattle.rpg_cli_warnings.specs.declared.warning.Warning.{Warning}
 use Rattle.rpg_cli_warnings.specs.declared.warning.WarningKind.TheVariants as kind
 
 -- the page number
-abbrev pub is_page : Option Entry → Bool
-is_page e = option_map_or (λ (x : Entry). pointwise nat_eq x.name (codes "PAGE")) e false
+abbrev pub is_page_entry : Option Entry → Bool
+is_page_entry e = option_map_or (λ (x : Entry). pointwise nat_eq x.name (codes "PAGE")) e false
 
 -- the columns of an output field's name
-abbrev pub name_columns : ColumnFault
-name_columns = record { column = 32; last = 37 }
+abbrev pub output_name_columns : ColumnFault
+output_name_columns = record { column = 32; last = 37 }
 
 -- the warning about PAGE at a card
 abbrev pub page_at : SpecCard → Warning
-page_at c = record { card = c.number; columns = name_columns; kind = kind.PageConditions }
+page_at c = record { card = c.number; columns = output_name_columns; kind = kind.PageConditions }
 
 -- the warning about an output field that is PAGE under conditions
 abbrev pub page_by : SpecCard → OutputField → Option Warning
-page_by c f = if is_page f.operand && not (is_always_out f) then Some (page_at c) else None
+page_by c f = if is_page_entry f.operand && not (is_always_out f) then Some (page_at c) else None
 
 -- PAGE with a condition of its own: here it is left out or put out, and never set back
 unfoldable pub page_on : SpecCard → Option Warning

@@ -35,12 +35,12 @@ warnings_of cards =
     ++ filter_map halt_on cards
 
 -- the code of a warning
-unfoldable pub code_of : Warning → WarningCode
-code_of w = code w.kind
+unfoldable pub warning_code : Warning → WarningCode
+warning_code w = code w.kind
 
 -- a warning whose code isn't allowed
 unfoldable pub is_wanted : WarningCodes → Warning → Bool
-is_wanted allowed w = not (has allowed (code_of w))
+is_wanted allowed w = not (has allowed (warning_code w))
 
 -- those whose codes aren't allowed
 abbrev pub wanted_of : WarningCodes → List SpecCard → List Warning

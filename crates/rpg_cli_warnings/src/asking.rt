@@ -4,11 +4,11 @@ ghost use Rattle.std.specs.Prelude.{◌≡◌, ◌≤◌, option_copied, find};
 ghost use Rattle.rpg_cli_warnings.specs.Indicators as indicators;
 
 use rpg_cards::{SpecCard, line_conditions_on};
-use rpg_sheet_specs::{ColumnFault, Condition, Spec, Three};
+use rpg_sheet_specs::{ColumnFault, ConditionSpec, Spec, Three};
 
 /// The conditions of a card.
-pub(crate) fn asked_on(card: &SpecCard) -> Option<Three<Option<Condition>>>
-    ensures { result ≡ indicators.asked_on card.now.spec }
+pub(crate) fn asked_on(card: &SpecCard) -> Option<Three<Option<ConditionSpec>>>
+    ensures { result ≡ indicators.conditions_on_card card.now.spec }
 {
     match &card.spec {
         Spec::Calculation(calculation) => Some(calculation.conditions),
@@ -30,7 +30,7 @@ fn conditions_begin(card: &SpecCard) -> u8
     }
 }
 
-fn names(condition: Option<Condition>, indicator: u8) -> bool
+fn names(condition: Option<ConditionSpec>, indicator: u8) -> bool
     ensures { result ≡ indicators.one_asks indicator condition }
 {
     match condition {

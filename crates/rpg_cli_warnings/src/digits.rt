@@ -27,7 +27,7 @@ fn whole_digits(form: FieldForm) -> Option<u16>
 }
 
 fn digits_of(defined: Defined) -> Option<u16>
-    ensures { result ≡ digits.digits_of defined }
+    ensures { result ≡ digits.whole_digits_of defined }
 {
     match defined {
         Defined::Good(form) => whole_digits(form),

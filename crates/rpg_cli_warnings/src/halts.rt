@@ -58,7 +58,7 @@ fn halt_in(card: &SpecCard, columns: ColumnFault, shown: Option<Indicator>) -> O
 }
 
 fn first_of(first: Option<Warning>, second: Option<Warning>) -> Option<Warning>
-    ensures { result ≡ halts.first_of first second }
+    ensures { result ≡ halts.first_warning first second }
 {
     match first {
         Some(first) => Some(first),

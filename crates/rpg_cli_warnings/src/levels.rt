@@ -8,7 +8,7 @@ use rpg_cards::SpecCard;
 use rpg_sheet_specs::{InputSpec, Spec, Within};
 
 fn is_of_level(level: Option<Within<1, 9>>, indicator: u8) -> bool
-    ensures { result ≡ indicators.is_of_level indicator level }
+    ensures { result ≡ indicators.is_level_indicator indicator level }
 {
     match level {
         None => false,
@@ -18,7 +18,7 @@ fn is_of_level(level: Option<Within<1, 9>>, indicator: u8) -> bool
 
 /// Whether a card has a control field of the level with this indicator.
 fn has_level(card: &SpecCard, indicator: u8) -> bool
-    ensures { result ≡ indicators.has_level indicator card.now }
+    ensures { result ≡ indicators.card_has_level indicator card.now }
 {
     match &card.spec {
         Spec::Input(InputSpec::Field(field)) => is_of_level(field.level, indicator),
@@ -28,7 +28,7 @@ fn has_level(card: &SpecCard, indicator: u8) -> bool
 
 /// Whether one of the cards has a control field of the level with this indicator.
 pub(crate) fn any_has_level(cards: &[SpecCard], indicator: u8) -> bool
-    ensures { result ≡ list_any (indicators.has_level indicator) cards.now }
+    ensures { result ≡ list_any (indicators.card_has_level indicator) cards.now }
 {
     for card in cards {
         if has_level(card, indicator) {

@@ -8,11 +8,11 @@ ghost use Rattle.rpg_cli_warnings.specs.Marks.{is_marked};
 use crate::asking::asked_on;
 use crate::turning::shown_on;
 use rpg_cards::SpecCard;
-use rpg_sheet_specs::{Condition, Indicator};
+use rpg_sheet_specs::{ConditionSpec, Indicator};
 
 /// Marks the number of a condition's indicator.
 #[tactic(auto, using(crate::proofs::Marking::mark_one, crate::proofs::Marking::or_false))]
-fn mark_asked(marks: &mut [bool; 256], condition: Option<Condition>)
+fn mark_asked(marks: &mut [bool; 256], condition: Option<ConditionSpec>)
     ensures { (n : ℕ) → is_marked n marks.new ≡ (is_marked n marks.old || indicators.one_asks n condition) }
 {
     if let Some(condition) = condition {

@@ -31,9 +31,9 @@ pub(crate) fn is_always_out(field: &OutputField) -> bool
     conditions.first.is_none() && conditions.second.is_none() && conditions.third.is_none()
 }
 
-#[tactic(auto, unfolding(crate::specs::Overlaps::placed_on))]
+#[tactic(auto, unfolding(crate::specs::Overlaps::field_places_on))]
 fn placed_on(source: &IndexedCards, card: &SpecCard) -> Option<Placed>
-    ensures { result ≡ overlaps.placed_on source.now card.now }
+    ensures { result ≡ overlaps.field_places_on source.now card.now }
 {
     let field = card.output_field()?;
     if !is_always_out(field) {

@@ -17,7 +17,7 @@ const NAME: ColumnFault = ColumnFault {
 };
 
 fn is_page(operand: &Option<Entry>) -> bool
-    ensures { result ≡ pages.is_page operand.now }
+    ensures { result ≡ pages.is_page_entry operand.now }
 {
     match operand {
         None => false,

@@ -31,9 +31,9 @@ pub fn source_warnings(alloc: Global, source: &IndexedCards) -> Result<Vec<Warni
     Ok(warnings)
 }
 
-#[tactic(auto, unfolding(crate::specs::Warnings::code_of))]
+#[tactic(auto, unfolding(crate::specs::Warnings::warning_code))]
 fn code_of(warning: &Warning) -> WarningCode
-    ensures { result ≡ warned.code_of warning.now }
+    ensures { result ≡ warned.warning_code warning.now }
 {
     warning.kind.code()
 }

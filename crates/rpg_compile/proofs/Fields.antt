@@ -26,7 +26,7 @@ use Rattle.rpg_sheet_specs.specs.declared.calculation.CalculationSpec.{Calculati
 use Rattle.rpg_sheet_specs.specs.declared.entry.Entry.{Entry}
 use Rattle.rpg_sheet_specs.specs.declared.extension.ExtensionSpec.{ExtensionSpec}
 use Rattle.rpg_sheet_specs.specs.declared.extension.TableSpec.{TableSpec}
-use Rattle.rpg_sheet_specs.specs.declared.input.InputField.{InputField}
+use Rattle.rpg_sheet_specs.specs.declared.input.InputFieldSpec.{InputFieldSpec}
 use Rattle.rpg_sheet_specs.specs.declared.spec.Spec.TheVariants as spec
 use Rattle.rpg_symbols.specs.Fields.{NamedForms, defined_form, given}
 use Rattle.rpg_compile_program.specs.Ranges.{AreCards}
@@ -96,7 +96,7 @@ extension_kept : (o : Option ExtensionSpec) → Each HasGoodForm (flat_map (λ e
 extension_kept None = tt
 extension_kept (Some e) = each_append HasGoodForm (map (definition_in e) (tables_on e)) [] (tables_kept e (tables_on e)) tt
 
-field_kept : (o : Option InputField) → Each HasGoodForm (option_to_list (option_map definition_of o))
+field_kept : (o : Option InputFieldSpec) → Each HasGoodForm (option_to_list (option_map definition_of o))
 field_kept None = tt
 field_kept (Some i) = (where_true (nat_le i.from i.to) _ (λ order. plain_kept (i.to + 1 - i.from) i.decimals), tt)
 

@@ -4,7 +4,7 @@ use Rattle.std.proofs.lemmas.Bool.{and_parts, leb-true, not-false}
 use Rattle.std.proofs.lemmas.Option.{slice_get-get_or, slice_get_within, get_or_from_slice_get}
 use Rattle.std.specs.Prelude.{All, nat_le}
 use Rattle.rpg_program.specs.Forms.{form_at, has_field, is_array}
-use Rattle.rpg_program.specs.Instructions.{columns_of}
+use Rattle.rpg_program.specs.Instructions.{instruction_columns}
 use Rattle.rpg_program.specs.Rows.{all_of, all_used, form_of, has_entry, has_index, has_operand, has_shape, is_good_operand, is_shaped, row_of, table_use}
 use Rattle.rpg_program.specs.declared.form.FieldForm.{FieldForm}
 use Rattle.rpg_program.specs.declared.operation.Action.{Action}
@@ -113,7 +113,7 @@ module _ (fields : List FieldForm) (few : length fields ≤ 4000) (rows : All Is
   action_row (Move side b r) e marked = let p = and_parts _ _ e in ((operand_row shape.One b p.0).row, (operand_row shape.One r p.1).row)
   action_row (SetIndicators is_on s) e marked = marked
 
-  instruction_row : (i : Instruction ℕ) → all_of (is_good_operand at) (columns_of at i) ≡ true → IsMarked i → IsInstructionRow i
+  instruction_row : (i : Instruction ℕ) → all_of (is_good_operand at) (instruction_columns at i) ≡ true → IsMarked i → IsInstructionRow i
   instruction_row (Act x) e marked = action_row x e marked
   instruction_row Except e marked = tt
   instruction_row (Branch is_taken_where cs target) e marked = marked
@@ -123,7 +123,7 @@ module _ (fields : List FieldForm) (few : length fields ≤ 4000) (rows : All Is
 -- ---- a program
 
 module _ (p : Object) (accepted : IsAccepted p) (few : length p.fields ≤ 4000) (rows : All IsFieldRow p.fields) where
-  good_at : (s : Section) (k : ℕ) (i : Instruction ℕ) → slice_get (section_instructions p s) k ≡ Some i → all_of (is_good_operand (form_at p.fields)) (columns_of (form_at p.fields) i) ≡ true
+  good_at : (s : Section) (k : ℕ) (i : Instruction ℕ) → slice_get (section_instructions p s) k ≡ Some i → all_of (is_good_operand (form_at p.fields)) (instruction_columns (form_at p.fields) i) ≡ true
   unfolding place_breaks instruction_at
   good_at s k i is =
       let here : slice_get (section_instructions p s) (first_place p s + k - first_place p s) ≡ Some i = subst (λ n. slice_get (section_instructions p s) n ≡ Some i) (omega arith) is in

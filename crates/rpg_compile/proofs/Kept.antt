@@ -14,7 +14,7 @@ use Rattle.rpg_faults_flow.specs.Order.{breaks_order}
 use Rattle.rpg_faults_limits.specs.Files.{breaks_files, moves_disk}
 use Rattle.rpg_faults_operands.specs.Indicators.{bad_indicator}
 use Rattle.rpg_faults_limits.specs.Limits.{passes_limit}
-use Rattle.rpg_faults_limits.specs.Order.{strays}
+use Rattle.rpg_faults_limits.specs.Order.{is_stray}
 use Rattle.rpg_faults_operands.specs.Columns as operands
 use Rattle.rpg_faults_operands.specs.Editing.{bad_editing}
 use Rattle.rpg_faults_operands.specs.Indexes.{bad_index}
@@ -54,7 +54,7 @@ keeps_rules cards none = record {
       (λ before c after t. or_right (calculations.bad_calculation_columns before c after) _ (or_right (operands.bad_operand_columns (before ++ c ∷ after) c after) _ t));
   f10 = of_source cards none F10 goes_nowhere (λ before c after t. t);
   f12 = kept cards none F12 breaks_order (λ before c after split t. or_left (breaks_order before c after) _ t);
-  f12_lines = kept cards none F12 (λ before c after. strays before c) (λ before c after split t. or_right (breaks_order before c after) _ t);
+  f12_lines = kept cards none F12 (λ before c after. is_stray before c) (λ before c after split t. or_right (breaks_order before c after) _ t);
   f13 = of_source cards none F13 goes_apart (λ before c after t. t);
   f14 = of_source cards none F14 calls_itself (λ before c after t. t);
   f16 = of_source cards none F16 misplaces (λ before c after t. t);

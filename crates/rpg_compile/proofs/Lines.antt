@@ -19,7 +19,7 @@ use Rattle.rpg_sheet_specs.specs.Three.{filled_count}
 use Rattle.rpg_compile.proofs.Indices.{HasGoodIndex, good_on_cards}
 use Rattle.rpg_compile.proofs.Walks.{all_of, at_open, one_more, three_count, unpassed}
 use Rattle.rpg_effect_renaming.specs.Naming.{renamed_field}
-use Rattle.rpg_sheet_specs.specs.declared.indicator.Condition as sheet
+use Rattle.rpg_sheet_specs.specs.declared.indicator.ConditionSpec as sheet
 use Rattle.rpg_sheet_specs.specs.declared.indicator.Three.{Three}
 use Rattle.rpg_sheet_specs.specs.declared.output.OutputRecord.{OutputRecord}
 use Rattle.rpg_sheet_specs.specs.declared.output.OutputSpec.{OutputSpec}
@@ -32,7 +32,7 @@ use Rattle.rpg_compile_program.specs.Table.{key_number, table_of}
 
 -- ---- what the cards of a line come to
 
-standing_count : (t : Three (Option sheet.Condition)) → length (standing t) ≡ filled_count t
+standing_count : (t : Three (Option sheet.ConditionSpec)) → length (standing t) ≡ filled_count t
 standing_count t = three_count condition_of t.first t.second t.third
 
 all_alternatives : (so_far : List Condition) (os : List OutputSpec) → length (line_alternatives so_far os) ≡ 1 + count_by is_or_line os

@@ -9,7 +9,7 @@ use Rattle.std.specs.Option.{ForSome, option_map_or}
 use Rattle.std.specs.Prelude.{is_some, ◌==◌, nat_lt}
 use Rattle.rpg_cards.specs.Plain.{Each}
 use Rattle.rpg_cards.specs.Cards.{data_on, extension_on}
-use Rattle.rpg_cards.specs.Groups.{Group, data_card, data_role, followers, following, groups, groups_from, opening, role_on}
+use Rattle.rpg_cards.specs.Groups.{Group, data_card_role, data_role, followers, following, groups, groups_from, opening, role_on}
 use Rattle.rpg_cards.specs.Names.{definition_in, definitions_on, form_of_name, table_form, tables_on}
 use Rattle.rpg_cards.specs.declared.names.Defined.TheVariants.{Good}
 use Rattle.rpg_cards.specs.declared.names.Definition.{Definition}
@@ -53,7 +53,7 @@ texts_fit : (cards : List SpecCard) → AreCards cards → Each IsDataText (foll
 texts_fit [] h = tt
 texts_fit (c ∷ cs) h = by (data_on c.spec) (data_fits c.spec h.0) (texts_fit cs h.1)
   where
-    by : (o : Option DataSpec) → ForSome o IsData → Each IsDataText (followers data_role cs) → Each IsDataText (following (role_on data_card o) (followers data_role cs))
+    by : (o : Option DataSpec) → ForSome o IsData → Each IsDataText (followers data_role cs) → Each IsDataText (following (role_on data_card_role o) (followers data_role cs))
     by None h later = later
     by (Some deck.Begin) h later = tt
     by (Some (deck.Card text)) h later = (h (deck.Card text) refl, later)
@@ -67,7 +67,7 @@ decks_fit file [] h = tt
 decks_fit file (c ∷ cs) h = by (data_on c.spec) (λ own. decks_fit own cs h.1)
   where
     by : (o : Option DataSpec) → ((own : Option (List ℕ)) → Each (Each IsDataText) (decks_from own cs))
-        → Each (Each IsDataText) (map (λ (g : Group (Unit {0}) (List ℕ)). g.followers) (opening (role_on data_card o) file (followers data_role cs) (λ own. groups_from data_role own cs)))
+        → Each (Each IsDataText) (map (λ (g : Group (Unit {0}) (List ℕ)). g.followers) (opening (role_on data_card_role o) file (followers data_role cs) (λ own. groups_from data_role own cs)))
     by None later = later file
     by (Some deck.Begin) later = (texts_fit cs h.1, later file)
     by (Some (deck.Card text)) later = later file

@@ -9,7 +9,7 @@ use Rattle.rpg_cards.specs.Groups.{Group, group_count, groups, input_role, open_
 use Rattle.rpg_cards.specs.declared.spec_card.SpecCard.{SpecCard}
 use Rattle.rpg_compile_program.proofs.Each.{each_row}
 use Rattle.rpg_compile_layouts.specs.Within.{IsTypeWithin}
-use Rattle.rpg_faults_limits.specs.Limits.{code_count, codes_on, field_count, is_input_field_card, is_level_field, level_count, of_type}
+use Rattle.rpg_faults_limits.specs.Limits.{code_count, and_code_count, field_count, is_input_field_card, is_level_field, level_count, of_type}
 use Rattle.rpg_sheet_specs.specs.Three.{filled_count}
 use Rattle.rpg_compile.proofs.Walks.{all_of, at_open, one_more, three_count, unpassed}
 use Rattle.rpg_sheet_specs.specs.declared.indicator.Three.{Three}
@@ -30,18 +30,18 @@ use Rattle.rpg_compile_program.specs.Types.{and_card_codes, card_type, codes_of,
 codes_count : (t : Three (Option RecordCode)) → length (codes_of t) ≡ filled_count t
 codes_count t = three_count record_code_of t.first t.second t.third
 
-further_count : (i : InputSpec) → length (and_card_codes i) ≡ codes_on i
+further_count : (i : InputSpec) → length (and_card_codes i) ≡ and_code_count i
 further_count (input.Type t) = refl
 further_count (input.And cs) = codes_count cs
 further_count (input.Field f) = refl
 
-all_codes : (is : List InputSpec) → length (flat_map and_card_codes is) ≡ sum_by codes_on is
+all_codes : (is : List InputSpec) → length (flat_map and_card_codes is) ≡ sum_by and_code_count is
 all_codes [] = refl
 all_codes (i ∷ is) =
     let here = further_count i in
     let rest = all_codes is in
     let both = length-append (and_card_codes i) (flat_map and_card_codes is) in
-    let sum = sum_by-cons codes_on i is in
+    let sum = sum_by-cons and_code_count i is in
     omega arith
 
 all_inputs : (is : List InputSpec) → length (input_fields_in is) ≡ count_by is_input_field_card is

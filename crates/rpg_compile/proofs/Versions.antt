@@ -25,7 +25,7 @@ use Rattle.rpg_effect_renaming.specs.Naming.{renamed_type}
 use Rattle.rpg_program.specs.Kept.{IsPlain, IsPlainType}
 use Rattle.rpg_program.specs.declared.rows.Version.TheVariants as versions
 use Rattle.rpg_sheet_specs.specs.declared.file.FileSpec.{FileSpec}
-use Rattle.rpg_sheet_specs.specs.declared.input.InputField.{InputField}
+use Rattle.rpg_sheet_specs.specs.declared.input.InputFieldSpec.{InputFieldSpec}
 use Rattle.rpg_sheet_specs.specs.declared.input.InputSpec.{InputSpec}
 use Rattle.rpg_sheet_specs.specs.declared.input.InputSpec.TheVariants as input
 use Rattle.rpg_sheet_specs.specs.declared.input.RecordType.{RecordType}
@@ -62,7 +62,7 @@ module _ (cards : List SpecCard) (none : is_some (file_for Secondary cards) ≡ 
 -- ---- no match fields
 
 abbrev HasNone : InputSpec → Type 0
-HasNone i = (f : InputField) → i ≡ input.Field f → is_match_field f ≡ false
+HasNone i = (f : InputFieldSpec) → i ≡ input.Field f → is_match_field f ≡ false
 
 no_rows : (is : List InputSpec) → Each HasNone is → Rows (input_fields_in is) ≡ []
 no_rows [] h = refl

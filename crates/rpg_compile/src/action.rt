@@ -83,7 +83,7 @@ fn compute(
     table: &FieldTable,
     calculation: &CalculationSpec,
 ) -> Action<Operand<u16>>
-    ensures value { result ≡ renamed_action (key_number table.now) (actions.Compute operator calculation.now.half_adjust (deeds.first_or_result calculation.now) (deeds.second calculation.now) (deeds.result calculation.now) (deeds.resulting_shows calculation.now)) }
+    ensures value { result ≡ renamed_action (key_number table.now) (actions.Compute operator calculation.now.half_adjust (deeds.first_or_result calculation.now) (deeds.factor_2_operand calculation.now) (deeds.result_operand calculation.now) (deeds.resulting_shows calculation.now)) }
     ensures kept { IsMarkedAction result }
 {
     Action::Compute {
@@ -102,7 +102,7 @@ fn assign(
     table: &FieldTable,
     calculation: &CalculationSpec,
 ) -> Action<Operand<u16>>
-    ensures value { result ≡ renamed_action (key_number table.now) (actions.Assign is_negated calculation.now.half_adjust (deeds.second calculation.now) (deeds.result calculation.now) (deeds.resulting_shows calculation.now)) }
+    ensures value { result ≡ renamed_action (key_number table.now) (actions.Assign is_negated calculation.now.half_adjust (deeds.factor_2_operand calculation.now) (deeds.result_operand calculation.now) (deeds.resulting_shows calculation.now)) }
     ensures kept { IsMarkedAction result }
 {
     Action::Assign {
@@ -116,7 +116,7 @@ fn assign(
 
 /// MOVE and MOVEL.
 fn moved(side: Side, table: &FieldTable, calculation: &CalculationSpec) -> Action<Operand<u16>>
-    ensures value { result ≡ renamed_action (key_number table.now) (actions.Move side (deeds.second calculation.now) (deeds.result calculation.now)) }
+    ensures value { result ≡ renamed_action (key_number table.now) (actions.Move side (deeds.factor_2_operand calculation.now) (deeds.result_operand calculation.now)) }
     ensures kept { IsMarkedAction result }
 {
     Action::Move {

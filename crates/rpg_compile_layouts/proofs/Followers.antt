@@ -14,7 +14,7 @@ use Rattle.rpg_program.specs.declared.input.ControlField.{ControlField}
 use Rattle.rpg_program.specs.declared.input.InputFile.{InputFile}
 use Rattle.rpg_program.specs.declared.input.RecordCode.{RecordCode}
 use Rattle.rpg_sheet_specs.specs.declared.indicator.Three.{Three}
-use Rattle.rpg_sheet_specs.specs.declared.input.InputField.{InputField}
+use Rattle.rpg_sheet_specs.specs.declared.input.InputFieldSpec.{InputFieldSpec}
 use Rattle.rpg_sheet_specs.specs.declared.input.RecordCode as card
 use Rattle.rpg_sheet_specs.specs.declared.input.InputSpec.{InputSpec}
 use Rattle.rpg_sheet_specs.specs.declared.input.InputSpec.TheVariants as input
@@ -65,7 +65,7 @@ next_input cards i c s lt is on =
     ∙ ap (λ (d : SpecCard). following (input_role d.spec) (followers input_role (drop (i + 1) cards))) (sym is)
     ∙ ap (λ o. following (role_on input_card_role o) (followers input_role (drop (i + 1) cards))) (sym on)
 
-pub next_field : (cards : List SpecCard) (i : ℕ) (c : SpecCard) (f : InputField) → i < length cards → c ≡ get_or cards i c → Some (input.Field f) ≡ input_on c.spec
+pub next_field : (cards : List SpecCard) (i : ℕ) (c : SpecCard) (f : InputFieldSpec) → i < length cards → c ≡ get_or cards i c → Some (input.Field f) ≡ input_on c.spec
     → fields_behind (drop i cards) ≡ f ∷ fields_behind (drop (i + 1) cards)
 next_field cards i c f lt is on = ap input_fields_in (next_input cards i c (input.Field f) lt is on)
 
@@ -82,7 +82,7 @@ cons_list : {X : Type 0} (o : Option X) (xs : List X) → option_to_list o ++ xs
 cons_list None xs = refl
 cons_list (Some x) xs = refl
 
-pub levels_more : (level_of : InputField → Option ℕ) (cards : List SpecCard) (i : ℕ) (c : SpecCard) (f : InputField) (made : Option ControlField) (old new all : List ControlField) → i < length cards → c ≡ get_or cards i c → Some (input.Field f) ≡ input_on c.spec
+pub levels_more : (level_of : InputFieldSpec → Option ℕ) (cards : List SpecCard) (i : ℕ) (c : SpecCard) (f : InputFieldSpec) (made : Option ControlField) (old new all : List ControlField) → i < length cards → c ≡ get_or cards i c → Some (input.Field f) ≡ input_on c.spec
     → made ≡ field_at_level level_of f → new ≡ old ++ option_to_list made → old ++ levels_behind level_of (drop i cards) ≡ all → new ++ levels_behind level_of (drop (i + 1) cards) ≡ all
 levels_more level_of cards i c f made old new all lt is on here put so_far =
     let rest = levels_behind level_of (drop (i + 1) cards) in

@@ -18,7 +18,7 @@ use Rattle.rpg_compile_layouts.specs.Rows.{alternatives_behind, field_row, outpu
 use Rattle.rpg_compile_layouts.specs.Within.{AreFew, IsLineWithin}
 use Rattle.rpg_program.specs.Kept.{IsConditionRow, IsLineFieldRow, IsLineRow, IsSpacingRow}
 use Rattle.rpg_effect_renaming.specs.Naming.{renamed_field}
-use Rattle.rpg_sheet_specs.specs.declared.indicator.Condition as card
+use Rattle.rpg_sheet_specs.specs.declared.indicator.ConditionSpec as card
 use Rattle.rpg_sheet_specs.specs.declared.indicator.Three.{Three}
 use Rattle.rpg_sheet_specs.specs.declared.output.OutputField.{OutputField}
 use Rattle.rpg_sheet_specs.specs.declared.output.OutputRecord.{OutputRecord}
@@ -80,12 +80,12 @@ next_field t cards i c f lt is on = ap (λ os. map (renamed_field (key_number t)
 
 -- ---- alternatives, a card more
 
-pub alternatives_and : (cards : List SpecCard) (i : ℕ) (c : SpecCard) (cs : Three (Option card.Condition)) (before now : List Condition) → i < length cards → c ≡ get_or cards i c → Some (output.And cs) ≡ output_on c.spec
+pub alternatives_and : (cards : List SpecCard) (i : ℕ) (c : SpecCard) (cs : Three (Option card.ConditionSpec)) (before now : List Condition) → i < length cards → c ≡ get_or cards i c → Some (output.And cs) ≡ output_on c.spec
     → now ≡ before ++ standing cs → alternatives_behind before (drop i cards) ≡ alternatives_behind now (drop (i + 1) cards)
 alternatives_and cards i c cs before now lt is on put =
     ap (line_alternatives before) (next_output cards i c (output.And cs) lt is on) ∙ ap (λ cs. alternatives_behind cs (drop (i + 1) cards)) (sym put)
 
-pub alternatives_or : (cards : List SpecCard) (i : ℕ) (c : SpecCard) (cs : Three (Option card.Condition)) (before now : List Condition) → i < length cards → c ≡ get_or cards i c → Some (output.Or cs) ≡ output_on c.spec
+pub alternatives_or : (cards : List SpecCard) (i : ℕ) (c : SpecCard) (cs : Three (Option card.ConditionSpec)) (before now : List Condition) → i < length cards → c ≡ get_or cards i c → Some (output.Or cs) ≡ output_on c.spec
     → now ≡ standing cs → alternatives_behind before (drop i cards) ≡ before ∷ alternatives_behind now (drop (i + 1) cards)
 alternatives_or cards i c cs before now lt is on put =
     ap (line_alternatives before) (next_output cards i c (output.Or cs) lt is on) ∙ ap (λ cs. before ∷ alternatives_behind cs (drop (i + 1) cards)) (sym put)

@@ -9,7 +9,7 @@ use Rattle.rpg_program.specs.declared.input.ControlField.{ControlField}
 use Rattle.rpg_program.specs.declared.input.InputField as row
 use Rattle.rpg_program.specs.declared.input.InputFile.{InputFile}
 use Rattle.rpg_program.specs.declared.input.RecordCode.{RecordCode}
-use Rattle.rpg_sheet_specs.specs.declared.input.InputField.{InputField}
+use Rattle.rpg_sheet_specs.specs.declared.input.InputFieldSpec.{InputFieldSpec}
 use Rattle.rpg_sheet_specs.specs.declared.input.RecordType.{RecordType}
 use Rattle.rpg_compile_program.specs.Types.{and_card_codes, card_type, field_at_level, input_fields_in, input_row, type_of_file}
 
@@ -28,11 +28,11 @@ abbrev pub codes_behind : List SpecCard → List RecordCode
 codes_behind cards = flat_map and_card_codes (followers input_role cards)
 
 -- the fields on the cards after a type
-abbrev pub fields_behind : List SpecCard → List InputField
+abbrev pub fields_behind : List SpecCard → List InputFieldSpec
 fields_behind cards = input_fields_in (followers input_role cards)
 
 -- where they have a level of that choice
-abbrev pub levels_behind : (InputField → Option ℕ) → List SpecCard → List ControlField
+abbrev pub levels_behind : (InputFieldSpec → Option ℕ) → List SpecCard → List ControlField
 levels_behind level_of cards = filter_map (field_at_level level_of) (fields_behind cards)
 
 -- the input fields of a program, from the cards after a type

@@ -14,7 +14,7 @@ use std::alloc::{AllocError, Global};
 /// Those of the record card and of the AND cards after it, and others for each OR card, up to the next record card.
 pub(crate) fn alternatives_of(
     alloc: Global,
-    first: Three<Option<rpg_sheet_specs::Condition>>,
+    first: Three<Option<rpg_sheet_specs::ConditionSpec>>,
     behind: &[SpecCard],
 ) -> Result<Vec<Vec<Condition>>, AllocError>
     ensures alternatives { IfOk result (λ v. map (λ a. a.items) v.items ≡ alternatives_behind (calculations.standing first) behind.now) }
@@ -56,7 +56,7 @@ fn alternatives_from(
 /// The conditions that stand, in the order of their columns.
 fn standing(
     alloc: Global,
-    conditions: Three<Option<rpg_sheet_specs::Condition>>,
+    conditions: Three<Option<rpg_sheet_specs::ConditionSpec>>,
 ) -> Result<Vec<Condition>, AllocError>
     ensures value { IfOk result (λ v. v.items ≡ calculations.standing conditions) }
     ensures kept { IfOk result (λ v. All IsConditionRow v.items) }
@@ -69,7 +69,7 @@ fn standing(
 /// Puts the conditions that stand after the others.
 fn push_conditions(
     conditions: &mut Vec<Condition>,
-    more: Three<Option<rpg_sheet_specs::Condition>>,
+    more: Three<Option<rpg_sheet_specs::ConditionSpec>>,
 ) -> Result<(), AllocError>
     requires { All IsConditionRow conditions.old.items }
     ensures value { OnOk result (conditions.new.items ≡ conditions.old.items ++ calculations.standing more) }
@@ -82,7 +82,7 @@ fn push_conditions(
 
 fn push_condition(
     conditions: &mut Vec<Condition>,
-    condition: Option<rpg_sheet_specs::Condition>,
+    condition: Option<rpg_sheet_specs::ConditionSpec>,
 ) -> Result<(), AllocError>
     requires { All IsConditionRow conditions.old.items }
     ensures value { OnOk result (conditions.new.items ≡ conditions.old.items ++ option_to_list (option_map calculations.condition_of condition)) }

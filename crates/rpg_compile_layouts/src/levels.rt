@@ -9,7 +9,7 @@ ghost use Rattle.rpg_compile_program.specs.Types as types;
 
 use rpg_cards::SpecCard;
 use rpg_program::input::ControlField;
-use rpg_sheet_specs::{InputField, InputSpec, Within};
+use rpg_sheet_specs::{InputFieldSpec, InputSpec, Within};
 use std::alloc::{AllocError, Global};
 
 /// A control field for each field card with a control level, up to the next type card.
@@ -64,7 +64,7 @@ fn push_level(levels: &mut Vec<ControlField>, level: Option<ControlField>) -> Re
     Ok(())
 }
 
-fn level_of(field: &InputField) -> Option<ControlField>
+fn level_of(field: &InputFieldSpec) -> Option<ControlField>
     ensures value { result ≡ types.control_field_of field.now }
     ensures kept { IfSome result IsControlRow }
 {
@@ -72,7 +72,7 @@ fn level_of(field: &InputField) -> Option<ControlField>
     Some(field_at(level, field.decimals.is_some(), field.from, field.to))
 }
 
-fn match_of(field: &InputField) -> Option<ControlField>
+fn match_of(field: &InputFieldSpec) -> Option<ControlField>
     ensures value { result ≡ types.match_field_of field.now }
     ensures kept { IfSome result IsControlRow }
 {

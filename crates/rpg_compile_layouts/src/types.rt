@@ -91,7 +91,7 @@ fn inputs_of(
 }
 
 /// The columns of a field, with the indicators that show its value.
-fn input_of(table: &FieldTable, field: &rpg_sheet_specs::InputField) -> InputField<u16>
+fn input_of(table: &FieldTable, field: &rpg_sheet_specs::InputFieldSpec) -> InputField<u16>
     ensures value { result ≡ renamed_input (key_number table.now) (types.input_row field.now) }
     ensures kept { IsInputRow result }
 {

@@ -23,7 +23,7 @@ use Rattle.rpg_verify_rules.specs.Indicators.{all_asked, are_settable, if_any, i
 use Rattle.rpg_sheet_specs.specs.declared.calculation.CalculationSpec.{CalculationSpec}
 use Rattle.rpg_sheet_specs.specs.declared.calculation.ControlLevel.{ControlLevel}
 use Rattle.rpg_sheet_specs.specs.declared.calculation.ControlLevel.TheVariants as control
-use Rattle.rpg_sheet_specs.specs.declared.indicator.Condition as sheet
+use Rattle.rpg_sheet_specs.specs.declared.indicator.ConditionSpec as sheet
 use Rattle.rpg_sheet_specs.specs.declared.indicator.Three.{Three}
 use Rattle.rpg_compile_program.specs.Program.{version_for}
 use Rattle.rpg_compile_program.specs.Ranges.{InThree, IsCondition, IsControl}
@@ -77,10 +77,10 @@ asked_number cards n right within = by (is_some (file_for Secondary cards)) (has
     by false false h = let other : n ≢ 129 = eqb-false n 129 (not_mr (n == 129) h) in le-leb n 128 (omega arith)
 
 module _ (v : Version) where
-  abbrev may_ask : Option sheet.Condition → Bool
-  may_ask o = option_map_or (λ (c : sheet.Condition). nat_le c.indicator (most_asked v)) o true
+  abbrev may_ask : Option sheet.ConditionSpec → Bool
+  may_ask o = option_map_or (λ (c : sheet.ConditionSpec). nat_le c.indicator (most_asked v)) o true
 
-  places_asked : (a b c : Option sheet.Condition) → may_ask a ≡ true → may_ask b ≡ true → may_ask c ≡ true → all_asked v (in_places (map condition_of (filter_map (λ x. x) (a ∷ b ∷ c ∷ [])))) ≡ true
+  places_asked : (a b c : Option sheet.ConditionSpec) → may_ask a ≡ true → may_ask b ≡ true → may_ask c ≡ true → all_asked v (in_places (map condition_of (filter_map (λ x. x) (a ∷ b ∷ c ∷ [])))) ≡ true
   places_asked None None None p q r = refl
   places_asked None None (Some z) p q r = and_from _ _ r refl
   places_asked None (Some y) None p q r = and_from _ _ q refl
@@ -99,7 +99,7 @@ module _ (v : Version) where
     pub some : has_conditions cs ≡ true
     pub asked : all_asked v cs ≡ true
 
-asked_if_any : (cards : List SpecCard) (o : Option sheet.Condition) → option_map_or (bad_in_calculation cards) o false ≡ false → ForSome o IsCondition → may_ask (version_for cards) o ≡ true
+asked_if_any : (cards : List SpecCard) (o : Option sheet.ConditionSpec) → option_map_or (bad_in_calculation cards) o false ≡ false → ForSome o IsCondition → may_ask (version_for cards) o ≡ true
 asked_if_any cards None right range = refl
 asked_if_any cards (Some c) right range = asked_number cards c.indicator (or_parts (c.indicator == 111) (is_barred_mr cards c.indicator) right).1 (range c refl).highest
 

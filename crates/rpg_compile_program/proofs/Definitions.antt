@@ -21,7 +21,7 @@ use Rattle.rpg_sheet_specs.specs.declared.calculation.CalculationSpec.{Calculati
 use Rattle.rpg_sheet_specs.specs.declared.entry.Entry.{Entry}
 use Rattle.rpg_sheet_specs.specs.declared.extension.ExtensionSpec.{ExtensionSpec}
 use Rattle.rpg_sheet_specs.specs.declared.extension.TableSpec.{TableSpec}
-use Rattle.rpg_sheet_specs.specs.declared.input.InputField.{InputField}
+use Rattle.rpg_sheet_specs.specs.declared.input.InputFieldSpec.{InputFieldSpec}
 use Rattle.rpg_text.specs.Texts.{is_between}
 
 abbrev pub IsForm : Option FieldForm → Type 0
@@ -64,10 +64,10 @@ extension_there None few size = tt
 extension_there (Some e) few size = each_append HasForm (map (definition_in e) (tables_on e)) [] (tables_there e (tables_on e) few size) tt
 
 -- columns that aren't turned around
-abbrev pub is_turned : InputField → Bool
+abbrev pub is_turned : InputFieldSpec → Bool
 is_turned f = nat_lt f.to f.from
 
-field_there : (o : Option InputField) → option_map_or bad_size_of_field o false ≡ false → option_map_or is_turned o false ≡ false → Each HasForm (option_to_list (option_map definition_of o))
+field_there : (o : Option InputFieldSpec) → option_map_or bad_size_of_field o false ≡ false → option_map_or is_turned o false ≡ false → Each HasForm (option_to_list (option_map definition_of o))
 field_there None size straight = tt
 field_there (Some f) size straight =
     let order : nat_le f.from f.to ≡ true = le-leb f.from f.to (ltb-false f.to f.from straight) in

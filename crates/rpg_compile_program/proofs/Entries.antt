@@ -28,7 +28,7 @@ use Rattle.rpg_program.specs.declared.row.Use.{Use}
 use Rattle.rpg_faults_flow.specs.Columns.{misses}
 use Rattle.rpg_faults_operands.specs.Indexes.{bad_index_field, bad_index_of, can_index, is_too_short, misindexed, needs_index, takes_index}
 use Rattle.rpg_faults_operands.specs.Kinds.{has_text, is_unwritable, is_wrong_class, kinds_differ}
-use Rattle.rpg_faults_operands.specs.Names.{is_undefined, name_in, names_nothing}
+use Rattle.rpg_faults_operands.specs.Names.{is_undefined, name_in_index, names_nothing}
 use Rattle.rpg_faults_operands.specs.Operands.{card_entry_form, factor_entry, is_field_content, operand_with}
 use Rattle.rpg_sheet_specs.specs.declared.entry.Entry.{Entry}
 use Rattle.rpg_sheet_specs.specs.declared.entry.EntryIndex.{EntryIndex}
@@ -84,10 +84,10 @@ module _ (cards : List SpecCard) (forms : Key → Option FieldForm)
 
   -- the form that the cards give to the field of an index
   abbrev index_form : Option EntryIndex → Option FieldForm
-  index_form i = option_and_then (λ x. form_in (form_of_name x cards)) (option_and_then name_in i)
+  index_form i = option_and_then (λ x. form_in (form_of_name x cards)) (option_and_then name_in_index i)
 
   abbrev lacks_index : Option EntryIndex → Bool
-  lacks_index i = option_map_or (is_undefined cards) (option_and_then name_in i) false
+  lacks_index i = option_map_or (is_undefined cards) (option_and_then name_in_index i) false
 
   record IsIndexFit (s : Shape) (d : FieldForm) (x : Index Key) : Type 0 where
     there : has_index forms d x ≡ true

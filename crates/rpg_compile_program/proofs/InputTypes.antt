@@ -27,7 +27,7 @@ use Rattle.rpg_verify_rules.specs.Indicators.{if_any, is_of_type}
 use Rattle.rpg_verify_rules.specs.TypeRules.{is_code_in}
 use Rattle.rpg_sheet_specs.specs.declared.file.FileSpec.{FileSpec}
 use Rattle.rpg_sheet_specs.specs.declared.indicator.Three.{Three}
-use Rattle.rpg_sheet_specs.specs.declared.input.InputField.{InputField}
+use Rattle.rpg_sheet_specs.specs.declared.input.InputFieldSpec.{InputFieldSpec}
 use Rattle.rpg_sheet_specs.specs.declared.input.InputSpec.{InputSpec}
 use Rattle.rpg_sheet_specs.specs.declared.input.InputSpec.TheVariants as input
 use Rattle.rpg_sheet_specs.specs.declared.input.RecordCode.{RecordCode}
@@ -128,12 +128,12 @@ marks_type (Some n) e range = by (nat_le n 99) refl (nat_le 101 n && nat_le n 11
 -- ---- fields
 
 -- the form of an input field: plain, as long as its columns, a text where column 52 is blank
-pub record IsFormOf (f : InputField) (form : FieldForm) : Type 0 where
+pub record IsFormOf (f : InputFieldSpec) (form : FieldForm) : Type 0 where
   pub plain : is_plain form.class ≡ true
   pub long : form.length ≡ f.to + 1 - f.from
   pub kind : form.kind ≡ kind_by f.decimals
 
-pub form_of_field : (f : InputField) (form : FieldForm) → field_form f ≡ Some form → IsFormOf f form
+pub form_of_field : (f : InputFieldSpec) (form : FieldForm) → field_form f ≡ Some form → IsFormOf f form
 form_of_field f form e = by (nat_le f.from f.to) f.decimals e
   where
     len : ℕ
@@ -173,7 +173,7 @@ module _ (cards : List SpecCard) (rules : KeepsCardRules cards) (ranges : AreCar
     pub indicator : option_map_or cannot_mark_type t.indicator false ≡ false
     pub range : IsType t
 
-  pub record IsFieldGood (name : Option (List ℕ)) (f : InputField) : Type 0 where
+  pub record IsFieldGood (name : Option (List ℕ)) (f : InputFieldSpec) : Type 0 where
     pub outside : outside_record (file_by name cards) f ≡ false
     pub form : FieldForm
     pub is : field_form f ≡ Some form
@@ -200,7 +200,7 @@ module _ (cards : List SpecCard) (rules : KeepsCardRules cards) (ranges : AreCar
   range_kept : (before : List SpecCard) (c : SpecCard) (after : List SpecCard) (i : InputSpec) → cards ≡ before ++ c ∷ after → c.spec ≡ spec.Input i → IsInput i
   range_kept before c after i split is = subst IsInRange is (each_at IsCard before c after (subst AreCards split ranges))
 
-  field_good : (before : List SpecCard) (c : SpecCard) (after : List SpecCard) (f : InputField) → cards ≡ before ++ c ∷ after → c.spec ≡ spec.Input (input.Field f) → IsFieldGood (open_file input_role before) f
+  field_good : (before : List SpecCard) (c : SpecCard) (after : List SpecCard) (f : InputFieldSpec) → cards ≡ before ++ c ∷ after → c.spec ≡ spec.Input (input.Field f) → IsFieldGood (open_file input_role before) f
   field_good before c after f split is =
       let here = (subst (λ s. Each HasForm (definitions_on s)) is (card_has_forms cards rules before c after split)).0 in
       let named = (subst (λ s. Each (HasName cards) (definitions_on s)) is (card_defines cards rules before c after split)).0 in

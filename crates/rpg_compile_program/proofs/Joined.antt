@@ -16,7 +16,7 @@ use Rattle.rpg_faults.specs.Places.{first_length, good_length, has_bad, input_co
 use Rattle.rpg_effect_renaming.specs.Naming.{renamed_type}
 use Rattle.rpg_verify_rules.specs.TypeRules.{all_measured, is_measured, measure, measures}
 use Rattle.rpg_verify_rules.specs.TypeRules as row
-use Rattle.rpg_sheet_specs.specs.declared.input.InputField.{InputField}
+use Rattle.rpg_sheet_specs.specs.declared.input.InputFieldSpec.{InputFieldSpec}
 use Rattle.rpg_sheet_specs.specs.declared.input.InputSpec.{InputSpec}
 use Rattle.rpg_sheet_specs.specs.declared.input.RecordType.{RecordType}
 use Rattle.rpg_compile_program.proofs.Lists.{or_first, or_second}
@@ -24,11 +24,11 @@ use Rattle.rpg_compile_program.specs.Types.{card_type, control_field, field_at_l
 
 -- ---- columns that are good
 
-pub record HasColumns (f : InputField) : Type 0 where
+pub record HasColumns (f : InputFieldSpec) : Type 0 where
   pub first : 1 ≤ f.from
   pub order : f.from ≤ f.to
 
-pub some_columns : (f : InputField) → HasColumns f → (input_columns f ≡ f.to + 1 - f.from) × (1 ≤ input_columns f)
+pub some_columns : (f : InputFieldSpec) → HasColumns f → (input_columns f ≡ f.to + 1 - f.from) × (1 ≤ input_columns f)
 some_columns f h =
     let low = h.first in
     let high = h.order in
@@ -37,21 +37,21 @@ some_columns f h =
 
 -- ---- one type: the sums of both are one
 
-module _ (level_of : InputField → Option ℕ) where
-  abbrev pub At : ℕ → List InputField → List InputField
+module _ (level_of : InputFieldSpec → Option ℕ) where
+  abbrev pub At : ℕ → List InputFieldSpec → List InputFieldSpec
   At level fs = filter (is_at level_of level) fs
 
-  abbrev pub Sum : ℕ → List InputField → ℕ
+  abbrev pub Sum : ℕ → List InputFieldSpec → ℕ
   Sum level fs = sum_by input_columns (At level fs)
 
-  one_more : (level : ℕ) (f : InputField) (fs : List InputField) → Sum level (f ∷ fs) ≡ cond (is_at level_of level f) (input_columns f) 0 + Sum level fs
+  one_more : (level : ℕ) (f : InputFieldSpec) (fs : List InputFieldSpec) → Sum level (f ∷ fs) ≡ cond (is_at level_of level f) (input_columns f) 0 + Sum level fs
   one_more level f fs = by (is_at level_of level f)
     where
       by : (b : Bool) → sum_by input_columns (cond b (f ∷ At level fs) (At level fs)) ≡ cond b (input_columns f) 0 + Sum level fs
       by true = sum_by-cons input_columns f (At level fs)
       by false = omega arith
 
-  pub same_sum : (level : ℕ) (fs : List InputField) → Each HasColumns fs → row.joined_width level (filter_map (field_at_level level_of) fs) ≡ Sum level fs
+  pub same_sum : (level : ℕ) (fs : List InputFieldSpec) → Each HasColumns fs → row.joined_width level (filter_map (field_at_level level_of) fs) ≡ Sum level fs
   same_sum level [] h = refl
   same_sum level (f ∷ fs) h =
       let more = one_more level f fs in
@@ -70,11 +70,11 @@ InGroup g = Each HasColumns (input_fields_in g.followers)
 abbrev pub Joined : ℕ → Group RecordType InputSpec → ℕ
 Joined level g = joined_length level g.followers
 
-pub positive : (fs : List InputField) → Each HasColumns fs → has_bad fs ≡ false
+pub positive : (fs : List InputFieldSpec) → Each HasColumns fs → has_bad fs ≡ false
 positive [] h = refl
 positive (f ∷ fs) h = ap (λ b. b || has_bad fs) (ne_eqb (input_columns f) 0 (λ e. let low = (some_columns f h.0).1 in omega arith)) ∙ positive fs h.1
 
-pub each_filtered : (test : InputField → Bool) (fs : List InputField) → Each HasColumns fs → Each HasColumns (filter test fs)
+pub each_filtered : (test : InputFieldSpec → Bool) (fs : List InputFieldSpec) → Each HasColumns fs → Each HasColumns (filter test fs)
 each_filtered test [] h = tt
 each_filtered test (f ∷ fs) h = by (test f) (each_filtered test fs h.1)
   where
@@ -86,7 +86,7 @@ each_filtered test (f ∷ fs) h = by (test f) (each_filtered test fs h.1)
 abbrev some_if : ℕ → Option ℕ
 some_if n = cond (n == 0) None (Some n)
 
-length_is : (fs : List InputField) → Each HasColumns fs → good_length fs ≡ some_if (sum_by input_columns fs)
+length_is : (fs : List InputFieldSpec) → Each HasColumns fs → good_length fs ≡ some_if (sum_by input_columns fs)
 length_is [] h = refl
 length_is (f ∷ fs) h =
     let sum = sum_by-cons input_columns f fs in

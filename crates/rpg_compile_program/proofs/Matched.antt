@@ -15,8 +15,8 @@ use Rattle.rpg_cards.specs.Plain.{Each}
 use Rattle.rpg_cards.specs.declared.spec_card.SpecCard.{SpecCard}
 use Rattle.rpg_program.specs.declared.input.ControlField.{ControlField}
 use Rattle.rpg_effect_renaming.specs.Naming.{renamed_type}
-use Rattle.rpg_faults.specs.Places.{first_matches, good_matches, has_bad, has_twice, input_columns, levels, match_fields, match_lengths, matches_differ, passes_matches, repeats}
-use Rattle.rpg_sheet_specs.specs.declared.input.InputField.{InputField}
+use Rattle.rpg_faults.specs.Places.{first_good_matches, good_matches, has_bad, has_twice, input_columns, levels, matched_fields, match_lengths, matches_differ, passes_matches, repeats}
+use Rattle.rpg_sheet_specs.specs.declared.input.InputFieldSpec.{InputFieldSpec}
 use Rattle.rpg_sheet_specs.specs.declared.input.InputSpec.{InputSpec}
 use Rattle.rpg_sheet_specs.specs.declared.input.RecordType.{RecordType}
 use Rattle.rpg_verify_rules.specs.TypeRules.{are_joined_as, are_once, is_of_level, joined_width, joined_widths}
@@ -27,13 +27,13 @@ use Rattle.rpg_compile_program.specs.Types.{card_type, control_field, input_fiel
 
 -- ---- the fields with a match level, as cards have them and as a program has them
 
-abbrev pub Matching : List InputField → List InputField
+abbrev pub Matching : List InputFieldSpec → List InputFieldSpec
 Matching fs = filter is_match_field fs
 
-abbrev pub Rows : List InputField → List ControlField
+abbrev pub Rows : List InputFieldSpec → List ControlField
 Rows fs = filter_map match_field_of fs
 
-same_length : (fs : List InputField) → length (Rows fs) ≡ length (Matching fs)
+same_length : (fs : List InputFieldSpec) → length (Rows fs) ≡ length (Matching fs)
 same_length [] = refl
 same_length (f ∷ fs) = by f.match_level (same_length fs)
   where
@@ -41,7 +41,7 @@ same_length (f ∷ fs) = by f.match_level (same_length fs)
     by None r = r
     by (Some l) r = let rest = r in omega arith
 
-same_levels : (l : ℕ) (fs : List InputField) → list_any (is_of_level l) (Rows fs) ≡ list_any (is_at match_level l) (Matching fs)
+same_levels : (l : ℕ) (fs : List InputFieldSpec) → list_any (is_of_level l) (Rows fs) ≡ list_any (is_at match_level l) (Matching fs)
 same_levels l [] = refl
 same_levels l (f ∷ fs) = by f.match_level refl (same_levels l fs)
   where
@@ -53,7 +53,7 @@ same_levels l (f ∷ fs) = by f.match_level refl (same_levels l fs)
 
 -- ---- each level stands once
 
-pub once_same : (fs : List InputField) → has_twice (Matching fs) ≡ false → are_once (Rows fs) ≡ true
+pub once_same : (fs : List InputFieldSpec) → has_twice (Matching fs) ≡ false → are_once (Rows fs) ≡ true
 once_same [] e = refl
 once_same (f ∷ fs) e = by f.match_level refl e (once_same fs)
   where
@@ -82,13 +82,13 @@ unlike None (Some k) e = refl
 unlike (Some l) None e = refl
 unlike (Some l) (Some k) e = ne_eqb k l (λ same. eqb-false l k e (sym same))
 
-repeats_more : (ms : List InputField) (m f : InputField) → repeats ms m ≡ false → repeats (m ∷ ms) f ≡ false → repeats (ms ++ f ∷ []) m ≡ false
+repeats_more : (ms : List InputFieldSpec) (m f : InputFieldSpec) → repeats ms m ≡ false → repeats (m ∷ ms) f ≡ false → repeats (ms ++ f ∷ []) m ≡ false
 repeats_more ms m f own further =
     (λ i. option_map_or (λ l. list_any-append (is_at match_level l) ms (f ∷ []) i) m.match_level false)
     ∙ neither (λ l. list_any (is_at match_level l) ms) (λ l. is_at match_level l f) m.match_level own
     (unlike m.match_level f.match_level (halves (λ k. is_at match_level k m) (λ k. list_any (is_at match_level k) ms) f.match_level further).0)
 
-has_twice_more : (ms : List InputField) (f : InputField) → has_twice ms ≡ false → repeats ms f ≡ false → has_twice (ms ++ f ∷ []) ≡ false
+has_twice_more : (ms : List InputFieldSpec) (f : InputFieldSpec) → has_twice ms ≡ false → repeats ms f ≡ false → has_twice (ms ++ f ∷ []) ≡ false
 has_twice_more [] f once new = or_from _ _ new refl
 has_twice_more (m ∷ ms) f once new =
     let both = or_parts (repeats ms m) (has_twice ms) once in
@@ -96,14 +96,14 @@ has_twice_more (m ∷ ms) f once new =
     or_from _ _ (repeats_more ms m f both.0 new) (has_twice_more ms f both.1 rest)
 
 -- each level once, and at most 256 columns
-pub record AreFew (ms : List InputField) : Type 0 where
+pub record AreFew (ms : List InputFieldSpec) : Type 0 where
   pub once : has_twice ms ≡ false
   pub columns : sum_by input_columns ms ≤ 256
 
 pub none_few : AreFew []
 none_few = record { once = refl; columns = omega arith }
 
-pub stay_few : (ms : List InputField) (f : InputField) → AreFew ms → (repeats ms f || passes_matches ms f) ≡ false → AreFew (ms ++ Matching (f ∷ []))
+pub stay_few : (ms : List InputFieldSpec) (f : InputFieldSpec) → AreFew ms → (repeats ms f || passes_matches ms f) ≡ false → AreFew (ms ++ Matching (f ∷ []))
 stay_few ms f few right = by (is_some f.match_level) refl
   where
     both : (repeats ms f ≡ false) × (passes_matches ms f ≡ false)
@@ -127,7 +127,7 @@ stay_few ms f few right = by (is_some f.match_level) refl
 
 -- ---- joined lengths
 
-at_same : (level : ℕ) (fs : List InputField) → filter (is_at match_level level) (Matching fs) ≡ At match_level level fs
+at_same : (level : ℕ) (fs : List InputFieldSpec) → filter (is_at match_level level) (Matching fs) ≡ At match_level level fs
 at_same level [] = refl
 at_same level (f ∷ fs) = by f.match_level refl (at_same level fs)
   where
@@ -144,7 +144,7 @@ nine_widths : (cs : List ControlField) → map (λ level. joined_width level cs)
 unfolding levels
 nine_widths cs = refl
 
-pub columns_same : (fs : List InputField) → Each HasColumns fs → all_columns (Rows fs) ≡ sum_by input_columns (Matching fs)
+pub columns_same : (fs : List InputFieldSpec) → Each HasColumns fs → all_columns (Rows fs) ≡ sum_by input_columns (Matching fs)
 columns_same [] h = refl
 columns_same (f ∷ fs) h = by f.match_level (columns_same fs h.1)
   where
@@ -153,7 +153,7 @@ columns_same (f ∷ fs) h = by f.match_level (columns_same fs h.1)
     by None r = r
     by (Some l) r = let here = (some_columns f h.0).0 in let sum = sum_by-cons input_columns f (Matching fs) in let rest = r in omega arith
 
-pub lengths_same : (fs : List InputField) → Each HasColumns fs → match_lengths (Matching fs) ≡ joined_widths (Rows fs)
+pub lengths_same : (fs : List InputFieldSpec) → Each HasColumns fs → match_lengths (Matching fs) ≡ joined_widths (Rows fs)
 lengths_same fs h =
     same_map (λ level. sum_by input_columns (filter (is_at match_level level) (Matching fs))) (λ level. joined_width level (Rows fs))
     (λ level. ap (sum_by input_columns) (at_same level fs) ∙ sym (same_sum match_level level fs h)) levels
@@ -162,7 +162,7 @@ lengths_same fs h =
 -- ---- types
 
 abbrev pub IsOnce : Group RecordType InputSpec → Type 0
-IsOnce g = has_twice (match_fields g.followers) ≡ false
+IsOnce g = has_twice (matched_fields g.followers) ≡ false
 
 abbrev pub Matches : Group RecordType InputSpec → List ControlField
 Matches g = Rows (input_fields_in g.followers)
@@ -171,10 +171,10 @@ Matches g = Rows (input_fields_in g.followers)
 abbrev unless_none : List ControlField → Option (List ℕ)
 unless_none cs = cond (length cs == 0) None (Some (joined_widths cs))
 
-good_are : (fs : List InputField) → Each HasColumns fs → has_twice (Matching fs) ≡ false → good_matches (Matching fs) ≡ unless_none (Rows fs)
+good_are : (fs : List InputFieldSpec) → Each HasColumns fs → has_twice (Matching fs) ≡ false → good_matches (Matching fs) ≡ unless_none (Rows fs)
 good_are fs h once = by (Matching fs) refl
   where
-    by : (ms : List InputField) → Matching fs ≡ ms → good_matches ms ≡ unless_none (Rows fs)
+    by : (ms : List InputFieldSpec) → Matching fs ≡ ms → good_matches ms ≡ unless_none (Rows fs)
     by [] e = sym (ap (λ b. cond b None (Some (joined_widths (Rows fs)))) (eq-eqb (length (Rows fs)) 0 (same_length fs ∙ ap length e)))
     by (m ∷ ms) e =
         let good : has_bad (m ∷ ms) ≡ false = positive (m ∷ ms) (subst (Each HasColumns) e (each_filtered is_match_field fs h)) in
@@ -190,7 +190,7 @@ abbrev pub firsts : List (Group RecordType InputSpec) → List ControlField
 firsts [] = []
 firsts (g ∷ gs) = cond (length (Matches g) == 0) (firsts gs) (Matches g)
 
-first_are : (gs : List (Group RecordType InputSpec)) → Each InGroup gs → Each IsOnce gs → first_matches gs ≡ unless_none (firsts gs)
+first_are : (gs : List (Group RecordType InputSpec)) → Each InGroup gs → Each IsOnce gs → first_good_matches gs ≡ unless_none (firsts gs)
 first_are [] h once = refl
 first_are (g ∷ gs) h once = (λ i. option_or (good_are (input_fields_in g.followers) h.0 once.0 i) (first_are gs h.1 once.1 i)) ∙ by (length (Matches g) == 0) refl
   where
@@ -215,7 +215,7 @@ firsts_behind (g ∷ gs) behind = by (length (Matches g) == 0) refl (firsts_behi
 
 -- the same lengths as in the first type that has match fields
 pub matched : (front : List (Group RecordType InputSpec)) (g : Group RecordType InputSpec) (behind : List (Group RecordType InputSpec)) → Each InGroup front → Each IsOnce front → InGroup g → IsOnce g
-    → matches_differ (first_matches front) (good_matches (match_fields g.followers)) ≡ false → are_joined_as (joined_widths (firsts (front ++ g ∷ behind))) (Matches g) ≡ true
+    → matches_differ (first_good_matches front) (good_matches (matched_fields g.followers)) ≡ false → are_joined_as (joined_widths (firsts (front ++ g ∷ behind))) (Matches g) ≡ true
 matched front g behind h once good single same = by (length (Matches g) == 0) refl
   where
     alike : matches_differ (unless_none (firsts front)) (unless_none (Matches g)) ≡ false

@@ -5,7 +5,7 @@ use Rattle.std.proofs.lemmas.List.Folds.{list_any-append}
 use Rattle.std.specs.List.{list_any}
 use Rattle.std.specs.Option.{ForSome, option_and_then, option_len, option_map, option_map_or, option_to_list}
 use Rattle.std.specs.Prelude.{is_some, nat_le, nat_lt, unwrap_or, ◌==◌}
-use Rattle.rpg_cards.specs.Deeds.{deed_by, deed_from, deed_of, first, first_or_result, result, resulting_shows, second, shows_of}
+use Rattle.rpg_cards.specs.Deeds.{deed_by, deed_from, deed_of, factor_1_operand, first_or_result, result_operand, resulting_shows, factor_2_operand, shows_of}
 use Rattle.rpg_cards.specs.Keys as keys
 use Rattle.rpg_cards.specs.Keys.{Key, Named, entry_operand}
 use Rattle.rpg_cards.specs.Operations.{card_columns}
@@ -153,14 +153,14 @@ module _ (cards : List SpecCard) (forms : Key → Option FieldForm)
         by (Some e) defined index right = record { defined = defined; index = index; right = right; literal = λ x is. let same : factor.Entry e ≡ x = cc in subst HasForm same tt }
 
     -- what stands in a column that must be filled is there
-    first_holds : (c : Content) → is_field_content c ≡ true → field_content t.factor_1 ≡ Some c → misses (Must c) k.factor_1 ≡ false → Holds (shape_of c) (first k) (option_and_then known k.factor_1)
+    first_holds : (c : Content) → is_field_content c ≡ true → field_content t.factor_1 ≡ Some c → misses (Must c) k.factor_1 ≡ false → Holds (shape_of c) (factor_1_operand k) (option_and_then known k.factor_1)
     first_holds c is e filled = entries.column_holds cards forms named good c k.factor_1 is filled (first_fit c e)
 
-    second_holds : (c : Content) → is_field_content c ≡ true → field_content t.factor_2 ≡ Some c → misses (Must c) k.factor_2 ≡ false → Holds (shape_of c) (second k) (option_and_then known k.factor_2)
+    second_holds : (c : Content) → is_field_content c ≡ true → field_content t.factor_2 ≡ Some c → misses (Must c) k.factor_2 ≡ false → Holds (shape_of c) (factor_2_operand k) (option_and_then known k.factor_2)
     second_holds c is e filled = entries.column_holds cards forms named good c k.factor_2 is filled (second_fit c e)
 
     third_holds : (c : Content) → is_field_content c ≡ true → field_content t.result_field ≡ Some c → misses (Must c) (option_map factor.Entry k.result_field) ≡ false
-        → Holds (shape_of c) (result k) (option_and_then (card_entry_form cards) k.result_field)
+        → Holds (shape_of c) (result_operand k) (option_and_then (card_entry_form cards) k.result_field)
     third_holds c is e filled = entries.result_holds cards forms named good c k.result_field is filled (third_fit c e)
 
   -- ---- operands of operations
@@ -178,9 +178,9 @@ module _ (cards : List SpecCard) (forms : Key → Option FieldForm)
 
   record AreThree (k : CalculationSpec) : Type 0 where
     factor_1 : IsNumber (first_or_result k)
-    factor_2 : IsNumber (second k)
-    number : IsNumber (result k)
-    written : IsWritten (result k)
+    factor_2 : IsNumber (factor_2_operand k)
+    number : IsNumber (result_operand k)
+    written : IsWritten (result_operand k)
 
   three : (k : CalculationSpec) → IsOperationFit (card_columns op.Add) k → AreThree k
   three k h =
@@ -189,16 +189,16 @@ module _ (cards : List SpecCard) (forms : Key → Option FieldForm)
       let r = third_holds (card_columns op.Add) k h Value refl refl h.filled_3 in
       let number = entries.number_right cards forms named good r text.1 in
       record {
-        factor_1 = first_number k.factor_1 (result k) (first_fit (card_columns op.Add) k h Value refl) factors.0 number;
+        factor_1 = first_number k.factor_1 (result_operand k) (first_fit (card_columns op.Add) k h Value refl) factors.0 number;
         factor_2 = entries.number_right cards forms named good (second_holds (card_columns op.Add) k h Value refl refl h.filled_2) factors.1;
         number = number;
         written = entries.result_written cards forms named good r h.result;
       }
 
   record AreTwo (k : CalculationSpec) : Type 0 where
-    factor_2 : IsNumber (second k)
-    number : IsNumber (result k)
-    written : IsWritten (result k)
+    factor_2 : IsNumber (factor_2_operand k)
+    number : IsNumber (result_operand k)
+    written : IsWritten (result_operand k)
 
   two : (k : CalculationSpec) → IsOperationFit (card_columns op.ZeroAdd) k → AreTwo k
   two k h =
@@ -212,7 +212,7 @@ module _ (cards : List SpecCard) (forms : Key → Option FieldForm)
 
   -- ---- operations
 
-  computed : (k : CalculationSpec) (o : Operator) → IsOperationFit (card_columns op.Add) k → IsRightAct forms (Compute o k.half_adjust (first_or_result k) (second k) (result k) (resulting_shows k))
+  computed : (k : CalculationSpec) (o : Operator) → IsOperationFit (card_columns op.Add) k → IsRightAct forms (Compute o k.half_adjust (first_or_result k) (factor_2_operand k) (result_operand k) (resulting_shows k))
   unfolding row_of holds_positions
   computed k o h =
       let t = three k h in
@@ -222,7 +222,7 @@ module _ (cards : List SpecCard) (forms : Key → Option FieldForm)
         sought = refl;
       }
 
-  divided : (k : CalculationSpec) → IsOperationFit (card_columns op.Divide) k → IsRightAct forms (Divide k.half_adjust (first_or_result k) (second k) (result k) (resulting_shows k))
+  divided : (k : CalculationSpec) → IsOperationFit (card_columns op.Divide) k → IsRightAct forms (Divide k.half_adjust (first_or_result k) (factor_2_operand k) (result_operand k) (resulting_shows k))
   unfolding row_of holds_positions
   divided k h =
       let t = three k h in
@@ -232,7 +232,7 @@ module _ (cards : List SpecCard) (forms : Key → Option FieldForm)
         sought = refl;
       }
 
-  assigned : (k : CalculationSpec) (negated : Bool) → IsOperationFit (card_columns op.ZeroAdd) k → IsRightAct forms (Assign negated k.half_adjust (second k) (result k) (resulting_shows k))
+  assigned : (k : CalculationSpec) (negated : Bool) → IsOperationFit (card_columns op.ZeroAdd) k → IsRightAct forms (Assign negated k.half_adjust (factor_2_operand k) (result_operand k) (resulting_shows k))
   unfolding row_of holds_positions
   assigned k negated h =
       let t = two k h in
@@ -242,7 +242,7 @@ module _ (cards : List SpecCard) (forms : Key → Option FieldForm)
         sought = refl;
       }
 
-  remainder_taken : (k : CalculationSpec) → IsOperationFit (card_columns op.MoveRemainder) k → IsRightAct forms (TakeRemainder (result k) (resulting_shows k))
+  remainder_taken : (k : CalculationSpec) → IsOperationFit (card_columns op.MoveRemainder) k → IsRightAct forms (TakeRemainder (result_operand k) (resulting_shows k))
   unfolding row_of holds_positions
   remainder_taken k h =
       let r = third_holds (card_columns op.MoveRemainder) k h Value refl refl h.filled_3 in
@@ -252,7 +252,7 @@ module _ (cards : List SpecCard) (forms : Key → Option FieldForm)
         sought = refl;
       }
 
-  cross_footed : (k : CalculationSpec) → IsOperationFit (card_columns op.CrossFoot) k → IsRightAct forms (CrossFoot k.half_adjust (second k) (result k) (resulting_shows k))
+  cross_footed : (k : CalculationSpec) → IsOperationFit (card_columns op.CrossFoot) k → IsRightAct forms (CrossFoot k.half_adjust (factor_2_operand k) (result_operand k) (resulting_shows k))
   unfolding row_of holds_positions
   cross_footed k h =
       let text = or_parts _ _ h.kinds in
@@ -265,7 +265,7 @@ module _ (cards : List SpecCard) (forms : Key → Option FieldForm)
         sought = refl;
       }
 
-  moved : (k : CalculationSpec) (side : Side) → IsOperationFit (card_columns op.Move) k → IsRightAct forms (Move side (second k) (result k))
+  moved : (k : CalculationSpec) (side : Side) → IsOperationFit (card_columns op.Move) k → IsRightAct forms (Move side (factor_2_operand k) (result_operand k))
   unfolding row_of holds_positions
   moved k side h =
       let b = second_holds (card_columns op.Move) k h Value refl refl h.filled_2 in
@@ -277,7 +277,7 @@ module _ (cards : List SpecCard) (forms : Key → Option FieldForm)
         sought = refl;
       }
 
-  compared : (k : CalculationSpec) → IsOperationFit (card_columns op.Compare) k → IsRightAct forms (Compare (first k) (second k) (resulting_shows k))
+  compared : (k : CalculationSpec) → IsOperationFit (card_columns op.Compare) k → IsRightAct forms (Compare (factor_1_operand k) (factor_2_operand k) (resulting_shows k))
   unfolding row_of holds_positions
   compared k h =
       let a = first_holds (card_columns op.Compare) k h Value refl refl h.filled_1 in
@@ -299,10 +299,10 @@ module _ (cards : List SpecCard) (forms : Key → Option FieldForm)
   -- ---- LOKUP
 
   module _ (k : CalculationSpec) (h : IsOperationFit (card_columns op.LookUp) k) where
-    sought_value : Holds shape.One (first k) (option_and_then known k.factor_1)
+    sought_value : Holds shape.One (factor_1_operand k) (option_and_then known k.factor_1)
     sought_value = first_holds (card_columns op.LookUp) k h Value refl refl h.filled_1
 
-    table_searched : Holds shape.Searched (second k) (option_and_then known k.factor_2)
+    table_searched : Holds shape.Searched (factor_2_operand k) (option_and_then known k.factor_2)
     table_searched = second_holds (card_columns op.LookUp) k h Searched refl refl h.filled_2
 
     abbrev form : FieldForm
@@ -312,12 +312,12 @@ module _ (cards : List SpecCard) (forms : Key → Option FieldForm)
     has_positions : (is_array form.class || is_table form.class) ≡ true
     has_positions = not-false _ (subst (λ (o : Option FieldForm). option_map_or (is_wrong_class Searched) o false ≡ false) table_searched.is (second_fit (card_columns op.LookUp) k h Searched refl).right)
 
-    index_holds : can_hold forms (second k).index (entries_of (forms (second k).field)) ≡ true
+    index_holds : can_hold forms (factor_2_operand k).index (entries_of (forms (factor_2_operand k).field)) ≡ true
     index_holds =
-        ap (λ (o : Option FieldForm). can_hold forms (second k).index (entries_of o)) table_searched.leads
+        ap (λ (o : Option FieldForm). can_hold forms (factor_2_operand k).index (entries_of o)) table_searched.leads
         ∙ entries.column_searches cards forms named good k.factor_2 form table_searched.is (second_fit (card_columns op.LookUp) k h Searched refl)
 
-    in_order : (not (is_some k.resulting_indicators.first || is_some k.resulting_indicators.second) || is_form_ascending (forms (second k).field)) ≡ true
+    in_order : (not (is_some k.resulting_indicators.first || is_some k.resulting_indicators.second) || is_form_ascending (forms (factor_2_operand k).field)) ≡ true
     in_order =
         let ordered : ((is_some k.resulting_indicators.first || is_some k.resulting_indicators.second) && lacks_sequence form) ≡ false =
         subst (λ (o : Option FieldForm). ((is_some k.resulting_indicators.first || is_some k.resulting_indicators.second) && option_map_or lacks_sequence o false) ≡ false) table_searched.is h.sequence in
@@ -328,7 +328,7 @@ module _ (cards : List SpecCard) (forms : Key → Option FieldForm)
     marks = and_from _ _ h.settable (some_shown k.resulting_indicators (or_parts _ _ h.shown).0)
 
     looked_up : (r : Option Entry) → IsFit Table (option_map factor.Entry r) → finds_too_few (option_and_then known k.factor_2) (option_and_then (card_entry_form cards) r) ≡ false
-        → IsRightAct forms (LookUp (first k) (second k) (option_map entry_operand r) (resulting_shows k))
+        → IsRightAct forms (LookUp (factor_1_operand k) (factor_2_operand k) (option_map entry_operand r) (resulting_shows k))
     unfolding row_of holds_positions
     looked_up None fit enough = record {
       row = right_row forms _ (record { factor1 = entries.own_right cards forms named good sought_value; factor2 = entries.like_right cards forms named good sought_value table_searched h.kinds; result = tt })

@@ -31,13 +31,13 @@ use Rattle.rpg_faults_operands.specs.Columns.{bad_output_field}
 use Rattle.rpg_faults_operands.specs.Editing.{edits_badly, how_by, if_suited, suits, unedited, width, width_by}
 use Rattle.rpg_faults_operands.specs.Indexes.{bad_index_field, bad_index_of, misindexed}
 use Rattle.rpg_faults_operands.specs.Kinds.{wrong_as_output, wrong_in_output}
-use Rattle.rpg_faults_operands.specs.Names.{index_name, is_undefined, name_in, names_nothing}
+use Rattle.rpg_faults_operands.specs.Names.{index_name, is_undefined, name_in_index, names_nothing}
 use Rattle.rpg_faults_operands.specs.Operands.{card_entry_form, operand_with, output_operand}
 use Rattle.rpg_symbols.specs.Fields.{number_form}
 use Rattle.rpg_sheet_specs.specs.declared.entry.Entry.{Entry}
 use Rattle.rpg_sheet_specs.specs.declared.entry.EntryIndex.{EntryIndex}
 use Rattle.rpg_sheet_specs.specs.declared.entry.EntryIndex.TheVariants as written
-use Rattle.rpg_sheet_specs.specs.declared.indicator.Condition.{Condition}
+use Rattle.rpg_sheet_specs.specs.declared.indicator.ConditionSpec.{ConditionSpec}
 use Rattle.rpg_sheet_specs.specs.declared.indicator.Three.{Three}
 use Rattle.rpg_sheet_specs.specs.declared.output.OutputField.{OutputField}
 use Rattle.rpg_compile_program.specs.Lines.{fill_by, line_field_of, names_page}
@@ -50,10 +50,10 @@ module _ (cards : List SpecCard) (forms : Key → Option FieldForm) (words : Key
   -- ---- operands
 
   abbrev index_form : Option EntryIndex → Option FieldForm
-  index_form i = option_and_then (λ x. form_in (form_of_name x cards)) (option_and_then name_in i)
+  index_form i = option_and_then (λ x. form_in (form_of_name x cards)) (option_and_then name_in_index i)
 
   index_kept : (i : Option EntryIndex) (d : FieldForm) → misindexed Value i (index_form i) d ≡ false → bad_index_field (index_form i) ≡ false →
-      option_map_or (is_undefined cards) (option_and_then name_in i) false ≡ false →
+      option_map_or (is_undefined cards) (option_and_then name_in_index i) false ≡ false →
       (has_operand forms (Some d) (key_index i) && is_shaped forms (Some d) shape.One (key_index i)) ≡ true
   index_kept None d fit whole there = not_from_false (is_array d.class) fit
   index_kept (Some (written.Literal n)) d fit whole there =
@@ -96,7 +96,7 @@ module _ (cards : List SpecCard) (forms : Key → Option FieldForm) (words : Key
   IsListed code text = (x : List ℕ) → code ≡ None → text ≡ Some x → forms (Fixed (constant.Text x)) ≡ Some (constant_form (constant.Text x))
 
   -- an output field of these parts, which names an entry
-  abbrev with_entry : Three (Option Condition) → Entry → Option EditCode → Bool → ℕ → Option (List ℕ) → OutputField
+  abbrev with_entry : Three (Option ConditionSpec) → Entry → Option EditCode → Bool → ℕ → Option (List ℕ) → OutputField
   with_entry conditions e code blanked end text = record { conditions = conditions; operand = Some e; code = code; blank_after = blanked; end = end; text = text }
 
   number_wide : (k : Kind) (d : FieldForm) (how : How (List ℕ)) → same_kind k kind.Number ≡ true → width_as k (Some d) how ≡ width_of d.length d.decimals how
@@ -107,7 +107,7 @@ module _ (cards : List SpecCard) (forms : Key → Option FieldForm) (words : Key
   plain_wide kind.Number d = refl
   plain_wide kind.Text d = refl
 
-  by_code : (cs : Three (Option Condition)) (e : Entry) (code : EditCode) (b : Bool) (n : ℕ) (text : Option (List ℕ)) (d : FieldForm) (fill : Fill) →
+  by_code : (cs : Three (Option ConditionSpec)) (e : Entry) (code : EditCode) (b : Bool) (n : ℕ) (text : Option (List ℕ)) (d : FieldForm) (fill : Fill) →
       option_map_or fill_by text fills.Blank ≡ fill → suits d (hows.Code code fill) ≡ true → IsEdited d (with_entry cs e (Some code) b n text) (hows.Code code fill)
   by_code cs e code b n text d fill is fit =
       record {
@@ -115,7 +115,7 @@ module _ (cards : List SpecCard) (forms : Key → Option FieldForm) (words : Key
         wide = rw is (number_wide d.kind d (hows.Code code fill) (and_parts _ _ fit).0);
       }
 
-  filled : (cs : Three (Option Condition)) (e : Entry) (code : EditCode) (b : Bool) (n : ℕ) (text : Option (List ℕ)) (d : FieldForm) (how : How (List ℕ)) →
+  filled : (cs : Three (Option ConditionSpec)) (e : Entry) (code : EditCode) (b : Bool) (n : ℕ) (text : Option (List ℕ)) (d : FieldForm) (how : How (List ℕ)) →
       how_by (Some code) text ≡ Some how → suits d how ≡ true → IsEdited d (with_entry cs e (Some code) b n text) how
   filled cs e code b n None d how is fit =
       let same : hows.Code code fills.Blank ≡ how = cc in
@@ -131,7 +131,7 @@ module _ (cards : List SpecCard) (forms : Key → Option FieldForm) (words : Key
       by_text false true is_star is_dollar h = by_fill fills.Dollar (ap (λ s. cond s fills.Star (cond (pointwise nat_eq x (codes "$")) fills.Dollar fills.Blank)) is_star ∙ ap (λ s. cond s fills.Dollar fills.Blank) is_dollar) cc
       by_text false false is_star is_dollar h = absurd cc
 
-  unfilled : (cs : Three (Option Condition)) (e : Entry) (b : Bool) (n : ℕ) (text : Option (List ℕ)) (d : FieldForm) (how : How (List ℕ)) → card_entry_form cards e ≡ Some d →
+  unfilled : (cs : Three (Option ConditionSpec)) (e : Entry) (b : Bool) (n : ℕ) (text : Option (List ℕ)) (d : FieldForm) (how : How (List ℕ)) → card_entry_form cards e ≡ Some d →
       IsListed None text → how_by None text ≡ Some how → suits d how ≡ true → IsEdited d (with_entry cs e None b n text) how
   unfilled cs e b n (Some x) d how there listed is fit =
       let same : hows.Word x ≡ how = cc in
@@ -165,7 +165,7 @@ module _ (cards : List SpecCard) (forms : Key → Option FieldForm) (words : Key
       by_fit true is h = (how, refl, is, ap (λ b. cond b (Some how) None) is)
       by_fit false is h = cc
 
-  edited : (cs : Three (Option Condition)) (e : Entry) (code : Option EditCode) (b : Bool) (n : ℕ) (text : Option (List ℕ)) (d : FieldForm) (how : How (List ℕ)) →
+  edited : (cs : Three (Option ConditionSpec)) (e : Entry) (code : Option EditCode) (b : Bool) (n : ℕ) (text : Option (List ℕ)) (d : FieldForm) (how : How (List ℕ)) →
       card_entry_form cards e ≡ Some d → IsListed code text → how_by code text ≡ Some how → suits d how ≡ true → IsEdited d (with_entry cs e code b n text) how
   edited cs e None b n text d how there listed is fit = unfilled cs e b n text d how there listed is fit
   edited cs e (Some code) b n text d how there listed is fit = filled cs e code b n text d how is fit
@@ -185,7 +185,7 @@ module _ (cards : List SpecCard) (forms : Key → Option FieldForm) (words : Key
   abbrev Keeps : ℕ → OutputField → Type 0
   Keeps len f = KeepsFieldRules forms words len (line_field_of f)
 
-  entry_keeps : (cs : Three (Option Condition)) (e : Entry) (code : Option EditCode) (b : Bool) (n : ℕ) (text : Option (List ℕ)) (len : ℕ) →
+  entry_keeps : (cs : Three (Option ConditionSpec)) (e : Entry) (code : Option EditCode) (b : Bool) (n : ℕ) (text : Option (List ℕ)) (len : ℕ) →
       IsFieldFit (with_entry cs e code b n text) len → Keeps len (with_entry cs e code b n text)
   entry_keeps cs e code b n text len fit =
       let names = or_parts _ _ fit.defined in
@@ -220,7 +220,7 @@ module _ (cards : List SpecCard) (forms : Key → Option FieldForm) (words : Key
       may_blank false w h = refl
 
   -- a field that names no entry is a constant
-  constant_keeps : (cs : Three (Option Condition)) (code : Option EditCode) (b : Bool) (n : ℕ) (text : Option (List ℕ)) (len : ℕ) →
+  constant_keeps : (cs : Three (Option ConditionSpec)) (code : Option EditCode) (b : Bool) (n : ℕ) (text : Option (List ℕ)) (len : ℕ) →
       IsFieldFit (record { conditions = cs; operand = None; code = code; blank_after = b; end = n; text = text }) len →
       Keeps len (record { conditions = cs; operand = None; code = code; blank_after = b; end = n; text = text })
   constant_keeps cs (Some code) b n text len fit = absurd (let h = fit.columns in cc)

@@ -17,7 +17,7 @@ use Rattle.rpg_cards.specs.declared.files.FileUse.{FileUse}
 use Rattle.rpg_cards.specs.declared.files.FileUse.TheVariants as uses
 use Rattle.rpg_cards.specs.declared.spec_card.SpecCard.{SpecCard}
 use Rattle.rpg_faults_flow.specs.Kept.{KeepsRule}
-use Rattle.rpg_faults_limits.specs.Files.{bad_file, breaks_files, lacks_file, moves, moves_disk, moves_disk_by, is_disk}
+use Rattle.rpg_faults_limits.specs.Files.{bad_file, breaks_files, lacks_file, moves, moves_disk, moves_disk_by, is_disk_file}
 use Rattle.rpg_faults_operands.specs.Indicators.{any_of, bad_in_output, bad_indicator, bad_on, bad_on_output}
 use Rattle.rpg_faults_operands.specs.Columns as columns
 use Rattle.rpg_faults_operands.specs.Editing.{bad_editing, edits_badly}
@@ -68,7 +68,7 @@ use Rattle.rpg_compile_program.proofs.Lists.{none_in_option}
 use Rattle.rpg_compile_program.proofs.Names.{constant_there, stands_in}
 use Rattle.rpg_sheet_specs.specs.declared.output.Movement.{Movement}
 use Rattle.rpg_sheet_specs.specs.declared.file.FileSpec.{FileSpec}
-use Rattle.rpg_sheet_specs.specs.declared.indicator.Condition as sheet
+use Rattle.rpg_sheet_specs.specs.declared.indicator.ConditionSpec as sheet
 use Rattle.rpg_sheet_specs.specs.declared.indicator.Three.{Three}
 use Rattle.rpg_sheet_specs.specs.declared.output.OutputField.{OutputField}
 use Rattle.rpg_sheet_specs.specs.declared.output.OutputRecord.{OutputRecord}
@@ -141,11 +141,11 @@ ranges_on (spec.Output p) o e good = let same : p ≡ o = cc in subst IsOutput s
 abbrev IsAsked : Version → Condition → Type 0
 IsAsked v c = may_be_asked v c ≡ true
 
-asked_one : (cards : List SpecCard) (o : Option sheet.Condition) → option_map_or (bad_in_output cards) o false ≡ false → ForSome o IsCondition → Each (IsAsked (version_for cards)) (map condition_of (option_to_list o))
+asked_one : (cards : List SpecCard) (o : Option sheet.ConditionSpec) → option_map_or (bad_in_output cards) o false ≡ false → ForSome o IsCondition → Each (IsAsked (version_for cards)) (map condition_of (option_to_list o))
 asked_one cards None good range = tt
 asked_one cards (Some c) good range = (asked_number cards c.indicator good (range c refl).highest, tt)
 
-pub asked_three : (cards : List SpecCard) (t : Three (Option sheet.Condition)) → any_of (bad_in_output cards) t ≡ false → InThree IsCondition t → Each (IsAsked (version_for cards)) (standing t)
+pub asked_three : (cards : List SpecCard) (t : Three (Option sheet.ConditionSpec)) → any_of (bad_in_output cards) t ≡ false → InThree IsCondition t → Each (IsAsked (version_for cards)) (standing t)
 asked_three cards t good range =
     let two = or_parts _ _ good in
     let one = or_parts _ _ two.0 in
@@ -297,7 +297,7 @@ module _ (cards : List SpecCard) (allowance : ℕ) where
 
     pub record IsLineGood (name : Option (List ℕ)) (r : OutputRecord) : Type 0 where
       pub asked : Each (IsAsked (version_for cards)) (standing r.conditions)
-      pub still : (moves r.movement && option_map_or is_disk (file_by name cards) false) ≡ false
+      pub still : (moves r.movement && option_map_or is_disk_file (file_by name cards) false) ≡ false
       pub movement : IsMovement r.movement
 
     heads : filed.Heads cards output_role HasFile IsLineGood (λ name o. Unit {0})
@@ -402,7 +402,7 @@ module _ (cards : List SpecCard) (allowance : ℕ) where
     file_is f own uses.Disk is test = ap words.record_length_of (subst (λ (u : FileUse). file_for u cards ≡ Some f) is own.only)
 
     -- a line for the disk stands still
-    still_on : (f : FileSpec) (m : Movement) → (moves m && is_disk f) ≡ false → (u : FileUse) → file_use f ≡ u → file_put u ≡ put.Disk → moves m ≡ false
+    still_on : (f : FileSpec) (m : Movement) → (moves m && is_disk_file f) ≡ false → (u : FileUse) → file_use f ≡ u → file_put u ≡ put.Disk → moves m ≡ false
     still_on f m still uses.Primary is e = cc
     still_on f m still uses.Secondary is e = cc
     still_on f m still uses.Printer is e = cc
@@ -460,7 +460,7 @@ module _ (cards : List SpecCard) (allowance : ℕ) where
     put_of g good =
         let f = good.0.0 in
         let by = good.0.1 in
-        let still : (moves g.heading.movement && is_disk f) ≡ false = subst (λ (o : Option FileSpec). (moves g.heading.movement && option_map_or is_disk o false) ≡ false) by good.1.0.still in
+        let still : (moves g.heading.movement && is_disk_file f) ≡ false = subst (λ (o : Option FileSpec). (moves g.heading.movement && option_map_or is_disk_file o false) ≡ false) by good.1.0.still in
         record {
           to = ap output_file by;
           length = file_is f good.0.3 (file_use f) refl good.0.2;

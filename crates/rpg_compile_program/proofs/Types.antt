@@ -26,7 +26,7 @@ use Rattle.rpg_program.specs.declared.input.InputField as row
 use Rattle.rpg_program.specs.declared.input.RecordCode as row_code
 use Rattle.rpg_program.specs.declared.form.FieldForm.{FieldForm}
 use Rattle.rpg_faults_operands.specs.Indicators.{any_of, cannot_be_set}
-use Rattle.rpg_faults.specs.Places.{first_length, first_matches, good_matches, has_other_lengths, has_other_matches, input_columns, is_at_level, is_past, joined_length, joins_badly, lengths_differ, level_fields, level_length, levels, match_fields, matches_badly, matches_differ, open_specs, outside_on_input, outside_record, own_file, passes_length, passes_matches, repeats}
+use Rattle.rpg_faults.specs.Places.{first_length, first_good_matches, good_matches, has_other_lengths, has_other_matches, input_columns, is_at_level, is_past, joined_length, joins_badly, lengths_differ, level_fields, level_length, levels, matched_fields, matches_badly, matches_differ, open_specs, outside_on_input, outside_record, own_file, passes_length, passes_matches, repeats}
 use Rattle.rpg_program.specs.Object.{Object, input_length}
 use Rattle.rpg_effect_renaming.specs.Naming.{renamed_input, renamed_type}
 use Rattle.rpg_verify_rules.proofs.Kept.{NoneTrue}
@@ -37,7 +37,7 @@ use Rattle.rpg_verify_rules.specs.declared.rule.Rule.TheVariants as verifier
 use Rattle.rpg_verify_rules.specs.declared.rule.TypeRule.{TypeRule}
 use Rattle.rpg_verify_rules.specs.declared.rule.TypeRule.TheVariants.{V3, V4, V5, V6, V7, V25, V26}
 use Rattle.rpg_sheet_specs.specs.declared.file.FileSpec.{FileSpec}
-use Rattle.rpg_sheet_specs.specs.declared.input.InputField.{InputField}
+use Rattle.rpg_sheet_specs.specs.declared.input.InputFieldSpec.{InputFieldSpec}
 use Rattle.rpg_sheet_specs.specs.declared.input.InputSpec.{InputSpec}
 use Rattle.rpg_sheet_specs.specs.declared.input.InputSpec.TheVariants as input
 use Rattle.rpg_sheet_specs.specs.declared.input.RecordType.{RecordType}
@@ -60,20 +60,20 @@ use Rattle.rpg_compile_program.proofs.Conditions.{all_settable}
 
 -- ---- columns
 
-in_columns : (file : Option FileSpec) (f : InputField) → outside_record file f ≡ false → HasColumns f
+in_columns : (file : Option FileSpec) (f : InputFieldSpec) → outside_record file f ≡ false → HasColumns f
 in_columns file f e =
     let some = eqb-false f.from 0 (or_first (f.from == 0) _ e) in
     let rest = or_second (f.to == 0) _ (or_second (f.from == 0) _ e) in
     record { first = omega (arith, some); order = ltb-false f.to f.from (or_first (nat_lt f.to f.from) (is_past file f.to) rest) }
 
-inside : (file : Option FileSpec) (g : FileSpec) (f : InputField) → file ≡ Some g → outside_record file f ≡ false → f.to ≤ g.record_length
+inside : (file : Option FileSpec) (g : FileSpec) (f : InputFieldSpec) → file ≡ Some g → outside_record file f ≡ false → f.to ≤ g.record_length
 inside file g f is e =
     let rest = or_second (nat_lt f.to f.from) (is_past file f.to) (or_second (f.to == 0) _ (or_second (f.from == 0) _ e)) in
     ltb-false g.record_length f.to (sym (ap (λ o. is_past o f.to) is) ∙ rest)
 
 -- ---- from the cards of a group to its fields
 
-each_field : (P : InputSpec → Type 0) (Q : InputField → Type 0) → ((f : InputField) → P (input.Field f) → Q f) → (is : List InputSpec) → Each P is → Each Q (input_fields_in is)
+each_field : (P : InputSpec → Type 0) (Q : InputFieldSpec → Type 0) → ((f : InputFieldSpec) → P (input.Field f) → Q f) → (is : List InputSpec) → Each P is → Each Q (input_fields_in is)
 each_field P Q f [] h = tt
 each_field P Q f (input.Type t ∷ is) h = each_field P Q f is h.1
 each_field P Q f (input.And cs ∷ is) h = each_field P Q f is h.1
@@ -83,8 +83,8 @@ each_code : (P : InputSpec → Type 0) (Q : row_code.RecordCode → Type 0) → 
 each_code P Q f [] h = tt
 each_code P Q f (i ∷ is) h = each_append Q (and_card_codes i) (flat_map and_card_codes is) (f i h.0) (each_code P Q f is h.1)
 
-module _ (level_of : InputField → Option ℕ) where
-  each_level_field : (P : InputField → Type 0) (Q : ControlField → Type 0) → ((f : InputField) (l : ℕ) → level_of f ≡ Some l → P f → Q (control_field f l)) → (fs : List InputField) → Each P fs → Each Q (filter_map (field_at_level level_of) fs)
+module _ (level_of : InputFieldSpec → Option ℕ) where
+  each_level_field : (P : InputFieldSpec → Type 0) (Q : ControlField → Type 0) → ((f : InputFieldSpec) (l : ℕ) → level_of f ≡ Some l → P f → Q (control_field f l)) → (fs : List InputFieldSpec) → Each P fs → Each Q (filter_map (field_at_level level_of) fs)
   each_level_field P Q f [] h = tt
   each_level_field P Q f (x ∷ fs) h = by (level_of x) refl (each_level_field P Q f fs h.1)
     where
@@ -93,7 +93,7 @@ module _ (level_of : InputField → Option ℕ) where
       by (Some l) e r = (f x l e h.0, r)
 
 module _ (cards : List SpecCard) (rules : KeepsCardRules cards) (ranges : AreCards cards) where
-  good_columns : (name : Option (List ℕ)) (i : InputSpec) (f : InputField) → i ≡ input.Field f → IsInputGood cards rules ranges name i → HasColumns f
+  good_columns : (name : Option (List ℕ)) (i : InputSpec) (f : InputFieldSpec) → i ≡ input.Field f → IsInputGood cards rules ranges name i → HasColumns f
   good_columns name i f is h = in_columns (file_by name cards) f (subst (IsInputGood cards rules ranges name) is h).outside
 
   -- ---- a type's columns are good, and its joined lengths at most 256
@@ -104,7 +104,7 @@ module _ (cards : List SpecCard) (rules : KeepsCardRules cards) (ranges : AreCar
   abbrev FewJoined : Group RecordType InputSpec → Type 0
   FewJoined g = (level : ℕ) → Joined level g ≤ 256
 
-  one_joined : (level : ℕ) (is : List InputSpec) (f : InputField) → joined_length level (is ++ input.Field f ∷ []) ≡ joined_length level is + cond (is_at_level level f) (input_columns f) 0
+  one_joined : (level : ℕ) (is : List InputSpec) (f : InputFieldSpec) → joined_length level (is ++ input.Field f ∷ []) ≡ joined_length level is + cond (is_at_level level f) (input_columns f) 0
   one_joined level [] f = by (is_at_level level f)
     where
       by : (b : Bool) → sum_by input_columns (cond b (f ∷ []) []) ≡ sum_by input_columns [] + cond b (input_columns f) 0
@@ -119,7 +119,7 @@ module _ (cards : List SpecCard) (rules : KeepsCardRules cards) (ranges : AreCar
       by true r = let a = sum_by-cons input_columns x (level_fields level (is ++ input.Field f ∷ [])) in let b = sum_by-cons input_columns x (level_fields level is) in omega arith
       by false r = r
 
-  no_joined : (level : ℕ) (is : List InputSpec) (i : InputSpec) → ((f : InputField) → i ≡ input.Field f → ⊥) → joined_length level (is ++ i ∷ []) ≡ joined_length level is
+  no_joined : (level : ℕ) (is : List InputSpec) (i : InputSpec) → ((f : InputFieldSpec) → i ≡ input.Field f → ⊥) → joined_length level (is ++ i ∷ []) ≡ joined_length level is
   no_joined level [] (input.Type t) other = refl
   no_joined level [] (input.And cs) other = refl
   no_joined level [] (input.Field f) other = absurd (other f refl)
@@ -132,7 +132,7 @@ module _ (cards : List SpecCard) (rules : KeepsCardRules cards) (ranges : AreCar
       by false r = r
 
   -- one more field of the open type
-  stays_few : (f : InputField) (is : List InputSpec) (o : Option ℕ) → f.level ≡ o → ((level : ℕ) → joined_length level is ≤ 256) → option_map_or (λ level. nat_le (joined_length level is) 256 && nat_lt 256 (joined_length level is + input_columns f)) o false ≡ false
+  stays_few : (f : InputFieldSpec) (is : List InputSpec) (o : Option ℕ) → f.level ≡ o → ((level : ℕ) → joined_length level is ≤ 256) → option_map_or (λ level. nat_le (joined_length level is) 256 && nat_lt 256 (joined_length level is + input_columns f)) o false ≡ false
       → (level : ℕ) → joined_length level is + cond (option_map_or (λ l. l == level) o false) (input_columns f) 0 ≤ 256
   stays_few f is None e few passes level = let h = few level in omega arith
   stays_few f is (Some l) e few passes level = by (l == level) refl
@@ -151,7 +151,7 @@ module _ (cards : List SpecCard) (rules : KeepsCardRules cards) (ranges : AreCar
   joins_well : (before : List SpecCard) (c : SpecCard) (after : List SpecCard) (i : InputSpec) → cards ≡ before ++ c ∷ after → c.spec ≡ spec.Input i → joins_badly before after i ≡ false
   joins_well before c after i split is = or_second (outside_on_input (file_by (own_file before i) cards) i) (joins_badly before after i) (outside_kept cards rules ranges before c after i split is)
 
-  passes_not : (before : List SpecCard) (c : SpecCard) (after : List SpecCard) (f : InputField) → cards ≡ before ++ c ∷ after → c.spec ≡ spec.Input (input.Field f) → passes_length before f ≡ false
+  passes_not : (before : List SpecCard) (c : SpecCard) (after : List SpecCard) (f : InputFieldSpec) → cards ≡ before ++ c ∷ after → c.spec ≡ spec.Input (input.Field f) → passes_length before f ≡ false
   passes_not before c after f split is = or_first (passes_length before f) (matches_badly before after (input.Field f)) (joins_well before c after (input.Field f) split is)
 
   with_one : (before : List SpecCard) (c : SpecCard) (after : List SpecCard) → cards ≡ before ++ c ∷ after → (r : Role RecordType InputSpec) → input_role c.spec ≡ r → (o : Option (Group RecordType InputSpec)) → open_group input_role before ≡ o
@@ -187,19 +187,19 @@ module _ (cards : List SpecCard) (rules : KeepsCardRules cards) (ranges : AreCar
   -- ---- each match level of a type stands once, and they take at most 256 columns
 
   abbrev HasFewMatches : Group RecordType InputSpec → Type 0
-  HasFewMatches g = AreFew (match_fields g.followers)
+  HasFewMatches g = AreFew (matched_fields g.followers)
 
-  matches_more : (is : List InputSpec) (i : InputSpec) → match_fields (is ++ i ∷ []) ≡ match_fields is ++ match_fields (i ∷ [])
+  matches_more : (is : List InputSpec) (i : InputSpec) → matched_fields (is ++ i ∷ []) ≡ matched_fields is ++ matched_fields (i ∷ [])
   matches_more is i =
       ap (filter is_match_field) (filter_map-append input_field_in is (i ∷ [])) ∙ filter-append is_match_field (filter_map input_field_in is) (filter_map input_field_in (i ∷ []))
 
   matches_stay_few : (before : List SpecCard) (c : SpecCard) (after : List SpecCard) (is : List InputSpec) (i : InputSpec) → cards ≡ before ++ c ∷ after → c.spec ≡ spec.Input i → open_specs before ≡ is
-      → AreFew (match_fields is) → AreFew (match_fields is ++ match_fields (i ∷ []))
-  matches_stay_few before c after is (input.Type t) split on specs few = subst AreFew (sym (append-nil (match_fields is))) few
-  matches_stay_few before c after is (input.And cs) split on specs few = subst AreFew (sym (append-nil (match_fields is))) few
+      → AreFew (matched_fields is) → AreFew (matched_fields is ++ matched_fields (i ∷ []))
+  matches_stay_few before c after is (input.Type t) split on specs few = subst AreFew (sym (append-nil (matched_fields is))) few
+  matches_stay_few before c after is (input.And cs) split on specs few = subst AreFew (sym (append-nil (matched_fields is))) few
   matches_stay_few before c after is (input.Field f) split on specs few =
       let right = or_second (passes_length before f) (matches_badly before after (input.Field f)) (joins_well before c after (input.Field f) split on) in
-      stay_few (match_fields is) f few (subst (λ xs. (repeats (match_fields xs) f || passes_matches (match_fields xs) f) ≡ false) specs right)
+      stay_few (matched_fields is) f few (subst (λ xs. (repeats (matched_fields xs) f || passes_matches (matched_fields xs) f) ≡ false) specs right)
 
   IfOpenFew : Option (Group RecordType InputSpec) → Type 0
   IfOpenFew o = (g : Group RecordType InputSpec) → o ≡ Some g → HasFewMatches g
@@ -232,7 +232,7 @@ module _ (cards : List SpecCard) (rules : KeepsCardRules cards) (ranges : AreCar
   -- ---- a type among the others
 
   abbrev GoodField : InputSpec → Type 0
-  GoodField i = (f : InputField) → i ≡ input.Field f → HasColumns f
+  GoodField i = (f : InputFieldSpec) → i ≡ input.Field f → HasColumns f
 
   abbrev GoodCard : SpecCard → Type 0
   GoodCard c = HasGood input_role GoodField c
@@ -257,7 +257,7 @@ module _ (cards : List SpecCard) (rules : KeepsCardRules cards) (ranges : AreCar
   record IsAlike (front : List (Group RecordType InputSpec)) (g : Group RecordType InputSpec) : Type 0 where
     good : Each levelled.InGroup front
     by_level : Each (Alike front g) levels
-    matches : matches_differ (first_matches front) (good_matches (match_fields g.followers)) ≡ false
+    matches : matches_differ (first_good_matches front) (good_matches (matched_fields g.followers)) ≡ false
 
   each_alike : Each (IsAmong input_role cards IsAlike) (groups input_role cards)
   each_alike = each_among input_role cards IsAlike (λ before c after t name split role.
@@ -335,7 +335,7 @@ module _ (cards : List SpecCard) (rules : KeepsCardRules cards) (ranges : AreCar
     unfolding program_of
     types_are = refl
 
-    form_is : (f : InputField) (form : FieldForm) → key_form (table_of cards) (Named f.name) ≡ Some form → form_at p.fields (key_numbers cards (Named f.name)) ≡ Some form
+    form_is : (f : InputFieldSpec) (form : FieldForm) → key_form (table_of cards) (Named f.name) ≡ Some form → form_at p.fields (key_numbers cards (Named f.name)) ≡ Some form
     unfolding program_of
     form_is f form known = forms_same (table_of cards) (Named f.name) (standing (table_of cards) (Named f.name)) ∙ known
 
@@ -358,11 +358,11 @@ module _ (cards : List SpecCard) (rules : KeepsCardRules cards) (ranges : AreCar
       good : Each (IsFieldGood cards rules ranges g.file) (input_fields_in g.followers)
       good = fields_good g h.filed
 
-      within : (f : InputField) → IsFieldGood cards rules ranges g.file f → f.to ≤ length_at g
+      within : (f : InputFieldSpec) → IsFieldGood cards rules ranges g.file f → f.to ≤ length_at g
       within f x = subst (λ n. f.to ≤ n) (record_is g h.filed) (inside (file_by g.file cards) h.filed.0.0 f file_is x.outside)
 
       -- V5
-      control_right : (f : InputField) (l : ℕ) → IsFieldGood cards rules ranges g.file f → is_control_in (length_at g) (control_field f l) ≡ true
+      control_right : (f : InputFieldSpec) (l : ℕ) → IsFieldGood cards rules ranges g.file f → is_control_in (length_at g) (control_field f l) ≡ true
       control_right f l x =
           let c = in_columns (file_by g.file cards) f x.outside in
           and_from _ _ (le-leb 1 f.from c.first) (and_from _ _ (le-leb f.from f.to c.order) (le-leb f.to (length_at g) (within f x)))
@@ -404,7 +404,7 @@ module _ (cards : List SpecCard) (rules : KeepsCardRules cards) (ranges : AreCar
           (and_from _ _ (once_same (input_fields_in g.followers) h.few_matches.once) (and_from _ _ (le-leb (sum (joined_widths (Matches g))) 256 few_columns) joined_alike))
 
       -- V6
-      input_right : (f : InputField) → IsFieldGood cards rules ranges g.file f → is_input_in p (length_at g) (renamed_input (key_numbers cards) (input_row f)) ≡ true
+      input_right : (f : InputFieldSpec) → IsFieldGood cards rules ranges g.file f → is_input_in p (length_at g) (renamed_input (key_numbers cards) (input_row f)) ≡ true
       input_right f x =
           let c = in_columns (file_by g.file cards) f x.outside in
           let form = form_of_field f x.form x.is in
@@ -413,13 +413,13 @@ module _ (cards : List SpecCard) (rules : KeepsCardRules cards) (ranges : AreCar
           (and_from _ _ form.plain (eq-eqb (f.to + 1 - f.from) x.form.length (sym form.long)))
 
       -- V7
-      shown_right : (f : InputField) → IsFieldGood cards rules ranges g.file f → is_input_shown p (renamed_input (key_numbers cards) (input_row f)) ≡ true
+      shown_right : (f : InputFieldSpec) → IsFieldGood cards rules ranges g.file f → is_input_shown p (renamed_input (key_numbers cards) (input_row f)) ≡ true
       shown_right f x =
           let form = form_of_field f x.form x.is in
           and_from _ _ (all_settable f.indicators (or_first (any_of cannot_be_set f.indicators) _ x.shown) x.range.indicators)
           (ap (λ o. fits_shows (kind_of o) (shows_of f.indicators)) (form_is f x.form x.known) ∙ ap (λ k. fits_shows k (shows_of f.indicators)) form.kind ∙ shown_so f.decimals f.indicators (or_second (any_of cannot_be_set f.indicators) _ x.shown))
 
-      inputs_each : (P : row.InputField ℕ → Type 0) → ((f : InputField) → IsFieldGood cards rules ranges g.file f → P (renamed_input (key_numbers cards) (input_row f))) → Each P (row_type g).inputs
+      inputs_each : (P : row.InputField ℕ → Type 0) → ((f : InputFieldSpec) → IsFieldGood cards rules ranges g.file f → P (renamed_input (key_numbers cards) (input_row f))) → Each P (row_type g).inputs
       inputs_each P f =
           each_row (λ (x : row.InputField Key). P (renamed_input (key_numbers cards) x)) P (renamed_input (key_numbers cards)) (map input_row (input_fields_in g.followers)) (λ x y. y)
           (each_row (IsFieldGood cards rules ranges g.file) (λ (x : row.InputField Key). P (renamed_input (key_numbers cards) x)) input_row (input_fields_in g.followers) f good)

@@ -25,7 +25,7 @@ use Rattle.rpg_sheet_specs.specs.declared.calculation.CalculationSpec.{Calculati
 use Rattle.rpg_sheet_specs.specs.declared.entry.Entry.{Entry}
 use Rattle.rpg_sheet_specs.specs.declared.extension.ExtensionSpec.{ExtensionSpec}
 use Rattle.rpg_sheet_specs.specs.declared.extension.TableSpec.{TableSpec}
-use Rattle.rpg_sheet_specs.specs.declared.input.InputField.{InputField}
+use Rattle.rpg_sheet_specs.specs.declared.input.InputFieldSpec.{InputFieldSpec}
 use Rattle.rpg_sheet_specs.specs.declared.spec.Spec.{Spec}
 use Rattle.rpg_symbols.specs.Fields.{NamedForms, defined_form, given}
 use Rattle.rpg_compile_program.proofs.Numbers.{constant_found, forms_same, get_behind, length_map, place_position, standing}
@@ -69,7 +69,7 @@ class_is false = refl
 table_is : (n : ℕ) (t : TableSpec) → IsIfAny (table_form n t)
 table_is n t = unless _ _ (sized_is (table_class t.name) t.ascending n t.length t.decimals (class_is _))
 
-field_is : (f : InputField) → IsIfAny (field_form f)
+field_is : (f : InputFieldSpec) → IsIfAny (field_form f)
 field_is f = unless _ _ (sized_is class.Plain false 1 (f.to + 1 - f.from) f.decimals refl)
 
 abbrev IsDefinedSo : Definition → Type 0
@@ -83,7 +83,7 @@ extension_are : (o : Option ExtensionSpec) → Each IsDefinedSo (flat_map (λ e.
 extension_are None = tt
 extension_are (Some e) = each_append IsDefinedSo (map (definition_in e) (tables_on e)) [] (tables_are e (tables_on e)) tt
 
-input_are : (o : Option InputField) → Each IsDefinedSo (option_to_list (option_map definition_of o))
+input_are : (o : Option InputFieldSpec) → Each IsDefinedSo (option_to_list (option_map definition_of o))
 input_are None = tt
 input_are (Some f) = (field_is f, tt)
 

@@ -12,9 +12,9 @@ use Rattle.rpg_sheet_specs.specs.declared.calculation.ControlLevel.{ControlLevel
 use Rattle.rpg_sheet_specs.specs.declared.calculation.ControlLevel.TheVariants as control
 use Rattle.rpg_sheet_specs.specs.declared.data.DataSpec.{DataSpec}
 use Rattle.rpg_sheet_specs.specs.declared.data.DataSpec.TheVariants as deck
-use Rattle.rpg_sheet_specs.specs.declared.indicator.Condition.{Condition}
+use Rattle.rpg_sheet_specs.specs.declared.indicator.ConditionSpec.{ConditionSpec}
 use Rattle.rpg_sheet_specs.specs.declared.indicator.Three.{Three}
-use Rattle.rpg_sheet_specs.specs.declared.input.InputField.{InputField}
+use Rattle.rpg_sheet_specs.specs.declared.input.InputFieldSpec.{InputFieldSpec}
 use Rattle.rpg_sheet_specs.specs.declared.input.InputSpec.{InputSpec}
 use Rattle.rpg_sheet_specs.specs.declared.input.InputSpec.TheVariants as input
 use Rattle.rpg_sheet_specs.specs.declared.input.RecordCode.{RecordCode}
@@ -37,7 +37,7 @@ pub record InThree {X : Type 0} (P : X → Type 0) (t : Three (Option X)) : Type
   pub third : ForSome t.third P
 
 -- a condition with an indicator in range
-abbrev pub IsCondition : Condition → Type 0
+abbrev pub IsCondition : ConditionSpec → Type 0
 IsCondition c = IsIndicator c.indicator
 
 -- ---- I cards
@@ -56,7 +56,7 @@ pub record IsType (t : RecordType) : Type 0 where
   pub codes : InThree IsCode t.codes
 
 -- an input field with levels and indicators in range
-pub record IsInputField (f : InputField) : Type 0 where
+pub record IsInputField (f : InputFieldSpec) : Type 0 where
   pub level : ForSome f.level IsFieldLevel
   pub match_level : ForSome f.match_level IsFieldLevel
   pub indicators : InThree IsIndicator f.indicators

@@ -9,7 +9,7 @@ use Rattle.rpg_faults_limits.specs.Files.{breaks_files, lacks_input, moves_disk}
 use Rattle.rpg_faults_operands.specs.Indicators.{bad_indicator}
 use Rattle.rpg_faults_limits.specs.Limits.{passes_limit}
 use Rattle.rpg_faults_limits.specs.Names.{bad_size, redefines}
-use Rattle.rpg_faults_limits.specs.Order.{strays}
+use Rattle.rpg_faults_limits.specs.Order.{is_stray}
 use Rattle.rpg_faults_operands.specs.Columns as operands
 use Rattle.rpg_faults_operands.specs.Editing.{bad_editing}
 use Rattle.rpg_faults_operands.specs.Indexes.{bad_index}
@@ -36,7 +36,7 @@ pub record KeepsCardRules (cards : List SpecCard) : Type 0 where
   pub f10 : KeepsRule (goes_nowhere cards) cards
   -- of C cards, of I and O cards
   pub f12 : KeepsRule breaks_order cards
-  pub f12_lines : KeepsRule (λ before c after. strays before c) cards
+  pub f12_lines : KeepsRule (λ before c after. is_stray before c) cards
   pub f13 : KeepsRule (goes_apart cards) cards
   pub f14 : KeepsRule (calls_itself cards) cards
   pub f16 : KeepsRule (misplaces cards) cards

@@ -19,7 +19,7 @@ use Rattle.rpg_program.specs.declared.input.InputFile.TheVariants.{Primary, Seco
 use Rattle.rpg_program.specs.declared.input.RecordCode as row_code
 use Rattle.rpg_sheet_specs.specs.declared.file.FileSpec.{FileSpec}
 use Rattle.rpg_sheet_specs.specs.declared.indicator.Three.{Three}
-use Rattle.rpg_sheet_specs.specs.declared.input.InputField.{InputField}
+use Rattle.rpg_sheet_specs.specs.declared.input.InputFieldSpec.{InputFieldSpec}
 use Rattle.rpg_sheet_specs.specs.declared.input.InputSpec.{InputSpec}
 use Rattle.rpg_sheet_specs.specs.declared.input.InputSpec.TheVariants as input
 use Rattle.rpg_sheet_specs.specs.declared.input.RecordCode.{RecordCode}
@@ -57,31 +57,31 @@ and_card_codes (input.Field f) = []
 -- ---- fields
 
 -- numeric where column 52 is filled
-abbrev pub control_field : InputField → ℕ → ControlField
+abbrev pub control_field : InputFieldSpec → ℕ → ControlField
 control_field f level = record { level = level; is_numeric = is_some f.decimals; from = f.from; to = f.to }
 
 -- where the field has a level of that choice
-module _ (level_of : InputField → Option ℕ) where
+module _ (level_of : InputFieldSpec → Option ℕ) where
   -- the columns of an input field, at its level
-  abbrev pub field_at_level : InputField → Option ControlField
+  abbrev pub field_at_level : InputFieldSpec → Option ControlField
   field_at_level f = option_map (control_field f) (level_of f)
 
 -- an input field as a control field, if it has a control level
-abbrev pub control_field_of : InputField → Option ControlField
+abbrev pub control_field_of : InputFieldSpec → Option ControlField
 control_field_of f = field_at_level control_level f
 
 -- an input field as a match field, if it has a match level
-abbrev pub match_field_of : InputField → Option ControlField
+abbrev pub match_field_of : InputFieldSpec → Option ControlField
 match_field_of f = field_at_level match_level f
 
 -- the row of an input field, by names
-abbrev pub input_row : InputField → row.InputField Key
+abbrev pub input_row : InputFieldSpec → row.InputField Key
 input_row f = record { from = f.from; to = f.to; field = Named f.name; shows = shows_of f.indicators }
 
 -- ---- types
 
 -- the fields of a record type's cards
-abbrev pub input_fields_in : List InputSpec → List InputField
+abbrev pub input_fields_in : List InputSpec → List InputFieldSpec
 input_fields_in cards = filter_map input_field_in cards
 
 -- a type of that file

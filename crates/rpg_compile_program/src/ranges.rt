@@ -8,9 +8,9 @@ ghost use Rattle.rpg_compile_program.specs.Ranges.{InThree};
 
 use rpg_cards::SpecCard;
 use rpg_sheet_specs::{
-    CalculationSpec, Condition, ControlLevel, DataSpec, Factor, FileSpec, Indicator, InputField,
-    InputSpec, Literal, Movement, OutputField, OutputRecord, OutputSpec, RecordCode, RecordType,
-    Spec, Three, Within,
+    CalculationSpec, ConditionSpec, ControlLevel, DataSpec, Factor, FileSpec, Indicator,
+    InputFieldSpec, InputSpec, Literal, Movement, OutputField, OutputRecord, OutputSpec,
+    RecordCode, RecordType, Spec, Three, Within,
 };
 
 pub fn cards_are_in_range(cards: &[SpecCard])
@@ -75,7 +75,7 @@ fn code_in_range(code: Option<RecordCode>)
     }
 }
 
-fn field_in_range(field: &InputField)
+fn field_in_range(field: &InputFieldSpec)
     ensures { ranges.IsInputField field.now }
 {
     level_in_range(field.level);
@@ -107,7 +107,7 @@ fn indicator_in_range(indicator: Option<Indicator>)
     }
 }
 
-fn conditions_in_range(conditions: Three<Option<Condition>>)
+fn conditions_in_range(conditions: Three<Option<ConditionSpec>>)
     ensures { InThree ranges.IsCondition conditions }
 {
     condition_in_range(conditions.first);
@@ -115,7 +115,7 @@ fn conditions_in_range(conditions: Three<Option<Condition>>)
     condition_in_range(conditions.third);
 }
 
-fn condition_in_range(condition: Option<Condition>)
+fn condition_in_range(condition: Option<ConditionSpec>)
     ensures { ForSome condition ranges.IsCondition }
 {
     if let Some(condition) = condition {

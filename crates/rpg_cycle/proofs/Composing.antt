@@ -11,12 +11,12 @@ use Rattle.rpg_cycle_records.specs.Waiting.{unread}
 use Rattle.rpg_program.specs.Object.{Object}
 use Rattle.rpg_cycle.specs.Ends.{PhaseEnd, GoesOn, EndOfJob, Halt}
 use Rattle.rpg_program.specs.Halts.{halt_number}
-use Rattle.rpg_cycle.specs.Phases.{Done, Phase, UnderWay, does, done, either, passes, unless, ◌before◌}
+use Rattle.rpg_cycle.specs.Phases.{Done, Phase, UnderWay, without_output, done, either, nothing_done, unless, ◌before◌}
 use Rattle.rpg_cycle.specs.Stages.{IfStops, UnlessNoMemory, job_end}
 use Rattle.rpg_cycle.specs.declared.ends.JobEnd.{JobEnd}
 use Rattle.rpg_cycle.specs.declared.ends.JobEnd.TheVariants as jobs
-use Rattle.rpg_cycle.specs.declared.ends.Stop.{Stop}
-use Rattle.rpg_cycle.specs.declared.ends.Stop.TheVariants as stops
+use Rattle.rpg_cycle.specs.declared.ends.PhaseStop.{PhaseStop}
+use Rattle.rpg_cycle.specs.declared.ends.PhaseStop.TheVariants as stops
 use Rattle.rpg_machine.specs.Config.{Config, no_output, with_more}
 use Rattle.rpg_machine.specs.Running.{Running, config_on}
 
@@ -85,8 +85,8 @@ ends {P} {Q} {a} {b} {s} {t} e h = record { program = h.program; behind = λ pre
 
 -- a phase that puts nothing out and leaves the form where it is
 pub quietly : (f : UnderWay → Done) (a b : Running) (s t : Beside) (e : PhaseEnd) (d : Config) →
-    ((previous : Option Position) → f (under_way (config_on previous a.config) s) ≡ done e (under_way (config_on previous d) t)) → b ≡ record a { config = d } → Does (does f) a s e b t
-quietly f a b s t e d h is = subst (λ (r : Running). Does (does f) a s e r t) (sym is) (record {
+    ((previous : Option Position) → f (under_way (config_on previous a.config) s) ≡ done e (under_way (config_on previous d) t)) → b ≡ record a { config = d } → Does (without_output f) a s e b t
+quietly f a b s t e d h is = subst (λ (r : Running). Does (without_output f) a s e r t) (sym is) (record {
   program = refl;
   behind = λ previous l. record {
     out = no_output;
@@ -123,7 +123,7 @@ left_out test P a h = record {
     program = refl;
     behind = λ previous l. record {
       out = no_output;
-      phase = subst (λ (b : Bool). either b passes P (under_way (config_on previous a.config) s) GoesOn (under_way (config_on previous a.config) s) no_output) (sym (h previous)) (refl, refl, refl);
+      phase = subst (λ (b : Bool). either b nothing_done P (under_way (config_on previous a.config) s) GoesOn (under_way (config_on previous a.config) s) no_output) (sym (h previous)) (refl, refl, refl);
       last = l;
       bytes = output_none previous a.output;
     };
@@ -138,7 +138,7 @@ not_left_out test P a b e h d = record {
     behind = λ previous l.
         let x = (d.each s).behind previous l in record {
           out = x.out;
-          phase = subst (λ (t : Bool). either t passes P (under_way (config_on previous a.config) s) e (under_way (config_on (last_position_from previous x.out.lines) b.config) s) x.out) (sym (h previous)) x.phase;
+          phase = subst (λ (t : Bool). either t nothing_done P (under_way (config_on previous a.config) s) e (under_way (config_on (last_position_from previous x.out.lines) b.config) s) x.out) (sym (h previous)) x.phase;
           last = x.last;
           bytes = x.bytes;
         };
@@ -154,7 +154,7 @@ pub of_some : {A : Type 0} (P : A → Type 0) (x : A) → P x → ForSome (Some 
 of_some P x h = λ y e. let same : x ≡ y = cc in subst P same h
 
 -- what holds of how a job ended, made into another fact
-pub if_stops : (A B : Type 0) (r : Stop) (P Q : JobEnd → Type 0) → ((e : JobEnd) → P e → Q e) → IfStops {A = A} (Err r) P → IfStops {A = B} (Err r) Q
+pub if_stops : (A B : Type 0) (r : PhaseStop) (P Q : JobEnd → Type 0) → ((e : JobEnd) → P e → Q e) → IfStops {A = A} (Err r) P → IfStops {A = B} (Err r) Q
 if_stops A B (stops.Ends e) P Q f h = f e h
 if_stops A B stops.NoMemory P Q f h = tt
 
@@ -162,54 +162,54 @@ pub ok_map : {A B : Type 0} (r : Result A B) (P Q : A → Type 0) → ((x : A) �
 ok_map (Ok x) P Q f h = f x h
 ok_map (Err e) P Q f h = tt
 
-pub stops_map : {A : Type 0} (r : Result A Stop) (P Q : JobEnd → Type 0) → ((e : JobEnd) → P e → Q e) → IfStops r P → IfStops r Q
+pub stops_map : {A : Type 0} (r : Result A PhaseStop) (P Q : JobEnd → Type 0) → ((e : JobEnd) → P e → Q e) → IfStops r P → IfStops r Q
 stops_map (Ok x) P Q f h = tt
 stops_map (Err (stops.Ends e)) P Q f h = f e h
 stops_map (Err stops.NoMemory) P Q f h = tt
 
-pub memory_map : {A : Type 0} (r : Result A Stop) (P Q : Type 0) → (P → Q) → UnlessNoMemory r P → UnlessNoMemory r Q
+pub memory_map : {A : Type 0} (r : Result A PhaseStop) (P Q : Type 0) → (P → Q) → UnlessNoMemory r P → UnlessNoMemory r Q
 memory_map (Ok x) P Q f h = f h
 memory_map (Err (stops.Ends e)) P Q f h = f h
 memory_map (Err stops.NoMemory) P Q f h = tt
 
 -- where what the machine answered is passed on
-pub memory_both : {A : Type 0} (r : Result A Stop) (P : Type 0) → P → UnlessNoMemory r P
+pub memory_both : {A : Type 0} (r : Result A PhaseStop) (P : Type 0) → P → UnlessNoMemory r P
 memory_both (Ok x) P h = h
 memory_both (Err (stops.Ends e)) P h = h
 memory_both (Err stops.NoMemory) P h = tt
 
 -- the error that a `?` passes on
-pub passed_map : (A B : Type 0) (r : Result B Stop) (s : Stop) (P Q : JobEnd → Type 0) → ((e : JobEnd) → P e → Q e) → IsErrAnd r (λ x. x ≡ s) → IfStops {A = A} (Err s) P → IfStops r Q
+pub passed_map : (A B : Type 0) (r : Result B PhaseStop) (s : PhaseStop) (P Q : JobEnd → Type 0) → ((e : JobEnd) → P e → Q e) → IsErrAnd r (λ x. x ≡ s) → IfStops {A = A} (Err s) P → IfStops r Q
 passed_map A B (Ok x) s P Q f h g = tt
-passed_map A B (Err x) s P Q f h g = if_stops A B x P Q f (subst (λ (y : Stop). IfStops {A = A} (Err y) P) (sym h) g)
+passed_map A B (Err x) s P Q f h g = if_stops A B x P Q f (subst (λ (y : PhaseStop). IfStops {A = A} (Err y) P) (sym h) g)
 
 -- nothing holds for a result that isn't there
 pub ok_of_err : {A E : Type 0} (r : Result A E) (Q : E → Type 0) (P : A → Type 0) → IsErrAnd r Q → IfOk r P
 ok_of_err (Ok x) Q P h = absurd h
 ok_of_err (Err e) Q P h = tt
 
-memory_err : (A B : Type 0) (s : Stop) (P Q : Type 0) → (P → Q) → UnlessNoMemory {A = A} (Err s) P → UnlessNoMemory {A = B} (Err s) Q
+memory_err : (A B : Type 0) (s : PhaseStop) (P Q : Type 0) → (P → Q) → UnlessNoMemory {A = A} (Err s) P → UnlessNoMemory {A = B} (Err s) Q
 memory_err A B (stops.Ends e) P Q f h = f h
 memory_err A B stops.NoMemory P Q f h = tt
 
-pub passed_memory : (A B : Type 0) (r : Result B Stop) (s : Stop) (P Q : Type 0) → (P → Q) → IsErrAnd r (λ x. x ≡ s) → UnlessNoMemory {A = A} (Err s) P → UnlessNoMemory r Q
+pub passed_memory : (A B : Type 0) (r : Result B PhaseStop) (s : PhaseStop) (P Q : Type 0) → (P → Q) → IsErrAnd r (λ x. x ≡ s) → UnlessNoMemory {A = A} (Err s) P → UnlessNoMemory r Q
 passed_memory A B (Ok x) s P Q f h g = absurd h
-passed_memory A B (Err x) s P Q f h g = memory_err A B x P Q f (subst (λ (y : Stop). UnlessNoMemory {A = A} (Err y) P) (sym h) g)
+passed_memory A B (Err x) s P Q f h g = memory_err A B x P Q f (subst (λ (y : PhaseStop). UnlessNoMemory {A = A} (Err y) P) (sym h) g)
 
 -- where the job ended, so much is known of the machine
-memory_stops : (A B : Type 0) (s : Stop) (P : JobEnd → Type 0) (Q : Type 0) → ((e : JobEnd) → P e → Q) → IfStops {A = A} (Err s) P → UnlessNoMemory {A = B} (Err s) Q
+memory_stops : (A B : Type 0) (s : PhaseStop) (P : JobEnd → Type 0) (Q : Type 0) → ((e : JobEnd) → P e → Q) → IfStops {A = A} (Err s) P → UnlessNoMemory {A = B} (Err s) Q
 memory_stops A B (stops.Ends e) P Q f h = f e h
 memory_stops A B stops.NoMemory P Q f h = tt
 
-pub passed_stops : (A B : Type 0) (r : Result B Stop) (s : Stop) (P : JobEnd → Type 0) (Q : Type 0) → ((e : JobEnd) → P e → Q) → IsErrAnd r (λ x. x ≡ s) → IfStops {A = A} (Err s) P → UnlessNoMemory r Q
+pub passed_stops : (A B : Type 0) (r : Result B PhaseStop) (s : PhaseStop) (P : JobEnd → Type 0) (Q : Type 0) → ((e : JobEnd) → P e → Q) → IsErrAnd r (λ x. x ≡ s) → IfStops {A = A} (Err s) P → UnlessNoMemory r Q
 passed_stops A B (Ok x) s P Q f h g = absurd h
-passed_stops A B (Err x) s P Q f h g = memory_stops A B x P Q f (subst (λ (y : Stop). IfStops {A = A} (Err y) P) (sym h) g)
+passed_stops A B (Err x) s P Q f h g = memory_stops A B x P Q f (subst (λ (y : PhaseStop). IfStops {A = A} (Err y) P) (sym h) g)
 
 -- what is known of the machine is known where the job ended
-stops_memory : (A B : Type 0) (s : Stop) (P : Type 0) (Q : JobEnd → Type 0) → ((e : JobEnd) → P → Q e) → UnlessNoMemory {A = A} (Err s) P → IfStops {A = B} (Err s) Q
+stops_memory : (A B : Type 0) (s : PhaseStop) (P : Type 0) (Q : JobEnd → Type 0) → ((e : JobEnd) → P → Q e) → UnlessNoMemory {A = A} (Err s) P → IfStops {A = B} (Err s) Q
 stops_memory A B (stops.Ends e) P Q f h = f e h
 stops_memory A B stops.NoMemory P Q f h = tt
 
-pub passed_known : (A B : Type 0) (r : Result B Stop) (s : Stop) (P : Type 0) (Q : JobEnd → Type 0) → ((e : JobEnd) → P → Q e) → IsErrAnd r (λ x. x ≡ s) → UnlessNoMemory {A = A} (Err s) P → IfStops r Q
+pub passed_known : (A B : Type 0) (r : Result B PhaseStop) (s : PhaseStop) (P : Type 0) (Q : JobEnd → Type 0) → ((e : JobEnd) → P → Q e) → IsErrAnd r (λ x. x ≡ s) → UnlessNoMemory {A = A} (Err s) P → IfStops r Q
 passed_known A B (Ok x) s P Q f h g = absurd h
-passed_known A B (Err x) s P Q f h g = stops_memory A B x P Q f (subst (λ (y : Stop). UnlessNoMemory {A = A} (Err y) P) (sym h) g)
+passed_known A B (Err x) s P Q f h g = stops_memory A B x P Q f (subst (λ (y : PhaseStop). UnlessNoMemory {A = A} (Err y) P) (sym h) g)

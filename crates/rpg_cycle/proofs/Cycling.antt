@@ -17,7 +17,7 @@ use Rattle.rpg_cycle_records.specs.Earlier.{Left, Selected, left_by, match_value
 use Rattle.rpg_cycle.specs.Ends.{PhaseEnd, GoesOn}
 use Rattle.rpg_cycle.specs.Indicators.{is_on, last_record, level_indicators, matching_record, with_all, with_one}
 use Rattle.rpg_cycle_records.specs.Merging.{AreMergedInOrder, IsTopIfAny}
-use Rattle.rpg_cycle.specs.Phases.{Cycle, CycleOn, Phase, UnderWay, begun, by_machine, detail_calculations, detail_lines, does, done, either, end_where_last, fill_fields, fill_from, halt_where_asked, has_no_overflow, if_selected, is_bypassed, output, overflow_lines, passes, section, select_one, select_record, set_off, show_match, take_in, total_time, with_config, ◌before◌}
+use Rattle.rpg_cycle.specs.Phases.{Cycle, CycleOn, Phase, UnderWay, begun, by_machine, detail_calculations, detail_lines, without_output, done, either, end_where_last, fill_fields, fill_from, halt_where_asked, has_no_overflow, if_selected, is_bypassed, output, overflow_lines, nothing_done, section, select_one, select_record, set_off, show_match, take_in, total_time, with_config, ◌before◌}
 use Rattle.rpg_cycle.specs.Staging.{after_selection}
 use Rattle.rpg_cycle_records.specs.Waiting.{InputState, Inputs, finds_match, has_match, input_at, takes_in, unread}
 
@@ -36,13 +36,13 @@ by_act P c d e out h = record { inputs = h.3; selected = h.4 }
 pub same : (c d : UnderWay) → d ≡ c → Stays c d
 same c d h = record { inputs = ap (λ (u : UnderWay). u.inputs) h; selected = ap (λ (u : UnderWay). u.selected) h }
 
-pub at_totals : (p : Object) (b : Bool) (c d : UnderWay) (out : Output) → either b passes (section p sections.Total before output p times.Total) c GoesOn d out → Stays c d
+pub at_totals : (p : Object) (b : Bool) (c d : UnderWay) (out : Output) → either b nothing_done (section p sections.Total before output p times.Total) c GoesOn d out → Stays c d
 at_totals p true c d out h = same c d h.1
 at_totals p false c d out h =
     let both = both_on (section p sections.Total) (output p times.Total) c d out h in
     stay c both.mid d (by_act (RunsTo p sections.Total) c both.mid GoesOn both.put both.one) (by_act (PutsOut p times.Total) both.mid d GoesOn both.more both.two)
 
-pub at_overflow : (p : Object) (b : Bool) (c d : UnderWay) (out : Output) → either b passes (output p times.Overflow) c GoesOn d out → Stays c d
+pub at_overflow : (p : Object) (b : Bool) (c d : UnderWay) (out : Output) → either b nothing_done (output p times.Overflow) c GoesOn d out → Stays c d
 at_overflow p true c d out h = same c d h.1
 at_overflow p false c d out h = by_act (PutsOut p times.Overflow) c d GoesOn out h
 
@@ -56,7 +56,7 @@ pub settled_still : (p : Object) (i j : Inputs) (f : InputFile) → input_at j f
 settled_still p i j f e h = ap (λ (x : InputState). has_file p f && (not x.is_over && is_none x.waiting)) e ∙ h
 
 phase_4 : (p : Object) (earlier : List Selected) (a b : Option (List ℕ)) (c d : UnderWay) (out : Output) (lit : Bool) → AreMergedInOrder p earlier c.inputs → c.selected ≡ None →
-    either lit (does (λ c. done GoesOn (with_config (with_all level_indicators true) c)))
+    either lit (without_output (λ c. done GoesOn (with_config (with_all level_indicators true) c)))
     (take_in p (left_by p earlier) Primary a before take_in p (left_by p earlier) Secondary b before select_one p (left_by p earlier)) c GoesOn d out → Picked p earlier d
 phase_4 p earlier a b c d out true h none g = record {
   orderly = subst (λ (o : Option Selected). AreMergedInOrder p (with_record o earlier) d.inputs) (sym (ap (λ (u : UnderWay). u.selected) g.1 ∙ none))

@@ -10,31 +10,31 @@ use Rattle.rpg_program.specs.Object.{Object}
 use Rattle.rpg_cycle.proofs.InTurn.{both_on}
 use Rattle.rpg_cycle.proofs.Cycling.{Stays, at_totals, behind_4, behind_match, by_act, from_selection, keeps, same, settled_still, stay}
 use Rattle.rpg_cycle.proofs.Taking.{takes}
-use Rattle.rpg_cycle.specs.Counting.{one_if, records_count, waiting_count}
+use Rattle.rpg_cycle.specs.Counting.{one_for_record, records_count, waiting_count}
 use Rattle.rpg_cycle_records.specs.Earlier.{Left, Selected, control_fields, left_by, match_value, with_record}
 use Rattle.rpg_program.specs.Ends as effects
 use Rattle.rpg_cycle.specs.Ends.{PhaseEnd, GoesOn, EndOfJob, Halt, Wrong}
 use Rattle.rpg_cycle.specs.Indicators.{any_on, halt_indicators, is_on, last_record, level_indicators, with_all, with_levels, with_type}
 use Rattle.rpg_cycle_records.specs.Levels.{is_in_record}
 use Rattle.rpg_cycle_records.specs.Merging.{AreMergedInOrder}
-use Rattle.rpg_cycle.specs.Phases.{Cycle, Done, UnderWay, begun, broken_level, detail_lines, does, done, either, end_where_last, halt_where_asked, overflow_lines, type_indicator, is_bypassed, needs_record, read_record, select_one, select_from, select_record, select_waiting, set_off, show_match, take_in, total_time, with_config, with_inputs, ◌before◌}
+use Rattle.rpg_cycle.specs.Phases.{Cycle, Done, UnderWay, begun, broken_level, detail_lines, without_output, done, either, end_where_last, halt_where_asked, overflow_lines, type_indicator, is_bypassed, needs_record, read_record, select_one, select_from, select_record, select_waiting, set_off, show_match, take_in, total_time, with_config, with_inputs, ◌before◌}
 use Rattle.rpg_cycle.specs.Staging.{after_selection}
 use Rattle.rpg_cycle.specs.Runs.{Course, Records, RunsIn, ends_or, left_behind, next_of, rest_where_needed}
 use Rattle.rpg_cycle_records.specs.Waiting.{InputState, Inputs, chosen, first_of, has_match, with_file_over, takes_in, waiting_in, with_waiting}
 
 -- ---- taking in
 
-few_wait : (o : Option Selected) → one_if o ≤ 1
+few_wait : (o : Option Selected) → one_for_record o ≤ 1
 few_wait None = omega arith
 few_wait (Some s) = omega arith
 
-over_waits : (f : InputFile) (i : Inputs) → one_if (waiting_in (with_file_over f i) f) ≡ 0
+over_waits : (f : InputFile) (i : Inputs) → one_for_record (waiting_in (with_file_over f i) f) ≡ 0
 over_waits Primary i = refl
 over_waits Secondary i = refl
 
 ended : (p : Object) (left : Left) (f : InputFile) (c d : UnderWay) (b : Bool) → b ≡ true →
-    d ≡ (let r : Done = cond b (read_record p left f None c) (done GoesOn c) in r).leads → one_if (waiting_in d.inputs f) ≡ 0
-ended p left f c d true e leads = ap (λ (u : UnderWay). one_if (waiting_in u.inputs f)) leads ∙ over_waits f c.inputs
+    d ≡ (let r : Done = cond b (read_record p left f None c) (done GoesOn c) in r).leads → one_for_record (waiting_in d.inputs f) ≡ 0
+ended p left f c d true e leads = ap (λ (u : UnderWay). one_for_record (waiting_in u.inputs f)) leads ∙ over_waits f c.inputs
 ended p left f c d false e leads = cc
 
 untouched : (p : Object) (left : Left) (f : InputFile) (next : Option (List ℕ)) (c d : UnderWay) (b : Bool) → b ≡ false →
@@ -44,19 +44,19 @@ untouched p left f next c d false e leads = ap (λ (u : UnderWay). u.inputs) lea
 
 -- what waits in the file and what is left of it are no more than before
 taken : (p : Object) (left : Left) (f : InputFile) (n t : Bool) (rs : List (List ℕ)) (c d : UnderWay) (out : Output) → takes_in p c.inputs f ≡ t → (t ≡ false → n ≡ false) →
-    take_in p left f (next_of n rs) c GoesOn d out → one_if (waiting_in d.inputs f) + length (rest_where_needed n rs) ≤ one_if (waiting_in c.inputs f) + length rs
+    take_in p left f (next_of n rs) c GoesOn d out → one_for_record (waiting_in d.inputs f) + length (rest_where_needed n rs) ≤ one_for_record (waiting_in c.inputs f) + length rs
 taken p left f true true [] c d out is fits g = let z = ended p left f c d (takes_in p c.inputs f) is g.1 in omega (arith, z)
 taken p left f true true (r ∷ rs) c d out is fits g = let z = few_wait (waiting_in d.inputs f) in omega (arith, z)
 taken p left f false true rs c d out is fits g = let z = ended p left f c d (takes_in p c.inputs f) is g.1 in omega (arith, z)
 taken p left f true false rs c d out is fits g = let e : true ≡ false = fits refl in absurd (cc)
 taken p left f false false rs c d out is fits g =
-    let z : one_if (waiting_in d.inputs f) ≡ one_if (waiting_in c.inputs f) = ap (λ (i : Inputs). one_if (waiting_in i f)) (untouched p left f None c d (takes_in p c.inputs f) is g.1) in omega (arith, z)
+    let z : one_for_record (waiting_in d.inputs f) ≡ one_for_record (waiting_in c.inputs f) = ap (λ (i : Inputs). one_for_record (waiting_in i f)) (untouched p left f None c d (takes_in p c.inputs f) is g.1) in omega (arith, z)
 
 -- ---- selecting
 
 out_of : (f : InputFile) (i : Inputs) (s : Selected) → waiting_in i f ≡ Some s → waiting_count (with_waiting f None i) + 1 ≡ waiting_count i
-out_of Primary i s e = let z : one_if i.primary.waiting ≡ 1 = ap one_if e in omega (arith, z)
-out_of Secondary i s e = let z : one_if i.secondary.waiting ≡ 1 = ap one_if e in omega (arith, z)
+out_of Primary i s e = let z : one_for_record i.primary.waiting ≡ 1 = ap one_for_record e in omega (arith, z)
+out_of Secondary i s e = let z : one_for_record i.secondary.waiting ≡ 1 = ap one_for_record e in omega (arith, z)
 
 by_levels : (f : InputFile) (i : Inputs) (d : UnderWay) (b : Bool) (x y : UnderWay) → x.inputs ≡ with_waiting f None i →
     GoesOn ≡ (let r : Done = cond b (done GoesOn x) (done (Wrong effects.Storage) y) in r).end → d ≡ (let r : Done = cond b (done GoesOn x) (done (Wrong effects.Storage) y) in r).leads → d.inputs ≡ with_waiting f None i
@@ -99,7 +99,7 @@ record Shorter (c d : UnderWay) (firsts seconds firsts' seconds' : ℕ) : Type 0
 
 phase_4 : (p : Object) (earlier : List Selected) (asks n m : Bool) (rs : Records) (c d : UnderWay) (out : Output) (lit : Bool) → AreMergedInOrder p earlier c.inputs → c.selected ≡ None →
     n ≡ (asks && takes_in p c.inputs Primary) → m ≡ (asks && takes_in p c.inputs Secondary) →
-    either lit (does (λ u. done GoesOn (with_config (with_all level_indicators true) u)))
+    either lit (without_output (λ u. done GoesOn (with_config (with_all level_indicators true) u)))
     (take_in p (left_by p earlier) Primary (next_of n rs.primary) before take_in p (left_by p earlier) Secondary (next_of m rs.secondary) before select_one p (left_by p earlier)) c GoesOn d out →
     Shorter c d (length rs.primary) (length rs.secondary) (length (rest_where_needed n rs.primary)) (length (rest_where_needed m rs.secondary))
 phase_4 p earlier asks n m rs c d out true h none en em g =
@@ -114,8 +114,8 @@ phase_4 p earlier asks n m rs c d out false h none en em g =
     let b = taken p left Secondary m (takes_in p one.mid.inputs Secondary) rs.secondary one.mid two.mid two.put refl
     (λ k. em ∙ not_needed asks (takes_in p c.inputs Secondary) (settled_still p one.mid.inputs c.inputs Secondary (sym x.other) k)) two.one in
     let s = selected p left two.mid d (waiting_in two.mid.inputs Primary) (waiting_in two.mid.inputs Secondary) (y.selected ∙ (x.selected ∙ none)) refl refl two.two.0 two.two.1 in
-    let q : one_if (waiting_in one.mid.inputs Secondary) ≡ one_if (waiting_in c.inputs Secondary) = ap (λ (i : InputState). one_if i.waiting) x.other in
-    let r : one_if (waiting_in two.mid.inputs Primary) ≡ one_if (waiting_in one.mid.inputs Primary) = ap (λ (i : InputState). one_if i.waiting) y.other in
+    let q : one_for_record (waiting_in one.mid.inputs Secondary) ≡ one_for_record (waiting_in c.inputs Secondary) = ap (λ (i : InputState). one_for_record i.waiting) x.other in
+    let r : one_for_record (waiting_in two.mid.inputs Primary) ≡ one_for_record (waiting_in one.mid.inputs Primary) = ap (λ (i : InputState). one_for_record i.waiting) y.other in
     record { less = λ k. let z = s k in omega (arith, a, b, z, q, r) }
 
 -- ---- a cycle that goes on has selected a record

@@ -10,7 +10,7 @@ use Rattle.rpg_cycle_records.specs.Waiting.{Inputs, has_match, unread}
 use Rattle.rpg_program.specs.declared.input.InputFile.TheVariants.{Primary, Secondary}
 use Rattle.rpg_cycle.specs.Ends.{PhaseEnd, GoesOn, EndOfJob, Halt, Wrong, phase_end}
 use Rattle.rpg_cycle.specs.Indicators.{is_on, last_record}
-use Rattle.rpg_cycle.specs.Phases.{CycleOn, Done, Phase, UnderWay, begun, by_machine, does, either, fill_from, from_there, needs_record, output, passes, section, select_record, unless, ◌before◌}
+use Rattle.rpg_cycle.specs.Phases.{CycleOn, Done, Phase, UnderWay, begun, by_machine, without_output, either, fill_from, from_there, needs_record, output, nothing_done, section, select_record, unless, ◌before◌}
 use Rattle.rpg_cycle.specs.Runs.{Course, IsRun, Records, RunsIn, ends_or, left_behind, next_of, printed, stored, with_cycle}
 use Rattle.rpg_cycle.specs.Starting.{job_start}
 use Rattle.rpg_machine.specs.Config.{Config, Output, no_output, with_more}
@@ -96,7 +96,7 @@ machine_fixed P p = record {
   };
 }
 
-does_fixed : (f : UnderWay → Done) → IsFixed (does f)
+does_fixed : (f : UnderWay → Done) → IsFixed (without_output f)
 does_fixed f = record { same = λ c e k x y a b h g. record { end = h.0 ∙ sym g.0; there = h.1 ∙ sym g.1; out = h.2 ∙ sym g.2 } }
 
 from_there_fixed : (Q : Phase) → IsFixed Q → (f : PhaseEnd) (m : UnderWay) (put : Output) (e k : PhaseEnd) (x y : UnderWay) (a b : Output) → from_there Q f m put e x a → from_there Q f m put k y b → IsSame e k x y a b
@@ -121,7 +121,7 @@ either_fixed true P Q p q = p
 either_fixed false P Q p q = q
 
 unless_fixed : (test : Config → Bool) (P : Phase) → IsFixed P → IsFixed (unless test P)
-unless_fixed test P p = record { same = λ c e f x y a b h g. (either_fixed (test c.config) passes P (does_fixed _) p).same c e f x y a b h g }
+unless_fixed test P p = record { same = λ c e f x y a b h g. (either_fixed (test c.config) nothing_done P (does_fixed _) p).same c e f x y a b h g }
 
 fill_fixed : (p : Object) (s : Option Selected) → IsFixed (fill_from p s)
 fill_fixed p None = does_fixed _

@@ -20,10 +20,10 @@ use Rattle.rpg_cycle_records.specs.Keeping.{left_of, selected_as}
 use Rattle.rpg_cycle_records.specs.Levels.{broken_in, is_in_record}
 use Rattle.rpg_cycle_records.specs.Matching.{exceeds}
 use Rattle.rpg_cycle_records.specs.Waiting.{InputState, Inputs, chosen, input_at, with_file_over, takes_in, waiting_in, with_input, with_waiting}
-use Rattle.rpg_cycle_records.specs.Holding.{HoldsRecord, HoldsSelected, IsFileKept, input_state_of, inputs_of, kept_at, record_in, takes_from, text_in}
+use Rattle.rpg_cycle_records.specs.Holding.{HoldsRecord, HoldsSelected, IsFileKept, input_state_of, inputs_of, kept_at, last_record_in, takes_from, text_in}
 use Rattle.rpg_cycle_records.specs.declared.files.KeptFile.{KeptFile}
 use Rattle.rpg_cycle_records.specs.declared.kept.Kept.{Kept}
-use Rattle.rpg_cycle.specs.Phases.{broken_level, does, done, either, read_record, select_from, select_one, select_record, select_waiting, take_in, type_indicator, with_config, ◌before◌}
+use Rattle.rpg_cycle.specs.Phases.{broken_level, without_output, done, either, read_record, select_from, select_one, select_record, select_waiting, take_in, type_indicator, with_config, ◌before◌}
 use Rattle.rpg_cycle.specs.Selecting.{HasRead, HasSelected, IsCompared, IsUntaken, TakesType}
 use Rattle.rpg_cycle.specs.Spending.{Spends, SpendsTakingIn}
 use Rattle.rpg_cycle.specs.Stages.{job_end}
@@ -251,18 +251,18 @@ picks p left f i j t text a b is h =
     (λ previous. ap (λ (o : Option InputFile). select_from p left o (under_way (config_on previous a.config) (unselected i))) is ∙ h.leads previous) h.machine
 
 -- the text that is kept of the record
-text_of_file : (p : Object) (k : Kept) (f : InputFile) (t : Option ℕ) → ForSome t (λ n. file_of (slice_get p.types n) ≡ f) → selected_as t (text_in p k t) ≡ selected_as t (record_in k f)
+text_of_file : (p : Object) (k : Kept) (f : InputFile) (t : Option ℕ) → ForSome t (λ n. file_of (slice_get p.types n) ≡ f) → selected_as t (text_in p k t) ≡ selected_as t (last_record_in k f)
 text_of_file p k f None h = refl
-text_of_file p k f (Some n) h = ap (λ (g : InputFile). selected_as (Some n) (record_in k g)) (h n refl)
+text_of_file p k f (Some n) h = ap (λ (g : InputFile). selected_as (Some n) (last_record_in k g)) (h n refl)
 
 -- the file's record was selected
 pub picks_from : (p : Object) (f : InputFile) (old now : Kept) (t : Option ℕ) (a b : Running) → chosen p (waiting_in (inputs_of old) Primary) (waiting_in (inputs_of old) Secondary) ≡ Some f →
-    HasSelected p (left_of old) f (inputs_of old) a t (record_in now f) b (inputs_of now) → t ≡ (kept_at old f).waiting → IsFileKept p f (kept_at old f) →
+    HasSelected p (left_of old) f (inputs_of old) a t (last_record_in now f) b (inputs_of now) → t ≡ (kept_at old f).waiting → IsFileKept p f (kept_at old f) →
     Does (select_one p (left_of old)) a (unselected (inputs_of old)) GoesOn b (holding (inputs_of now) t (text_in p now t))
 picks_from p f old now t a b is h same kept =
     subst (λ (o : Option Selected). let s : Beside = record { inputs = inputs_of now; selected = o } in Does (select_one p (left_of old)) a (unselected (inputs_of old)) GoesOn b s)
     (sym (text_of_file p now f t (λ n e. (kept n (sym same ∙ e)).own)))
-    (picks p (left_of old) f (inputs_of old) (inputs_of now) t (record_in now f) a b is h)
+    (picks p (left_of old) f (inputs_of old) (inputs_of now) t (last_record_in now f) a b is h)
 
 -- and its file holds it still
 pub holds_from : (p : Object) (f : InputFile) (old now : Kept) (t : Option ℕ) → t ≡ (kept_at old f).waiting → kept_at now f ≡ record (kept_at old f) { waiting = None } → IsFileKept p f (kept_at old f) →
@@ -278,7 +278,7 @@ holds_from p f old now t same is kept = λ n e.
 pub at_last : (p : Object) (left : Left) (primary secondary : Option (List ℕ)) (i : Inputs) (a b : Running) → is_on a.config last_record ≡ true → b ≡ record a { config = with_all level_indicators true a.config } →
     Does (select_record p left primary secondary) a (unselected i) GoesOn b (unselected i)
 at_last p left primary secondary i a b on is =
-    let P = does (λ c. done GoesOn (with_config (with_all level_indicators true) c)) in
+    let P = without_output (λ c. done GoesOn (with_config (with_all level_indicators true) c)) in
     let Q = take_in p left Primary primary before take_in p left Secondary secondary before select_one p left in
     let d = quietly (λ c. done GoesOn (with_config (with_all level_indicators true) c)) a b (unselected i) (unselected i) GoesOn (with_all level_indicators true a.config)
     (λ previous. ap (λ (c : Config). done GoesOn (under_way c (unselected i))) (sym (all_on previous level_indicators true a.config))) is in
@@ -298,7 +298,7 @@ at_last p left primary secondary i a b on is =
 pub not_last : (p : Object) (left : Left) (primary secondary : Option (List ℕ)) (a b : Running) (s t : Beside) (e : PhaseEnd) → is_on a.config last_record ≡ false →
     Does (take_in p left Primary primary before take_in p left Secondary secondary before select_one p left) a s e b t → Does (select_record p left primary secondary) a s e b t
 not_last p left primary secondary a b s t e off d =
-    let P = does (λ c. done GoesOn (with_config (with_all level_indicators true) c)) in
+    let P = without_output (λ c. done GoesOn (with_config (with_all level_indicators true) c)) in
     let Q = take_in p left Primary primary before take_in p left Secondary secondary before select_one p left in
     record {
       program = d.program;

@@ -10,7 +10,7 @@ use Rattle.rpg_cycle.specs.Phases.{Phase, detail_lines, halt_where_asked, set_of
 use Rattle.rpg_cycle.specs.Spending.{Spends, cycle_weight, reach, section_cost}
 use Rattle.rpg_cycle.specs.Stages.{IfStops, UnlessNoMemory, job_end}
 use Rattle.rpg_cycle.specs.Staging.{CanDo, CanSpend, DoesPhase, DoesStage}
-use Rattle.rpg_cycle.specs.declared.ends.Stop.{Stop}
+use Rattle.rpg_cycle.specs.declared.ends.PhaseStop.{PhaseStop}
 use Rattle.rpg_program.proofs.Fronts.{grows_not}
 use Rattle.rpg_program.specs.Ends as effects
 use Rattle.rpg_program.specs.declared.outcome.End as answers
@@ -94,7 +94,7 @@ lines_few p {a} {b} few s within low =
 -- ---- a phase that selects nothing, whatever is beside it
 
 -- what the machine answered is passed on
-pub answered : {P : Phase} {n : ℕ} {a b : Running} (last : answers.End) (r : Result (Unit {0}) Stop) → IfOk r (λ _. last ≡ ways.GoesOn) → IfStops r (λ e. phase_end (effects.end_of last) ≡ job_end e) →
+pub answered : {P : Phase} {n : ℕ} {a b : Running} (last : answers.End) (r : Result (Unit {0}) PhaseStop) → IfOk r (λ _. last ≡ ways.GoesOn) → IfStops r (λ e. phase_end (effects.end_of last) ≡ job_end e) →
     ((e : PhaseEnd) → phase_end (effects.end_of last) ≡ e → DoesAlone P a e b) → (last ≡ ways.GoesOn → IsReady b) → Spends a.program n a b → OnlyGrows a.output b.output → DoesPhase P n a r b
 answered last r on off did ready few grown = record {
   goes = ok_map r _ _ (λ x h. did GoesOn (ap (λ (e : answers.End). phase_end (effects.end_of e)) h)) on;
@@ -105,7 +105,7 @@ answered last r on off did ready few grown = record {
 }
 
 -- what is beside it stays
-pub of_phase : {P : Phase} {n : ℕ} {a b : Running} {r : Result (Unit {0}) Stop} (h : Beside) → DoesPhase P n a r b → DoesStage a.program P n h a r b
+pub of_phase : {P : Phase} {n : ℕ} {a b : Running} {r : Result (Unit {0}) PhaseStop} (h : Beside) → DoesPhase P n a r b → DoesStage a.program P n h a r b
 of_phase {P} {n} {a} {b} {r} h x = record {
   goes = ok_map r _ _ (λ u e. e.each h) x.goes;
   stops = stops_map r _ _ (λ e f. f.each h) x.stops;
@@ -115,14 +115,14 @@ of_phase {P} {n} {a} {b} {r} h x = record {
 }
 
 -- it weighs another number
-pub weighs : {P : Phase} {n m : ℕ} {a b : Running} {r : Result (Unit {0}) Stop} → (Spends a.program n a b → Spends a.program m a b) → DoesPhase P n a r b → DoesPhase P m a r b
+pub weighs : {P : Phase} {n m : ℕ} {a b : Running} {r : Result (Unit {0}) PhaseStop} → (Spends a.program n a b → Spends a.program m a b) → DoesPhase P n a r b → DoesPhase P m a r b
 weighs {P} {n} {m} {a} {b} {r} f x = record { goes = x.goes; stops = x.stops; ready = x.ready; spends = memory_map r _ _ f x.spends; grows = x.grows }
 
 -- it is left out, or it isn't
 pub leaves_out : (test : Config → Bool) (P : Phase) (n : ℕ) (a : Running) → IsReady a → ((previous : Option Position) → test (config_on previous a.config) ≡ true) → DoesPhase (unless test P) n a (Ok tt) a
 leaves_out test P n a ready h = record { goes = left_out test P a h; stops = tt; ready = ready; spends = costs_none a.program n a; grows = grows_not a.output }
 
-pub leaves_in : (test : Config → Bool) {P : Phase} {n : ℕ} {a b : Running} {r : Result (Unit {0}) Stop} → ((previous : Option Position) → test (config_on previous a.config) ≡ false) → DoesPhase P n a r b →
+pub leaves_in : (test : Config → Bool) {P : Phase} {n : ℕ} {a b : Running} {r : Result (Unit {0}) PhaseStop} → ((previous : Option Position) → test (config_on previous a.config) ≡ false) → DoesPhase P n a r b →
     DoesPhase (unless test P) n a r b
 leaves_in test {P} {n} {a} {b} {r} h x = record {
   goes = ok_map r _ _ (λ u d. not_left_out test P a b GoesOn h d) x.goes;
@@ -133,7 +133,7 @@ leaves_in test {P} {n} {a} {b} {r} h x = record {
 }
 
 -- it ends the job before another
-pub phase_ends : {P : Phase} (Q : Phase) {n : ℕ} (m : ℕ) {a b : Running} (s : Stop) (r : Result (Unit {0}) Stop) → IsErrAnd r (λ x. x ≡ s) → DoesPhase P n a (Err s) b → DoesPhase (P before Q) (n + m) a r b
+pub phase_ends : {P : Phase} (Q : Phase) {n : ℕ} (m : ℕ) {a b : Running} (s : PhaseStop) (r : Result (Unit {0}) PhaseStop) → IsErrAnd r (λ x. x ≡ s) → DoesPhase P n a (Err s) b → DoesPhase (P before Q) (n + m) a r b
 phase_ends {P} Q {n} m {a} {b} s r is x = record {
   goes = ok_of_err r _ _ is;
   stops = passed_map (Unit {0}) (Unit {0}) r s _ _ (λ e h. passes_ends e h) is x.stops;
@@ -143,7 +143,7 @@ phase_ends {P} Q {n} m {a} {b} s r is x = record {
 }
 
 -- it goes on, and then one of the machine's own program is done
-pub phase_then : (F : Object → Phase) (w : Object → ℕ) {P : Phase} {n : ℕ} {a b c : Running} {u : Unit {0}} {r : Result (Unit {0}) Stop} → DoesPhase P n a (Ok u) b → DoesPhase (F b.program) (w b.program) b r c →
+pub phase_then : (F : Object → Phase) (w : Object → ℕ) {P : Phase} {n : ℕ} {a b c : Running} {u : Unit {0}} {r : Result (Unit {0}) PhaseStop} → DoesPhase P n a (Ok u) b → DoesPhase (F b.program) (w b.program) b r c →
     DoesPhase (P before F a.program) (n + w a.program) a r c
 phase_then F w {P} {n} {a} {b} {c} {u} {r} x y = record {
   goes = ok_map r _ _ (λ v h. goes_own F x.goes h) y.goes;
@@ -154,18 +154,18 @@ phase_then F w {P} {n} {a} {b} {c} {u} {r} x y = record {
 }
 
 -- a stage of the machine's own program
-pub stage_own : (F : Object → Phase) (w : Object → ℕ) {p : Object} {h : Beside} {a b : Running} {r : Result (Unit {0}) Stop} → a.program ≡ p → DoesStage a.program (F a.program) (w a.program) h a r b → DoesStage p (F p) (w p) h a r b
+pub stage_own : (F : Object → Phase) (w : Object → ℕ) {p : Object} {h : Beside} {a b : Running} {r : Result (Unit {0}) PhaseStop} → a.program ≡ p → DoesStage a.program (F a.program) (w a.program) h a r b → DoesStage p (F p) (w p) h a r b
 stage_own F w {p} {h} {a} {b} {r} same x = subst (λ (o : Object). DoesStage o (F o) (w o) h a r b) same x
 
 -- a test that ends the job leaves the machine as it was
-pub of_test : {P : Phase} {p : Object} {a : Running} (h : Beside) (s : Stop) → IfStops {A = Unit {0}} (Err s) (λ e. DoesHolding P h a (job_end e) a) → DoesStage p P 0 h a (Err s) a
+pub of_test : {P : Phase} {p : Object} {a : Running} (h : Beside) (s : PhaseStop) → IfStops {A = Unit {0}} (Err s) (λ e. DoesHolding P h a (job_end e) a) → DoesStage p P 0 h a (Err s) a
 of_test {P} {p} {a} h s d = record { goes = tt; stops = d; ready = tt; spends = memory_both {A = Unit {0}} (Err s) _ (unspent p a); grows = grows_not a.output }
 
 -- ---- one phase, and those that follow it
 
 module _ {p : Object} {P Q : Phase} {n : ℕ} (m : ℕ) {h : Beside} {a b : Running} where
   -- the one goes on
-  pub goes_on : {c : Running} {r : Result (Unit {0}) Stop} → DoesHolding P h a GoesOn b → Spends p n a b → OnlyGrows a.output b.output → DoesStage p Q m h b r c → DoesStage p (P before Q) (n + m) h a r c
+  pub goes_on : {c : Running} {r : Result (Unit {0}) PhaseStop} → DoesHolding P h a GoesOn b → Spends p n a b → OnlyGrows a.output b.output → DoesStage p Q m h b r c → DoesStage p (P before Q) (n + m) h a r c
   goes_on {c} {r} d s g x = record {
     goes = ok_map r _ _ (λ u e. goes d e) x.goes;
     stops = stops_map r _ _ (λ e f. goes d f) x.stops;
@@ -175,7 +175,7 @@ module _ {p : Object} {P Q : Phase} {n : ℕ} (m : ℕ) {h : Beside} {a b : Runn
   }
 
   -- the one ends the job
-  pub ends_here : (s : Stop) (r : Result (Unit {0}) Stop) → IsErrAnd r (λ x. x ≡ s) → DoesStage p P n h a (Err s) b → DoesStage p (P before Q) (n + m) h a r b
+  pub ends_here : (s : PhaseStop) (r : Result (Unit {0}) PhaseStop) → IsErrAnd r (λ x. x ≡ s) → DoesStage p P n h a (Err s) b → DoesStage p (P before Q) (n + m) h a r b
   ends_here s r is x = record {
     goes = ok_of_err r _ _ is;
     stops = passed_map (Unit {0}) (Unit {0}) r s _ _ (λ e d. ends e d) is x.stops;
@@ -189,7 +189,7 @@ free_then x y z m h g = omega (arith, h, g)
 
 module _ {p : Object} {P Q : Phase} (m : ℕ) {h : Beside} {a b : Running} where
   -- a phase that costs nothing goes on
-  pub goes_free : {c : Running} {r : Result (Unit {0}) Stop} → DoesHolding P h a GoesOn b → Spends p 0 a b → OnlyGrows a.output b.output → DoesStage p Q m h b r c → DoesStage p (P before Q) m h a r c
+  pub goes_free : {c : Running} {r : Result (Unit {0}) PhaseStop} → DoesHolding P h a GoesOn b → Spends p 0 a b → OnlyGrows a.output b.output → DoesStage p Q m h b r c → DoesStage p (P before Q) m h a r c
   goes_free {c} {r} d s g x = record {
     goes = ok_map r _ _ (λ u e. goes d e) x.goes;
     stops = stops_map r _ _ (λ e f. goes d f) x.stops;
@@ -199,7 +199,7 @@ module _ {p : Object} {P Q : Phase} (m : ℕ) {h : Beside} {a b : Running} where
   }
 
   -- a phase that costs nothing ends the job
-  pub ends_free : (s : Stop) (r : Result (Unit {0}) Stop) → IsErrAnd r (λ x. x ≡ s) → DoesStage p P 0 h a (Err s) b → DoesStage p (P before Q) m h a r b
+  pub ends_free : (s : PhaseStop) (r : Result (Unit {0}) PhaseStop) → IsErrAnd r (λ x. x ≡ s) → DoesStage p P 0 h a (Err s) b → DoesStage p (P before Q) m h a r b
   ends_free s r is x = record {
     goes = ok_of_err r _ _ is;
     stops = passed_map (Unit {0}) (Unit {0}) r s _ _ (λ e d. ends e d) is x.stops;

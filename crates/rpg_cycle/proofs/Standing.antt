@@ -4,7 +4,7 @@ use Rattle.std.specs.List.{list_all}
 use Rattle.std.specs.Ordering.{nat_cmp}
 use Rattle.rpg_cycle.specs.Ends.{PhaseEnd, GoesOn, EndOfJob, Halt, Wrong, phase_end}
 use Rattle.rpg_cycle.specs.Indicators.{is_on, last_record, level_indicators, with_all, with_levels, with_one, with_type, without_type, without_types}
-use Rattle.rpg_cycle.specs.Phases.{CycleOn, Done, Phase, UnderWay, all_off, begun, broken_level, by_machine, does, done, either, fill_from, from_there, identify, needs_record, output, passes, read_record, section, select_from, select_record, select_waiting, take_type, type_indicator, unless, with_config, with_inputs, ◌before◌}
+use Rattle.rpg_cycle.specs.Phases.{CycleOn, Done, Phase, UnderWay, all_off, begun, broken_level, by_machine, without_output, done, either, fill_from, from_there, identify, needs_record, output, nothing_done, read_record, section, select_from, select_record, select_waiting, take_type, type_indicator, unless, with_config, with_inputs, ◌before◌}
 use Rattle.rpg_cycle.specs.Runs.{Course, Records, RunsIn, ends_or, left_behind, next_of}
 use Rattle.rpg_cycle.specs.Standing.{RunsStandRight, StandsRightAtEnd}
 use Rattle.rpg_cycle.specs.Starting.{job_start}
@@ -89,7 +89,7 @@ module _ (p : Object) where
   outside (Halt k) d none = inl none
   outside (Wrong f) d none = tt
 
-  does_stands : (f : UnderWay → Done) → ((c : UnderWay) → Stays c.config (f c).leads.config) → Stands (does f)
+  does_stands : (f : UnderWay → Done) → ((c : UnderWay) → Stays c.config (f c).leads.config) → Stands (without_output f)
   does_stands f stays = record {
     right = λ c e d out h none.
         outside e d.config (ap (λ (u : UnderWay). running_place p u.config) h.1 ∙ same_place c.config (f c).leads.config (stays c) ∙ none);
@@ -123,11 +123,11 @@ module _ (p : Object) where
   either_stands true P Q s q = s
   either_stands false P Q s q = q
 
-  passes_stands : Stands passes
+  passes_stands : Stands nothing_done
   passes_stands = does_stands _ (λ c. still c.config)
 
   unless_stands : (test : Config → Bool) (P : Phase) → Stands P → Stands (unless test P)
-  unless_stands test P s = record { right = λ c e d out h none. (either_stands (test c.config) passes P passes_stands s).right c e d out h none }
+  unless_stands test P s = record { right = λ c e d out h none. (either_stands (test c.config) nothing_done P passes_stands s).right c e d out h none }
 
   -- ---- records are taken in, and one is selected
 

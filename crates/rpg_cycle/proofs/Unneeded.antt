@@ -16,7 +16,7 @@ use Rattle.rpg_program.specs.declared.input.InputFile.TheVariants.{Primary, Seco
 use Rattle.std.specs.List.{list_all}
 use Rattle.rpg_cycle.specs.Ends.{PhaseEnd, GoesOn, EndOfJob, Halt, Wrong}
 use Rattle.rpg_cycle.specs.Indicators.{any_on, first_page, halt_indicators, is_on, last_record, level_indicators, with_all, with_one, without_type, without_types}
-use Rattle.rpg_cycle.specs.Phases.{Cycle, Done, Phase, UnderWay, all_off, begun, detail_lines, does, done, either, halt_where_asked, identify, needs_record, read_record, select_one, select_record, set_off, take_in, take_type, with_config, with_inputs, ◌before◌}
+use Rattle.rpg_cycle.specs.Phases.{Cycle, Done, Phase, UnderWay, all_off, begun, detail_lines, without_output, done, either, halt_where_asked, identify, needs_record, read_record, select_one, select_record, set_off, take_in, take_type, with_config, with_inputs, ◌before◌}
 use Rattle.rpg_cycle.specs.Staging.{after_selection}
 use Rattle.rpg_machine.specs.Config.{Config, Output, charged}
 use Rattle.rpg_program.specs.Constants.{word_at}
@@ -138,7 +138,7 @@ lit_alike P Q R c false h = h refl
 first_alike : (p : Object) (left : Left) (now next b : Option (List ℕ)) (c : UnderWay) → (is_on c.config last_record ≡ false → takes_in p c.inputs Primary ≡ false) →
     Agrees (select_record p left now b) (select_record p left next b) c
 first_alike p left now next b c off = record {
-  each = (lit_alike (does (λ c. done GoesOn (with_config (with_all level_indicators true) c))) (take_in p left Primary now before take_in p left Secondary b before select_one p left)
+  each = (lit_alike (without_output (λ c. done GoesOn (with_config (with_all level_indicators true) c))) (take_in p left Primary now before take_in p left Secondary b before select_one p left)
       (take_in p left Primary next before take_in p left Secondary b before select_one p left) c (is_on c.config last_record)
       (λ dark. first_agrees (take_in p left Primary now) (take_in p left Primary next) (take_in p left Secondary b before select_one p left) c (takes_alike p left Primary now next c (off dark)))).each;
 }
@@ -146,7 +146,7 @@ first_alike p left now next b c off = record {
 second_alike : (p : Object) (left : Left) (a now next : Option (List ℕ)) (c : UnderWay) → (is_on c.config last_record ≡ false → takes_in p c.inputs Secondary ≡ false) →
     Agrees (select_record p left a now) (select_record p left a next) c
 second_alike p left a now next c off = record {
-  each = (lit_alike (does (λ c. done GoesOn (with_config (with_all level_indicators true) c))) (take_in p left Primary a before take_in p left Secondary now before select_one p left)
+  each = (lit_alike (without_output (λ c. done GoesOn (with_config (with_all level_indicators true) c))) (take_in p left Primary a before take_in p left Secondary now before select_one p left)
       (take_in p left Primary a before take_in p left Secondary next before select_one p left) c (is_on c.config last_record)
       (λ dark. rest_agrees (take_in p left Primary a) (take_in p left Secondary now before select_one p left) (take_in p left Secondary next before select_one p left) c
       (λ m put g. first_agrees (take_in p left Secondary now) (take_in p left Secondary next) (select_one p left) m (takes_alike p left Secondary now next m (still_none p left a c m put g (off dark)))))).each;

@@ -79,25 +79,25 @@ abbrev pub stage_code : Coded Stage
 stage_code = code_by (Unit {0} ⊎ (Unit {0} ⊎ PhaseEnd)) (coded⊎ coded_unit (coded⊎ coded_unit end_code)) stage_to stage_from stage_law
 
 -- a match value, or the bytes of control fields
-abbrev Value : Type 0
-Value = Option (List ℕ)
+abbrev ComparedBytes : Type 0
+ComparedBytes = Option (List ℕ)
 
 -- the code of such a value
-abbrev coded_value : Coded Value
+abbrev coded_value : Coded ComparedBytes
 coded_value = coded_option (coded_list coded_ℕ)
 
 -- what a job keeps of earlier records, as its parts
-abbrev left_to : Left → Bool × (Bool × (List Value × (Value × Value)))
+abbrev left_to : Left → Bool × (Bool × (List ComparedBytes × (ComparedBytes × ComparedBytes)))
 left_to l = (l.any, (l.control, (l.bytes, (l.primary, l.secondary))))
 
 -- what a job keeps of earlier records again
-abbrev left_from : Bool × (Bool × (List Value × (Value × Value))) → Left
+abbrev left_from : Bool × (Bool × (List ComparedBytes × (ComparedBytes × ComparedBytes))) → Left
 left_from p = record { any = p.0; control = p.1.0; bytes = p.1.1.0; primary = p.1.1.1.0; secondary = p.1.1.1.1 }
 
 -- the code of what a job keeps of earlier records
 abbrev pub left_code : Coded Left
 left_code =
-    code_by (Bool × (Bool × (List Value × (Value × Value)))) (coded× coded_bool (coded× coded_bool (coded× (coded_list coded_value) (coded× coded_value coded_value)))) left_to left_from
+    code_by (Bool × (Bool × (List ComparedBytes × (ComparedBytes × ComparedBytes)))) (coded× coded_bool (coded× coded_bool (coded× (coded_list coded_value) (coded× coded_value coded_value)))) left_to left_from
     (λ _. refl)
 
 -- the code of a record with its type

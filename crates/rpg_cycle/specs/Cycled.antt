@@ -6,7 +6,7 @@ use Rattle.rpg_cycle.specs.Doing.{CycleEnds, CycleGoesOn, IsSeen}
 use Rattle.rpg_cycle.specs.Selecting.{RenewsLeft}
 use Rattle.rpg_cycle.specs.Spending.{Spends, phases_weight}
 use Rattle.rpg_cycle.specs.Stages.{IfStops, UnlessNoMemory, job_end}
-use Rattle.rpg_cycle.specs.declared.ends.Stop.{Stop}
+use Rattle.rpg_cycle.specs.declared.ends.PhaseStop.{PhaseStop}
 use Rattle.rpg_cycle.specs.declared.seen.Seen.{Seen}
 use Rattle.rpg_cycle_records.specs.Holding.{AreFilesKept}
 use Rattle.rpg_cycle_records.specs.declared.kept.Kept.{Kept}
@@ -35,14 +35,14 @@ pub record HasCycled (p : Object) (k : Kept) (primary secondary : Option (Bor (L
   pub kept : AreFilesKept p k'
 
 -- all phases of a cycle were done, up to the one that ended the job, if one did: how that came out, and what it took at most
-pub record DoesPhases (p : Object) (k : Kept) (primary secondary : Option (Bor (List ℕ))) (old : Running) (r : Result (Option ℕ) Stop) (k' : Kept) (new : Running) : Type 0 where
+pub record DoesPhases (p : Object) (k : Kept) (primary secondary : Option (Bor (List ℕ))) (old : Running) (r : Result (Option ℕ) PhaseStop) (k' : Kept) (new : Running) : Type 0 where
   pub goes : IfOk r (λ t. HasCycled p k primary secondary old t k' new)
   pub stops : IfStops r (λ e. CycleEnds p k primary secondary old (job_end e) new)
   pub spends : UnlessNoMemory r (Spends p (phases_weight p) old new)
   pub grows : OnlyGrows old.output new.output
 
 -- a cycle was done with the allowance full: how it came out, within the program's bound
-pub record RunsCycle (k : Kept) (primary secondary : Option (Bor (List ℕ))) (old : Running) (r : Result (Option ℕ) Stop) (k' : Kept) (new : Running) : Type 0 where
+pub record RunsCycle (k : Kept) (primary secondary : Option (Bor (List ℕ))) (old : Running) (r : Result (Option ℕ) PhaseStop) (k' : Kept) (new : Running) : Type 0 where
   pub goes : IfOk r (λ t. HasCycled old.program k primary secondary (refilled old) t k' new)
   pub stops : IfStops r (λ e. CycleEnds old.program k primary secondary (refilled old) (job_end e) new)
   pub few : UnlessNoMemory r (new.config.steps ≤ bound old.program)

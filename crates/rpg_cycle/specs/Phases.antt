@@ -77,12 +77,12 @@ abbrev pub done : PhaseEnd → UnderWay → Done
 done e c = record { end = e; leads = c }
 
 -- a phase without output
-abbrev pub does : (UnderWay → Done) → Phase
-does f c e d out = (e ≡ (f c).end) × (d ≡ (f c).leads) × (out ≡ no_output)
+abbrev pub without_output : (UnderWay → Done) → Phase
+without_output f c e d out = (e ≡ (f c).end) × (d ≡ (f c).leads) × (out ≡ no_output)
 
 -- nothing is done
-abbrev pub passes : Phase
-passes = does (done GoesOn)
+abbrev pub nothing_done : Phase
+nothing_done = without_output (done GoesOn)
 
 -- one of two phases, by a test
 abbrev pub either : Bool → Phase → Phase → Phase
@@ -91,7 +91,7 @@ either false P Q = Q
 
 -- a phase, unless the test holds
 abbrev pub unless : (Config → Bool) → Phase → Phase
-unless test P c = either (test c.config) passes P c
+unless test P c = either (test c.config) nothing_done P c
 
 -- ---- 1 heading and detail lines of the cycle before, and at first those of the first page
 
@@ -103,7 +103,7 @@ detail_lines p = output p times.Detail
 
 -- halt 6 where a halt indicator is on
 abbrev pub halt_where_asked : Phase
-halt_where_asked = does (λ c. done (if any_on c.config halt_indicators then Halt 6 else GoesOn) c)
+halt_where_asked = without_output (λ c. done (if any_on c.config halt_indicators then Halt 6 else GoesOn) c)
 
 -- ---- 3 1P, L1 to L9 and the indicators of record types but LR go off
 
@@ -113,7 +113,7 @@ all_off p c = with_one first_page false (with_all level_indicators false (withou
 
 -- the phase that turns them off
 abbrev pub set_off : Object → Phase
-set_off p = does (λ c. done GoesOn (with_config (all_off p) c))
+set_off p = without_output (λ c. done GoesOn (with_config (all_off p) c))
 
 -- ---- 4 records are taken in, and one is selected
 
@@ -141,7 +141,7 @@ read_record p left f (Some text) c = if is_good_record p f text then identify p 
 
 -- a file that is there, not at its end and without a waiting record takes one in
 abbrev pub take_in : Object → Left → InputFile → Option (List ℕ) → Phase
-take_in p left f next = does (λ c. if takes_in p c.inputs f then read_record p left f next c else done GoesOn c)
+take_in p left f next = without_output (λ c. if takes_in p c.inputs f then read_record p left f next c else done GoesOn c)
 
 -- the highest level that this record breaks, 0 where it breaks none
 abbrev pub broken_level : Object → Left → Selected → ℕ
@@ -172,12 +172,12 @@ select_from p left (Some f) c = select_waiting p left f (waiting_in c.inputs f) 
 
 -- the record that the cycle is for
 abbrev pub select_one : Object → Left → Phase
-select_one p left = does (λ c. select_from p left (chosen p (waiting_in c.inputs Primary) (waiting_in c.inputs Secondary)) c)
+select_one p left = without_output (λ c. select_from p left (chosen p (waiting_in c.inputs Primary) (waiting_in c.inputs Secondary)) c)
 
 -- where LR is on no record is taken in, and L1 to L9 turn on
 abbrev pub select_record : Object → Left → Option (List ℕ) → Option (List ℕ) → Phase
 select_record p left primary secondary c =
-    either (is_on c.config last_record) (does (λ c. done GoesOn (with_config (with_all level_indicators true) c)))
+    either (is_on c.config last_record) (without_output (λ c. done GoesOn (with_config (with_all level_indicators true) c)))
     (take_in p left Primary primary before take_in p left Secondary secondary before select_one p left) c
 
 -- ---- 5 total calculations and total output, unless they are bypassed
@@ -207,7 +207,7 @@ total_time p left = total_time_by p left.any left.control
 
 -- the job ends where LR is on, or no record is left
 abbrev pub end_where_last : Phase
-end_where_last = does (λ c. done (if is_on c.config last_record || is_none c.selected then EndOfJob else GoesOn) c)
+end_where_last = without_output (λ c. done (if is_on c.config last_record || is_none c.selected then EndOfJob else GoesOn) c)
 
 -- ---- 7 all lines of a new page, if the overflow indicator is on
 
@@ -229,11 +229,11 @@ if_selected test (Some s) = test s
 
 -- MR is on if the record has a match, and off if not
 abbrev pub show_match : (Inputs → Selected → Bool) → Phase
-show_match matches = does (λ c. done GoesOn (with_config (with_one matching_record (if_selected (matches c.inputs) c.selected)) c))
+show_match matches = without_output (λ c. done GoesOn (with_config (with_one matching_record (if_selected (matches c.inputs) c.selected)) c))
 
 -- those of the selected record's type
 abbrev pub fill_from : Object → Option Selected → Phase
-fill_from p None = passes
+fill_from p None = nothing_done
 fill_from p (Some s) = by_machine (FillsFields p s.type s.text)
 
 -- the fields take what the record has

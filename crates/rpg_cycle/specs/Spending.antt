@@ -3,7 +3,7 @@ use Rattle.std.specs.Option.{ForSome}
 use Rattle.rpg_cycle_records.specs.Earlier.{control_fields, file_of}
 use Rattle.std.specs.Prelude.{ℕ, ◌≡◌, List, slice_get, ◌+◌, ◌*◌, ◌≤◌, length, Option, None, Some, is_some, if◌then◌else◌}
 use Rattle.rpg_cycle_records.specs.Identifying.{trial_weight}
-use Rattle.rpg_cycle_records.specs.Paying.{matches_at}
+use Rattle.rpg_cycle_records.specs.Paying.{match_field_count}
 use Rattle.rpg_program.specs.declared.input.InputFile.{InputFile}
 use Rattle.rpg_program.specs.Weights.{types_weight}
 use Rattle.rpg_machine.specs.Outputs.{inputs_at, output_weight}
@@ -44,7 +44,7 @@ pub record SpendsSelecting (p : Object) (t : Option ℕ) (old new : Running) : T
 -- the match fields of a row, if there is one
 abbrev pub matched_weight : Object → Option ℕ → ℕ
 matched_weight p None = 0
-matched_weight p (Some t) = matches_at p.types t
+matched_weight p (Some t) = match_field_count p.types t
 
 -- what the taking in of a file's record cost at most: the trying of its types on a text, and the match fields of one of them, or of none
 pub record SpendsTakingIn (p : Object) (f : InputFile) (old new : Running) : Type 0 where

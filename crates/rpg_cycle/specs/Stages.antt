@@ -6,8 +6,8 @@ use Rattle.rpg_cycle.specs.declared.ends.CycleEnd.{CycleEnd}
 use Rattle.rpg_cycle.specs.declared.ends.CycleEnd.TheVariants as answers
 use Rattle.rpg_cycle.specs.declared.ends.JobEnd.{JobEnd}
 use Rattle.rpg_cycle.specs.declared.ends.JobEnd.TheVariants as jobs
-use Rattle.rpg_cycle.specs.declared.ends.Stop.{Stop}
-use Rattle.rpg_cycle.specs.declared.ends.Stop.TheVariants as stops
+use Rattle.rpg_cycle.specs.declared.ends.PhaseStop.{PhaseStop}
+use Rattle.rpg_cycle.specs.declared.ends.PhaseStop.TheVariants as stops
 use Rattle.rpg_cycle.specs.declared.ends.Progress as kept
 use Rattle.rpg_cycle.specs.declared.ends.Progress.TheVariants as progresses
 
@@ -55,13 +55,13 @@ stage_of (progresses.Ended e) = Ended (job_end e)
 stage_of progresses.Failed = Failed
 
 -- about a call that ended the job; nothing about one that goes on, or that ran out of memory
-abbrev pub IfStops : {A : Type 0} → Result A Stop → (JobEnd → Type 0) → Type 0
+abbrev pub IfStops : {A : Type 0} → Result A PhaseStop → (JobEnd → Type 0) → Type 0
 IfStops (Ok x) P = Unit {0}
 IfStops (Err (stops.Ends e)) P = P e
 IfStops (Err stops.NoMemory) P = Unit {0}
 
 -- of a call that found its memory
-abbrev pub UnlessNoMemory : {A : Type 0} → Result A Stop → Type 0 → Type 0
+abbrev pub UnlessNoMemory : {A : Type 0} → Result A PhaseStop → Type 0 → Type 0
 UnlessNoMemory (Ok x) P = P
 UnlessNoMemory (Err (stops.Ends e)) P = P
 UnlessNoMemory (Err stops.NoMemory) P = Unit {0}

@@ -5,7 +5,7 @@ use Rattle.rpg_cycle.specs.Ends.{GoesOn}
 use Rattle.rpg_cycle.specs.Phases.{Phase, detail_calculations, end_where_last, fill_fields, overflow_lines, show_match, total_time, ◌before◌}
 use Rattle.rpg_cycle.specs.Spending.{Spends, detail_time_weight, fields_weight, reach, record_weight}
 use Rattle.rpg_cycle.specs.Stages.{IfStops, UnlessNoMemory, job_end}
-use Rattle.rpg_cycle.specs.declared.ends.Stop.{Stop}
+use Rattle.rpg_cycle.specs.declared.ends.PhaseStop.{PhaseStop}
 use Rattle.rpg_cycle_records.specs.Earlier.{Left, Selected}
 use Rattle.rpg_cycle_records.specs.Holding.{AreFilesKept, HoldsSelected}
 use Rattle.rpg_cycle_records.specs.Keeping.{left_of}
@@ -36,7 +36,7 @@ pub record KeepsSelected (p : Object) (k : Kept) (t : Option ℕ) : Type 0 where
 -- ---- single phases
 
 -- A phase was done that neither reads nor selects: how that came out, and what it took at most.
-pub record DoesPhase (P : Phase) (n : ℕ) (old : Running) (r : Result (Unit {0}) Stop) (new : Running) : Type 0 where
+pub record DoesPhase (P : Phase) (n : ℕ) (old : Running) (r : Result (Unit {0}) PhaseStop) (new : Running) : Type 0 where
   pub goes : IfOk r (λ _. DoesAlone P old GoesOn new)
   pub stops : IfStops r (λ e. DoesAlone P old (job_end e) new)
   pub ready : IfOk r (λ _. IsReady new)
@@ -58,7 +58,7 @@ abbrev pub after_selection : Object → Left → (Inputs → Selected → Bool) 
 after_selection p left matches = total_time p left before end_where_last before detail_time p matches
 
 -- Phases were done that select nothing, up to the one that ended the job, if one did: how that came out, and what it took at most.
-pub record DoesStage (p : Object) (P : Phase) (n : ℕ) (h : Beside) (old : Running) (r : Result (Unit {0}) Stop) (new : Running) : Type 0 where
+pub record DoesStage (p : Object) (P : Phase) (n : ℕ) (h : Beside) (old : Running) (r : Result (Unit {0}) PhaseStop) (new : Running) : Type 0 where
   pub goes : IfOk r (λ _. DoesHolding P h old GoesOn new)
   pub stops : IfStops r (λ e. DoesHolding P h old (job_end e) new)
   pub ready : IfOk r (λ _. IsReady new)
@@ -72,19 +72,19 @@ ShowsMatch k t old new =
     DoesStage p (show_match (match_by p k)) 0 (holding_kept p k t) old (Ok tt) new
 
 -- fields were filled from the selected record, whatever the files
-abbrev pub FillsSelected : Kept → Option ℕ → Running → Result (Unit {0}) Stop → Running → Type 0
+abbrev pub FillsSelected : Kept → Option ℕ → Running → Result (Unit {0}) PhaseStop → Running → Type 0
 FillsSelected k t old r new =
     let p = old.program in
     (i : Inputs) → DoesStage p (fill_fields p) (fields_weight p t) (record { inputs = i; selected = selected_in p k t }) old r new
 
 -- with the selected record, by what is kept: overflow lines and what follows
-abbrev pub TakesDetailTime : Kept → Option ℕ → Running → Result (Unit {0}) Stop → Running → Type 0
+abbrev pub TakesDetailTime : Kept → Option ℕ → Running → Result (Unit {0}) PhaseStop → Running → Type 0
 TakesDetailTime k t old r new =
     let p = old.program in
     DoesStage p (detail_time p (match_by p k)) (detail_time_weight p t) (holding_kept p k t) old r new
 
 -- with the selected record, by what is kept: all that follows the selection
-abbrev pub FollowsSelection : Kept → Option ℕ → Running → Result (Unit {0}) Stop → Running → Type 0
+abbrev pub FollowsSelection : Kept → Option ℕ → Running → Result (Unit {0}) PhaseStop → Running → Type 0
 FollowsSelection k t old r new =
     let p = old.program in
     DoesStage p (after_selection p (left_of k) (match_by p k)) (record_weight p t) (holding_kept p k t) old r new

@@ -5,7 +5,7 @@ ghost use Rattle.rpg_cycle.specs.Spending.{detail_time_weight, phases_weight, re
 ghost use Rattle.rpg_cycle.specs.Staging.{CanSpend, FollowsSelection, KeepsSelected, TakesDetailTime};
 ghost use Rattle.rpg_machine.specs.Ready.{IsReady};
 
-use crate::ends::Stop;
+use crate::ends::PhaseStop;
 use crate::phases::{
     calculate_details, end_where_last, fill_fields, halt_where_asked, put_out_details,
     put_out_overflow, set_off, show_match, take_total_time,
@@ -23,7 +23,7 @@ fn take_detail_time<S: Store + Drop>(
     machine: &mut Machine<S>,
     kept: &Kept,
     selected: Option<usize>,
-) -> Result<(), Stop>
+) -> Result<(), PhaseStop>
     requires can { CanSpend (detail_time_weight machine.old.program selected) machine.old }
     requires held { KeepsSelected machine.old.program kept.now selected }
     ensures { TakesDetailTime kept.now selected machine.old result machine.new }
@@ -40,7 +40,7 @@ fn follow_selection<S: Store + Drop>(
     machine: &mut Machine<S>,
     kept: &Kept,
     selected: Option<usize>,
-) -> Result<(), Stop>
+) -> Result<(), PhaseStop>
     requires can { CanSpend (record_weight machine.old.program selected) machine.old }
     requires held { KeepsSelected machine.old.program kept.now selected }
     ensures { FollowsSelection kept.now selected machine.old result machine.new }
@@ -58,7 +58,7 @@ fn do_phases<S: Store + Drop>(
     primary: Option<&[u8]>,
     secondary: Option<&[u8]>,
     seen: Seen,
-) -> Result<Option<usize>, Stop>
+) -> Result<Option<usize>, PhaseStop>
     requires seen { AreSeen seen primary secondary }
     requires ready { IsReady machine.old }
     requires few { reach machine.old.program machine.old + phases_weight machine.old.program ≤ 2 ^ 48 }
@@ -81,7 +81,7 @@ pub(crate) fn run_cycle<S: Store + Drop>(
     primary: Option<&[u8]>,
     secondary: Option<&[u8]>,
     seen: Seen,
-) -> Result<Option<usize>, Stop>
+) -> Result<Option<usize>, PhaseStop>
     requires seen { AreSeen seen primary secondary }
     requires ready { IsReady machine.old }
     requires kept { KeepsWell machine.old.program kept.old }

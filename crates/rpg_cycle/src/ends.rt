@@ -31,19 +31,19 @@ pub enum Progress {
 
 /// Why a phase doesn't go on: the error that `?` hands up from phase to phase, so that going on isn't among its values.
 #[derive(Clone, Copy)]
-pub enum Stop {
+pub enum PhaseStop {
     Ends(JobEnd),
     NoMemory,
 }
 
-impl From<AllocError> for Stop {
+impl From<AllocError> for PhaseStop {
     ghost use Rattle.std.specs.Prelude.{◌≡◌};
-    ghost use Rattle.rpg_cycle.specs.declared.ends.Stop.TheVariants.{NoMemory};
+    ghost use Rattle.rpg_cycle.specs.declared.ends.PhaseStop.TheVariants.{NoMemory};
 
     ghost from_gives = { λ _ e. e ≡ NoMemory };
 
-    fn from(_error: AllocError) -> Stop {
-        Stop::NoMemory
+    fn from(_error: AllocError) -> PhaseStop {
+        PhaseStop::NoMemory
     }
 }
 

@@ -4,7 +4,7 @@ ghost use Rattle.rpg_cycle.specs.Stages.{stage_of, told};
 
 use crate::cycle::run_cycle;
 use crate::date::{Date, put_date};
-use crate::ends::{CycleEnd, JobEnd, Progress, StartFault, Stop};
+use crate::ends::{CycleEnd, JobEnd, PhaseStop, Progress, StartFault};
 use crate::indicators::{LAST_RECORD, is_halt_asked};
 use crate::program::is_end;
 use crate::seen::{NOTHING_SEEN, Seen};
@@ -244,12 +244,12 @@ impl<'a, S: Store + Drop> Job<'a, S> {
                 self.progress = Progress::Going;
                 Ok(Progress::Going)
             }
-            Err(Stop::Ends(end)) => {
+            Err(PhaseStop::Ends(end)) => {
                 self.machine.finish()?;
                 self.progress = Progress::Ended(end);
                 Ok(Progress::Ended(end))
             }
-            Err(Stop::NoMemory) => Err(AllocError),
+            Err(PhaseStop::NoMemory) => Err(AllocError),
         }
     }
 

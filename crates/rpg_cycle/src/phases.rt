@@ -20,7 +20,7 @@ ghost use Rattle.rpg_program.specs.Object.{type_row};
 ghost use Rattle.rpg_program.specs.Sections.{has_end};
 ghost use Rattle.rpg_program.specs.declared.section.Section.TheVariants as sections;
 
-use crate::ends::{JobEnd, Stop};
+use crate::ends::{JobEnd, PhaseStop};
 use crate::indicators::{
     FIRST_PAGE, LAST_RECORD, LEVELS, MATCHING_RECORD, is_halt_asked, turn_all, turn_type_off,
 };
@@ -36,18 +36,18 @@ use rpg_store::Store;
 use rpg_verify::Verified;
 
 /// What the machine's answer means for the cycle.
-fn go_on(end: End) -> Result<(), Stop>
+fn go_on(end: End) -> Result<(), PhaseStop>
     ensures goes { IfOk result (λ _. end ≡ End.GoesOn) }
     ensures stops { IfStops result (λ e. ends.phase_end (effects.end_of end) ≡ job_end e) }
 {
     match end {
         End::GoesOn => Ok(()),
-        End::Halt(halt) => Err(Stop::Ends(JobEnd::Halt(halt))),
+        End::Halt(halt) => Err(PhaseStop::Ends(JobEnd::Halt(halt))),
     }
 }
 
 /// The lines of a time.
-fn put_out<S: Store + Drop>(machine: &mut Machine<S>, time: OutputTime) -> Result<(), Stop>
+fn put_out<S: Store + Drop>(machine: &mut Machine<S>, time: OutputTime) -> Result<(), PhaseStop>
     requires { CanDo machine.old }
     ensures { DoesPhase (spec.output machine.old.program time) (output_weight machine.old.program time) machine.old result machine.new }
 {
@@ -57,7 +57,7 @@ fn put_out<S: Store + Drop>(machine: &mut Machine<S>, time: OutputTime) -> Resul
 
 /// A section of calculations.
 #[inline(always)]
-fn calculate<S: Store + Drop>(machine: &mut Machine<S>, section: Section) -> Result<(), Stop>
+fn calculate<S: Store + Drop>(machine: &mut Machine<S>, section: Section) -> Result<(), PhaseStop>
     requires section { has_end section ≡ true }
     requires can { CanDo machine.old }
     ensures { DoesPhase (spec.section machine.old.program section) (section_cost machine.old.program section) machine.old result machine.new }
@@ -67,7 +67,7 @@ fn calculate<S: Store + Drop>(machine: &mut Machine<S>, section: Section) -> Res
 }
 
 /// 1. Heading and detail lines.
-pub(crate) fn put_out_details<S: Store + Drop>(machine: &mut Machine<S>) -> Result<(), Stop>
+pub(crate) fn put_out_details<S: Store + Drop>(machine: &mut Machine<S>) -> Result<(), PhaseStop>
     requires { CanDo machine.old }
     ensures { DoesPhase (spec.detail_lines machine.old.program) (output_weight machine.old.program times.Detail) machine.old result machine.new }
 {
@@ -75,12 +75,12 @@ pub(crate) fn put_out_details<S: Store + Drop>(machine: &mut Machine<S>) -> Resu
 }
 
 /// 2. Halt 6 where a halt indicator is on.
-pub(crate) fn halt_where_asked<S: Store + Drop>(machine: &Machine<S>) -> Result<(), Stop>
+pub(crate) fn halt_where_asked<S: Store + Drop>(machine: &Machine<S>) -> Result<(), PhaseStop>
     ensures goes { IfOk result (λ _. DoesAlone spec.halt_where_asked machine.now GoesOn machine.now) }
     ensures stops { IfStops result (λ e. DoesAlone spec.halt_where_asked machine.now (job_end e) machine.now) }
 {
     if is_halt_asked(machine) {
-        return Err(Stop::Ends(JobEnd::Halt(Halt::IndicatorOn)));
+        return Err(PhaseStop::Ends(JobEnd::Halt(Halt::IndicatorOn)));
     }
     Ok(())
 }
@@ -133,7 +133,7 @@ fn is_bypassed<S: Store + Drop>(machine: &Machine<S>, has_any: bool, has_control
 }
 
 /// Total calculations and total lines.
-fn do_totals<S: Store + Drop>(machine: &mut Machine<S>) -> Result<(), Stop>
+fn do_totals<S: Store + Drop>(machine: &mut Machine<S>) -> Result<(), PhaseStop>
     requires { CanSpend 0 machine.old }
     ensures { DoesPhase (spec.totals machine.old.program) (totals_weight machine.old.program) machine.old result machine.new }
 {
@@ -147,7 +147,7 @@ pub(crate) fn take_total_time<S: Store + Drop>(
     machine: &mut Machine<S>,
     has_any: bool,
     has_control: bool,
-) -> Result<(), Stop>
+) -> Result<(), PhaseStop>
     requires { CanSpend 0 machine.old }
     ensures { DoesPhase (spec.total_time_by machine.old.program has_any has_control) (totals_weight machine.old.program) machine.old result machine.new }
 {
@@ -161,12 +161,12 @@ pub(crate) fn take_total_time<S: Store + Drop>(
 pub(crate) fn end_where_last<S: Store + Drop>(
     machine: &Machine<S>,
     selected: Option<usize>,
-) -> Result<(), Stop>
+) -> Result<(), PhaseStop>
     ensures goes { IfOk result (λ _. (text : List ℕ) → DoesWith spec.end_where_last (selected_as selected text) machine.now GoesOn machine.now) }
     ensures stops { IfStops result (λ e. (text : List ℕ) → DoesWith spec.end_where_last (selected_as selected text) machine.now (job_end e) machine.now) }
 {
     if machine.indicator(LAST_RECORD) || selected.is_none() {
-        return Err(Stop::Ends(JobEnd::EndOfJob));
+        return Err(PhaseStop::Ends(JobEnd::EndOfJob));
     }
     Ok(())
 }
@@ -184,7 +184,7 @@ fn has_no_overflow<S: Store + Drop>(machine: &Machine<S>, overflow: Option<u8>) 
 
 /// 7. All lines of a new page, where the overflow indicator is on.
 #[inline(always)]
-pub(crate) fn put_out_overflow<S: Store + Drop>(machine: &mut Machine<S>) -> Result<(), Stop>
+pub(crate) fn put_out_overflow<S: Store + Drop>(machine: &mut Machine<S>) -> Result<(), PhaseStop>
     requires { CanDo machine.old }
     ensures { DoesPhase (spec.overflow_lines machine.old.program) (full_page_weight machine.old.program) machine.old result machine.new }
 {
@@ -228,7 +228,7 @@ pub(crate) fn fill_fields<S: Store + Drop>(
     machine: &mut Machine<S>,
     kept: &Kept,
     selected: Option<usize>,
-) -> Result<(), Stop>
+) -> Result<(), PhaseStop>
     requires can { CanDo machine.old }
     requires held { HoldsSelected machine.old.program kept.now selected }
     ensures { FillsSelected kept.now selected machine.old result machine.new }
@@ -245,7 +245,7 @@ pub(crate) fn fill_fields<S: Store + Drop>(
 
 /// 9. Detail calculations.
 #[inline(always)]
-pub(crate) fn calculate_details<S: Store + Drop>(machine: &mut Machine<S>) -> Result<(), Stop>
+pub(crate) fn calculate_details<S: Store + Drop>(machine: &mut Machine<S>) -> Result<(), PhaseStop>
     requires { CanDo machine.old }
     ensures { DoesPhase (spec.detail_calculations machine.old.program) (section_cost machine.old.program sections.Detail) machine.old result machine.new }
 {

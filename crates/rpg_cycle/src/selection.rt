@@ -16,7 +16,7 @@ ghost use Rattle.rpg_machine.specs.Ready.{IsReady};
 ghost use Rattle.rpg_program.specs.Object.{input_length};
 ghost use Rattle.rpg_text.specs.Texts.{is_character};
 
-use crate::ends::{JobEnd, Stop};
+use crate::ends::{JobEnd, PhaseStop};
 use crate::indicators::{LAST_RECORD, LEVELS, turn_all, turn_type_on};
 use crate::program::indicator_of;
 use crate::seen::Seen;
@@ -45,7 +45,7 @@ fn take_type<S: Store + Drop>(
     machine: &mut Machine<S>,
     file: InputFile,
     text: &[u8],
-) -> Result<usize, Stop>
+) -> Result<usize, PhaseStop>
     requires few { machine.old.config.steps ≤ 2 ^ 50 }
     requires whole { length text.now ≡ input_length program.now file }
     ensures goes { IfOk result (λ t. TakesType program.now file text.now machine.old t machine.new) }
@@ -56,7 +56,7 @@ fn take_type<S: Store + Drop>(
     let found = identify(program, file, text);
     machine.charge(found.codes);
     match found.row {
-        None => Err(Stop::Ends(JobEnd::Halt(Halt::NoRecordType))),
+        None => Err(PhaseStop::Ends(JobEnd::Halt(Halt::NoRecordType))),
         Some(row) => Ok(row),
     }
 }
@@ -83,7 +83,7 @@ fn read<S: Store + Drop>(
     file: InputFile,
     text: &[u8],
     is_seen: bool,
-) -> Result<(), Stop>
+) -> Result<(), PhaseStop>
     requires few { machine.old.config.steps ≤ 2 ^ 50 }
     requires seen { is_seen ≡ true → list_all is_character text.now ≡ true }
     ensures goes { IfOk result (λ _. ReadsRecord program.now file last.now (Some text.now) kept.old machine.old GoesOn kept.new machine.new) }
@@ -94,13 +94,13 @@ fn read<S: Store + Drop>(
     ensures output { machine.new.output ≡ machine.old.output }
 {
     if !can_take(program, file, text, is_seen) {
-        return Err(Stop::Ends(JobEnd::Halt(Halt::BadRecord)));
+        return Err(PhaseStop::Ends(JobEnd::Halt(Halt::BadRecord)));
     }
     fill(&mut kept.record, program, file, text)?;
     let row = take_type(program, machine, file, &kept.record)?;
     machine.charge(match_fields(program, row).len() as u32);
     if !kept.wait(program, row, last)? {
-        return Err(Stop::Ends(JobEnd::Halt(Halt::OutOfSequence)));
+        return Err(PhaseStop::Ends(JobEnd::Halt(Halt::OutOfSequence)));
     }
     Ok(())
 }
@@ -115,7 +115,7 @@ fn take_in<S: Store + Drop>(
     file: InputFile,
     next: Option<&[u8]>,
     is_seen: bool,
-) -> Result<(), Stop>
+) -> Result<(), PhaseStop>
     requires few { machine.old.config.steps ≤ 2 ^ 50 }
     requires kept { IsFileKept program.now file kept.old }
     requires seen { IsSeen is_seen next }
@@ -228,7 +228,7 @@ pub(crate) fn select_record<S: Store + Drop>(
     primary: Option<&[u8]>,
     secondary: Option<&[u8]>,
     seen: Seen,
-) -> Result<Option<usize>, Stop>
+) -> Result<Option<usize>, PhaseStop>
     requires seen { AreSeen seen primary secondary }
     requires ready { IsReady machine.old }
     requires few { machine.old.config.steps ≤ 2 ^ 49 }

@@ -8,7 +8,7 @@ use Rattle.rpg_program.specs.declared.input.ControlField.{ControlField}
 use Rattle.rpg_cycle_records.specs.Earlier.{or_before}
 use Rattle.rpg_cycle_records.specs.Keeping.{renewed}
 use Rattle.rpg_cycle_records.specs.Lasting.{are_last, had, is_last}
-use Rattle.rpg_cycle_records.specs.Levels.{same_bytes, byte_of, compared, joined_bytes, has_level, level_bytes, differs, highest_broken}
+use Rattle.rpg_cycle_records.specs.Levels.{same_bytes, compared_byte, compared, joined_bytes, has_level, level_bytes, differs, highest_broken}
 use Rattle.rpg_cycle_records.proofs.Joining.{both, same_bytes-true}
 
 -- ---- two texts
@@ -36,7 +36,7 @@ same_itself [] = refl
 same_itself (x ∷ xs) = ap (λ b. b && same_bytes xs xs) (eq-eqb x x refl) ∙ same_itself xs
 
 -- bytes that aren't numeric are compared as they are
-pub as_they_are : (xs : List ℕ) → map (byte_of false) xs ≡ xs
+pub as_they_are : (xs : List ℕ) → map (compared_byte false) xs ≡ xs
 as_they_are [] = refl
 as_they_are (x ∷ xs) = ap (λ ys. x ∷ ys) (as_they_are xs)
 
@@ -45,14 +45,14 @@ pub unlike : (bytes columns text : List ℕ) (f : ControlField) → columns ≡ 
     eqb (length bytes) (length columns) ≡ same_bytes bytes (compared text f)
 unlike bytes columns text f e other =
     ne_eqb (length bytes) (length columns) other
-    ∙ sym (other_lengths bytes (compared text f) (λ same. other (same ∙ length-map (slice_range text (f.from - 1) f.to) (byte_of f.is_numeric) ∙ ap length (sym e))))
+    ∙ sym (other_lengths bytes (compared text f) (λ same. other (same ∙ length-map (slice_range text (f.from - 1) f.to) (compared_byte f.is_numeric) ∙ ap length (sym e))))
 
 -- those of one that isn't
 pub plainly : (bytes columns text : List ℕ) (f : ControlField) → columns ≡ slice_range text (f.from - 1) f.to → f.is_numeric ≡ false →
     pointwise eqb bytes columns ≡ same_bytes bytes (compared text f)
 plainly bytes columns text f e plain =
     same_by_pairs bytes columns
-    ∙ ap (same_bytes bytes) (e ∙ sym (as_they_are (slice_range text (f.from - 1) f.to)) ∙ ap (λ b. map (byte_of b) (slice_range text (f.from - 1) f.to)) (sym plain))
+    ∙ ap (same_bytes bytes) (e ∙ sym (as_they_are (slice_range text (f.from - 1) f.to)) ∙ ap (λ b. map (compared_byte b) (slice_range text (f.from - 1) f.to)) (sym plain))
 
 -- ---- fields that are alone of their levels
 

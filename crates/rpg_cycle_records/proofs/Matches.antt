@@ -6,7 +6,7 @@ use Rattle.rpg_program.specs.Object.{Object}
 use Rattle.rpg_cycle_records.proofs.Order.{same_top}
 use Rattle.rpg_cycle_records.specs.Earlier.{Selected, any_agrees, file_at, last_of_file, last_value, left_by, match_value, or_before, value_from}
 use Rattle.rpg_cycle_records.specs.Identifying.{same_file}
-use Rattle.rpg_cycle_records.specs.Matching.{agrees, exceeds, is_same}
+use Rattle.rpg_cycle_records.specs.Matching.{agrees, exceeds, neither_is_greater}
 use Rattle.rpg_cycle_records.specs.Merging.{IsMerged, IsTopIfAny, IsTopOf}
 use Rattle.rpg_cycle_records.specs.Waiting.{Inputs, finds_match, has_match, other_file, waiting_in}
 
@@ -46,17 +46,17 @@ pub by_last : (p : Object) (f : InputFile) (x : List ℕ) (ss : List Selected) �
 by_last p f x [] m h = refl
 by_last p f x (s ∷ ss) m h = go (by_last p f x ss m.1 h.1) (value_from p f s) refl
   where
-    with_last : (y : List ℕ) → match_value p s ≡ Some y → (l : Option (List ℕ)) → last_value p f ss ≡ l → (is_same x y || agrees (Some x) l) ≡ is_same x y
-    with_last y own None e = absorbed (is_same x y) false (λ k. cc)
+    with_last : (y : List ℕ) → match_value p s ≡ Some y → (l : Option (List ℕ)) → last_value p f ss ≡ l → (neither_is_greater x y || agrees (Some x) l) ≡ neither_is_greater x y
+    with_last y own None e = absorbed (neither_is_greater x y) false (λ k. cc)
     with_last y own (Some z) e =
-        absorbed (is_same x y) (is_same x z) (λ k. same_top x y z
+        absorbed (neither_is_greater x y) (neither_is_greater x z) (λ k. same_top x y z
         (ap (λ o. exceeds o (Some y)) (sym e) ∙ last_below p f y ss (subst (λ o. IsTopIfAny p o ss) own m.0))
         (ap (λ o. exceeds o (Some x)) (sym own) ∙ h.0) k)
 
     go : any_agrees p f (Some x) ss ≡ agrees (Some x) (last_value p f ss) → (o : Option (List ℕ)) → value_from p f s ≡ o →
         (agrees (Some x) (value_from p f s) || any_agrees p f (Some x) ss) ≡ agrees (Some x) (or_before (last_value p f ss) (value_from p f s))
     go ih None e = rw e ih
-    go ih (Some y) e = rw e (ap (λ b. is_same x y || b) ih ∙ with_last y (own_value p f s y e) (last_value p f ss) refl)
+    go ih (Some y) e = rw e (ap (λ b. neither_is_greater x y || b) ih ∙ with_last y (own_value p f s y e) (last_value p f ss) refl)
 
 last_kept : (p : Object) (earlier : List Selected) (f : InputFile) → last_of_file (left_by p earlier) f ≡ last_value p f earlier
 last_kept p earlier Primary = refl

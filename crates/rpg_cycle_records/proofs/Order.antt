@@ -9,7 +9,7 @@ use Rattle.std.specs.Cmp.{nat_cmp_is}
 use Rattle.std.proofs.lemmas.Cmp.{ranked, tied_itself, upto}
 use Rattle.std.proofs.lemmas.List.{length-take-le}
 use Rattle.rpg_decimal_words.specs.Order.{character_cmp, padded_text, rank, text_cmp}
-use Rattle.rpg_cycle_records.specs.Matching.{is_greater, is_same, value_cmp}
+use Rattle.rpg_cycle_records.specs.Matching.{is_greater, neither_is_greater, value_cmp}
 
 pub total : IsTotalOrder value_cmp
 total = on_texts (map rank)
@@ -38,7 +38,7 @@ both_not : (a b : Bool) → a ≡ false → b ≡ false → (not a && not b) ≡
 both_not a b g h = rw g (rw h refl)
 
 -- what is the same as one below y, and isn't below y, is the same as y
-pub same_top : (x y z : List ℕ) → is_greater z y ≡ false → is_greater y x ≡ false → is_same x z ≡ true → is_same x y ≡ true
+pub same_top : (x y z : List ℕ) → is_greater z y ≡ false → is_greater y x ≡ false → neither_is_greater x z ≡ true → neither_is_greater x y ≡ true
 same_top x y z below above same =
     both_not (is_greater x y) (is_greater y x) (not_above x z y (either_of (is_greater x z) (is_greater z x) same) below) above
 
@@ -69,7 +69,7 @@ tied Less r e = rw e refl
 tied Equal r e = rw e refl
 tied Greater r e = refl
 
-pub same_is_equal : (v w : List ℕ) → is_same v w ≡ is_eq (value_cmp v w)
+pub same_is_equal : (v w : List ℕ) → neither_is_greater v w ≡ is_eq (value_cmp v w)
 same_is_equal v w = tied (value_cmp v w) (value_cmp w v) (total.antisymm w v)
 
 -- ---- values are ordered by what both have places for, and then by their lengths

@@ -5,7 +5,7 @@ use Rattle.rpg_program.specs.Input.{TypeRow}
 use Rattle.rpg_program.specs.Weights.{types_weight}
 use Rattle.rpg_program.specs.declared.input.InputFile.{InputFile}
 use Rattle.rpg_program.specs.declared.input.InputFile.TheVariants.{Primary, Secondary}
-use Rattle.rpg_cycle_records.specs.Paying.{matches_at, moved_of}
+use Rattle.rpg_cycle_records.specs.Paying.{match_field_count, moved_of}
 use Rattle.rpg_cycle_records.specs.Earlier.{file_of}
 use Rattle.rpg_cycle_records.specs.Identifying.{code_holds, has_position, same_file, trial_weight}
 
@@ -40,13 +40,13 @@ tried (t ∷ ts) x y =
     one_tried t.file (length t.codes) (trial_weight Primary ts x) (trial_weight Secondary ts y) (codes_sum ts)
     (list_all (has_position x) t.codes && not (list_all (code_holds x) t.codes)) (list_all (has_position y) t.codes && not (list_all (code_holds y) t.codes)) (tried ts x y)
 
-pub one_row : (ts : List (TypeRow ℕ)) (k : ℕ) → matches_at ts k ≤ matches_sum ts
+pub one_row : (ts : List (TypeRow ℕ)) (k : ℕ) → match_field_count ts k ≤ matches_sum ts
 unfolding matches_sum
 one_row [] k = omega arith
 one_row (t ∷ ts) zero = omega arith
 one_row (t ∷ ts) (suc k) = let h = one_row ts k in omega (arith, h)
 
-pub two_rows : (ts : List (TypeRow ℕ)) (j k : ℕ) → file_of (slice_get ts j) ≡ Primary → file_of (slice_get ts k) ≡ Secondary → matches_at ts j + matches_at ts k ≤ matches_sum ts
+pub two_rows : (ts : List (TypeRow ℕ)) (j k : ℕ) → file_of (slice_get ts j) ≡ Primary → file_of (slice_get ts k) ≡ Secondary → match_field_count ts j + match_field_count ts k ≤ matches_sum ts
 unfolding matches_sum
 two_rows [] j k e f = omega arith
 two_rows (t ∷ ts) zero zero e f = let x : Primary ≡ Secondary = sym e ∙ f in absurd (cc)
@@ -65,5 +65,5 @@ pub all_paid : (ts : List (TypeRow ℕ)) (x y : List ℕ) → trial_weight Prima
 all_paid ts x y = let a = tried ts x y in let d = all_sums ts in omega (arith, a, d)
 
 pub few : (ts : List (TypeRow ℕ)) (x y : List ℕ) (j k n : ℕ) → file_of (slice_get ts j) ≡ Primary → file_of (slice_get ts k) ≡ Secondary →
-    trial_weight Primary ts x + matches_at ts j + (trial_weight Secondary ts y + matches_at ts k) + moved_of (slice_get ts n) ≤ types_weight ts
+    trial_weight Primary ts x + match_field_count ts j + (trial_weight Secondary ts y + match_field_count ts k) + moved_of (slice_get ts n) ≤ types_weight ts
 few ts x y j k n e f = let a = tried ts x y in let b = two_rows ts j k e f in let c = row_moved ts n in let d = all_sums ts in omega (arith, a, b, c, d)

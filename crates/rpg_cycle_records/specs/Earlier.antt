@@ -3,7 +3,7 @@ use Rattle.std.specs.Prelude.{ℕ, ◌-◌, Bool, true, false, ◌||◌, List, [
 use Rattle.std.specs.Option.{option_map_or}
 use Rattle.rpg_cycle_records.specs.Levels.{level_bytes}
 use Rattle.rpg_cycle_records.specs.Identifying.{same_file}
-use Rattle.rpg_cycle_records.specs.Matching.{agrees, value_in}
+use Rattle.rpg_cycle_records.specs.Matching.{agrees, match_value_in}
 use Rattle.rpg_program.specs.Input.{TypeRow}
 use Rattle.rpg_program.specs.declared.input.ControlField.{ControlField}
 use Rattle.rpg_program.specs.declared.input.InputFile.{InputFile}
@@ -25,13 +25,13 @@ abbrev pub control_fields : Object → ℕ → List ControlField
 control_fields p t = levels_of (slice_get p.types t)
 
 -- the match fields of a row
-abbrev pub matches_of : Option (TypeRow ℕ) → List ControlField
-matches_of None = []
-matches_of (Some t) = t.matches
+abbrev pub row_match_fields : Option (TypeRow ℕ) → List ControlField
+row_match_fields None = []
+row_match_fields (Some t) = t.matches
 
 -- the match fields of a type
 abbrev pub match_fields : Object → ℕ → List ControlField
-match_fields p t = matches_of (slice_get p.types t)
+match_fields p t = row_match_fields (slice_get p.types t)
 
 -- the file of a row
 abbrev pub file_of : Option (TypeRow ℕ) → InputFile
@@ -43,7 +43,7 @@ file_at p s = file_of (slice_get p.types s.type)
 
 -- the match value of a record, if it has one
 abbrev pub match_value : Object → Selected → Option (List ℕ)
-match_value p s = value_in (match_fields p s.type) s.text
+match_value p s = match_value_in (match_fields p s.type) s.text
 
 -- there are some
 abbrev pub is_any : {A : Type 0} → List A → Bool

@@ -27,14 +27,14 @@ abbrev pub inputs_of : Kept → Inputs
 inputs_of k = record { primary = input_state_of k.primary; secondary = input_state_of k.secondary }
 
 -- the record that was taken in last from a file
-abbrev pub record_in : Kept → InputFile → List ℕ
-record_in k Primary = k.primary.record.items
-record_in k Secondary = k.secondary.record.items
+abbrev pub last_record_in : Kept → InputFile → List ℕ
+last_record_in k Primary = k.primary.record.items
+last_record_in k Secondary = k.secondary.record.items
 
 -- the record of a type that was selected, if one was
 abbrev pub text_in : Object → Kept → Option ℕ → List ℕ
 text_in p k None = []
-text_in p k (Some t) = record_in k (file_of (slice_get p.types t))
+text_in p k (Some t) = last_record_in k (file_of (slice_get p.types t))
 
 -- the record that a type's file holds, as one of that type
 abbrev pub record_of_type : Object → Kept → ℕ → Selected

@@ -21,12 +21,12 @@ padded p f text = text ++ replicate (input_length p f - length text) 32
 -- ---- codes
 
 -- the character at a code's position
-abbrev pub character_at : List ℕ → RecordCode → ℕ
-character_at text c = slice_index_or text (c.position - 1) 0
+abbrev pub character_at_code : List ℕ → RecordCode → ℕ
+character_at_code text c = slice_index_or text (c.position - 1) 0
 
 -- it is the code's character; where the code is negated, another
 abbrev pub code_holds : List ℕ → RecordCode → Bool
-code_holds text c = if c.is_negated then not (character_at text c == c.character) else character_at text c == c.character
+code_holds text c = if c.is_negated then not (character_at_code text c == c.character) else character_at_code text c == c.character
 
 -- the code's position is in the record
 abbrev pub has_position : List ℕ → RecordCode → Bool

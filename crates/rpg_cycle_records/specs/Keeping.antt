@@ -47,13 +47,13 @@ abbrev pub value_behind : Object → InputFile → ℕ → List ℕ → Option (
 value_behind p f t text before = or_before before (value_from p f (record { type = t; text = text }))
 
 -- the match value of its file renewed by a record that has one
-abbrev pub with_value : Object → Selected → Left → Left
-with_value p s l = record l { primary = or_before l.primary (value_from p Primary s); secondary = or_before l.secondary (value_from p Secondary s) }
+abbrev pub with_match_value : Object → Selected → Left → Left
+with_match_value p s l = record l { primary = or_before l.primary (value_from p Primary s); secondary = or_before l.secondary (value_from p Secondary s) }
 
 -- the levels and the match value of its file renewed by the record that was selected, if one was
 abbrev pub renewed_by : Object → Option ℕ → List ℕ → Left → Left
 renewed_by p None text l = l
-renewed_by p (Some t) text l = with_value p (record { type = t; text = text }) (record l { bytes = renewed (control_fields p t) text 9 l.bytes })
+renewed_by p (Some t) text l = with_match_value p (record { type = t; text = text }) (record l { bytes = renewed (control_fields p t) text 9 l.bytes })
 
 -- that a record was selected is kept, and whether its type has control fields
 abbrev pub noted : Object → Option ℕ → Left → Left

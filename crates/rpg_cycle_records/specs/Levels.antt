@@ -11,12 +11,12 @@ unsigned_digit b =
     else (if nat_le 74 b && nat_le b 82 then b - 25 else b))
 
 -- a byte as it is compared
-abbrev pub byte_of : Bool → ℕ → ℕ
-byte_of is_numeric b = if is_numeric then unsigned_digit b else b
+abbrev pub compared_byte : Bool → ℕ → ℕ
+compared_byte is_numeric b = if is_numeric then unsigned_digit b else b
 
 -- the bytes of a control field, as they are compared; the first column is 1
 abbrev pub compared : List ℕ → ControlField → List ℕ
-compared text f = map (byte_of f.is_numeric) (slice_range text (f.from - 1) f.to)
+compared text f = map (compared_byte f.is_numeric) (slice_range text (f.from - 1) f.to)
 
 -- the bytes of a control field, where it is of that level
 abbrev pub at_level : List ℕ → ℕ → ControlField → List ℕ

@@ -15,9 +15,9 @@ joined_down fs text zero = []
 joined_down fs text (suc n) = joined_bytes fs text (n + 1) ++ joined_down fs text n
 
 -- the bytes of all match fields, from M9 down to M1; a type without match fields gives its records no value
-abbrev pub value_in : List ControlField → List ℕ → Option (List ℕ)
-value_in [] text = None
-value_in (f ∷ fs) text = Some (joined_down (f ∷ fs) text 9)
+abbrev pub match_value_in : List ControlField → List ℕ → Option (List ℕ)
+match_value_in [] text = None
+match_value_in (f ∷ fs) text = Some (joined_down (f ∷ fs) text 9)
 
 -- ---- order
 
@@ -30,8 +30,8 @@ abbrev pub is_greater : List ℕ → List ℕ → Bool
 is_greater v w = is_gt (value_cmp v w)
 
 -- neither is greater
-abbrev pub is_same : List ℕ → List ℕ → Bool
-is_same v w = not (is_greater v w) && not (is_greater w v)
+abbrev pub neither_is_greater : List ℕ → List ℕ → Bool
+neither_is_greater v w = not (is_greater v w) && not (is_greater w v)
 
 -- ---- values that may be missing
 
@@ -45,4 +45,4 @@ exceeds (Some v) (Some w) = is_greater v w
 abbrev pub agrees : Option (List ℕ) → Option (List ℕ) → Bool
 agrees None w = false
 agrees (Some v) None = false
-agrees (Some v) (Some w) = is_same v w
+agrees (Some v) (Some w) = neither_is_greater v w

@@ -1,6 +1,6 @@
 -- What is charged of record types besides the trying of their codes.
 use Rattle.std.specs.Prelude.{◌≡◌, ◌≤◌, ℕ, ◌+◌, List, length, slice_get, Option, None, Some}
-use Rattle.rpg_cycle_records.specs.Earlier.{file_of, matches_of}
+use Rattle.rpg_cycle_records.specs.Earlier.{file_of, row_match_fields}
 use Rattle.rpg_cycle_records.specs.Identifying.{trial_weight}
 use Rattle.rpg_program.specs.Input.{TypeRow}
 use Rattle.rpg_program.specs.Weights.{types_weight}
@@ -8,8 +8,8 @@ use Rattle.rpg_program.specs.declared.input.InputFile.{InputFile}
 use Rattle.rpg_program.specs.declared.input.InputFile.TheVariants.{Primary, Secondary}
 
 -- the match fields of a row
-abbrev pub matches_at : List (TypeRow ℕ) → ℕ → ℕ
-matches_at ts k = length (matches_of (slice_get ts k))
+abbrev pub match_field_count : List (TypeRow ℕ) → ℕ → ℕ
+match_field_count ts k = length (row_match_fields (slice_get ts k))
 
 -- the control fields and the input fields of a row
 abbrev pub moved_of : Option (TypeRow ℕ) → ℕ
@@ -18,7 +18,7 @@ moved_of (Some t) = length t.levels + length t.inputs
 
 -- a record of a file is taken in: its types are tried on a text, and it is of that row
 abbrev pub taken_weight : List (TypeRow ℕ) → InputFile → List ℕ → ℕ → ℕ
-taken_weight ts f text k = trial_weight f ts text + matches_at ts k
+taken_weight ts f text k = trial_weight f ts text + match_field_count ts k
 
 -- The law: a record taken in from each file, and one of them selected and its fields filled, weigh no more than all types.
 abbrev pub TypesArePaid : Type 0

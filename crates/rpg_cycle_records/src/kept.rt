@@ -2,7 +2,7 @@
 ghost use Rattle.std.specs.Prelude.{◌≡◌, ◌<◌, IfOk, None, length, replicate, slice_get};
 ghost use Rattle.rpg_cycle_records.specs.Earlier.{file_of};
 ghost use Rattle.std.specs.Option.{ForSome};
-ghost use Rattle.rpg_cycle_records.specs.Holding.{AreFilesKept, HoldsRecord, inputs_of, kept_at, matches_file, record_in, record_of_type};
+ghost use Rattle.rpg_cycle_records.specs.Holding.{AreFilesKept, HoldsRecord, inputs_of, kept_at, matches_file, last_record_in, record_of_type};
 ghost use Rattle.rpg_cycle_records.specs.Keeping.{left_of, noted, nothing_left, seen_levels};
 ghost use Rattle.rpg_cycle_records.specs.Waiting as spec;
 ghost use Rattle.rpg_cycle_records.specs.Waiting.{unread};
@@ -53,7 +53,7 @@ impl Kept {
     /// The record that was taken in last from the file of a type, counted from 0. It is filled to its length.
     pub fn text(&self, program: &Verified, row: usize) -> &[u8]
         requires { row < length program.now.types }
-        ensures { result.now ≡ record_in self.now (file_of (slice_get program.now.types row)) }
+        ensures { result.now ≡ last_record_in self.now (file_of (slice_get program.now.types row)) }
     {
         match file_of(program, row) {
             InputFile::Primary => &self.primary.record,

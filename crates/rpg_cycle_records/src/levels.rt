@@ -24,7 +24,7 @@ fn digit_of(byte: u8) -> u8
 }
 
 fn byte_of(is_numeric: bool, byte: u8) -> u8
-    ensures { result ≡ spec.byte_of is_numeric byte }
+    ensures { result ≡ spec.compared_byte is_numeric byte }
 {
     if is_numeric { digit_of(byte) } else { byte }
 }

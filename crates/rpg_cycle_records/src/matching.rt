@@ -40,7 +40,7 @@ impl MatchValue {
     #[inline(always)]
     pub fn take(&mut self, fields: &[ControlField], text: &[u8]) -> Result<(), AllocError>
         requires { All (IsControlIn (length text.now)) fields.now }
-        ensures { OnOk result (seen_value self.new ≡ spec.value_in fields.now text.now) }
+        ensures { OnOk result (seen_value self.new ≡ spec.match_value_in fields.now text.now) }
     {
         if fields.is_empty() {
             self.is_there = false;

@@ -7,7 +7,7 @@ use Rattle.rpg_cycle_records.specs.Earlier.{Left, Selected, left_by}
 use Rattle.rpg_cycle_records.specs.Waiting.{Inputs, chosen, has_match, takes_in, waiting_in}
 use Rattle.rpg_cycle.specs.Ends.{PhaseEnd, GoesOn, EndOfJob, Halt, phase_end}
 use Rattle.rpg_cycle.specs.Indicators.{any_on, halt_indicators, is_on, last_record, level_indicators, matching_record, with_all, with_one}
-use Rattle.rpg_cycle.specs.Phases.{Cycle, CycleOn, Done, Phase, UnderWay, all_off, begun, detail_calculations, detail_lines, does, done, either, end_where_last, fill_fields, halt_where_asked, if_selected, is_bypassed, output, overflow_lines, read_record, section, select_from, select_one, select_record, set_off, show_match, take_in, total_time, with_config, ◌before◌}
+use Rattle.rpg_cycle.specs.Phases.{Cycle, CycleOn, Done, Phase, UnderWay, all_off, begun, detail_calculations, detail_lines, without_output, done, either, end_where_last, fill_fields, halt_where_asked, if_selected, is_bypassed, output, overflow_lines, read_record, section, select_from, select_one, select_record, set_off, show_match, take_in, total_time, with_config, ◌before◌}
 use Rattle.rpg_cycle.specs.Staging.{after_selection}
 use Rattle.rpg_cycle.specs.Spending.{section_cost}
 use Rattle.rpg_program.specs.Ends as effects
@@ -113,7 +113,7 @@ module _ (p : Object) (orderly : IsOrderly p) where
   taking_both left primary secondary = take_in p left Primary primary before take_in p left Secondary secondary before select_one p left
 
   selected_by : (left : Left) (primary secondary : Option (List ℕ)) (b : Bool) →
-      Works p (either b (does (λ c. done GoesOn (with_config (with_all level_indicators true) c))) (taking_both left primary secondary)) owing owing selection_weight
+      Works p (either b (without_output (λ c. done GoesOn (with_config (with_all level_indicators true) c))) (taking_both left primary secondary)) owing owing selection_weight
   selected_by left primary secondary true =
       does_work p (λ c. done GoesOn (with_config (with_all level_indicators true) c)) owing owing selection_weight
       (λ n c r. picked selection_weight n c (done GoesOn (with_config (with_all level_indicators true) c)) r (levels_alone p selection_weight c r.waiting r.taken))

@@ -6,7 +6,7 @@ use Rattle.rpg_program.specs.Ends.{End, Fault, GoesOn, Halt, Wrong}
 use Rattle.rpg_program.specs.Entries.{position_of}
 use Rattle.rpg_program.specs.Forms.{form_at, kind_of, length_of}
 use Rattle.rpg_program.specs.LineFaults.{AreRight, field_fault}
-use Rattle.rpg_program.specs.Lines.{Draft, Drafted, assembled, counted, drafted, go_on_with, laid, laid_over, unless_faulty, with_field}
+use Rattle.rpg_program.specs.Lines.{Draft, Drafted, assembled, with_page_counted, drafted, go_on_with, laid, laid_over, unless_faulty, with_field}
 use Rattle.rpg_program.specs.World.{Data, Fields, three_hold, value_in}
 use Rattle.rpg_program.specs.declared.form.FieldForm.{FieldForm}
 use Rattle.rpg_program.specs.declared.line.LineField.{LineField}
@@ -54,7 +54,7 @@ module _ (p : Object) (kept : IsProgram p) (len : ℕ) (w : Data nat_cmp) where
       IfSome position (λ n. IsFieldEntry p.fields f.operand.field n) → length d.text ≡ len → IsLong (laid forms (word_at p) d f position)
   laid_long d f None fault h i long = long
   laid_long d f (Some n) fault h i long =
-      let fields = counted f.source (f.operand.field, n) d.fields in
+      let fields = with_page_counted f.source (f.operand.field, n) d.fields in
       let after = laid_keeps p kept len w d f (Some n) fault h i in
       let part = text_of (forms f.operand.field) (how_of (word_at p) f.editing f.fill) (value_in fields (f.operand.field, n)) in
       let fits = part_fits fields f n (record { ending = tt; fields = after.fields; blanks = λ k e low. absurd (omega (arith, low)) }) i fault in

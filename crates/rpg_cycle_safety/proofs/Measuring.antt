@@ -5,7 +5,7 @@ use Rattle.rpg_cycle_records.specs.Earlier.{Left, Selected, left_by, with_record
 use Rattle.rpg_cycle_records.specs.Waiting.{Inputs, chosen, has_match, takes_in, unread, waiting_in}
 use Rattle.rpg_cycle.specs.Ends.{PhaseEnd, GoesOn, EndOfJob, Halt, Wrong}
 use Rattle.rpg_cycle.specs.Indicators.{any_on, halt_indicators, is_on, last_record, level_indicators, matching_record, with_all, with_one}
-use Rattle.rpg_cycle.specs.Phases.{Cycle, CycleOn, Done, Phase, UnderWay, all_off, begun, by_machine, detail_calculations, detail_lines, does, done, either, end_where_last, fill_fields, fill_from, from_there, halt_where_asked, has_no_overflow, if_selected, is_bypassed, needs_record, output, overflow_lines, passes, read_record, section, select_from, select_one, select_record, set_off, show_match, take_in, total_time, unless, with_config, ◌before◌}
+use Rattle.rpg_cycle.specs.Phases.{Cycle, CycleOn, Done, Phase, UnderWay, all_off, begun, by_machine, detail_calculations, detail_lines, without_output, done, either, end_where_last, fill_fields, fill_from, from_there, halt_where_asked, has_no_overflow, if_selected, is_bypassed, needs_record, output, overflow_lines, nothing_done, read_record, section, select_from, select_one, select_record, set_off, show_match, take_in, total_time, unless, with_config, ◌before◌}
 use Rattle.rpg_cycle.specs.Staging.{after_selection}
 use Rattle.rpg_cycle.specs.Runs.{Records, left_behind, next_of}
 use Rattle.rpg_cycle.specs.Starting.{job_first_world, job_start}
@@ -104,7 +104,7 @@ module _ (p : Object) (orderly : IsOrderly p) where
   }
 
   -- where nothing but steps and indicators changes, and what waits and what is selected are well kept
-  picked_paid : (a : ℕ) (f : UnderWay → Done) → ((c : UnderWay) → AreWaiting p c.inputs → IsTaken p c.selected → Picks p a c (f c)) → IsPaid (does f)
+  picked_paid : (a : ℕ) (f : UnderWay → Done) → ((c : UnderWay) → AreWaiting p c.inputs → IsTaken p c.selected → Picks p a c (f c)) → IsPaid (without_output f)
   picked_paid a f picks previous c e d out r near (is, there, same) =
       let k = picks c r.waiting r.taken in
       let leads = (f c).leads in
@@ -113,17 +113,17 @@ module _ (p : Object) (orderly : IsOrderly p) where
 
   -- with the same files, and the same record
   does_paid : (f : UnderWay → Done) →
-      ((c : UnderWay) → Still 0 c.config (f c).leads.config × ((f c).leads.inputs ≡ c.inputs) × ((f c).leads.selected ≡ c.selected)) → IsPaid (does f)
+      ((c : UnderWay) → Still 0 c.config (f c).leads.config × ((f c).leads.inputs ≡ c.inputs) × ((f c).leads.selected ≡ c.selected)) → IsPaid (without_output f)
   does_paid f stays previous c e d out r near (is, there, same) =
       let s = stays c in
       still_paid 0 previous c e d out r near (subst (λ (y : UnderWay). Still 0 c.config y.config) (sym there) s.0)
       (subst (λ (i : Inputs). AreWaiting p i) (sym (ap (λ (y : UnderWay). y.inputs) there ∙ s.1)) r.waiting)
       (subst (λ (o : Option Selected). IsTaken p o) (sym (ap (λ (y : UnderWay). y.selected) there ∙ s.2)) r.taken) same
 
-  pass_paid : IsPaid passes
+  pass_paid : IsPaid nothing_done
   pass_paid = does_paid (done GoesOn) (λ c. (all_still [] true c.config, refl, refl))
 
-  either_paid : (b : Bool) (P : Phase) → IsPaid P → IsPaid (either b passes P)
+  either_paid : (b : Bool) (P : Phase) → IsPaid P → IsPaid (either b nothing_done P)
   either_paid true P h = pass_paid
   either_paid false P h = h
 
@@ -182,7 +182,7 @@ module _ (p : Object) (orderly : IsOrderly p) where
       (λ c waiting taken. selects p orderly left c waiting taken (chosen p (waiting_in c.inputs Primary) (waiting_in c.inputs Secondary)))
 
   selected_paid : (left : Left) (primary secondary : Option (List ℕ)) (b : Bool) →
-      IsPaid (either b (does (λ c. done GoesOn (with_config (with_all level_indicators true) c))) (take_in p left Primary primary before take_in p left Secondary secondary before select_one p left))
+      IsPaid (either b (without_output (λ c. done GoesOn (with_config (with_all level_indicators true) c))) (take_in p left Primary primary before take_in p left Secondary secondary before select_one p left))
   selected_paid left primary secondary true = picked_paid 0 (λ c. done GoesOn (with_config (with_all level_indicators true) c)) (λ c waiting taken. levels_alone p 0 c waiting taken)
   selected_paid left primary secondary false =
       both_paid (take_in p left Primary primary) (take_in p left Secondary secondary before select_one p left) (taking_paid left Primary primary)

@@ -9,8 +9,8 @@ use Rattle.rpg_program.specs.Effect.{Effect, Leaves, unless_wrong}
 use Rattle.rpg_program.specs.Ends.{End, Fault, GoesOn, Halt, Wrong}
 use Rattle.rpg_program.specs.Entries.{position_of}
 use Rattle.rpg_program.specs.Forms.{form_at, is_index_form, kind_of, length_of, may_write}
-use Rattle.rpg_program.specs.LineFaults.{AreRight, field_fault, fits_source, has_room, has_storage, has_word, is_page, may_change}
-use Rattle.rpg_program.specs.Lines.{Draft, Drafted, Line, after_movement, after_skip, assembled, blank_line, blanked, blanked_all, counted, drafted, go_on_with, is_asked, laid, line_out, lines_out, next_page, one_out, printed_line, put_on, put_out, remembered, spaced_after, spaced_before, unless_faulty, where_asked, with_field, with_fields}
+use Rattle.rpg_program.specs.LineFaults.{AreRight, field_fault, fits_source, has_room, has_storage, has_word, prints_page, may_change}
+use Rattle.rpg_program.specs.Lines.{Draft, Drafted, Line, after_movement, after_skip, assembled, blank_line, blanked, blanked_all, with_page_counted, drafted, go_on_with, is_asked, laid, line_out, lines_out, next_page, one_out, printed_line, put_on, put_out, remembered, spaced_after, spaced_before, unless_faulty, where_asked, with_field, with_fields}
 use Rattle.rpg_program.specs.Rows.{has_entry}
 use Rattle.rpg_program.specs.Values.{Value, Number, Text, number_of}
 use Rattle.rpg_program.specs.World.{Data, Fields, World, set_value, three_hold, value_in}
@@ -127,7 +127,7 @@ module _ (p : Object) where
       number_written p w f n (next_page before) h (value_of kinds.Number f n i kind) (index_may (form_at p.fields f) index) room
 
   counts : (source : Source) (w : Data nat_cmp) (f n : ℕ) → Holds p w → IsFieldEntry p.fields f n → fits_source source (form_at p.fields f) ≡ true →
-      Holds p (record w { fields = counted source (f, n) w.fields })
+      Holds p (record w { fields = with_page_counted source (f, n) w.fields })
   counts sources.Value w f n h i source = h
   counts sources.Page w f n h i source = page_written w f n h i source
 
@@ -155,7 +155,7 @@ module _ (p : Object) where
     laid_keeps d f (Some n) fault h i = record {
       ending = tt;
       fields = counts f.source (record w { fields = d.fields }) f.operand.field n h.fields i (right forms (word_at p) len f fault).source;
-      blanks = remembers f.is_blanked (f.operand.field, n) d.to_blank h.blanks i (blank_may f.is_blanked (is_page f.source) _ (field_may forms (word_at p) len f fault));
+      blanks = remembers f.is_blanked (f.operand.field, n) d.to_blank h.blanks i (blank_may f.is_blanked (prints_page f.source) _ (field_may forms (word_at p) len f fault));
     }
 
     pub field_keeps : (d : Draft nat_cmp) (f : LineField ℕ) → field_fault forms (word_at p) len f ≡ None → Draws w (drafted GoesOn d) →

@@ -10,7 +10,7 @@ use Rattle.rpg_cycle_records.proofs.Fitting.{types_fit}
 use Rattle.rpg_cycle_records.proofs.Recording.{filled_characters}
 use Rattle.rpg_cycle_records.proofs.Trying.{all_there, fit_file}
 use Rattle.rpg_cycle.proofs.Selecting.{all_inside}
-use Rattle.rpg_cycle_records.specs.Earlier.{Left, Selected, control_fields, file_of, last_of_file, levels_of, match_fields, match_value, matches_of}
+use Rattle.rpg_cycle_records.specs.Earlier.{Left, Selected, control_fields, file_of, last_of_file, levels_of, match_fields, match_value, row_match_fields}
 use Rattle.rpg_cycle.specs.Ends.{PhaseEnd, GoesOn, Halt, Wrong}
 use Rattle.rpg_cycle_records.specs.Fitting.{IsControlIn, IsFilledAs, IsTypeFit, IsTypeOf}
 use Rattle.rpg_cycle_records.specs.Identifying.{Trial, IsOf, IsOfNone, Misplaced, padded, code_holds, identified, is_good_record, has_position, same_file, trial_weight}
@@ -63,7 +63,7 @@ levels_fit p row None fit is = All-nil (IsControlIn (input_length p Primary))
 levels_fit p row (Some t) fit is = (fit_at p row t fit is).levels
 
 matches_fit : (p : Object) (row : ℕ) (o : Option (TypeRow ℕ)) → All (IsTypeFit p) p.types → slice_get p.types row ≡ o →
-    All (IsControlIn (input_length p (file_of o))) (matches_of o)
+    All (IsControlIn (input_length p (file_of o))) (row_match_fields o)
 matches_fit p row None fit is = All-nil (IsControlIn (input_length p Primary))
 matches_fit p row (Some t) fit is = (fit_at p row t fit is).matches
 

@@ -17,7 +17,7 @@ use Rattle.rpg_cycle_safety.proofs.Selecting.{unread_waits}
 use Rattle.rpg_cycle_safety.proofs.Sizing.{bytes_both}
 use Rattle.rpg_cycle_safety.specs.Holding.{Holds}
 use Rattle.rpg_cycle_safety.specs.Waiting.{AreWaiting}
-use Rattle.rpg_cycle_safety.specs.Measuring.{StandsNear, StaysInOutput, bytes_of_step, size}
+use Rattle.rpg_cycle_safety.specs.Measuring.{StandsNear, StaysInOutput, bytes_of_step, output_size}
 use Rattle.rpg_machine.specs.Accepted.{IsOrderly}
 use Rattle.rpg_machine.specs.Config.{Config, Output, with_more}
 use Rattle.rpg_program.specs.Object.{Object}
@@ -37,17 +37,17 @@ feed_short (x ∷ xs) = omega arith
 module _ (p : Object) (orderly : IsOrderly p) where
   -- at most so much for each cycle
   abbrev IsFew : Option Position → Course → Type 0
-  IsFew previous course = size previous course.output ≤ course.cycles * (bound p * bytes_of_step)
+  IsFew previous course = output_size previous course.output ≤ course.cycles * (bound p * bytes_of_step)
 
   last_few : (previous : Option Position) (e : PhaseEnd) (d : UnderWay) (out : Output) (course : Course) → StaysInOutput p previous out → course ≡ last_cycle e d out → IsFew previous course
-  last_few previous e d out course stays is = subst (λ (x : Course). IsFew previous x) (sym is) (only_one (size previous out) (bound p * bytes_of_step) stays.few)
+  last_few previous e d out course stays is = subst (λ (x : Course). IsFew previous x) (sym is) (only_one (output_size previous out) (bound p * bytes_of_step) stays.few)
 
   rest_few : (previous : Option Position) (d : UnderWay) (out : Output) (course rest : Course) → StaysInOutput p previous out → IsFew (last_position_from previous out.lines) rest →
       course ≡ with_cycle d.config out rest → IsFew previous course
   rest_few previous d out course rest stays few is =
       let both = bytes_both previous out.lines rest.output.lines out.records rest.output.records in
       subst (λ (x : Course). IsFew previous x) (sym is)
-      (one_more (size previous (with_more out rest.output)) (size previous out) (size (last_position_from previous out.lines) rest.output) rest.cycles (bound p * bytes_of_step) both stays.few few)
+      (one_more (output_size previous (with_more out rest.output)) (output_size previous out) (output_size (last_position_from previous out.lines) rest.output) rest.cycles (bound p * bytes_of_step) both stays.few few)
 
   ended_few : (e : PhaseEnd) (previous : Option Position) (d : UnderWay) (out : Output) (Rest : UnderWay → Course → Type 0) (course : Course) → StaysInOutput p previous out →
       (e ≡ GoesOn → (rest : Course) → Rest d rest → IsFew (last_position_from previous out.lines) rest) → ends_or e d out Rest course → IsFew previous course
@@ -72,7 +72,7 @@ module _ (p : Object) (orderly : IsOrderly p) where
   pub whole_few : (date : ℤ) (fields : Fields nat_cmp) (records : Records) (course : Course) (bytes : Bytes) → unsigned_abs date < 10 ^ 6 → Holds p (job_first_world fields).data →
       IsRun p date fields records course bytes → length bytes.print + length bytes.disk ≤ course.cycles * (bound p * bytes_of_step) + 1
   whole_few date fields records course bytes small h run =
-      let few : size None course.output ≤ course.cycles * (bound p * bytes_of_step) =
+      let few : output_size None course.output ≤ course.cycles * (bound p * bytes_of_step) =
       runs_few course.cycles [] records None (job_start p date fields) unread course (start_holds p orderly.program date small fields h) refl (unread_waits p)
       (record { line = omega arith; page = omega arith }) run.runs in
       let short = feed_short course.output.lines in

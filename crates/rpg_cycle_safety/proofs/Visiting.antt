@@ -5,7 +5,7 @@ use Rattle.rpg_cycle_records.specs.Earlier.{Left, Selected, left_by, with_record
 use Rattle.rpg_cycle_records.specs.Waiting.{Inputs, chosen, has_match, takes_in, unread, waiting_in}
 use Rattle.rpg_cycle.specs.Ends.{PhaseEnd, GoesOn, EndOfJob, Halt, Wrong, phase_end}
 use Rattle.rpg_cycle.specs.Indicators.{any_on, halt_indicators, is_on, last_record, level_indicators, matching_record, with_all, with_one}
-use Rattle.rpg_cycle.specs.Phases.{CycleOn, Done, Phase, UnderWay, all_off, begun, by_machine, detail_calculations, detail_lines, does, done, either, end_where_last, fill_fields, fill_from, from_there, halt_where_asked, has_no_overflow, if_selected, is_bypassed, needs_record, output, overflow_lines, passes, read_record, section, select_from, select_one, select_record, set_off, show_match, take_in, total_time, unless, with_config, ◌before◌}
+use Rattle.rpg_cycle.specs.Phases.{CycleOn, Done, Phase, UnderWay, all_off, begun, by_machine, detail_calculations, detail_lines, without_output, done, either, end_where_last, fill_fields, fill_from, from_there, halt_where_asked, has_no_overflow, if_selected, is_bypassed, needs_record, output, overflow_lines, nothing_done, read_record, section, select_from, select_one, select_record, set_off, show_match, take_in, total_time, unless, with_config, ◌before◌}
 use Rattle.rpg_cycle.specs.Staging.{after_selection}
 use Rattle.rpg_cycle.specs.Runs.{Records, left_behind, next_of}
 use Rattle.rpg_cycle.specs.Starting.{job_first_world, job_start}
@@ -96,7 +96,7 @@ module _ (p : Object) (orderly : IsOrderly p) where
     rests = λ goes. absurd (stops (sym is ∙ goes));
   }
 
-  does_safely : (f : UnderWay → Done) (c : UnderWay) (e : PhaseEnd) (d : UnderWay) (out : Output) → Rests (f c).leads → does f c e d out → Leads e d
+  does_safely : (f : UnderWay → Done) (c : UnderWay) (e : PhaseEnd) (d : UnderWay) (out : Output) → Rests (f c).leads → without_output f c e d out → Leads e d
   does_safely f c e d out r h = resting e d (subst (λ (y : UnderWay). Rests y) (sym h.1) r)
 
   effect_safely : (weight : ℕ) (effect : World nat_cmp → Effect nat_cmp) (c : UnderWay) (e : PhaseEnd) (d : UnderWay) (out : Output) → Rests c → Keeps p (effect c.config.world) →
@@ -114,7 +114,7 @@ module _ (p : Object) (orderly : IsOrderly p) where
   both_safe : (P Q : Phase) → IsSafePhase P → IsSafePhase Q → IsSafePhase (P before Q)
   both_safe P Q first second c e d out r (f, m, put, h, rest) = from_safely Q second f m put e d out (first c f m put r h) rest
 
-  either_safe : (b : Bool) (P : Phase) → IsSafePhase P → IsSafePhase (either b passes P)
+  either_safe : (b : Bool) (P : Phase) → IsSafePhase P → IsSafePhase (either b nothing_done P)
   either_safe true P h = λ c e d out r k. does_safely (done GoesOn) c e d out r k
   either_safe false P h = h
 
@@ -155,7 +155,7 @@ module _ (p : Object) (orderly : IsOrderly p) where
       does_safely (λ c. done GoesOn (with_config (all_off p) c)) c e d out (rests_still 0 c (with_config (all_off p) c) (off_still p c.config) r.waiting r.taken r) h
 
   -- a step of phase 4
-  picked_safely : (a : ℕ) (f : UnderWay → Done) → ((c : UnderWay) → AreWaiting p c.inputs → IsTaken p c.selected → Picks p a c (f c)) → IsSafePhase (does f)
+  picked_safely : (a : ℕ) (f : UnderWay → Done) → ((c : UnderWay) → AreWaiting p c.inputs → IsTaken p c.selected → Picks p a c (f c)) → IsSafePhase (without_output f)
   picked_safely a f picks c e d out r h =
       let k = picks c r.waiting r.taken in
       does_safely f c e d out (rests_still k.weight c (f c).leads k.still k.waiting k.taken r) h
@@ -170,7 +170,7 @@ module _ (p : Object) (orderly : IsOrderly p) where
       (λ c waiting taken. selects p orderly left c waiting taken (chosen p (waiting_in c.inputs Primary) (waiting_in c.inputs Secondary)))
 
   selected_safe : (left : Left) (primary secondary : Option (List ℕ)) (b : Bool) →
-      IsSafePhase (either b (does (λ c. done GoesOn (with_config (with_all level_indicators true) c))) (take_in p left Primary primary before take_in p left Secondary secondary before select_one p left))
+      IsSafePhase (either b (without_output (λ c. done GoesOn (with_config (with_all level_indicators true) c))) (take_in p left Primary primary before take_in p left Secondary secondary before select_one p left))
   selected_safe left primary secondary true = picked_safely 0 (λ c. done GoesOn (with_config (with_all level_indicators true) c)) (λ c waiting taken. levels_alone p 0 c waiting taken)
   selected_safe left primary secondary false =
       both_safe (take_in p left Primary primary) (take_in p left Secondary secondary before select_one p left) (taking_safe left Primary primary)

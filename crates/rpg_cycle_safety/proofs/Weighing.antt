@@ -3,7 +3,7 @@ use Rattle.std.proofs.Common.{◌≡◌, ℕ, zero, suc, ◌+◌, ◌≤◌, Boo
 use Rattle.std.specs.List.{list_all}
 use Rattle.rpg_cycle_records.specs.Earlier.{file_of}
 use Rattle.rpg_cycle_records.specs.Identifying.{code_holds, has_position, same_file, trial_weight}
-use Rattle.rpg_cycle_records.specs.Paying.{matches_at, moved_of}
+use Rattle.rpg_cycle_records.specs.Paying.{match_field_count, moved_of}
 use Rattle.rpg_program.specs.Input.{TypeRow}
 use Rattle.rpg_program.specs.Weights.{types_weight}
 use Rattle.rpg_program.specs.declared.input.InputFile.{InputFile}
@@ -67,7 +67,7 @@ later_row true false codes matches rest all more h = omega (arith, h)
 later_row false b codes matches rest all more h = omega (arith, h)
 
 -- and the match fields of one of them
-pub taken_few : (f : InputFile) (ts : List (TypeRow ℕ)) (text : List ℕ) (k : ℕ) → file_of (slice_get ts k) ≡ f → trial_weight f ts text + matches_at ts k ≤ taking_weight f ts
+pub taken_few : (f : InputFile) (ts : List (TypeRow ℕ)) (text : List ℕ) (k : ℕ) → file_of (slice_get ts k) ≡ f → trial_weight f ts text + match_field_count ts k ≤ taking_weight f ts
 unfolding taking_weight
 taken_few f [] text k is = omega arith
 taken_few f (t ∷ ts) text zero is =
@@ -75,7 +75,7 @@ taken_few f (t ∷ ts) text zero is =
     (trial_weight f ts text) (taking_weight f ts) (subst (λ (g : InputFile). same_file t.file g ≡ true) is (own_row t.file)) (tried_few f ts text)
 taken_few f (t ∷ ts) text (suc k) is =
     later_row (same_file t.file f) (list_all (has_position text) t.codes && not (list_all (code_holds text) t.codes)) (length t.codes) (length t.matches)
-    (trial_weight f ts text) (taking_weight f ts) (matches_at ts k) (taken_few f ts text k is)
+    (trial_weight f ts text) (taking_weight f ts) (match_field_count ts k) (taken_few f ts text k is)
 
 -- ---- selecting
 

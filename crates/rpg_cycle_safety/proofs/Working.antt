@@ -4,7 +4,7 @@ use Rattle.std.specs.FinMap as map
 use Rattle.rpg_cycle_records.specs.Earlier.{Selected}
 use Rattle.rpg_cycle_records.specs.Fitting.{IsFilledAs}
 use Rattle.rpg_cycle.specs.Ends.{PhaseEnd, GoesOn, EndOfJob, Halt, Wrong, phase_end}
-use Rattle.rpg_cycle.specs.Phases.{Done, Phase, UnderWay, by_machine, does, done, either, has_no_overflow, passes, unless, ◌before◌}
+use Rattle.rpg_cycle.specs.Phases.{Done, Phase, UnderWay, by_machine, without_output, done, either, has_no_overflow, nothing_done, unless, ◌before◌}
 use Rattle.rpg_program.specs.Effect.{Effect}
 use Rattle.rpg_program.specs.Ends as effects
 use Rattle.rpg_program.specs.World.{World}
@@ -119,17 +119,17 @@ module _ (p : Object) where
 
   -- ---- phases without output
 
-  pub does_work : (f : UnderWay → Done) (x y : Owed) (a : ℕ) → ((n : ℕ) (c : UnderWay) → Ready x n c → Comes y (n + a) (f c).end (f c).leads) → Works (does f) x y a
+  pub does_work : (f : UnderWay → Done) (x y : Owed) (a : ℕ) → ((n : ℕ) (c : UnderWay) → Ready x n c → Comes y (n + a) (f c).end (f c).leads) → Works (without_output f) x y a
   does_work f x y a h n c r = record { ending = (f c).end; leads = (f c).leads; output = no_output; phase = (refl, refl, refl); comes = h n c r }
 
-  pub pass_works : (x : Owed) (a : ℕ) → Works passes x x a
+  pub pass_works : (x : Owed) (a : ℕ) → Works nothing_done x x a
   pass_works x a = does_work (done GoesOn) x x a (λ n c r. goes x (n + a) c (ready_more x n (n + a) c (omega arith) r))
 
-  either_works : (P : Phase) (x : Owed) (a : ℕ) → Works P x x a → (b : Bool) → Works (either b passes P) x x a
+  either_works : (P : Phase) (x : Owed) (a : ℕ) → Works P x x a → (b : Bool) → Works (either b nothing_done P) x x a
   either_works P x a h true = pass_works x a
   either_works P x a h false = h
 
-  as_either : (test : Config → Bool) (P : Phase) (x : Owed) (n : ℕ) (c : UnderWay) → Outcome (either (test c.config) passes P) x n c → Outcome (unless test P) x n c
+  as_either : (test : Config → Bool) (P : Phase) (x : Owed) (n : ℕ) (c : UnderWay) → Outcome (either (test c.config) nothing_done P) x n c → Outcome (unless test P) x n c
   as_either test P x n c o = record { ending = o.ending; leads = o.leads; output = o.output; phase = o.phase; comes = o.comes }
 
   pub unless_works : (test : Config → Bool) (P : Phase) (x : Owed) (a : ℕ) → Works P x x a → Works (unless test P) x x a

@@ -18,8 +18,8 @@ use Rattle.rpg_paper.specs.Paper.{Position, bytes_from, last_position_from}
 use Rattle.rpg_verify.specs.Bound.{bound}
 
 -- the bytes of an output after the line placed last: those of the printer and those of the disk
-abbrev pub size : Option Position → Output → ℕ
-size previous out = length (bytes_from previous out.lines) + length (disk_bytes out.records)
+abbrev pub output_size : Option Position → Output → ℕ
+output_size previous out = length (bytes_from previous out.lines) + length (disk_bytes out.records)
 
 -- what one step may put out: a record of the disk has up to 9,999 characters, and a line feed
 abbrev pub bytes_of_step : ℕ
@@ -33,12 +33,12 @@ pub record StandsNear (previous : Option Position) (here : Position) : Type 0 wh
 -- on the way from one configuration to another no more was put out than the steps between them may put out, and the form is near the
 -- line that was placed last
 pub record PaysForOutput (previous : Option Position) (c d : Config) (out : Output) : Type 0 where
-  pub few : size previous out + c.steps * bytes_of_step ≤ d.steps * bytes_of_step
+  pub few : output_size previous out + c.steps * bytes_of_step ≤ d.steps * bytes_of_step
   pub near : StandsNear (last_position_from previous out.lines) d.world.paper.here
 
 -- no more was put out than the steps of the bound may put out
 pub record StaysInOutput (p : Object) (previous : Option Position) (out : Output) : Type 0 where
-  pub few : size previous out ≤ bound p * bytes_of_step
+  pub few : output_size previous out ≤ bound p * bytes_of_step
 
 -- the bytes that a job holds until they are taken
 abbrev pub pending : AtWork → ℕ

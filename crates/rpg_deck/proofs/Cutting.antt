@@ -1,14 +1,14 @@
 -- Cut into groups, cards stay in their order.
 use Rattle.std.proofs.Common.{◌≡◌, ℕ, ◌+◌, ◌-◌, ◌<◌, ◌≤◌, Bool, true, false, cond, List, [], ◌∷◌, ◌++◌, map, length, get_or, take, drop, refl, sym, ap, ◌∙◌, arith, append_assoc, append-nil, length-drop, subst}
 use Rattle.std.proofs.lemmas.List.{drop-drop, drop_all, drop_more, map-append, take_all, take_more}
-use Rattle.rpg_deck.specs.Cut.{Group, all_groups, all_in, groups, strays}
+use Rattle.rpg_deck.specs.Cut.{GroupOfCards, all_groups, all_in, groups_begun, strays}
 
 module _ {X : Type 0} (begins : X → Bool) where
-  pub whole_sheet : (xs : List X) → strays begins xs ++ all_in (groups begins xs) ≡ xs
+  pub whole_sheet : (xs : List X) → strays begins xs ++ all_in (groups_begun begins xs) ≡ xs
   whole_sheet [] = refl
   whole_sheet (x ∷ xs) = by (begins x) (whole_sheet xs)
     where
-      by : (b : Bool) → strays begins xs ++ all_in (groups begins xs) ≡ xs → cond b [] (x ∷ strays begins xs) ++ all_in (cond b (record { first = x; followers = strays begins xs } ∷ groups begins xs) (groups begins xs)) ≡ x ∷ xs
+      by : (b : Bool) → strays begins xs ++ all_in (groups_begun begins xs) ≡ xs → cond b [] (x ∷ strays begins xs) ++ all_in (cond b (record { first = x; followers = strays begins xs } ∷ groups_begun begins xs) (groups_begun begins xs)) ≡ x ∷ xs
       by true rest = ap (λ ys. x ∷ ys) rest
       by false rest = ap (λ ys. x ∷ ys) rest
 
@@ -19,15 +19,15 @@ module _ {X : Type 0} (begins : X → Bool) where
 -- so many cards at the front begin no group
 pub record IsPast {X : Type 0} (begins : X → Bool) (xs : List X) (count : ℕ) : Type 0 where
   pub strays : strays begins xs ≡ take count xs ++ strays begins (drop count xs)
-  pub groups : groups begins xs ≡ groups begins (drop count xs)
+  pub groups : groups_begun begins xs ≡ groups_begun begins (drop count xs)
 
 -- all cards that begin no group are at the front
 pub record AreStrays {X : Type 0} (begins : X → Bool) (xs : List X) (count : ℕ) : Type 0 where
   pub strays : take count xs ≡ strays begins xs
-  pub groups : all_groups begins (drop count xs) ≡ groups begins xs
+  pub groups : all_groups begins (drop count xs) ≡ groups_begun begins xs
 
 module _ {X : Type 0} (begins : X → Bool) where
-  abbrev begun : X → List X → Group X
+  abbrev begun : X → List X → GroupOfCards X
   begun x fs = record { first = x; followers = fs }
 
   next_card : (xs : List X) (count : ℕ) (x : X) → count < length xs → x ≡ get_or xs count x → drop count xs ≡ x ∷ drop (count + 1) xs
@@ -44,8 +44,8 @@ module _ {X : Type 0} (begins : X → Bool) where
         ∙ sym (append_assoc (take count xs) (x ∷ []) (strays begins (drop (count + 1) xs)))
         ∙ ap (λ y. (take count xs ++ y ∷ []) ++ strays begins (drop (count + 1) xs)) is
         ∙ ap (λ ys. ys ++ strays begins (drop (count + 1) xs)) (sym (take_more xs count x below));
-    groups = p.groups ∙ ap (groups begins) (next_card xs count x below is)
-        ∙ ap (λ b. cond b (begun x (strays begins (drop (count + 1) xs)) ∷ groups begins (drop (count + 1) xs)) (groups begins (drop (count + 1) xs))) isnt;
+    groups = p.groups ∙ ap (groups_begun begins) (next_card xs count x below is)
+        ∙ ap (λ b. cond b (begun x (strays begins (drop (count + 1) xs)) ∷ groups_begun begins (drop (count + 1) xs)) (groups_begun begins (drop (count + 1) xs))) isnt;
   }
 
   -- the next card begins a group
@@ -54,19 +54,19 @@ module _ {X : Type 0} (begins : X → Bool) where
     strays = sym (p.strays ∙ ap (λ ys. take count xs ++ strays begins ys) (next_card xs count x below is)
         ∙ ap (λ b. take count xs ++ cond b [] (x ∷ strays begins (drop (count + 1) xs))) begun_is ∙ append-nil (take count xs));
     groups = ap (all_groups begins) (next_card xs count x below is)
-        ∙ sym (p.groups ∙ ap (groups begins) (next_card xs count x below is)
-        ∙ ap (λ b. cond b (begun x (strays begins (drop (count + 1) xs)) ∷ groups begins (drop (count + 1) xs)) (groups begins (drop (count + 1) xs))) begun_is);
+        ∙ sym (p.groups ∙ ap (groups_begun begins) (next_card xs count x below is)
+        ∙ ap (λ b. cond b (begun x (strays begins (drop (count + 1) xs)) ∷ groups_begun begins (drop (count + 1) xs)) (groups_begun begins (drop (count + 1) xs))) begun_is);
   }
 
   -- no card is left
   pub past_end : (xs : List X) (count : ℕ) → length xs ≤ count → IsPast begins xs count → AreStrays begins xs count
   past_end xs count over p = record {
     strays = sym (p.strays ∙ ap (λ ys. take count xs ++ strays begins ys) (drop_all count xs over) ∙ append-nil (take count xs));
-    groups = ap (all_groups begins) (drop_all count xs over) ∙ sym (p.groups ∙ ap (groups begins) (drop_all count xs over));
+    groups = ap (all_groups begins) (drop_all count xs over) ∙ sym (p.groups ∙ ap (groups_begun begins) (drop_all count xs over));
   }
 
   -- one more group
-  next_group : (xs : List X) (start count : ℕ) (x : X) (done : List (Group X)) → start < length xs → x ≡ get_or xs start x → AreStrays begins (drop (start + 1) xs) count
+  next_group : (xs : List X) (start count : ℕ) (x : X) (done : List (GroupOfCards X)) → start < length xs → x ≡ get_or xs start x → AreStrays begins (drop (start + 1) xs) count
       → done ++ all_groups begins (drop start xs) ≡ all_groups begins xs → (done ++ begun x (take count (drop (start + 1) xs)) ∷ []) ++ all_groups begins (drop (start + (1 + count)) xs) ≡ all_groups begins xs
   next_group xs start count x done below is are so_far =
       let after = drop (start + 1) xs in
@@ -75,10 +75,10 @@ module _ {X : Type 0} (begins : X → Bool) where
       ∙ ap (λ n. done ++ begun x (take count after) ∷ all_groups begins (drop n xs)) on
       ∙ ap (λ ys. done ++ begun x (take count after) ∷ all_groups begins ys) (sym (drop-drop count (start + 1) xs))
       ∙ ap (λ gs. done ++ begun x (take count after) ∷ gs) are.groups
-      ∙ ap (λ fs. done ++ begun x fs ∷ groups begins after) are.strays
+      ∙ ap (λ fs. done ++ begun x fs ∷ groups_begun begins after) are.strays
       ∙ ap (λ ys. done ++ all_groups begins ys) (sym (next_card xs start x below is)) ∙ so_far
 
-abbrev pub group_of : {X : Type 0} → X → List X → Group X
+abbrev pub group_of : {X : Type 0} → X → List X → GroupOfCards X
 group_of x fs = record { first = x; followers = fs }
 
 -- what is left of a list, as a slice has it
@@ -89,7 +89,7 @@ pub rest_size : {X : Type 0} (xs : List X) (n : ℕ) → length (take (length xs
 rest_size xs n = ap length (rest_whole xs n) ∙ length-drop n xs
 
 -- one more group in memory
-pub more_groups : {X G : Type 0} (begins : X → Bool) (see : G → Group X) (xs : List X) (start count : ℕ) (x : X) (after : List X) (items new : List G) (one : G) → after ≡ drop (start + 1) xs → new ≡ items ++ one ∷ []
+pub more_groups : {X G : Type 0} (begins : X → Bool) (see : G → GroupOfCards X) (xs : List X) (start count : ℕ) (x : X) (after : List X) (items new : List G) (one : G) → after ≡ drop (start + 1) xs → new ≡ items ++ one ∷ []
     → see one ≡ group_of x (take count after) → start < length xs → x ≡ get_or xs start x → AreStrays begins after count
     → map see items ++ all_groups begins (drop start xs) ≡ all_groups begins xs → map see new ++ all_groups begins (drop (start + (1 + count)) xs) ≡ all_groups begins xs
 more_groups begins see xs start count x after items new one rest more same below is are so_far =
@@ -101,10 +101,10 @@ more_groups begins see xs start count x after items new one rest more same below
 -- ---- of what cards stand for
 
 module _ {X Y : Type 0} (f : X → Y) (begins : Y → Bool) where
-  abbrev pub seen_group : Group X → Group Y
+  abbrev pub seen_group : GroupOfCards X → GroupOfCards Y
   seen_group g = record { first = f g.first; followers = map f g.followers }
 
-  abbrev group : X → List Y → Group Y
+  abbrev group : X → List Y → GroupOfCards Y
   group x ys = record { first = f x; followers = ys }
 
   abbrev own : X → Bool
@@ -118,15 +118,15 @@ module _ {X Y : Type 0} (f : X → Y) (begins : Y → Bool) where
       by true rest = refl
       by false rest = ap (λ ys. f x ∷ ys) rest
 
-  pub groups-seen : (xs : List X) → groups begins (map f xs) ≡ map seen_group (groups own xs)
+  pub groups-seen : (xs : List X) → groups_begun begins (map f xs) ≡ map seen_group (groups_begun own xs)
   groups-seen [] = refl
   groups-seen (x ∷ xs) = by (begins (f x)) (groups-seen xs)
     where
-      by : (b : Bool) → groups begins (map f xs) ≡ map seen_group (groups own xs)
-          → cond b (group x (strays begins (map f xs)) ∷ groups begins (map f xs)) (groups begins (map f xs)) ≡ map seen_group (cond b (record { first = x; followers = strays own xs } ∷ groups own xs) (groups own xs))
-      by true rest = ap (λ ys. group x ys ∷ groups begins (map f xs)) (strays-seen xs) ∙ ap (λ gs. group x (map f (strays own xs)) ∷ gs) rest
+      by : (b : Bool) → groups_begun begins (map f xs) ≡ map seen_group (groups_begun own xs)
+          → cond b (group x (strays begins (map f xs)) ∷ groups_begun begins (map f xs)) (groups_begun begins (map f xs)) ≡ map seen_group (cond b (record { first = x; followers = strays own xs } ∷ groups_begun own xs) (groups_begun own xs))
+      by true rest = ap (λ ys. group x ys ∷ groups_begun begins (map f xs)) (strays-seen xs) ∙ ap (λ gs. group x (map f (strays own xs)) ∷ gs) rest
       by false rest = rest
 
   pub all_groups-seen : (xs : List X) → all_groups begins (map f xs) ≡ map seen_group (all_groups own xs)
   all_groups-seen [] = refl
-  all_groups-seen (x ∷ xs) = ap (λ ys. group x ys ∷ groups begins (map f xs)) (strays-seen xs) ∙ ap (λ gs. group x (map f (strays own xs)) ∷ gs) (groups-seen xs)
+  all_groups-seen (x ∷ xs) = ap (λ ys. group x ys ∷ groups_begun begins (map f xs)) (strays-seen xs) ∙ ap (λ gs. group x (map f (strays own xs)) ∷ gs) (groups-seen xs)

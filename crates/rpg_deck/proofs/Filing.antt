@@ -3,11 +3,11 @@ use Rattle.std.proofs.Common.{◌≡◌, ℕ, Bool, true, false, cond, List, [],
 use Rattle.std.specs.List.{cons_option}
 use Rattle.std.specs.Option.{option_map, option_or}
 use Rattle.rpg_cards.specs.Cards.{data_on, input_on, output_on}
-use Rattle.rpg_cards.specs.Groups.{Apart, Follower, Heading, Role, data_card, data_role, followers, following, input_card_role, input_role, opening, output_card_role, output_role, role_on}
+use Rattle.rpg_cards.specs.Groups.{Apart, Follower, Heading, Role, data_card_role, data_role, followers, following, input_card_role, input_role, opening, output_card_role, output_role, role_on}
 use Rattle.rpg_cards.specs.Groups as flat
 use Rattle.rpg_cards.specs.declared.spec_card.SpecCard.{SpecCard}
-use Rattle.rpg_deck.specs.Begins.{is_deck, is_line, is_type}
-use Rattle.rpg_deck.specs.Cut.{groups, strays}
+use Rattle.rpg_deck.specs.Begins.{is_deck, is_output_line, is_type}
+use Rattle.rpg_deck.specs.Cut.{groups_begun, strays}
 use Rattle.rpg_deck.specs.Same.{Filed, as_filed, data_group, filed, line_file, line_group, type_file, type_group}
 use Rattle.rpg_deck.specs.Tree.{cards_on, tree}
 use Rattle.rpg_deck.specs.declared.card.Card.{Card}
@@ -60,12 +60,12 @@ module _ {X H F : Type 0} (on : Spec → Option X) (role : X → Role H F) (begi
     made file x ys = record { file = file; first = x; followers = ys }
 
     abbrev rest_of : List SpecCard → Option (List ℕ) → List (Filed X)
-    rest_of cs own = filed name own (groups by_card (cards_on on cs))
+    rest_of cs own = filed name own (groups_begun by_card (cards_on on cs))
 
     abbrev tree_with : Option (List ℕ) → SpecCard → List SpecCard → Bool → X → List (Filed X)
-    tree_with file c cs b x = filed name file (cond b (record { first = numbered c.number x; followers = strays by_card (cards_on on cs) } ∷ groups by_card (cards_on on cs)) (groups by_card (cards_on on cs)))
+    tree_with file c cs b x = filed name file (cond b (record { first = numbered c.number x; followers = strays by_card (cards_on on cs) } ∷ groups_begun by_card (cards_on on cs)) (groups_begun by_card (cards_on on cs)))
 
-    pub same_groups : (file : Option (List ℕ)) (cards : List SpecCard) → map (as_filed heading follower) (flat.groups_from by_role file cards) ≡ filed name file (groups by_card (cards_on on cards))
+    pub same_groups : (file : Option (List ℕ)) (cards : List SpecCard) → map (as_filed heading follower) (flat.groups_from by_role file cards) ≡ filed name file (groups_begun by_card (cards_on on cards))
     same_groups file [] = refl
     same_groups file (c ∷ cs) = by (on c.spec) (λ own. same_groups own cs)
       where
@@ -81,7 +81,7 @@ module _ {X H F : Type 0} (on : Spec → Option X) (role : X → Role H F) (begi
         acts x Apart is rest = absurd is
 
         by : (o : Option X) → ((own : Option (List ℕ)) → map (as_filed heading follower) (flat.groups_from by_role own cs) ≡ rest_of cs own)
-            → map (as_filed heading follower) (opening (role_on role o) file (followers by_role cs) (λ own. flat.groups_from by_role own cs)) ≡ filed name file (groups by_card (cons_option (option_map (numbered c.number) o) (cards_on on cs)))
+            → map (as_filed heading follower) (opening (role_on role o) file (followers by_role cs) (λ own. flat.groups_from by_role own cs)) ≡ filed name file (groups_begun by_card (cons_option (option_map (numbered c.number) o) (cards_on on cs)))
         by None rest = rest file
         by (Some x) rest = acts x (role x) (is_as x) rest
 
@@ -92,13 +92,13 @@ type_is (input.Type t) = (refl, refl, refl)
 type_is (input.And codes) = (refl, refl)
 type_is (input.Field f) = (refl, refl)
 
-line_is : (x : OutputSpec) → IsAs output_on output_card_role is_line line_file (λ r. output.Record r) (λ x. x) x (output_card_role x)
+line_is : (x : OutputSpec) → IsAs output_on output_card_role is_output_line line_file (λ r. output.Record r) (λ x. x) x (output_card_role x)
 line_is (output.Record r) = (refl, refl, refl)
 line_is (output.And t) = (refl, refl)
 line_is (output.Or t) = (refl, refl)
 line_is (output.Field f) = (refl, refl)
 
-deck_is : (x : DataSpec) → IsAs data_on data_card is_deck (λ d. None) (λ u. text.Begin) (λ t. text.Card t) x (data_card x)
+deck_is : (x : DataSpec) → IsAs data_on data_card_role is_deck (λ d. None) (λ u. text.Begin) (λ t. text.Card t) x (data_card_role x)
 deck_is text.Begin = (refl, refl, refl)
 deck_is (text.Card t) = (refl, refl)
 
@@ -107,7 +107,7 @@ pub types-are : (cards : List SpecCard) → map type_group (flat.groups input_ro
 types-are cards = same_groups input_on input_card_role is_type type_file (λ t. input.Type t) (λ x. x) type_is None cards
 
 pub lines-are : (cards : List SpecCard) → map line_group (flat.groups output_role cards) ≡ filed line_file None (tree cards).lines.groups
-lines-are cards = same_groups output_on output_card_role is_line line_file (λ r. output.Record r) (λ x. x) line_is None cards
+lines-are cards = same_groups output_on output_card_role is_output_line line_file (λ r. output.Record r) (λ x. x) line_is None cards
 
 pub decks-are : (cards : List SpecCard) → map data_group (flat.groups data_role cards) ≡ filed (λ d. None) None (tree cards).decks.groups
-decks-are cards = same_groups data_on data_card is_deck (λ d. None) (λ u. text.Begin) (λ t. text.Card t) deck_is None cards
+decks-are cards = same_groups data_on data_card_role is_deck (λ d. None) (λ u. text.Begin) (λ t. text.Card t) deck_is None cards

@@ -11,7 +11,7 @@ use Rattle.rpg_sheet_specs.specs.declared.data.DataSpec.{DataSpec}
 use Rattle.rpg_sheet_specs.specs.declared.input.InputSpec.{InputSpec}
 use Rattle.rpg_sheet_specs.specs.declared.output.OutputSpec.{OutputSpec}
 use Rattle.rpg_deck.proofs.Cutting.{whole_groups, whole_sheet}
-use Rattle.rpg_deck.specs.Tree.{begins_calculation, begins_deck, begins_line, begins_type, cards_on, header_on, tree}
+use Rattle.rpg_deck.specs.Tree.{begins_calculation, is_deck_card, is_line_card, is_type_card, cards_on, header_on, tree}
 use Rattle.rpg_deck.specs.Flat.{IsInOrder, back, flat, place}
 use Rattle.rpg_sheet_specs.specs.declared.spec.Spec.{Spec}
 use Rattle.rpg_sheet_specs.specs.declared.spec.Spec.TheVariants as spec
@@ -133,10 +133,10 @@ in_order low (c ∷ cs) ordered = first c.number cs c.spec ordered.1 ∙ ap (λ 
 -- the law
 pub flat-tree : (cards : List SpecCard) → IsInOrder 0 cards → flat (tree cards) ≡ cards
 flat-tree cards ordered =
-    ap (λ xs. laid xs (all_in (tree cards).calculations) (flat_sheet (tree cards).lines) (flat_sheet (tree cards).decks)) (whole_sheet begins_type inputs)
+    ap (λ xs. laid xs (all_in (tree cards).calculations) (flat_sheet (tree cards).lines) (flat_sheet (tree cards).decks)) (whole_sheet is_type_card inputs)
     ∙ ap (λ xs. laid inputs xs (flat_sheet (tree cards).lines) (flat_sheet (tree cards).decks)) (whole_groups begins_calculation calculations)
-    ∙ ap (λ xs. laid inputs calculations xs (flat_sheet (tree cards).decks)) (whole_sheet begins_line outputs)
-    ∙ ap (λ xs. laid inputs calculations outputs xs) (whole_sheet begins_deck decks)
+    ∙ ap (λ xs. laid inputs calculations xs (flat_sheet (tree cards).decks)) (whole_sheet is_line_card outputs)
+    ∙ ap (λ xs. laid inputs calculations outputs xs) (whole_sheet is_deck_card decks)
     ∙ in_order 0 cards ordered
   where
     inputs : List (Card InputSpec)

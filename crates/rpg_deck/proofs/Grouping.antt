@@ -8,7 +8,7 @@ use Rattle.rpg_cards.specs.Deeds.{Calculation}
 use Rattle.rpg_cards.specs.Groups.{joins}
 use Rattle.rpg_cards.specs.Keys.{Key}
 use Rattle.rpg_cards.specs.declared.spec_card.SpecCard.{SpecCard}
-use Rattle.rpg_deck.specs.Cut.{all_groups, groups, strays}
+use Rattle.rpg_deck.specs.Cut.{all_groups, groups_begun, strays}
 use Rattle.rpg_deck.specs.Tree.{begins_calculation, cards_on, tree}
 use Rattle.rpg_deck.specs.Flat.{IsInOrder, place}
 use Rattle.rpg_deck.specs.declared.card.Card.{Card}
@@ -73,7 +73,7 @@ abbrev done : CalculationGroup → List SpecCard → List (Calculation Key)
 done g cs = emitted (cond (goes_on cs) None (Some g)) ++ calculations_from (Some g) cs []
 
 abbrev meant : CalculationGroup → List (Card CalculationSpec) → List (Calculation Key)
-meant g cards = calculation_of (with_cards g (strays begins_calculation cards)) ∷ map calculation_in (groups begins_calculation cards)
+meant g cards = calculation_of (with_cards g (strays begins_calculation cards)) ∷ map calculation_in (groups_begun begins_calculation cards)
 
 -- a C card with those after it
 opened : (g : CalculationGroup) (cs : List SpecCard) → emitted (cond (goes_on (cs ++ [])) None (Some g)) ++ calculations_from (Some g) cs [] ≡ done g cs
@@ -88,10 +88,10 @@ from_open low (c ∷ cs) l ordered g =
     inner : (k : CalculationSpec) (b : Bool) → ((h : CalculationGroup) → done h cs ≡ meant h (ks cs))
         → emitted (cond b None (Some g)) ++ (emitted (cond (goes_on (cs ++ [])) None (Some (cond b (joined_group g k) (alone k)))) ++ calculations_from (Some (cond b (joined_group g k) (alone k))) cs [])
         ≡ calculation_of (with_cards g (cond (not b) [] (numbered c k ∷ strays begins_calculation (ks cs))))
-        ∷ map calculation_in (cond (not b) (record { first = numbered c k; followers = strays begins_calculation (ks cs) } ∷ groups begins_calculation (ks cs)) (groups begins_calculation (ks cs)))
+        ∷ map calculation_in (cond (not b) (record { first = numbered c k; followers = strays begins_calculation (ks cs) } ∷ groups_begun begins_calculation (ks cs)) (groups_begun begins_calculation (ks cs)))
     inner k true rest =
         opened (joined_group g k) cs ∙ rest (joined_group g k)
-        ∙ ap (λ fs. calculation_of (record { first = g.first; followers = fs }) ∷ map calculation_in (groups begins_calculation (ks cs))) (append_assoc g.followers (k ∷ []) (map (λ d. d.spec) (strays begins_calculation (ks cs))))
+        ∙ ap (λ fs. calculation_of (record { first = g.first; followers = fs }) ∷ map calculation_in (groups_begun begins_calculation (ks cs))) (append_assoc g.followers (k ∷ []) (map (λ d. d.spec) (strays begins_calculation (ks cs))))
     inner k false rest =
         ap (λ xs. calculation_of g ∷ xs) (opened (alone k) cs ∙ rest (alone k))
         ∙ ap (λ fs. calculation_of (record { first = g.first; followers = fs }) ∷ meant (alone k) (ks cs)) (sym (append-nil g.followers))

@@ -15,20 +15,20 @@ use Rattle.rpg_cards.specs.declared.labels.Section.{Section}
 use Rattle.rpg_cards.specs.declared.labels.Section.TheVariants.{Outside, Subroutine}
 use Rattle.rpg_deck.proofs.LastCard.{last_map, unwrap_map}
 use Rattle.rpg_deck.specs.Steps as new
-use Rattle.rpg_deck.specs.Steps.{CalculationGroup, Place, at_start, group_deed, label_of, last_card, place_after, steps_from}
+use Rattle.rpg_deck.specs.Steps.{CalculationCards, SubroutineState, before_calculations, group_deed, label_of, operation_card, subroutine_state_after, steps_from}
 use Rattle.rpg_deck.specs.Same.{calculation_in}
 use Rattle.rpg_sheet_specs.specs.declared.calculation.ControlLevel.{ControlLevel}
 use Rattle.rpg_sheet_specs.specs.declared.calculation.ControlLevel.TheVariants as control
 
 -- ---- the operation
 
-pub same_deed : (g : CalculationGroup) → (calculation_in g).deed ≡ group_deed g
+pub same_deed : (g : CalculationCards) → (calculation_in g).deed ≡ group_deed g
 same_deed g = ap deed_of (ap (λ o. unwrap_or o g.first.spec) (last_map (λ c. c.spec) g.followers None) ∙ unwrap_map (λ c. c.spec) (last_or None g.followers) g.first)
 
-pub same_begins : (g : CalculationGroup) → begins_subroutine (calculation_in g) ≡ new.begins g
+pub same_begins : (g : CalculationCards) → begins_subroutine (calculation_in g) ≡ new.opens_subroutine g
 same_begins g = ap (λ d. is_subroutine g.first.spec.control_level && is_begsr d) (same_deed g)
 
-pub same_ends : (g : CalculationGroup) → ends (calculation_in g) ≡ new.ends g
+pub same_ends : (g : CalculationCards) → ends (calculation_in g) ≡ new.closes_subroutine g
 same_ends g = ap (λ d. is_subroutine g.first.spec.control_level && old.is_endsr d) (same_deed g)
 
 -- ---- what is carried
@@ -59,16 +59,16 @@ begun_push (h ∷ hs) g = by (begins_subroutine h) (begins_subroutine g) (begun_
 abbrev pub open_one : ℕ → Bool → Option ℕ
 open_one n inside = cond inside (Some (n - 1)) None
 
-pub record Matches (p : Place) (before : List (Calculation Key)) : Type 0 where
+pub record Matches (p : SubroutineState) (before : List (Calculation Key)) : Type 0 where
   pub begun : p.begun ≡ begun_count before
   pub own : p.own ≡ open_one (begun_count before) (is_inside_subroutine before)
 
-pub matches_next : (p : Place) (before : List (Calculation Key)) (g : CalculationGroup) → Matches p before → Matches (place_after p g) (before ++ calculation_in g ∷ [])
+pub matches_next : (p : SubroutineState) (before : List (Calculation Key)) (g : CalculationCards) → Matches p before → Matches (subroutine_state_after p g) (before ++ calculation_in g ∷ [])
 matches_next p before g m = record {
-  begun = by_begun (new.begins g) (new.ends g) ∙ sym (begun_push before (calculation_in g) ∙ ap (λ b. cond b (suc (begun_count before)) (begun_count before)) (same_begins g));
-  own = by_own (new.begins g) (new.ends g)
+  begun = by_begun (new.opens_subroutine g) (new.closes_subroutine g) ∙ sym (begun_push before (calculation_in g) ∙ ap (λ b. cond b (suc (begun_count before)) (begun_count before)) (same_begins g));
+  own = by_own (new.opens_subroutine g) (new.closes_subroutine g)
       ∙ sym (ap (λ n. open_one n (is_inside_subroutine (before ++ calculation_in g ∷ []))) (begun_push before (calculation_in g) ∙ ap (λ b. cond b (suc (begun_count before)) (begun_count before)) (same_begins g))
-      ∙ ap (open_one (cond (new.begins g) (suc (begun_count before)) (begun_count before))) (inside_push before (calculation_in g) ∙ ap (λ b. cond (b || ends (calculation_in g)) b (is_inside_subroutine before)) (same_begins g) ∙ ap (λ b. cond (new.begins g || b) (new.begins g) (is_inside_subroutine before)) (same_ends g)));
+      ∙ ap (open_one (cond (new.opens_subroutine g) (suc (begun_count before)) (begun_count before))) (inside_push before (calculation_in g) ∙ ap (λ b. cond (b || ends (calculation_in g)) b (is_inside_subroutine before)) (same_begins g) ∙ ap (λ b. cond (new.opens_subroutine g || b) (new.opens_subroutine g) (is_inside_subroutine before)) (same_ends g)));
 }
   where
     by_begun : (b e : Bool) → (cond b (record { begun = suc p.begun; own = Some p.begun }) (cond e (record { begun = p.begun; own = None }) p)).begun ≡ cond b (suc (begun_count before)) (begun_count before)
@@ -86,14 +86,14 @@ matches_next p before g m = record {
 
 -- ---- sections
 
-pub same_section : (p : Place) (before : List (Calculation Key)) (g : CalculationGroup) → Matches p before → section_of before (calculation_in g) ≡ new.section_of p g
+pub same_section : (p : SubroutineState) (before : List (Calculation Key)) (g : CalculationCards) → Matches p before → section_of before (calculation_in g) ≡ new.section_of_group p g
 same_section p before g m = ap (λ d. old.section_by before (is_subroutine g.first.spec.control_level && is_begsr d) g.first.spec.control_level) (same_deed g) ∙ by g.first.spec.control_level (is_begsr (group_deed g))
   where
     inside : (i : Bool) (o : Option ℕ) → o ≡ open_one (begun_count before) i → cond i (Subroutine (begun_count before - 1)) Outside ≡ option_map_or Subroutine o Outside
     inside true o is = sym (ap (λ o. option_map_or Subroutine o Outside) is)
     inside false o is = sym (ap (λ o. option_map_or Subroutine o Outside) is)
 
-    by : (l : ControlLevel) (b : Bool) → old.section_by before (is_subroutine l && b) l ≡ new.section_by l (cond b (Subroutine p.begun) (option_map_or Subroutine p.own Outside))
+    by : (l : ControlLevel) (b : Bool) → old.section_by before (is_subroutine l && b) l ≡ new.section_by_level l (cond b (Subroutine p.begun) (option_map_or Subroutine p.own Outside))
     by control.Detail b = refl
     by (control.Total i) b = refl
     by control.Subroutine true = ap Subroutine (sym m.begun)
@@ -107,29 +107,29 @@ listed : {Y : Type 0} (o : Option Y) (ys : List Y) → option_to_list o ++ ys �
 listed None ys = refl
 listed (Some y) ys = refl
 
-labels_from : (gs : List CalculationGroup) (p : Place) (before : List (Calculation Key)) → Matches p before → labels_behind before (map calculation_in gs) ≡ new.labels (steps_from p gs)
+labels_from : (gs : List CalculationCards) (p : SubroutineState) (before : List (Calculation Key)) → Matches p before → labels_behind before (map calculation_in gs) ≡ new.labels_of_steps (steps_from p gs)
 labels_from [] p before m = refl
 labels_from (g ∷ gs) p before m =
     listed (old.label_at before (calculation_in g)) (labels_behind (before ++ calculation_in g ∷ []) (map calculation_in gs))
-    ∙ ap (λ ls. cons_option (old.label_at before (calculation_in g)) ls) (labels_from gs (place_after p g) (before ++ calculation_in g ∷ []) (matches_next p before g m))
-    ∙ ap (λ s. cons_option (option_map (λ n. record { named = n; section = s }) (old.gives (calculation_in g).deed)) (new.labels (steps_from (place_after p g) gs))) (same_section p before g m)
-    ∙ ap (λ d. cons_option (option_map (λ n. record { named = n; section = new.section_of p g }) (old.gives d)) (new.labels (steps_from (place_after p g) gs))) (same_deed g)
+    ∙ ap (λ ls. cons_option (old.label_at before (calculation_in g)) ls) (labels_from gs (subroutine_state_after p g) (before ++ calculation_in g ∷ []) (matches_next p before g m))
+    ∙ ap (λ s. cons_option (option_map (λ n. record { named = n; section = s }) (old.gives (calculation_in g).deed)) (new.labels_of_steps (steps_from (subroutine_state_after p g) gs))) (same_section p before g m)
+    ∙ ap (λ d. cons_option (option_map (λ n. record { named = n; section = new.section_of_group p g }) (old.gives d)) (new.labels_of_steps (steps_from (subroutine_state_after p g) gs))) (same_deed g)
 
 -- the law
-pub labels-are : (gs : List CalculationGroup) → old.labels (map calculation_in gs) ≡ new.labels (steps_from at_start gs)
-labels-are gs = labels_from gs at_start [] (record { begun = refl; own = refl })
+pub labels-are : (gs : List CalculationCards) → old.labels (map calculation_in gs) ≡ new.labels_of_steps (steps_from before_calculations gs)
+labels-are gs = labels_from gs before_calculations [] (record { begun = refl; own = refl })
 
-calls_from : (given : List Label) (gs : List CalculationGroup) (p : Place) (before : List (Calculation Key)) → Matches p before → calls_behind given before (map calculation_in gs) ≡ filter_map (new.call_of given) (steps_from p gs)
+calls_from : (given : List Label) (gs : List CalculationCards) (p : SubroutineState) (before : List (Calculation Key)) → Matches p before → calls_behind given before (map calculation_in gs) ≡ filter_map (new.call_of given) (steps_from p gs)
 calls_from given [] p before m = refl
 calls_from given (g ∷ gs) p before m =
     listed (call_at given before (calculation_in g)) (calls_behind given (before ++ calculation_in g ∷ []) (map calculation_in gs))
-    ∙ ap (λ cs. cons_option (call_at given before (calculation_in g)) cs) (calls_from given gs (place_after p g) (before ++ calculation_in g ∷ []) (matches_next p before g m))
-    ∙ ap (λ o. cons_option o (filter_map (new.call_of given) (steps_from (place_after p g) gs))) here
+    ∙ ap (λ cs. cons_option (call_at given before (calculation_in g)) cs) (calls_from given gs (subroutine_state_after p g) (before ++ calculation_in g ∷ []) (matches_next p before g m))
+    ∙ ap (λ o. cons_option o (filter_map (new.call_of given) (steps_from (subroutine_state_after p g) gs))) here
   where
-    here : call_at given before (calculation_in g) ≡ new.call_of given (record { section = new.section_of p g; group = g })
+    here : call_at given before (calculation_in g) ≡ new.call_of given (record { section = new.section_of_group p g; group = g })
     here =
         ap (λ s. option_and_then (λ caller. option_map (λ callee. (caller, callee)) (option_and_then (called_subroutine given) (old.wants (calculation_in g).deed))) (subroutine_in s)) (same_section p before g m)
-        ∙ ap (λ d. option_and_then (λ caller. option_map (λ callee. (caller, callee)) (option_and_then (called_subroutine given) (old.wants d))) (subroutine_in (new.section_of p g))) (same_deed g)
+        ∙ ap (λ d. option_and_then (λ caller. option_map (λ callee. (caller, callee)) (option_and_then (called_subroutine given) (old.wants d))) (subroutine_in (new.section_of_group p g))) (same_deed g)
 
-pub calls-are : (gs : List CalculationGroup) → calls (map calculation_in gs) ≡ new.calls (steps_from at_start gs)
-calls-are gs = calls_from (old.labels (map calculation_in gs)) gs at_start [] (record { begun = refl; own = refl }) ∙ ap (λ ls. filter_map (new.call_of ls) (steps_from at_start gs)) (labels-are gs)
+pub calls-are : (gs : List CalculationCards) → calls (map calculation_in gs) ≡ new.calls_of_steps (steps_from before_calculations gs)
+calls-are gs = calls_from (old.labels (map calculation_in gs)) gs before_calculations [] (record { begun = refl; own = refl }) ∙ ap (λ ls. filter_map (new.call_of ls) (steps_from before_calculations gs)) (labels-are gs)

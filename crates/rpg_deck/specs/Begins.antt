@@ -20,11 +20,11 @@ abbrev pub is_calculation : CalculationSpec → Bool
 is_calculation k = not (joins k.control_level)
 
 -- the card of a line
-abbrev pub is_line : OutputSpec → Bool
-is_line (output.Record r) = true
-is_line (output.And t) = false
-is_line (output.Or t) = false
-is_line (output.Field f) = false
+abbrev pub is_output_line : OutputSpec → Bool
+is_output_line (output.Record r) = true
+is_output_line (output.And t) = false
+is_output_line (output.Or t) = false
+is_output_line (output.Field f) = false
 
 -- a `**` card
 abbrev pub is_deck : DataSpec → Bool

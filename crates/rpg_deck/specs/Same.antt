@@ -6,8 +6,8 @@ use Rattle.rpg_cards.specs.Cards.{output_record_in, type_in}
 use Rattle.rpg_cards.specs.Deeds.{Calculation}
 use Rattle.rpg_cards.specs.Groups as flat_groups
 use Rattle.rpg_cards.specs.Keys.{Key}
-use Rattle.rpg_deck.specs.Cut.{Group}
-use Rattle.rpg_deck.specs.Steps.{CalculationGroup}
+use Rattle.rpg_deck.specs.Cut.{GroupOfCards}
+use Rattle.rpg_deck.specs.Steps.{CalculationCards}
 use Rattle.rpg_deck.specs.declared.card.Card.{Card}
 use Rattle.rpg_sheet_specs.specs.declared.data.DataSpec.{DataSpec}
 use Rattle.rpg_sheet_specs.specs.declared.data.DataSpec.TheVariants as text
@@ -21,11 +21,11 @@ use Rattle.rpg_sheet_specs.specs.declared.output.OutputRecord.{OutputRecord}
 -- ---- calculations
 
 -- a group of C cards without numbers
-abbrev pub flat_group : CalculationGroup → flat.CalculationGroup
+abbrev pub flat_group : CalculationCards → flat.CalculationGroup
 flat_group g = record { first = g.first.spec; followers = map (λ c. c.spec) g.followers }
 
 -- a group of C cards as a calculation
-abbrev pub calculation_in : CalculationGroup → Calculation Key
+abbrev pub calculation_in : CalculationCards → Calculation Key
 calculation_in g = flat.calculation_of (flat_group g)
 
 -- ---- record types, lines and decks
@@ -37,7 +37,7 @@ pub record Filed (X : Type 0) : Type 0 where
   pub followers : List X
 
 -- each group with the file that its first card names, else with the file of the group before
-abbrev pub filed : {X : Type 0} → (X → Option (List ℕ)) → Option (List ℕ) → List (Group (Card X)) → List (Filed X)
+abbrev pub filed : {X : Type 0} → (X → Option (List ℕ)) → Option (List ℕ) → List (GroupOfCards (Card X)) → List (Filed X)
 filed name file [] = []
 filed name file (g ∷ gs) =
     record { file = option_or (name g.first.spec) file; first = g.first.spec; followers = map (λ c. c.spec) g.followers }

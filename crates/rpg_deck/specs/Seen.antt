@@ -4,7 +4,7 @@ use Rattle.std.specs.Prelude.{◌≡◌, List, map}
 use Rattle.rpg_cards.specs.Cards.{calculation_on, data_on, extension_on, file_on, input_on, output_on}
 use Rattle.rpg_cards.specs.declared.spec_card.SpecCard.{SpecCard}
 use Rattle.rpg_deck.specs.Cut as cut
-use Rattle.rpg_deck.specs.Steps.{CalculationGroup, Place, Step}
+use Rattle.rpg_deck.specs.Steps.{CalculationCards, SubroutineState, Step}
 use Rattle.rpg_deck.specs.Tree.{Tree, cards_on, header_on}
 use Rattle.rpg_deck.specs.declared.card.Card.{Card}
 use Rattle.rpg_deck.specs.declared.cut.Group.{Group}
@@ -18,43 +18,43 @@ use Rattle.rpg_sheet_specs.specs.declared.calculation.CalculationSpec.{Calculati
 -- ---- cards
 
 -- a card in memory refers to what it stands for
-abbrev pub seen : {X : Type 0} → Card (Bor X) → Card X
-seen c = record { number = c.number; spec = c.spec.now }
+abbrev pub card_in_memory : {X : Type 0} → Card (Bor X) → Card X
+card_in_memory c = record { number = c.number; spec = c.spec.now }
 
 -- a deck in memory has the cards of each sheet of the source
 pub record IsDeckOf (cards : List SpecCard) (d : Deck) : Type 0 where
-  pub headers : map seen d.headers.items ≡ cards_on header_on cards
-  pub files : map seen d.files.items ≡ cards_on file_on cards
-  pub tables : map seen d.tables.items ≡ cards_on extension_on cards
-  pub inputs : map seen d.inputs.items ≡ cards_on input_on cards
-  pub calculations : map seen d.calculations.items ≡ cards_on calculation_on cards
-  pub outputs : map seen d.outputs.items ≡ cards_on output_on cards
-  pub decks : map seen d.decks.items ≡ cards_on data_on cards
+  pub headers : map card_in_memory d.headers.items ≡ cards_on header_on cards
+  pub files : map card_in_memory d.files.items ≡ cards_on file_on cards
+  pub tables : map card_in_memory d.tables.items ≡ cards_on extension_on cards
+  pub inputs : map card_in_memory d.inputs.items ≡ cards_on input_on cards
+  pub calculations : map card_in_memory d.calculations.items ≡ cards_on calculation_on cards
+  pub outputs : map card_in_memory d.outputs.items ≡ cards_on output_on cards
+  pub decks : map card_in_memory d.decks.items ≡ cards_on data_on cards
 
 -- ---- groups
 
 -- a group of cards in memory
-abbrev pub group_at : {X : Type 0} → Group X → cut.Group (Card (Bor X))
-group_at g = record { first = g.first.now; followers = g.followers.now }
+abbrev pub group_in_memory : {X : Type 0} → Group X → cut.GroupOfCards (Card (Bor X))
+group_in_memory g = record { first = g.first.now; followers = g.followers.now }
 
 -- a sheet in memory
 abbrev pub sheet_at : {X : Type 0} → Sheet X → cut.Sheet (Card (Bor X))
-sheet_at s = record { strays = s.strays.now; groups = map group_at s.groups.items }
+sheet_at s = record { strays = s.strays.now; groups = map group_in_memory s.groups.items }
 
 -- what a group stands for
-abbrev pub group_in : {X : Type 0} → Group X → cut.Group (Card X)
-group_in g = record { first = seen g.first.now; followers = map seen g.followers.now }
+abbrev pub group_in : {X : Type 0} → Group X → cut.GroupOfCards (Card X)
+group_in g = record { first = card_in_memory g.first.now; followers = map card_in_memory g.followers.now }
 
 -- what a sheet stands for
 abbrev pub sheet_in : {X : Type 0} → Sheet X → cut.Sheet (Card X)
-sheet_in s = record { strays = map seen s.strays.now; groups = map group_in s.groups.items }
+sheet_in s = record { strays = map card_in_memory s.strays.now; groups = map group_in s.groups.items }
 
 -- what a tree stands for
 abbrev pub tree_in : read.Tree → Tree
 tree_in t = record {
-  headers = map seen t.headers.now;
-  files = map seen t.files.now;
-  tables = map seen t.tables.now;
+  headers = map card_in_memory t.headers.now;
+  files = map card_in_memory t.files.now;
+  tables = map card_in_memory t.tables.now;
   types = sheet_in t.types;
   calculations = map group_in t.calculations.items;
   lines = sheet_in t.lines;
@@ -64,8 +64,8 @@ tree_in t = record {
 -- ---- steps
 
 -- what a place stands for
-abbrev pub place_in : read_place.Place → Place
-place_in p = record { begun = p.begun; own = p.own }
+abbrev pub subroutine_state_of : read_place.Place → SubroutineState
+subroutine_state_of p = record { begun = p.begun; own = p.own }
 
 -- what a step stands for
 abbrev pub step_in : read_step.Step → Step

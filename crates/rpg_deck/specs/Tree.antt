@@ -4,8 +4,8 @@ use Rattle.std.specs.List.{filter_map}
 use Rattle.std.specs.Option.{option_map}
 use Rattle.rpg_cards.specs.Cards.{calculation_on, data_on, extension_on, file_on, input_on, output_on}
 use Rattle.rpg_cards.specs.declared.spec_card.SpecCard.{SpecCard}
-use Rattle.rpg_deck.specs.Begins.{is_calculation, is_deck, is_line, is_type}
-use Rattle.rpg_deck.specs.Cut.{Group, Sheet, all_groups, sheet_of}
+use Rattle.rpg_deck.specs.Begins.{is_calculation, is_deck, is_output_line, is_type}
+use Rattle.rpg_deck.specs.Cut.{GroupOfCards, Sheet, all_groups, cut_sheet}
 use Rattle.rpg_deck.specs.declared.card.Card.{Card}
 use Rattle.rpg_sheet_specs.specs.declared.calculation.CalculationSpec.{CalculationSpec}
 use Rattle.rpg_sheet_specs.specs.declared.data.DataSpec.{DataSpec}
@@ -31,30 +31,30 @@ header_on (spec.Data x) = None
 
 module _ {X : Type 0} (on : Spec → Option X) where
   -- a card of the sheet, with its number
-  abbrev pub card_on : SpecCard → Option (Card X)
-  card_on c = option_map (λ x. record { number = c.number; spec = x }) (on c.spec)
+  abbrev pub numbered_card : SpecCard → Option (Card X)
+  numbered_card c = option_map (λ x. record { number = c.number; spec = x }) (on c.spec)
 
   -- all cards of the sheet
   abbrev pub cards_on : List SpecCard → List (Card X)
-  cards_on cards = filter_map card_on cards
+  cards_on cards = filter_map numbered_card cards
 
 -- ---- which cards begin a group
 
 -- the card begins a record type
-abbrev pub begins_type : Card InputSpec → Bool
-begins_type c = is_type c.spec
+abbrev pub is_type_card : Card InputSpec → Bool
+is_type_card c = is_type c.spec
 
 -- the card begins a calculation: it is no AN or OR card
 abbrev pub begins_calculation : Card CalculationSpec → Bool
 begins_calculation c = is_calculation c.spec
 
 -- the card begins a line
-abbrev pub begins_line : Card OutputSpec → Bool
-begins_line c = is_line c.spec
+abbrev pub is_line_card : Card OutputSpec → Bool
+is_line_card c = is_output_line c.spec
 
 -- a ** card, which begins the data of a table
-abbrev pub begins_deck : Card DataSpec → Bool
-begins_deck c = is_deck c.spec
+abbrev pub is_deck_card : Card DataSpec → Bool
+is_deck_card c = is_deck c.spec
 
 -- ---- the tree
 
@@ -64,7 +64,7 @@ pub record Tree : Type 0 where
   pub files : List (Card FileSpec)
   pub tables : List (Card ExtensionSpec)
   pub types : Sheet (Card InputSpec)  -- a record type with its AND cards and its fields
-  pub calculations : List (Group (Card CalculationSpec))  -- a C card with its AN and OR cards
+  pub calculations : List (GroupOfCards (Card CalculationSpec))  -- a C card with its AN and OR cards
   pub lines : Sheet (Card OutputSpec)  -- a line with its AND and OR cards and its fields
   pub decks : Sheet (Card DataSpec)  -- a `**` card with its data
 
@@ -74,8 +74,8 @@ tree cards = record {
   headers = cards_on header_on cards;
   files = cards_on file_on cards;
   tables = cards_on extension_on cards;
-  types = sheet_of begins_type (cards_on input_on cards);
+  types = cut_sheet is_type_card (cards_on input_on cards);
   calculations = all_groups begins_calculation (cards_on calculation_on cards);
-  lines = sheet_of begins_line (cards_on output_on cards);
-  decks = sheet_of begins_deck (cards_on data_on cards);
+  lines = cut_sheet is_line_card (cards_on output_on cards);
+  decks = cut_sheet is_deck_card (cards_on data_on cards);
 }

@@ -38,7 +38,7 @@ impl Grouped for CalculationSpec {
 
 /// A line, with its AND and OR cards and its fields.
 impl Grouped for OutputSpec {
-    ghost begins = { spec.is_line };
+    ghost begins = { spec.is_output_line };
 
     fn begins(&self) -> bool {
         match self {

@@ -22,12 +22,12 @@ pub fn calculations_are_groups()
 
 /// The labels of cards in the order of the sheets are those of the steps, with the same sections.
 pub fn labels_are_of_steps()
-    ensures { (cards : List SpecCard) → IsInOrder 0 cards → labels.labels (cards_of.calculations cards) ≡ steps.labels (steps.steps_in (tree cards)) }
+    ensures { (cards : List SpecCard) → IsInOrder 0 cards → labels.labels (cards_of.calculations cards) ≡ steps.labels_of_steps (steps.steps_in (tree cards)) }
 {}
 
 /// The calls of cards in the order of the sheets are those of the steps, by caller and callee.
 pub fn calls_are_of_steps()
-    ensures { (cards : List SpecCard) → IsInOrder 0 cards → calls.calls (cards_of.calculations cards) ≡ steps.calls (steps.steps_in (tree cards)) }
+    ensures { (cards : List SpecCard) → IsInOrder 0 cards → calls.calls (cards_of.calculations cards) ≡ steps.calls_of_steps (steps.steps_in (tree cards)) }
 {}
 
 /// The groups of I cards are the record types of the tree, with the same files.

@@ -1,7 +1,7 @@
 //! The calculations of a source in order, each with its section.
 
 ghost use Rattle.std.specs.Prelude.{◌≡◌, ◌≤◌, suc, length, map, IfOk};
-ghost use Rattle.rpg_deck.specs.Seen.{group_in, place_in, seen, step_in};
+ghost use Rattle.rpg_deck.specs.Seen.{group_in, subroutine_state_of, card_in_memory, step_in};
 ghost use Rattle.rpg_deck.specs.Steps as spec;
 
 use crate::card::Card;
@@ -28,7 +28,7 @@ struct Place {
 pub fn last_card<'deck, 'source>(
     group: &Group<'deck, 'source, CalculationSpec>,
 ) -> &'deck Card<&'source CalculationSpec>
-    ensures { seen result.now ≡ spec.last_card (group_in group.now) }
+    ensures { card_in_memory result.now ≡ spec.operation_card (group_in group.now) }
 {
     let Some(last) = group.followers.last() else {
         return group.first;
@@ -37,20 +37,20 @@ pub fn last_card<'deck, 'source>(
 }
 
 fn begins(group: &Group<CalculationSpec>) -> bool
-    ensures { result ≡ spec.begins (group_in group.now) }
+    ensures { result ≡ spec.opens_subroutine (group_in group.now) }
 {
     is_subroutine(group.first.spec.control_level) && begins_subroutine(last_card(group).spec)
 }
 
 fn ends(group: &Group<CalculationSpec>) -> bool
-    ensures { result ≡ spec.ends (group_in group.now) }
+    ensures { result ≡ spec.closes_subroutine (group_in group.now) }
 {
     is_subroutine(group.first.spec.control_level) && ends_subroutine(last_card(group).spec)
 }
 
 impl Place {
     fn section(self, group: &Group<CalculationSpec>) -> Section
-        ensures { result ≡ spec.section_of (place_in self) (group_in group.now) }
+        ensures { result ≡ spec.section_of_group (subroutine_state_of self) (group_in group.now) }
     {
         match group.first.spec.control_level {
             ControlLevel::Detail => Section::Detail,
@@ -72,7 +72,7 @@ impl Place {
     /// After one more calculation.
     fn after(self, group: &Group<CalculationSpec>) -> Self
         requires { self.begun ≤ 2000 }
-        ensures place { place_in result ≡ spec.place_after (place_in self) (group_in group.now) }
+        ensures place { subroutine_state_of result ≡ spec.subroutine_state_after (subroutine_state_of self) (group_in group.now) }
         ensures few { result.begun ≤ suc self.begun }
     {
         if begins(group) {

@@ -10,7 +10,7 @@ use Rattle.rpg_cards.specs.Deeds.{Calculation}
 use Rattle.rpg_cards.specs.Groups.{joins}
 use Rattle.rpg_cards.specs.Keys.{Key}
 use Rattle.rpg_cards.specs.declared.spec_card.SpecCard.{SpecCard}
-use Rattle.rpg_deck.specs.Cut.{all_groups, cards_in, groups, strays}
+use Rattle.rpg_deck.specs.Cut.{all_groups, group_cards, groups_begun, strays}
 use Rattle.rpg_deck.specs.Same.{calculation_in, flat_group}
 use Rattle.rpg_deck.specs.Steps as steps
 use Rattle.rpg_deck.specs.Tree.{begins_calculation}
@@ -37,9 +37,9 @@ abbrev pub specs_of : List (Card CalculationSpec) → List CalculationSpec
 specs_of xs = map (λ x. x.spec) xs
 
 -- the same over groups, with the calculations and the C cards before
-abbrev pub starts_from : List (Calculation Key) → List CalculationSpec → List steps.CalculationGroup → List ℕ
+abbrev pub starts_from : List (Calculation Key) → List CalculationSpec → List steps.CalculationCards → List ℕ
 starts_from done ks [] = []
-starts_from done ks (g ∷ gs) = one_if (joins g.first.spec.control_level || (is_early ks g.first.spec || is_outside_subroutine done (flat_group g))) g.first.number ++ starts_from (done ++ calculation_in g ∷ []) (ks ++ specs_of (cards_in g)) gs
+starts_from done ks (g ∷ gs) = one_if (joins g.first.spec.control_level || (is_early ks g.first.spec || is_outside_subroutine done (flat_group g))) g.first.number ++ starts_from (done ++ calculation_in g ∷ []) (ks ++ specs_of (group_cards g)) gs
 
 module _ (post : List SpecCard) (none : NoC post) where
   abbrev rest : List (Card CalculationSpec) → List SpecCard
@@ -90,7 +90,7 @@ module _ (post : List SpecCard) (none : NoC post) where
   abbrev Goes : List (Card CalculationSpec) → CalculationGroup → List (Calculation Key) → List CalculationSpec → Type 0
   Goes xs g done ks =
       starts_on (Some g) (done ++ emitted (closed g xs)) ks xs
-      ≡ starts_from (done ++ calculation_of (with_cards g (strays begins_calculation xs)) ∷ []) (ks ++ specs_of (strays begins_calculation xs)) (groups begins_calculation xs)
+      ≡ starts_from (done ++ calculation_of (with_cards g (strays begins_calculation xs)) ∷ []) (ks ++ specs_of (strays begins_calculation xs)) (groups_begun begins_calculation xs)
 
   from_open : (xs : List (Card CalculationSpec)) (g : CalculationGroup) (done : List (Calculation Key)) (ks : List CalculationSpec) → Goes xs g done ks
   from_open [] g done ks = refl
@@ -99,8 +99,8 @@ module _ (post : List SpecCard) (none : NoC post) where
       ss : List (Card CalculationSpec)
       ss = strays begins_calculation xs
 
-      gs : List steps.CalculationGroup
-      gs = groups begins_calculation xs
+      gs : List steps.CalculationCards
+      gs = groups_begun begins_calculation xs
 
       next : List (Calculation Key) → CalculationGroup → List ℕ
       next d h = starts_on (Some h) (d ++ emitted (closed h xs)) (ks ++ x.spec ∷ []) xs

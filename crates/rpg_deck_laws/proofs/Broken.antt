@@ -15,7 +15,7 @@ use Rattle.rpg_cards.specs.declared.spec_card.SpecCard.{SpecCard}
 use Rattle.rpg_deck.proofs.Flattening.{in_order, joined, sheet}
 use Rattle.rpg_deck.proofs.Grouping.{calculations-are}
 use Rattle.rpg_deck.proofs.Placing.{calls-are, labels-are}
-use Rattle.rpg_deck.specs.Begins.{is_line, is_type}
+use Rattle.rpg_deck.specs.Begins.{is_output_line, is_type}
 use Rattle.rpg_deck.specs.Flat.{IsInOrder, back}
 use Rattle.rpg_deck.specs.Steps as steps
 use Rattle.rpg_deck.specs.Steps.{Step, steps_in}
@@ -29,14 +29,15 @@ use Rattle.rpg_deck_laws.proofs.Rounds.{rounds-are}
 use Rattle.rpg_deck_laws.proofs.Stepping.{IsTestOf, all_join, back_is, ends-steps, leaves_is, nowhere_is, starts-steps, unpaired_is}
 use Rattle.rpg_deck_laws.proofs.Strays as strays
 use Rattle.rpg_deck_laws.specs.Numbers.{at_operations}
-use Rattle.rpg_deck_laws.specs.Order.{cut_off_in, misplaced_from, numbers_of, strays_on_input, strays_on_output, is_and, is_and_or, is_input_field, is_output_field, is_unpaired}
-use Rattle.rpg_deck_laws.specs.Rules.{calls_back, recursive_cards, goes_nowhere, leaves_section, leaving_cards, lost_cards, misplaced_cards, wrongly_rounding_cards}
+use Rattle.rpg_deck_laws.specs.Order.{cut_off_in, misplaced_from, passing_numbers, strays_on_input, strays_on_output, is_and, is_and_or, is_input_field, is_unpaired}
+use Rattle.rpg_deck_laws.specs.Rules.{calls_back, recursive_cards, step_goes_nowhere, step_leaves_section, leaving_cards, lost_cards, misplaced_cards, wrongly_rounding_cards}
 use Rattle.rpg_faults_flow.specs.Flow as flow
 use Rattle.rpg_faults_flow.specs.Kept.{Rule}
 use Rattle.rpg_faults_flow.specs.Order.{breaks_group, breaks_order, unpaired}
 use Rattle.rpg_faults_flow.specs.Rounding.{bad_rounding, rounds_wrongly}
 use Rattle.rpg_faults_limits.specs.Order as limits
 use Rattle.rpg_faults_limits.specs.Order.{takes_codes, takes_conditions}
+use Rattle.rpg_faults_limits.specs.Limits.{is_output_field}
 use Rattle.rpg_sheet_specs.specs.declared.calculation.CalculationSpec.{CalculationSpec}
 use Rattle.rpg_sheet_specs.specs.declared.input.InputSpec.{InputSpec}
 use Rattle.rpg_sheet_specs.specs.declared.input.InputSpec.TheVariants as input
@@ -87,7 +88,7 @@ input_sheet = record {
     no_field (input.And codes) is = refl
     no_field (input.Field f) is = absurd cc
 
-output_sheet : strays.Sheet output_on spec.Output output_role is_line is_and_or takes_conditions is_output_field
+output_sheet : strays.Sheet output_on spec.Output output_role is_output_line is_and_or takes_conditions is_output_field
 output_sheet = record {
   on_sheet = λ x. refl;
   apart = λ s is. ap (role_on output_card_role) is;
@@ -105,25 +106,25 @@ output_sheet = record {
     closed None = refl
     closed (Some g) = refl
 
-    opened : (o : Option (flat.Group OutputRecord OutputSpec)) (x : OutputSpec) → is_none (with_card o (output_role (spec.Output x))) ≡ (is_none o && not (is_line x))
+    opened : (o : Option (flat.Group OutputRecord OutputSpec)) (x : OutputSpec) → is_none (with_card o (output_role (spec.Output x))) ≡ (is_none o && not (is_output_line x))
     opened o (output.Record r) = closed o
     opened o (output.And t) = joined_none o (output.And t)
     opened o (output.Or t) = joined_none o (output.Or t)
     opened o (output.Field f) = joined_none o (output.Field f)
 
-    no_follower : (x : OutputSpec) → is_line x ≡ true → is_and_or x ≡ false
+    no_follower : (x : OutputSpec) → is_output_line x ≡ true → is_and_or x ≡ false
     no_follower (output.Record r) is = refl
     no_follower (output.And t) is = absurd cc
     no_follower (output.Or t) is = absurd cc
     no_follower (output.Field f) is = refl
 
-    takes_some : (x : OutputSpec) → is_line x ≡ true → takes_conditions x ≡ true
+    takes_some : (x : OutputSpec) → is_output_line x ≡ true → takes_conditions x ≡ true
     takes_some (output.Record r) is = refl
     takes_some (output.And t) is = refl
     takes_some (output.Or t) is = refl
     takes_some (output.Field f) is = absurd cc
 
-    no_field : (x : OutputSpec) → is_line x ≡ true → is_output_field x ≡ false
+    no_field : (x : OutputSpec) → is_output_line x ≡ true → is_output_field x ≡ false
     no_field (output.Record r) is = refl
     no_field (output.And t) is = refl
     no_field (output.Or t) is = refl
@@ -135,10 +136,10 @@ or_false false = refl
 
 -- what the rule says of an I card and of an O card
 abbrev input_rule : Rule
-input_rule before c after = option_map_or (limits.strays_on_input before) (input_on c.spec) false
+input_rule before c after = option_map_or (limits.is_stray_input before) (input_on c.spec) false
 
 abbrev output_rule : Rule
-output_rule before c after = option_map_or (limits.strays_on_output before) (output_on c.spec) false
+output_rule before c after = option_map_or (limits.is_stray_output before) (output_on c.spec) false
 
 abbrev input_cut : Rule
 input_cut = strays.cut_rule input_on spec.Input input_role is_type is_and takes_codes is_input_field
@@ -147,15 +148,15 @@ abbrev input_field : Rule
 input_field = strays.field_rule input_on spec.Input input_role is_type is_and takes_codes is_input_field
 
 abbrev output_cut : Rule
-output_cut = strays.cut_rule output_on spec.Output output_role is_line is_and_or takes_conditions is_output_field
+output_cut = strays.cut_rule output_on spec.Output output_role is_output_line is_and_or takes_conditions is_output_field
 
 abbrev output_field : Rule
-output_field = strays.field_rule output_on spec.Output output_role is_line is_and_or takes_conditions is_output_field
+output_field = strays.field_rule output_on spec.Output output_role is_output_line is_and_or takes_conditions is_output_field
 
 input_same : (before : List SpecCard) (c : SpecCard) (after : List SpecCard) → either input_cut input_field before c after ≡ input_rule before c after
 input_same before c after = by (input_on c.spec)
   where
-    by : (o : Option InputSpec) → (option_map_or (λ x. is_and x && not (limits.is_behind_codes before)) o false || option_map_or (λ x. is_input_field x && is_none (open_group input_role before)) o false) ≡ option_map_or (limits.strays_on_input before) o false
+    by : (o : Option InputSpec) → (option_map_or (λ x. is_and x && not (limits.is_behind_codes before)) o false || option_map_or (λ x. is_input_field x && is_none (open_group input_role before)) o false) ≡ option_map_or (limits.is_stray_input before) o false
     by None = refl
     by (Some (input.Type t)) = refl
     by (Some (input.And codes)) = sym (or_false (not (limits.is_behind_codes before)))
@@ -164,7 +165,7 @@ input_same before c after = by (input_on c.spec)
 output_same : (before : List SpecCard) (c : SpecCard) (after : List SpecCard) → either output_cut output_field before c after ≡ output_rule before c after
 output_same before c after = by (output_on c.spec)
   where
-    by : (o : Option OutputSpec) → (option_map_or (λ x. is_and_or x && not (limits.is_behind_conditions before)) o false || option_map_or (λ x. is_output_field x && is_none (open_group output_role before)) o false) ≡ option_map_or (limits.strays_on_output before) o false
+    by : (o : Option OutputSpec) → (option_map_or (λ x. is_and_or x && not (limits.is_behind_conditions before)) o false || option_map_or (λ x. is_output_field x && is_none (open_group output_role before)) o false) ≡ option_map_or (limits.is_stray_output before) o false
     by None = refl
     by (Some (output.Record r)) = refl
     by (Some (output.And t)) = sym (or_false (not (limits.is_behind_conditions before)))
@@ -252,15 +253,15 @@ module _ (cards : List SpecCard) where
       (strays.none_on-append input_on spec.Input input_role is_type is_and takes_codes is_input_field (sheet header_on spec.Header cards) (sheet file_on spec.File cards) (strays.none_on-back input_on spec.Input input_role is_type is_and takes_codes is_input_field spec.Header (λ x. refl) (cards_on header_on cards)) (strays.none_on-back input_on spec.Input input_role is_type is_and takes_codes is_input_field spec.File (λ x. refl) (cards_on file_on cards)))
       (strays.none_on-back input_on spec.Input input_role is_type is_and takes_codes is_input_field spec.Extension (λ x. refl) (cards_on extension_on cards))
 
-  no_output : strays.NoneOn output_on spec.Output output_role is_line is_and_or takes_conditions is_output_field (up_to_i ++ c_cards (cards_on calculation_on cards))
+  no_output : strays.NoneOn output_on spec.Output output_role is_output_line is_and_or takes_conditions is_output_field (up_to_i ++ c_cards (cards_on calculation_on cards))
   no_output =
-      strays.none_on-append output_on spec.Output output_role is_line is_and_or takes_conditions is_output_field up_to_i (c_cards (cards_on calculation_on cards))
-      (strays.none_on-append output_on spec.Output output_role is_line is_and_or takes_conditions is_output_field up_to_e (sheet input_on spec.Input cards)
-      (strays.none_on-append output_on spec.Output output_role is_line is_and_or takes_conditions is_output_field (sheet header_on spec.Header cards ++ sheet file_on spec.File cards) (sheet extension_on spec.Extension cards)
-      (strays.none_on-append output_on spec.Output output_role is_line is_and_or takes_conditions is_output_field (sheet header_on spec.Header cards) (sheet file_on spec.File cards) (strays.none_on-back output_on spec.Output output_role is_line is_and_or takes_conditions is_output_field spec.Header (λ x. refl) (cards_on header_on cards)) (strays.none_on-back output_on spec.Output output_role is_line is_and_or takes_conditions is_output_field spec.File (λ x. refl) (cards_on file_on cards)))
-      (strays.none_on-back output_on spec.Output output_role is_line is_and_or takes_conditions is_output_field spec.Extension (λ x. refl) (cards_on extension_on cards)))
-      (strays.none_on-back output_on spec.Output output_role is_line is_and_or takes_conditions is_output_field spec.Input (λ x. refl) (cards_on input_on cards)))
-      (strays.none_on-back output_on spec.Output output_role is_line is_and_or takes_conditions is_output_field spec.Calculation (λ x. refl) (cards_on calculation_on cards))
+      strays.none_on-append output_on spec.Output output_role is_output_line is_and_or takes_conditions is_output_field up_to_i (c_cards (cards_on calculation_on cards))
+      (strays.none_on-append output_on spec.Output output_role is_output_line is_and_or takes_conditions is_output_field up_to_e (sheet input_on spec.Input cards)
+      (strays.none_on-append output_on spec.Output output_role is_output_line is_and_or takes_conditions is_output_field (sheet header_on spec.Header cards ++ sheet file_on spec.File cards) (sheet extension_on spec.Extension cards)
+      (strays.none_on-append output_on spec.Output output_role is_output_line is_and_or takes_conditions is_output_field (sheet header_on spec.Header cards) (sheet file_on spec.File cards) (strays.none_on-back output_on spec.Output output_role is_output_line is_and_or takes_conditions is_output_field spec.Header (λ x. refl) (cards_on header_on cards)) (strays.none_on-back output_on spec.Output output_role is_output_line is_and_or takes_conditions is_output_field spec.File (λ x. refl) (cards_on file_on cards)))
+      (strays.none_on-back output_on spec.Output output_role is_output_line is_and_or takes_conditions is_output_field spec.Extension (λ x. refl) (cards_on extension_on cards)))
+      (strays.none_on-back output_on spec.Output output_role is_output_line is_and_or takes_conditions is_output_field spec.Input (λ x. refl) (cards_on input_on cards)))
+      (strays.none_on-back output_on spec.Output output_role is_output_line is_and_or takes_conditions is_output_field spec.Calculation (λ x. refl) (cards_on calculation_on cards))
 
   off_end : (test : Test) → IsOff (at_end test) calculation_on
   off_end test before c after none =
@@ -308,7 +309,7 @@ module _ (cards : List SpecCard) where
 
     -- ---- F10 and F13
 
-    given_labels : old.labels (calculations cards) ≡ steps.labels (steps_in (tree cards))
+    given_labels : old.labels (calculations cards) ≡ steps.labels_of_steps (steps_in (tree cards))
     given_labels = ap old.labels (calculations-are 0 cards ordered) ∙ labels-are (tree cards).calculations
 
     of_calculation : {Y : Type 0} (f : Calculation Key → Y) (d : Y) (o : Option CalculationGroup) → option_map_or (λ g. f (calculation_of g)) o d ≡ option_map_or f (option_map calculation_of o) d
@@ -316,10 +317,10 @@ module _ (cards : List SpecCard) where
     of_calculation f d (Some g) = refl
 
     abbrev given : List Label
-    given = steps.labels (steps_in (tree cards))
+    given = steps.labels_of_steps (steps_in (tree cards))
 
     pub nowhere-broken : AreBroken (λ before c after. flow.goes_nowhere (before ++ c ∷ after) before c after) cards (lost_cards (tree cards))
-    nowhere-broken = broken-same (at_end (λ done g behind. flow.lacks_label given g)) _ cards (lost_cards (tree cards)) same (ends_broken (λ done g behind. flow.lacks_label given g) (λ s after. goes_nowhere given s) (nowhere_is given))
+    nowhere-broken = broken-same (at_end (λ done g behind. flow.lacks_label given g)) _ cards (lost_cards (tree cards)) same (ends_broken (λ done g behind. flow.lacks_label given g) (λ s after. step_goes_nowhere given s) (nowhere_is given))
       where
         same : (before : List SpecCard) (c : SpecCard) (after : List SpecCard) → cards ≡ before ++ c ∷ after → at_end (λ done g behind. flow.lacks_label given g) before c after ≡ flow.goes_nowhere (before ++ c ∷ after) before c after
         same before c after split =
@@ -327,7 +328,7 @@ module _ (cards : List SpecCard) where
             ∙ ap (λ ls. option_map_or (flow.lacks_label ls) (calculation_ending before c after) false) (sym given_labels ∙ ap (λ cs. old.labels (calculations cs)) split)
 
     pub apart-broken : AreBroken (λ before c after. flow.goes_apart (before ++ c ∷ after) before c after) cards (leaving_cards (tree cards))
-    apart-broken = broken-same (at_end (λ done g behind. flow.leaves_section given done g)) _ cards (leaving_cards (tree cards)) same (ends_broken (λ done g behind. flow.leaves_section given done g) (λ s after. leaves_section given s) (leaves_is given))
+    apart-broken = broken-same (at_end (λ done g behind. flow.leaves_section given done g)) _ cards (leaving_cards (tree cards)) same (ends_broken (λ done g behind. flow.leaves_section given done g) (λ s after. step_leaves_section given s) (leaves_is given))
       where
         same : (before : List SpecCard) (c : SpecCard) (after : List SpecCard) → cards ≡ before ++ c ∷ after → at_end (λ done g behind. flow.leaves_section given done g) before c after ≡ flow.goes_apart (before ++ c ∷ after) before c after
         same before c after split =
@@ -336,11 +337,11 @@ module _ (cards : List SpecCard) where
 
     -- ---- F14
 
-    given_calls : old_calls.calls (calculations cards) ≡ steps.calls (steps_in (tree cards))
+    given_calls : old_calls.calls (calculations cards) ≡ steps.calls_of_steps (steps_in (tree cards))
     given_calls = ap old_calls.calls (calculations-are 0 cards ordered) ∙ calls-are (tree cards).calculations
 
     abbrev all_calls : List (ℕ × ℕ)
-    all_calls = steps.calls (steps_in (tree cards))
+    all_calls = steps.calls_of_steps (steps_in (tree cards))
 
     of_call : (call : Calculation Key → Option (ℕ × ℕ)) (o : Option CalculationGroup) → option_map_or (λ g. flow.comes_back all_calls (call (calculation_of g))) o false ≡ flow.comes_back all_calls (option_and_then call (option_map calculation_of o))
     of_call call None = refl
@@ -363,7 +364,7 @@ module _ (cards : List SpecCard) where
         (by-each input_cut cards (cut_off_in is_and takes_codes (tree cards).types)
         (flat_cards input_cut ∙ at_i input_cut (λ before c after none. ap (λ o. option_map_or (λ x. is_and x && not (limits.is_behind_codes before)) o false) none)
         ∙ strays.cut-are input_on spec.Input input_role is_type is_and takes_codes is_input_field input_sheet up_to_e no_input (cards_on input_on cards) (from_c ++ [])))
-        (by-each input_field cards (numbers_of is_input_field (tree cards).types.strays)
+        (by-each input_field cards (passing_numbers is_input_field (tree cards).types.strays)
         (flat_cards input_field ∙ at_i input_field (λ before c after none. ap (λ o. option_map_or (λ x. is_input_field x && is_none (open_group input_role before)) o false) none)
         ∙ strays.fields-are input_on spec.Input input_role is_type is_and takes_codes is_input_field input_sheet up_to_e no_input (cards_on input_on cards) (from_c ++ [])))
 
@@ -372,22 +373,22 @@ module _ (cards : List SpecCard) where
         broken-either output_cut output_field cards _ _
         (by-each output_cut cards (cut_off_in is_and_or takes_conditions (tree cards).lines)
         (flat_cards output_cut ∙ at_o output_cut (λ before c after none. ap (λ o. option_map_or (λ x. is_and_or x && not (limits.is_behind_conditions before)) o false) none)
-        ∙ strays.cut-are output_on spec.Output output_role is_line is_and_or takes_conditions is_output_field output_sheet (up_to_i ++ c_cards all_c) no_output (cards_on output_on cards) (sheet data_on spec.Data cards ++ [])))
-        (by-each output_field cards (numbers_of is_output_field (tree cards).lines.strays)
+        ∙ strays.cut-are output_on spec.Output output_role is_output_line is_and_or takes_conditions is_output_field output_sheet (up_to_i ++ c_cards all_c) no_output (cards_on output_on cards) (sheet data_on spec.Data cards ++ [])))
+        (by-each output_field cards (passing_numbers is_output_field (tree cards).lines.strays)
         (flat_cards output_field ∙ at_o output_field (λ before c after none. ap (λ o. option_map_or (λ x. is_output_field x && is_none (open_group output_role before)) o false) none)
-        ∙ strays.fields-are output_on spec.Output output_role is_line is_and_or takes_conditions is_output_field output_sheet (up_to_i ++ c_cards all_c) no_output (cards_on output_on cards) (sheet data_on spec.Data cards ++ [])))
+        ∙ strays.fields-are output_on spec.Output output_role is_output_line is_and_or takes_conditions is_output_field output_sheet (up_to_i ++ c_cards all_c) no_output (cards_on output_on cards) (sheet data_on spec.Data cards ++ [])))
 
     abbrev parts : Rule
     parts = either (either at_start (at_end unpaired)) (either (either input_cut input_field) (either output_cut output_field))
 
-    pub order-broken : AreBroken (λ before c after. breaks_order before c after || limits.strays before c) cards (misplaced_cards (tree cards))
+    pub order-broken : AreBroken (λ before c after. breaks_order before c after || limits.is_stray before c) cards (misplaced_cards (tree cards))
     order-broken =
         broken-same parts _ cards (misplaced_cards (tree cards)) same
         (broken-either (either at_start (at_end unpaired)) (either (either input_cut input_field) (either output_cut output_field)) cards _ _
         (broken-either at_start (at_end unpaired) cards _ _ starts_broken (ends_broken unpaired is_unpaired unpaired_is))
         (broken-either (either input_cut input_field) (either output_cut output_field) cards _ _ inputs_broken outputs_broken))
       where
-        same : (before : List SpecCard) (c : SpecCard) (after : List SpecCard) → cards ≡ before ++ c ∷ after → parts before c after ≡ (breaks_order before c after || limits.strays before c)
+        same : (before : List SpecCard) (c : SpecCard) (after : List SpecCard) → cards ≡ before ++ c ∷ after → parts before c after ≡ (breaks_order before c after || limits.is_stray before c)
         same before c after split =
             ap (λ b. breaks_order before c after || (b || either output_cut output_field before c after)) (input_same before c after)
             ∙ ap (λ b. breaks_order before c after || (input_rule before c after || b)) (output_same before c after)

@@ -11,14 +11,14 @@ use Rattle.rpg_faults.specs.declared.code.FaultCode.TheVariants.{F10, F12, F13, 
 use Rattle.rpg_faults_flow.specs.Flow.{calls_itself, goes_apart, goes_nowhere}
 use Rattle.rpg_faults_flow.specs.Order.{breaks_order}
 use Rattle.rpg_faults_flow.specs.Rounding.{bad_rounding}
-use Rattle.rpg_faults_limits.specs.Order.{strays}
+use Rattle.rpg_faults_limits.specs.Order.{is_stray}
 
 module _ (before : List SpecCard) (c : SpecCard) (after : List SpecCard) where
   rule-f10 : goes_nowhere (before ++ c ∷ after) before c after ≡ rule F10 before c after
   unfolding rule
   rule-f10 = refl
 
-  rule-f12 : (breaks_order before c after || strays before c) ≡ rule F12 before c after
+  rule-f12 : (breaks_order before c after || is_stray before c) ≡ rule F12 before c after
   unfolding rule
   rule-f12 = refl
 
@@ -39,7 +39,7 @@ module _ (cards : List SpecCard) (ordered : IsInOrder 0 cards) where
   f10-broken = broken-same (λ b c a. goes_nowhere (b ++ c ∷ a) b c a) (rule F10) cards (lost_cards (tree cards)) (λ b c a split. rule-f10 b c a) (nowhere-broken cards ordered)
 
   pub f12-broken : AreBroken (rule F12) cards (misplaced_cards (tree cards))
-  f12-broken = broken-same (λ b c a. breaks_order b c a || strays b c) (rule F12) cards (misplaced_cards (tree cards)) (λ b c a split. rule-f12 b c a) (order-broken cards ordered)
+  f12-broken = broken-same (λ b c a. breaks_order b c a || is_stray b c) (rule F12) cards (misplaced_cards (tree cards)) (λ b c a split. rule-f12 b c a) (order-broken cards ordered)
 
   pub f13-broken : AreBroken (rule F13) cards (leaving_cards (tree cards))
   f13-broken = broken-same (λ b c a. goes_apart (b ++ c ∷ a) b c a) (rule F13) cards (leaving_cards (tree cards)) (λ b c a split. rule-f13 b c a) (apart-broken cards ordered)

@@ -7,11 +7,11 @@ use Rattle.rpg_cards.specs.Deeds.{Calculation}
 use Rattle.rpg_cards.specs.Groups.{joins}
 use Rattle.rpg_cards.specs.Keys.{Key}
 use Rattle.rpg_cards.specs.declared.spec_card.SpecCard.{SpecCard}
-use Rattle.rpg_deck.specs.Cut.{all_groups, groups, strays}
+use Rattle.rpg_deck.specs.Cut.{all_groups, groups_begun, strays}
 use Rattle.rpg_deck.specs.Flat.{back}
 use Rattle.rpg_deck.specs.Same.{calculation_in}
 use Rattle.rpg_deck.specs.Steps as steps
-use Rattle.rpg_deck.specs.Steps.{last_card}
+use Rattle.rpg_deck.specs.Steps.{operation_card}
 use Rattle.rpg_deck.specs.Tree.{begins_calculation}
 use Rattle.rpg_deck.specs.declared.card.Card.{Card}
 use Rattle.rpg_deck_laws.proofs.Among.{NoC, done_none, emitted, goes_nowhere_on}
@@ -40,7 +40,7 @@ abbrev pub last_of : ℕ → List (Card CalculationSpec) → ℕ
 last_of n [] = n
 last_of n (x ∷ xs) = last_of x.number xs
 
-pub last_number : (g : steps.CalculationGroup) → (last_card g).number ≡ last_of g.first.number g.followers
+pub last_number : (g : steps.CalculationCards) → (operation_card g).number ≡ last_of g.first.number g.followers
 last_number g = from g.first g.followers
   where
     more : (x : Card CalculationSpec) (xs : List (Card CalculationSpec)) (d : Card CalculationSpec) → (unwrap_or (last_or (Some x) xs) d).number ≡ last_of x.number xs
@@ -53,7 +53,7 @@ last_number g = from g.first g.followers
 
 module _ (test : Test) where
   -- the same over groups
-  abbrev pub ends_from : List (Calculation Key) → List steps.CalculationGroup → List ℕ
+  abbrev pub ends_from : List (Calculation Key) → List steps.CalculationCards → List ℕ
   ends_from done [] = []
   ends_from done (g ∷ gs) = one_if (test done (calculation_in g) (map calculation_in gs)) (last_of g.first.number g.followers) ++ ends_from (done ++ calculation_in g ∷ []) gs
 
@@ -63,7 +63,7 @@ module _ (test : Test) where
 
     -- the calculations from an open group on
     abbrev Calculated : CalculationGroup → List (Card CalculationSpec) → Type 0
-    Calculated g xs = emitted (cond (goes_on (rest xs)) None (Some g)) ++ calculations_from (Some g) (rest xs) [] ≡ calculation_of (with_cards g (strays begins_calculation xs)) ∷ map calculation_in (groups begins_calculation xs)
+    Calculated g xs = emitted (cond (goes_on (rest xs)) None (Some g)) ++ calculations_from (Some g) (rest xs) [] ≡ calculation_of (with_cards g (strays begins_calculation xs)) ∷ map calculation_in (groups_begun begins_calculation xs)
 
     calculations_of : (g : CalculationGroup) (xs : List (Card CalculationSpec)) → Calculated g xs
     calculations_of g [] =
@@ -72,16 +72,16 @@ module _ (test : Test) where
     calculations_of g (x ∷ xs) = ap (λ cs. emitted (cond (joins x.spec.control_level) None (Some g)) ++ (emitted (cond (goes_on cs) None (Some (group_with (Some g) x.spec))) ++ calculations_from (Some (group_with (Some g) x.spec)) (rest xs) [])) (append-nil (rest xs)) ∙ by (joins x.spec.control_level) (calculations_of (joined_group g x.spec) xs) (calculations_of (alone x.spec) xs)
       where
         by : (b : Bool) → Calculated (joined_group g x.spec) xs → Calculated (alone x.spec) xs → emitted (cond b None (Some g)) ++ (emitted (cond (goes_on (rest xs)) None (Some (cond b (joined_group g x.spec) (alone x.spec)))) ++ calculations_from (Some (cond b (joined_group g x.spec) (alone x.spec))) (rest xs) [])
-            ≡ calculation_of (with_cards g (cond (not b) [] (x ∷ strays begins_calculation xs))) ∷ map calculation_in (cond (not b) (record { first = x; followers = strays begins_calculation xs } ∷ groups begins_calculation xs) (groups begins_calculation xs))
+            ≡ calculation_of (with_cards g (cond (not b) [] (x ∷ strays begins_calculation xs))) ∷ map calculation_in (cond (not b) (record { first = x; followers = strays begins_calculation xs } ∷ groups_begun begins_calculation xs) (groups_begun begins_calculation xs))
         by true in_group alone_is =
             in_group
-            ∙ ap (λ fs. calculation_of (record { first = g.first; followers = fs }) ∷ map calculation_in (groups begins_calculation xs)) (append_assoc g.followers (x.spec ∷ []) (map (λ d. d.spec) (strays begins_calculation xs)))
+            ∙ ap (λ fs. calculation_of (record { first = g.first; followers = fs }) ∷ map calculation_in (groups_begun begins_calculation xs)) (append_assoc g.followers (x.spec ∷ []) (map (λ d. d.spec) (strays begins_calculation xs)))
         by false in_group alone_is =
             ap (λ gs. calculation_of g ∷ gs) alone_is
-            ∙ ap (λ fs. calculation_of (record { first = g.first; followers = fs }) ∷ (calculation_of (with_cards (alone x.spec) (strays begins_calculation xs)) ∷ map calculation_in (groups begins_calculation xs))) (sym (append-nil g.followers))
+            ∙ ap (λ fs. calculation_of (record { first = g.first; followers = fs }) ∷ (calculation_of (with_cards (alone x.spec) (strays begins_calculation xs)) ∷ map calculation_in (groups_begun begins_calculation xs))) (sym (append-nil g.followers))
 
     -- those after a group that ends
-    calculations_after : (g : CalculationGroup) (xs : List (Card CalculationSpec)) → goes_on (rest xs) ≡ false → calculations_from (Some g) (rest xs) [] ≡ map calculation_in (groups begins_calculation xs)
+    calculations_after : (g : CalculationGroup) (xs : List (Card CalculationSpec)) → goes_on (rest xs) ≡ false → calculations_from (Some g) (rest xs) [] ≡ map calculation_in (groups_begun begins_calculation xs)
     calculations_after g xs ends = sym (ap (λ b. drop 1 (emitted (cond b None (Some g)) ++ calculations_from (Some g) (rest xs) [])) ends) ∙ ap (drop 1) (calculations_of g xs)
 
     -- a group that is open once a card has been read
@@ -107,11 +107,11 @@ module _ (test : Test) where
     abbrev then_on : CalculationGroup → ℕ → List (Calculation Key) → List (Card CalculationSpec) → List ℕ
     then_on g n done xs = here done g n xs ++ ends_on (Some g) (done ++ emitted (closed g xs)) xs
 
-    abbrev meant : CalculationGroup → ℕ → List (Calculation Key) → List (Card CalculationSpec) → List steps.CalculationGroup → List ℕ
+    abbrev meant : CalculationGroup → ℕ → List (Calculation Key) → List (Card CalculationSpec) → List steps.CalculationCards → List ℕ
     meant g n done fs gs = one_if (test done (calculation_of (with_cards g fs)) (map calculation_in gs)) (last_of n fs) ++ ends_from (done ++ calculation_of (with_cards g fs) ∷ []) gs
 
     abbrev Goes : List (Card CalculationSpec) → CalculationGroup → ℕ → List (Calculation Key) → Type 0
-    Goes xs g n done = then_on g n done xs ≡ meant g n done (strays begins_calculation xs) (groups begins_calculation xs)
+    Goes xs g n done = then_on g n done xs ≡ meant g n done (strays begins_calculation xs) (groups_begun begins_calculation xs)
 
     from_open : (xs : List (Card CalculationSpec)) (g : CalculationGroup) (n : ℕ) (done : List (Calculation Key)) → Goes xs g n done
     from_open [] g n done =
@@ -123,8 +123,8 @@ module _ (test : Test) where
         ss : List (Card CalculationSpec)
         ss = strays begins_calculation xs
 
-        gs : List steps.CalculationGroup
-        gs = groups begins_calculation xs
+        gs : List steps.CalculationCards
+        gs = groups_begun begins_calculation xs
 
         by : (b : Bool) → (b ≡ false → calculations_from (Some g) (rest (x ∷ xs)) [] ≡ map calculation_in (cond (not b) (record { first = x; followers = ss } ∷ gs) gs))
             → Goes xs (joined_group g x.spec) x.number done → Goes xs (alone x.spec) x.number (done ++ calculation_of g ∷ [])

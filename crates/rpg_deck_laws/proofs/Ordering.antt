@@ -10,7 +10,7 @@ use Rattle.rpg_cards.specs.declared.spec_card.SpecCard.{SpecCard}
 use Rattle.rpg_deck.specs.Flat.{IsInOrder, place}
 use Rattle.rpg_faults.specs.Cards.{numbered_cards, with_spec}
 use Rattle.rpg_faults.specs.Source.{cards_in}
-use Rattle.rpg_sheet.specs.Sheet.{comes_after, fault_behind, fault_under, first_sheet_fault, has, is_data_behind, line_code, source}
+use Rattle.rpg_sheet.specs.Sheet.{comes_after, fault_behind, fault_under, first_sheet_fault, has_sheet_fault, is_data_behind, line_code, source}
 use Rattle.rpg_sheet.specs.declared.sheet.SheetCode.{SheetCode}
 use Rattle.rpg_sheet.specs.declared.sheet.SheetCode.TheVariants.{S1, S2, S3, S4, S5, S6}
 use Rattle.rpg_sheet.specs.declared.sheet.SheetFault.{SheetFault}
@@ -92,7 +92,7 @@ module _ (earlier : List (List ℕ)) (line : List ℕ) where
   no_data : is_data_behind earlier ≡ false → begins_data (card_of line) ≡ false → is_data_behind with_line ≡ false
   no_data before here = list_any-append (λ e. begins_data (card_of e)) earlier (line ∷ []) ∙ ap (λ b. b || (begins_data (card_of line) || false)) before ∙ ap (λ b. b || false) here
 
-  above : (f : FormType) (low : ℕ) → sheet_of false (card_of line) ≡ Some f → is_data_behind earlier ≡ false → has earlier line S4 ≡ false → Reaches earlier low → low ≤ sheet_place f
+  above : (f : FormType) (low : ℕ) → sheet_of false (card_of line) ≡ Some f → is_data_behind earlier ≡ false → has_sheet_fault earlier line S4 ≡ false → Reaches earlier low → low ≤ sheet_place f
   above f low is before right reaches = by (cases_lt (sheet_place f) low)
     where
       late : list_any (λ e. comes_after (sheet_place f) (card_of e)) earlier ≡ false
@@ -104,7 +104,7 @@ module _ (earlier : List (List ℕ)) (line : List ℕ) where
       by (inl below) = let l = late in let t = reaches (sheet_place f) below in absurd cc
       by (inr low_is) = low_is
 
-module _ (earlier : List (List ℕ)) (line : List ℕ) (more : List (List ℕ)) (n low : ℕ) (right : has earlier line S4 ≡ false) (before : is_data_behind earlier ≡ false) (few : low ≤ 6) (reaches : Reaches earlier low)
+module _ (earlier : List (List ℕ)) (line : List ℕ) (more : List (List ℕ)) (n low : ℕ) (right : has_sheet_fault earlier line S4 ≡ false) (before : is_data_behind earlier ≡ false) (few : low ≤ 6) (reaches : Reaches earlier low)
     (all : (l : ℕ) → l ≤ 6 → is_data_behind (earlier ++ line ∷ []) ≡ false → Reaches (earlier ++ line ∷ []) l → IsInOrder l (tail false (n + 1) more)) where
   -- the card isn't on a sheet, or can't be read
   kept : begins_data (card_of line) ≡ false → IsInOrder low (tail false (n + 1) more)
@@ -160,7 +160,7 @@ in_order [] earlier n low right before few reaches = tt
 in_order (line ∷ more) earlier n low right before few reaches =
     let both : (option_map (fault_under earlier line) (line_code earlier line) ≡ None) × (fault_behind (earlier ++ line ∷ []) more ≡ None) = neither (option_map (fault_under earlier line) (line_code earlier line)) (fault_behind (earlier ++ line ∷ []) more) right in
     line_in_order earlier line more n low
-    (no_code (has earlier line S1) (has earlier line S2) (has earlier line S3) (has earlier line S4) _ (unmapped (fault_under earlier line) (line_code earlier line) both.0)) before few reaches
+    (no_code (has_sheet_fault earlier line S1) (has_sheet_fault earlier line S2) (has_sheet_fault earlier line S3) (has_sheet_fault earlier line S4) _ (unmapped (fault_under earlier line) (line_code earlier line) both.0)) before few reaches
     (λ l small none reach. in_order more (earlier ++ line ∷ []) (n + 1) l both.1 none small reach)
 
 -- the law

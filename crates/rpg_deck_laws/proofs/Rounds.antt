@@ -8,9 +8,9 @@ use Rattle.rpg_cards.specs.Calculations as flat
 use Rattle.rpg_cards.specs.Groups.{joins}
 use Rattle.rpg_cards.specs.declared.spec_card.SpecCard.{SpecCard}
 use Rattle.rpg_cards.proofs.GroupEnds.{last_card-joined}
-use Rattle.rpg_deck.specs.Cut.{all_groups, groups, strays}
+use Rattle.rpg_deck.specs.Cut.{all_groups, groups_begun, strays}
 use Rattle.rpg_deck.specs.Steps as steps
-use Rattle.rpg_deck.specs.Steps.{last_card}
+use Rattle.rpg_deck.specs.Steps.{operation_card}
 use Rattle.rpg_deck.specs.Tree.{begins_calculation}
 use Rattle.rpg_deck.specs.declared.card.Card.{Card}
 use Rattle.rpg_deck_laws.proofs.Among.{NoC, goes_nowhere_on}
@@ -59,7 +59,7 @@ module _ (post : List SpecCard) (none : NoC post) where
 
   -- the card that ends the group of some cards
   abbrev end_of : Card CalculationSpec → List (Card CalculationSpec) → Card CalculationSpec
-  end_of x ss = last_card (record { first = x; followers = ss })
+  end_of x ss = operation_card (record { first = x; followers = ss })
 
   end_more : (x y : Card CalculationSpec) (ss : List (Card CalculationSpec)) → end_of x (y ∷ ss) ≡ end_of y ss
   end_more x y [] = refl
@@ -85,7 +85,7 @@ module _ (post : List SpecCard) (none : NoC post) where
   abbrev Goes : List (Card CalculationSpec) → Card CalculationSpec → Bool → CalculationGroup → Type 0
   Goes xs x division g =
       one_if (wrong division x.spec (cond (goes_on (rest xs)) None (Some x.spec))) x.number ++ rounds_on (Some g) xs
-      ≡ tree.wrong_in division x (strays begins_calculation xs) ++ tree.wrong_from (leaves_remainder (end_of x (strays begins_calculation xs)).spec) (groups begins_calculation xs)
+      ≡ tree.wrong_in division x (strays begins_calculation xs) ++ tree.wrong_from (leaves_remainder (end_of x (strays begins_calculation xs)).spec) (groups_begun begins_calculation xs)
 
   from_card : (xs : List (Card CalculationSpec)) (x : Card CalculationSpec) (division : Bool) (g : CalculationGroup) → Ends g x → Goes xs x division g
   from_card [] x division g ends = ap (λ b. one_if (wrong division x.spec (cond b None (Some x.spec))) x.number ++ []) (goes_nowhere_on post none)
@@ -94,8 +94,8 @@ module _ (post : List SpecCard) (none : NoC post) where
       ss : List (Card CalculationSpec)
       ss = strays begins_calculation ys
 
-      gs : List steps.CalculationGroup
-      gs = groups begins_calculation ys
+      gs : List steps.CalculationCards
+      gs = groups_begun begins_calculation ys
 
       more : Bool → CalculationGroup → List ℕ
       more d h = one_if (wrong d y.spec (cond (goes_on (rest ys)) None (Some y.spec))) y.number ++ rounds_on (Some h) ys

@@ -17,17 +17,17 @@ use Rattle.rpg_cards.specs.declared.labels.Named.{Named}
 use Rattle.rpg_cards.specs.declared.labels.Section.{Section}
 use Rattle.rpg_cards.specs.declared.labels.Section.TheVariants.{Outside, Subroutine}
 use Rattle.rpg_deck.proofs.Placing.{Matches, matches_next, open_one, same_begins, same_deed, same_ends, same_section}
-use Rattle.rpg_deck.specs.Cut.{all_groups, cards_in, groups, strays}
+use Rattle.rpg_deck.specs.Cut.{all_groups, group_cards, groups_begun, strays}
 use Rattle.rpg_deck.specs.Same.{calculation_in, flat_group}
 use Rattle.rpg_deck.specs.Steps as steps
-use Rattle.rpg_deck.specs.Steps.{CalculationGroup, Place, Step, group_deed, place_after, section_of, steps_from}
+use Rattle.rpg_deck.specs.Steps.{CalculationCards, SubroutineState, Step, group_deed, subroutine_state_after, section_of_group, steps_from}
 use Rattle.rpg_deck.specs.Tree.{begins_calculation}
 use Rattle.rpg_deck.specs.declared.card.Card.{Card}
 use Rattle.rpg_deck_laws.proofs.Begins.{specs_of, starts_from}
 use Rattle.rpg_deck_laws.proofs.Ends.{Test, ends_from, last_number}
 use Rattle.rpg_deck_laws.specs.Numbers.{at_operations, one_if}
-use Rattle.rpg_deck_laws.specs.Order.{is_closed, is_misplaced, is_outside, is_unpaired, misplaced_from}
-use Rattle.rpg_deck_laws.specs.Rules.{calls_back, goes_nowhere, leaves_section}
+use Rattle.rpg_deck_laws.specs.Order.{next_is_endsr, is_misplaced, in_no_section, is_unpaired, misplaced_from}
+use Rattle.rpg_deck_laws.specs.Rules.{calls_back, step_goes_nowhere, step_leaves_section}
 use Rattle.rpg_faults_flow.specs.Flow as flow
 use Rattle.rpg_faults_flow.specs.Flow.{is_given_as, leaves_by}
 use Rattle.rpg_faults_flow.specs.Order as order
@@ -36,54 +36,54 @@ use Rattle.rpg_sheet_specs.specs.declared.calculation.CalculationSpec.{Calculati
 use Rattle.rpg_sheet_specs.specs.declared.calculation.ControlLevel.{ControlLevel}
 use Rattle.rpg_sheet_specs.specs.declared.calculation.ControlLevel.TheVariants as control
 
-abbrev step : Place → CalculationGroup → Step
-step p g = record { section = section_of p g; group = g }
+abbrev step : SubroutineState → CalculationCards → Step
+step p g = record { section = section_of_group p g; group = g }
 
 -- ---- where calculations end
 
 -- a test of calculations is one of steps
 abbrev pub IsTestOf : Test → (Step → List Step → Bool) → Type 0
-IsTestOf test of = (p : Place) (done : List (Calculation Key)) (g : CalculationGroup) (gs : List CalculationGroup) → Matches p done → test done (calculation_in g) (map calculation_in gs) ≡ of (step p g) (steps_from (place_after p g) gs)
+IsTestOf test of = (p : SubroutineState) (done : List (Calculation Key)) (g : CalculationCards) (gs : List CalculationCards) → Matches p done → test done (calculation_in g) (map calculation_in gs) ≡ of (step p g) (steps_from (subroutine_state_after p g) gs)
 
-ends_of : (test : Test) (of : Step → List Step → Bool) → IsTestOf test of → (gs : List CalculationGroup) (p : Place) (done : List (Calculation Key)) → Matches p done → ends_from test done gs ≡ at_operations of (steps_from p gs)
+ends_of : (test : Test) (of : Step → List Step → Bool) → IsTestOf test of → (gs : List CalculationCards) (p : SubroutineState) (done : List (Calculation Key)) → Matches p done → ends_from test done gs ≡ at_operations of (steps_from p gs)
 ends_of test of same [] p done m = refl
 ends_of test of same (g ∷ gs) p done m =
     ap (λ n. one_if (test done (calculation_in g) (map calculation_in gs)) n ++ ends_from test (done ++ calculation_in g ∷ []) gs) (sym (last_number g))
-    ∙ ap (λ b. one_if b (steps.last_card g).number ++ ends_from test (done ++ calculation_in g ∷ []) gs) (same p done g gs m)
-    ∙ ap (λ ns. one_if (of (step p g) (steps_from (place_after p g) gs)) (steps.last_card g).number ++ ns) (ends_of test of same gs (place_after p g) (done ++ calculation_in g ∷ []) (matches_next p done g m))
+    ∙ ap (λ b. one_if b (steps.operation_card g).number ++ ends_from test (done ++ calculation_in g ∷ []) gs) (same p done g gs m)
+    ∙ ap (λ ns. one_if (of (step p g) (steps_from (subroutine_state_after p g) gs)) (steps.operation_card g).number ++ ns) (ends_of test of same gs (subroutine_state_after p g) (done ++ calculation_in g ∷ []) (matches_next p done g m))
 
-pub ends-steps : (test : Test) (of : Step → List Step → Bool) → IsTestOf test of → (gs : List CalculationGroup) → ends_from test [] gs ≡ at_operations of (steps.steps gs)
-ends-steps test of same gs = ends_of test of same gs steps.at_start [] (record { begun = refl; own = refl })
+pub ends-steps : (test : Test) (of : Step → List Step → Bool) → IsTestOf test of → (gs : List CalculationCards) → ends_from test [] gs ≡ at_operations of (steps.steps gs)
+ends-steps test of same gs = ends_of test of same gs steps.before_calculations [] (record { begun = refl; own = refl })
 
 -- F10
-pub nowhere_is : (given : List Label) → IsTestOf (λ done g behind. flow.lacks_label given g) (λ s after. goes_nowhere given s)
+pub nowhere_is : (given : List Label) → IsTestOf (λ done g behind. flow.lacks_label given g) (λ s after. step_goes_nowhere given s)
 nowhere_is given p done g gs m = ap (λ d. option_map_or (λ n. not (is_given_as given n)) (wants d) false) (same_deed g)
 
 -- F13
-pub leaves_is : (given : List Label) → IsTestOf (λ done g behind. flow.leaves_section given done g) (λ s after. leaves_section given s)
+pub leaves_is : (given : List Label) → IsTestOf (λ done g behind. flow.leaves_section given done g) (λ s after. step_leaves_section given s)
 leaves_is given p done g gs m =
     ap (λ x. option_map_or (λ (n : Named). option_map_or (leaves_by x n) (label_named n.name given) false) (wants (calculation_in g).deed) false) (same_section p done g m)
-    ∙ ap (λ d. option_map_or (λ (n : Named). option_map_or (leaves_by (section_of p g) n) (label_named n.name given) false) (wants d) false) (same_deed g)
+    ∙ ap (λ d. option_map_or (λ (n : Named). option_map_or (leaves_by (section_of_group p g) n) (label_named n.name given) false) (wants d) false) (same_deed g)
 
 -- F14
 pub back_is : (given : List Label) (all : List (ℕ × ℕ)) → IsTestOf (λ done g behind. flow.comes_back all (call_at given done g)) (λ s after. calls_back given all s)
 back_is given all p done g gs m =
     ap (λ x. flow.comes_back all (option_and_then (λ caller. option_map (λ callee. (caller, callee)) (option_and_then (called_subroutine given) (wants (calculation_in g).deed))) (subroutine_in x))) (same_section p done g m)
-    ∙ ap (λ d. flow.comes_back all (option_and_then (λ caller. option_map (λ callee. (caller, callee)) (option_and_then (called_subroutine given) (wants d))) (subroutine_in (section_of p g)))) (same_deed g)
+    ∙ ap (λ d. flow.comes_back all (option_and_then (λ caller. option_map (λ callee. (caller, callee)) (option_and_then (called_subroutine given) (wants d))) (subroutine_in (section_of_group p g)))) (same_deed g)
 
 -- ---- F12 where calculations end
 
 -- of an SR group that isn't BEGSR: in no subroutine
-outside_by : (p : Place) (done : List (Calculation Key)) → Matches p done → is_outside (option_map_or Subroutine p.own Outside) ≡ not (is_inside_subroutine done)
-outside_by p done m = ap (λ o. is_outside (option_map_or Subroutine o Outside)) m.own ∙ by (is_inside_subroutine done)
+outside_by : (p : SubroutineState) (done : List (Calculation Key)) → Matches p done → in_no_section (option_map_or Subroutine p.own Outside) ≡ not (is_inside_subroutine done)
+outside_by p done m = ap (λ o. in_no_section (option_map_or Subroutine o Outside)) m.own ∙ by (is_inside_subroutine done)
   where
-    by : (b : Bool) → is_outside (option_map_or Subroutine (open_one (old.begun_count done) b) Outside) ≡ not b
+    by : (b : Bool) → in_no_section (option_map_or Subroutine (open_one (old.begun_count done) b) Outside) ≡ not b
     by true = refl
     by false = refl
 
 -- the section of a group of that level and operation
-abbrev section : Place → ControlLevel → Deed Key → Section
-section p l d = steps.section_by l (cond (is_begsr d) (Subroutine p.begun) (option_map_or Subroutine p.own Outside))
+abbrev section : SubroutineState → ControlLevel → Deed Key → Section
+section p l d = steps.section_by_level l (cond (is_begsr d) (Subroutine p.begun) (option_map_or Subroutine p.own Outside))
 
 and_true : (b : Bool) → b ≡ (b && true)
 and_true true = refl
@@ -93,15 +93,15 @@ and_false : (b : Bool) → false ≡ (b && false)
 and_false true = refl
 and_false false = refl
 
-module _ (p : Place) (done : List (Calculation Key)) (m : Matches p done) where
+module _ (p : SubroutineState) (done : List (Calculation Key)) (m : Matches p done) where
   abbrev open_outside : Bool
-  open_outside = is_outside (option_map_or Subroutine p.own Outside)
+  open_outside = in_no_section (option_map_or Subroutine p.own Outside)
 
   abbrev inside : Bool
   inside = is_inside_subroutine done
 
   -- ENDSR in no subroutine
-  ends_outside : (l : ControlLevel) (d : Deed Key) → ((is_subroutine l && is_endsr d) && not inside) ≡ ((is_subroutine l && is_endsr d) && is_outside (section p l d))
+  ends_outside : (l : ControlLevel) (d : Deed Key) → ((is_subroutine l && is_endsr d) && not inside) ≡ ((is_subroutine l && is_endsr d) && in_no_section (section p l d))
   ends_outside control.Detail d = refl
   ends_outside (control.Total i) d = refl
   ends_outside control.And d = refl
@@ -119,7 +119,7 @@ module _ (p : Place) (done : List (Calculation Key)) (m : Matches p done) where
   plain_outside = sym (outside_by p done m) ∙ and_true open_outside
 
   -- SR in no subroutine, and neither BEGSR nor ENDSR
-  loose_outside : (l : ControlLevel) (d : Deed Key) → (is_subroutine l && (not (is_bracket d) && not inside)) ≡ ((is_subroutine l && is_outside (section p l d)) && not (is_bracket d))
+  loose_outside : (l : ControlLevel) (d : Deed Key) → (is_subroutine l && (not (is_bracket d) && not inside)) ≡ ((is_subroutine l && in_no_section (section p l d)) && not (is_bracket d))
   loose_outside control.Detail d = refl
   loose_outside (control.Total i) d = refl
   loose_outside control.And d = refl
@@ -134,16 +134,16 @@ module _ (p : Place) (done : List (Calculation Key)) (m : Matches p done) where
   loose_outside control.Subroutine Nothing = plain_outside
 
 -- of BEGSR and ENDSR the next
-closed_is : (gs : List CalculationGroup) (p : Place) → order.is_closed (brackets (map calculation_in gs)) ≡ is_closed (steps_from p gs)
+closed_is : (gs : List CalculationCards) (p : SubroutineState) → order.is_closed (brackets (map calculation_in gs)) ≡ next_is_endsr (steps_from p gs)
 closed_is [] p = refl
 closed_is (g ∷ gs) p =
     ap (λ b. order.is_closed (cond (b || old.ends (calculation_in g)) (calculation_in g ∷ brackets (map calculation_in gs)) (brackets (map calculation_in gs)))) (same_begins g)
-    ∙ ap (λ e. order.is_closed (cond (steps.begins g || e) (calculation_in g ∷ brackets (map calculation_in gs)) (brackets (map calculation_in gs)))) (same_ends g)
-    ∙ by (is_subroutine g.first.spec.control_level) (group_deed g) (same_ends g) (closed_is gs (place_after p g))
+    ∙ ap (λ e. order.is_closed (cond (steps.opens_subroutine g || e) (calculation_in g ∷ brackets (map calculation_in gs)) (brackets (map calculation_in gs)))) (same_ends g)
+    ∙ by (is_subroutine g.first.spec.control_level) (group_deed g) (same_ends g) (closed_is gs (subroutine_state_after p g))
   where
-    by : (s : Bool) (d : Deed Key) → old.ends (calculation_in g) ≡ (s && is_endsr d) → order.is_closed (brackets (map calculation_in gs)) ≡ is_closed (steps_from (place_after p g) gs)
+    by : (s : Bool) (d : Deed Key) → old.ends (calculation_in g) ≡ (s && is_endsr d) → order.is_closed (brackets (map calculation_in gs)) ≡ next_is_endsr (steps_from (subroutine_state_after p g) gs)
         → order.is_closed (cond ((s && is_begsr d) || (s && is_endsr d)) (calculation_in g ∷ brackets (map calculation_in gs)) (brackets (map calculation_in gs)))
-        ≡ cond (s && is_begsr d) false (cond (s && is_endsr d) true (is_closed (steps_from (place_after p g) gs)))
+        ≡ cond (s && is_begsr d) false (cond (s && is_endsr d) true (next_is_endsr (steps_from (subroutine_state_after p g) gs)))
     by false d is more = more
     by true (Acts a) is more = more
     by true PutsOut is more = more
@@ -159,7 +159,7 @@ pub unpaired_is : IsTestOf unpaired is_unpaired
 unpaired_is p done g gs m =
     ap (λ d. (is_bracket d && not (is_subroutine l)) || (((is_subroutine l && is_endsr d) && not (is_inside_subroutine done)) || ((is_subroutine l && is_begsr d) && not (order.is_closed (brackets (map calculation_in gs)))))) (same_deed g)
     ∙ ap (λ b. (is_bracket (group_deed g) && not (is_subroutine l)) || (b || ((is_subroutine l && is_begsr (group_deed g)) && not (order.is_closed (brackets (map calculation_in gs)))))) (ends_outside p done m l (group_deed g))
-    ∙ ap (λ b. (is_bracket (group_deed g) && not (is_subroutine l)) || (((is_subroutine l && is_endsr (group_deed g)) && is_outside (section p l (group_deed g))) || ((is_subroutine l && is_begsr (group_deed g)) && not b))) (closed_is gs (place_after p g))
+    ∙ ap (λ b. (is_bracket (group_deed g) && not (is_subroutine l)) || (((is_subroutine l && is_endsr (group_deed g)) && in_no_section (section p l (group_deed g))) || ((is_subroutine l && is_begsr (group_deed g)) && not b))) (closed_is gs (subroutine_state_after p g))
   where
     l : ControlLevel
     l = g.first.spec.control_level
@@ -186,7 +186,7 @@ abbrev pub Joined : List (Card CalculationSpec) → Type 0
 Joined [] = Unit {0}
 Joined (x ∷ xs) = (joins x.spec.control_level ≡ true) × Joined xs
 
-abbrev pub AreJoined : List CalculationGroup → Type 0
+abbrev pub AreJoined : List CalculationCards → Type 0
 AreJoined [] = Unit {0}
 AreJoined (g ∷ gs) = Joined g.followers × AreJoined gs
 
@@ -207,30 +207,30 @@ or_false : (b : Bool) → (b || false) ≡ b
 or_false true = refl
 or_false false = refl
 
-highest_next : (ks : List CalculationSpec) (highest : ℕ) (g : CalculationGroup) → Joined g.followers → IsHighest ks highest → IsHighest (ks ++ specs_of (cards_in g)) (max highest (section_rank g.first.spec.control_level))
+highest_next : (ks : List CalculationSpec) (highest : ℕ) (g : CalculationCards) → Joined g.followers → IsHighest ks highest → IsHighest (ks ++ specs_of (group_cards g)) (max highest (section_rank g.first.spec.control_level))
 highest_next ks highest g joined is r =
-    list_any-append (λ (j : CalculationSpec). nat_lt r (section_rank j.control_level)) ks (specs_of (cards_in g))
+    list_any-append (λ (j : CalculationSpec). nat_lt r (section_rank j.control_level)) ks (specs_of (group_cards g))
     ∙ ap (λ b. b || (nat_lt r (section_rank g.first.spec.control_level) || list_any (λ (j : CalculationSpec). nat_lt r (section_rank j.control_level)) (specs_of g.followers))) (is r)
     ∙ ap (λ b. nat_lt r highest || (nat_lt r (section_rank g.first.spec.control_level) || b)) (none_later r g.followers joined)
     ∙ ap (λ b. nat_lt r highest || b) (or_false (nat_lt r (section_rank g.first.spec.control_level))) ∙ below_max r highest (section_rank g.first.spec.control_level)
 
-starts_of : (gs : List CalculationGroup) (p : Place) (done : List (Calculation Key)) (ks : List CalculationSpec) (highest : ℕ) → AreJoined gs → Matches p done → IsHighest ks highest → starts_from done ks gs ≡ misplaced_from highest (steps_from p gs)
+starts_of : (gs : List CalculationCards) (p : SubroutineState) (done : List (Calculation Key)) (ks : List CalculationSpec) (highest : ℕ) → AreJoined gs → Matches p done → IsHighest ks highest → starts_from done ks gs ≡ misplaced_from highest (steps_from p gs)
 starts_of [] p done ks highest joined m is = refl
 starts_of (g ∷ gs) p done ks highest joined m is =
     ap (λ b. one_if (joins l || (b || is_outside_subroutine done (flat_group g))) g.first.number ++ later) (is (section_rank l))
     ∙ ap (λ d. one_if (joins l || (nat_lt (section_rank l) highest || (is_subroutine l && (not (is_bracket d) && not (is_inside_subroutine done))))) g.first.number ++ later) (same_deed g)
     ∙ ap (λ b. one_if (joins l || (nat_lt (section_rank l) highest || b)) g.first.number ++ later) (loose_outside p done m l (group_deed g))
     ∙ ap (λ ns. one_if (is_misplaced highest (step p g)) g.first.number ++ ns)
-    (starts_of gs (place_after p g) (done ++ calculation_in g ∷ []) (ks ++ specs_of (cards_in g)) (max highest (section_rank l)) joined.1 (matches_next p done g m) (highest_next ks highest g joined.0 is))
+    (starts_of gs (subroutine_state_after p g) (done ++ calculation_in g ∷ []) (ks ++ specs_of (group_cards g)) (max highest (section_rank l)) joined.1 (matches_next p done g m) (highest_next ks highest g joined.0 is))
   where
     l : ControlLevel
     l = g.first.spec.control_level
 
     later : List ℕ
-    later = starts_from (done ++ calculation_in g ∷ []) (ks ++ specs_of (cards_in g)) gs
+    later = starts_from (done ++ calculation_in g ∷ []) (ks ++ specs_of (group_cards g)) gs
 
-pub starts-steps : (gs : List CalculationGroup) → AreJoined gs → starts_from [] [] gs ≡ misplaced_from 0 (steps.steps gs)
-starts-steps gs joined = starts_of gs steps.at_start [] [] 0 joined (record { begun = refl; own = refl }) (λ r. sym (below_none r))
+pub starts-steps : (gs : List CalculationCards) → AreJoined gs → starts_from [] [] gs ≡ misplaced_from 0 (steps.steps gs)
+starts-steps gs joined = starts_of gs steps.before_calculations [] [] 0 joined (record { begun = refl; own = refl }) (λ r. sym (below_none r))
 
 -- the groups of any C cards
 strays_join : (xs : List (Card CalculationSpec)) → Joined (strays begins_calculation xs)
@@ -241,11 +241,11 @@ strays_join (x ∷ xs) = by (joins x.spec.control_level) refl (strays_join xs)
     by true is more = (is, more)
     by false is more = tt
 
-groups_join : (xs : List (Card CalculationSpec)) → AreJoined (groups begins_calculation xs)
+groups_join : (xs : List (Card CalculationSpec)) → AreJoined (groups_begun begins_calculation xs)
 groups_join [] = tt
 groups_join (x ∷ xs) = by (joins x.spec.control_level) (groups_join xs)
   where
-    by : (b : Bool) → AreJoined (groups begins_calculation xs) → AreJoined (cond (not b) (record { first = x; followers = strays begins_calculation xs } ∷ groups begins_calculation xs) (groups begins_calculation xs))
+    by : (b : Bool) → AreJoined (groups_begun begins_calculation xs) → AreJoined (cond (not b) (record { first = x; followers = strays begins_calculation xs } ∷ groups_begun begins_calculation xs) (groups_begun begins_calculation xs))
     by true more = more
     by false more = (strays_join xs, more)
 

@@ -7,12 +7,12 @@ use Rattle.rpg_cards.proofs.GroupLemmas.{open_group-push}
 use Rattle.rpg_cards.specs.Groups as flat
 use Rattle.rpg_cards.specs.Groups.{Apart, Role, groups_from, open_group, opening, followers, with_card}
 use Rattle.rpg_cards.specs.declared.spec_card.SpecCard.{SpecCard}
-use Rattle.rpg_deck.specs.Cut.{groups, sheet_of, strays}
+use Rattle.rpg_deck.specs.Cut.{groups_begun, cut_sheet, strays}
 use Rattle.rpg_deck.specs.Flat.{back}
 use Rattle.rpg_deck.specs.declared.card.Card.{Card}
 use Rattle.rpg_deck_laws.proofs.Each.{each}
 use Rattle.rpg_deck_laws.specs.Numbers.{one_if}
-use Rattle.rpg_deck_laws.specs.Order.{cut_off, cut_off_in, numbers_of}
+use Rattle.rpg_deck_laws.specs.Order.{cut_off, cut_off_in, passing_numbers}
 use Rattle.rpg_faults_flow.specs.Kept.{Rule}
 use Rattle.rpg_faults_limits.specs.Order.{card_right_before}
 use Rattle.rpg_sheet_specs.specs.declared.spec.Spec.{Spec}
@@ -90,7 +90,7 @@ module _ {X H F : Type 0} (on : Spec → Option X) (make : X → Spec) (role : S
     begins_card x = begins x.spec
 
     abbrev in_groups : List (Card X) → List ℕ
-    in_groups xs = flat_map (λ g. cut_off goes_on takes true g.followers) (groups begins_card xs)
+    in_groups xs = flat_map (λ g. cut_off goes_on takes true g.followers) (groups_begun begins_card xs)
 
     abbrev Parted : List (Card X) → Bool → Type 0
     Parted xs taken = cut_off goes_on takes taken xs ≡ cut_off goes_on takes taken (strays begins_card xs) ++ in_groups xs
@@ -100,7 +100,7 @@ module _ {X H F : Type 0} (on : Spec → Option X) (make : X → Spec) (role : S
     cut_parts (x ∷ xs) taken = by (begins x.spec) refl (cut_parts xs true) (cut_parts xs (takes x.spec))
       where
         by : (b : Bool) → begins x.spec ≡ b → Parted xs true → Parted xs (takes x.spec) → one_if (goes_on x.spec && not taken) x.number ++ cut_off goes_on takes (takes x.spec) xs
-            ≡ cut_off goes_on takes taken (cond b [] (x ∷ strays begins_card xs)) ++ flat_map (λ g. cut_off goes_on takes true g.followers) (cond b (record { first = x; followers = strays begins_card xs } ∷ groups begins_card xs) (groups begins_card xs))
+            ≡ cut_off goes_on takes taken (cond b [] (x ∷ strays begins_card xs)) ++ flat_map (λ g. cut_off goes_on takes true g.followers) (cond b (record { first = x; followers = strays begins_card xs } ∷ groups_begun begins_card xs) (groups_begun begins_card xs))
         by true is begun more =
             ap (λ b. one_if (b && not taken) x.number ++ cut_off goes_on takes (takes x.spec) xs) (s.no_follower x.spec is)
             ∙ ap (λ b. cut_off goes_on takes b xs) (s.takes_some x.spec is) ∙ begun
@@ -108,7 +108,7 @@ module _ {X H F : Type 0} (on : Spec → Option X) (make : X → Spec) (role : S
             ap (λ ns. one_if (goes_on x.spec && not taken) x.number ++ ns) more
             ∙ sym (append_assoc (one_if (goes_on x.spec && not taken) x.number) (cut_off goes_on takes (takes x.spec) (strays begins_card xs)) (in_groups xs))
 
-    pub cut-are : (before : List SpecCard) → NoneOn before → (xs : List (Card X)) (after : List SpecCard) → each cut_rule before (back make xs) after ≡ cut_off_in goes_on takes (sheet_of begins_card xs)
+    pub cut-are : (before : List SpecCard) → NoneOn before → (xs : List (Card X)) (after : List SpecCard) → each cut_rule before (back make xs) after ≡ cut_off_in goes_on takes (cut_sheet begins_card xs)
     cut-are before none xs after = cut_on before xs after ∙ ap (λ o. cut_off goes_on takes (option_map_or takes o false) xs) (none_get before none (length before - 1)) ∙ cut_parts xs false
 
     -- ---- fields
@@ -130,11 +130,11 @@ module _ {X H F : Type 0} (on : Spec → Option X) (make : X → Spec) (role : S
     fields_done [] = refl
     fields_done (x ∷ xs) = ap (λ b. one_if b x.number ++ fields_on false xs) (and_false (is_field x.spec)) ∙ fields_done xs
 
-    fields_of : (xs : List (Card X)) → fields_on true xs ≡ numbers_of is_field (strays begins_card xs)
+    fields_of : (xs : List (Card X)) → fields_on true xs ≡ passing_numbers is_field (strays begins_card xs)
     fields_of [] = refl
     fields_of (x ∷ xs) = ap (λ b. one_if b x.number ++ fields_on (not (begins x.spec)) xs) (and_true (is_field x.spec)) ∙ by (begins x.spec) refl (fields_of xs)
       where
-        by : (b : Bool) → begins x.spec ≡ b → fields_on true xs ≡ numbers_of is_field (strays begins_card xs) → one_if (is_field x.spec) x.number ++ fields_on (not b) xs ≡ numbers_of is_field (cond b [] (x ∷ strays begins_card xs))
+        by : (b : Bool) → begins x.spec ≡ b → fields_on true xs ≡ passing_numbers is_field (strays begins_card xs) → one_if (is_field x.spec) x.number ++ fields_on (not b) xs ≡ passing_numbers is_field (cond b [] (x ∷ strays begins_card xs))
         by true is more = ap (λ b. one_if b x.number ++ fields_on false xs) (s.no_field x.spec is) ∙ fields_done xs
         by false is more = ap (λ ns. one_if (is_field x.spec) x.number ++ ns) more
 
@@ -142,5 +142,5 @@ module _ {X H F : Type 0} (on : Spec → Option X) (make : X → Spec) (role : S
     no_groups [] none file = refl
     no_groups (c ∷ cs) none file = ap (λ r. opening r file (followers role cs) (λ own. groups_from role own cs)) (s.apart c.spec none.0) ∙ no_groups cs none.1 file
 
-    pub fields-are : (before : List SpecCard) → NoneOn before → (xs : List (Card X)) (after : List SpecCard) → each field_rule before (back make xs) after ≡ numbers_of is_field (sheet_of begins_card xs).strays
+    pub fields-are : (before : List SpecCard) → NoneOn before → (xs : List (Card X)) (after : List SpecCard) → each field_rule before (back make xs) after ≡ passing_numbers is_field (cut_sheet begins_card xs).strays
     fields-are before none xs after = fields_by before xs after ∙ ap (λ gs. fields_on (is_none (last_or None gs)) xs) (no_groups before none None) ∙ fields_of xs

@@ -6,11 +6,12 @@ use Rattle.rpg_cards.specs.Sections.{is_subroutine}
 use Rattle.rpg_cards.specs.declared.labels.Section.{Section}
 use Rattle.rpg_cards.specs.declared.labels.Section.TheVariants.{Detail, Outside, Subroutine, Total}
 use Rattle.rpg_deck.specs.Cut.{Sheet}
-use Rattle.rpg_deck.specs.Steps.{Step, begins, control_of, ends, group_deed}
+use Rattle.rpg_deck.specs.Steps.{Step, opens_subroutine, control_of, closes_subroutine, group_deed}
 use Rattle.rpg_deck.specs.declared.card.Card.{Card}
 use Rattle.rpg_deck_laws.specs.Numbers.{one_if}
 use Rattle.rpg_faults_flow.specs.Order.{is_bracket, section_rank}
 use Rattle.rpg_faults_limits.specs.Order.{takes_codes, takes_conditions}
+use Rattle.rpg_faults_limits.specs.Limits.{is_output_field}
 use Rattle.rpg_sheet_specs.specs.declared.input.InputSpec.{InputSpec}
 use Rattle.rpg_sheet_specs.specs.declared.input.InputSpec.TheVariants as input
 use Rattle.rpg_sheet_specs.specs.declared.output.OutputSpec.{OutputSpec}
@@ -19,19 +20,19 @@ use Rattle.rpg_sheet_specs.specs.declared.output.OutputSpec.TheVariants as outpu
 -- ---- C cards
 
 -- the place of a step's section in the order of the sections
-abbrev pub rank : Step → ℕ
-rank s = section_rank (control_of s.group)
+abbrev pub step_rank : Step → ℕ
+step_rank s = section_rank (control_of s.group)
 
 -- in no section
-abbrev pub is_outside : Section → Bool
-is_outside Detail = false
-is_outside Total = false
-is_outside (Subroutine n) = false
-is_outside Outside = true
+abbrev pub in_no_section : Section → Bool
+in_no_section Detail = false
+in_no_section Total = false
+in_no_section (Subroutine n) = false
+in_no_section Outside = true
 
 -- SR in columns 7 and 8, and in no subroutine
 abbrev pub is_loose : Step → Bool
-is_loose s = is_subroutine (control_of s.group) && is_outside s.section
+is_loose s = is_subroutine (control_of s.group) && in_no_section s.section
 
 -- its operation is BEGSR or ENDSR
 abbrev pub has_bracket : Step → Bool
@@ -39,23 +40,23 @@ has_bracket s = is_bracket (group_deed s.group)
 
 -- an AN or OR card that goes on with nothing, a section that belongs above one that stands above it, or SR in no subroutine
 abbrev pub is_misplaced : ℕ → Step → Bool
-is_misplaced highest s = joins (control_of s.group) || (nat_lt (rank s) highest || (is_loose s && not (has_bracket s)))
+is_misplaced highest s = joins (control_of s.group) || (nat_lt (step_rank s) highest || (is_loose s && not (has_bracket s)))
 
 -- the first cards of misplaced steps, where the last of the sections above has this place
 abbrev pub misplaced_from : ℕ → List Step → List ℕ
 misplaced_from highest [] = []
-misplaced_from highest (s ∷ ss) = one_if (is_misplaced highest s) s.group.first.number ++ misplaced_from (max highest (rank s)) ss
+misplaced_from highest (s ∷ ss) = one_if (is_misplaced highest s) s.group.first.number ++ misplaced_from (max highest (step_rank s)) ss
 
 -- of the BEGSR and ENDSR of SR cards the next is an ENDSR
-abbrev pub is_closed : List Step → Bool
-is_closed [] = false
-is_closed (s ∷ ss) = if begins s.group then false else if ends s.group then true else is_closed ss
+abbrev pub next_is_endsr : List Step → Bool
+next_is_endsr [] = false
+next_is_endsr (s ∷ ss) = if opens_subroutine s.group then false else if closes_subroutine s.group then true else next_is_endsr ss
 
 -- BEGSR or ENDSR without SR, ENDSR in no subroutine, or a BEGSR that no ENDSR closes
 abbrev pub is_unpaired : Step → List Step → Bool
 is_unpaired s after =
     (has_bracket s && not (is_subroutine (control_of s.group)))
-    || ((ends s.group && is_outside s.section) || (begins s.group && not (is_closed after)))
+    || ((closes_subroutine s.group && in_no_section s.section) || (opens_subroutine s.group && not (next_is_endsr after)))
 
 -- ---- I and O cards
 
@@ -70,8 +71,8 @@ module _ {X : Type 0} (goes_on takes : X → Bool) where
   cut_off_in s = cut_off false s.strays ++ flat_map (λ g. cut_off true g.followers) s.groups
 
 -- the cards that pass a test
-abbrev pub numbers_of : {X : Type 0} → (X → Bool) → List (Card X) → List ℕ
-numbers_of test cs = flat_map (λ c. one_if (test c.spec) c.number) cs
+abbrev pub passing_numbers : {X : Type 0} → (X → Bool) → List (Card X) → List ℕ
+passing_numbers test cs = flat_map (λ c. one_if (test c.spec) c.number) cs
 
 -- an AND card of a record type
 abbrev pub is_and : InputSpec → Bool
@@ -87,7 +88,7 @@ is_input_field (input.Field f) = true
 
 -- AND cards without codes right before them, and fields of no record type
 abbrev pub strays_on_input : Sheet (Card InputSpec) → List ℕ
-strays_on_input s = cut_off_in is_and takes_codes s ++ numbers_of is_input_field s.strays
+strays_on_input s = cut_off_in is_and takes_codes s ++ passing_numbers is_input_field s.strays
 
 -- an AND or OR card of a line
 abbrev pub is_and_or : OutputSpec → Bool
@@ -96,13 +97,6 @@ is_and_or (output.And t) = true
 is_and_or (output.Or t) = true
 is_and_or (output.Field f) = false
 
--- a field card of a line
-abbrev pub is_output_field : OutputSpec → Bool
-is_output_field (output.Record r) = false
-is_output_field (output.And t) = false
-is_output_field (output.Or t) = false
-is_output_field (output.Field f) = true
-
 -- AND and OR cards without conditions right before them, and fields of no line
 abbrev pub strays_on_output : Sheet (Card OutputSpec) → List ℕ
-strays_on_output s = cut_off_in is_and_or takes_conditions s ++ numbers_of is_output_field s.strays
+strays_on_output s = cut_off_in is_and_or takes_conditions s ++ passing_numbers is_output_field s.strays

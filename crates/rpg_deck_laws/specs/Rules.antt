@@ -6,7 +6,7 @@ use Rattle.rpg_cards.specs.declared.labels.Label.{Label}
 use Rattle.rpg_cards.specs.declared.labels.Named.{Named}
 use Rattle.rpg_cards.specs.declared.spec_card.SpecCard.{SpecCard}
 use Rattle.rpg_deck.specs.Flat.{IsInOrder}
-use Rattle.rpg_deck.specs.Steps.{Step, call_of, calls, deed, labels, steps_in}
+use Rattle.rpg_deck.specs.Steps.{Step, call_of, calls_of_steps, deed, labels_of_steps, steps_in}
 use Rattle.rpg_deck.specs.Tree.{Tree, tree}
 use Rattle.rpg_deck_laws.specs.Numbers.{at_operations}
 use Rattle.rpg_deck_laws.specs.Order.{is_unpaired, misplaced_from, strays_on_input, strays_on_output}
@@ -20,24 +20,24 @@ abbrev pub Finds : (Tree → List ℕ) → Rule → Type 0
 Finds list r = (cards : List SpecCard) → IsInOrder 0 cards → (number : ℕ) → Contains (list (tree cards)) number ↔ BreaksRule r cards number
 
 -- a GOTO to a label, or an EXSR of a subroutine, that isn't given
-abbrev pub goes_nowhere : List Label → Step → Bool
-goes_nowhere given s = option_map_or (λ n. not (is_given_as given n)) (wants (deed s)) false
+abbrev pub step_goes_nowhere : List Label → Step → Bool
+step_goes_nowhere given s = option_map_or (λ n. not (is_given_as given n)) (wants (deed s)) false
 
 -- F10: the cards with a GOTO or an EXSR to what isn't given
 abbrev pub lost_cards : Tree → List ℕ
-lost_cards t = at_operations (λ s after. goes_nowhere (labels (steps_in t)) s) (steps_in t)
+lost_cards t = at_operations (λ s after. step_goes_nowhere (labels_of_steps (steps_in t)) s) (steps_in t)
 
 -- F12: the cards that begin a misplaced calculation or have an unpaired BEGSR or ENDSR, and I and O cards that need one before them
 abbrev pub misplaced_cards : Tree → List ℕ
 misplaced_cards t = (misplaced_from 0 (steps_in t) ++ at_operations is_unpaired (steps_in t)) ++ (strays_on_input t.types ++ strays_on_output t.lines)
 
 -- a GOTO to a label of another section
-abbrev pub leaves_section : List Label → Step → Bool
-leaves_section given s = option_map_or (λ (n : Named). option_map_or (leaves_by s.section n) (label_named n.name given) false) (wants (deed s)) false
+abbrev pub step_leaves_section : List Label → Step → Bool
+step_leaves_section given s = option_map_or (λ (n : Named). option_map_or (leaves_by s.section n) (label_named n.name given) false) (wants (deed s)) false
 
 -- F13: the cards with a GOTO to another section
 abbrev pub leaving_cards : Tree → List ℕ
-leaving_cards t = at_operations (λ s after. leaves_section (labels (steps_in t)) s) (steps_in t)
+leaving_cards t = at_operations (λ s after. step_leaves_section (labels_of_steps (steps_in t)) s) (steps_in t)
 
 -- a call of a subroutine that reaches the one it is made in
 abbrev pub calls_back : List Label → List (ℕ × ℕ) → Step → Bool
@@ -45,7 +45,7 @@ calls_back given all s = comes_back all (call_of given s)
 
 -- F14: the cards with a call that leads back to its own subroutine
 abbrev pub recursive_cards : Tree → List ℕ
-recursive_cards t = at_operations (λ s after. calls_back (labels (steps_in t)) (calls (steps_in t)) s) (steps_in t)
+recursive_cards t = at_operations (λ s after. calls_back (labels_of_steps (steps_in t)) (calls_of_steps (steps_in t)) s) (steps_in t)
 
 -- F15: the cards with H where nothing is rounded, or MVR without a division
 abbrev pub wrongly_rounding_cards : Tree → List ℕ

@@ -11,8 +11,8 @@ use Rattle.rpg_program.specs.Effect.{Effect, Leaves, go_on, quiet, then_go, unle
 use Rattle.rpg_program.specs.Ends.{End, Fault, GoesOn, Halt, Kind, Storage, Wrong}
 use Rattle.rpg_program.specs.Entries.{position_of}
 use Rattle.rpg_program.specs.Forms.{has_field, is_array, is_index_form, is_text_constant, kind_of, length_of, may_write, same_kind}
-use Rattle.rpg_program.specs.LineFaults.{KeepsFieldRules, field_fault, fits_editing, fits_source, fits_word, has_kinds, has_storage, has_word, is_blank_fill, is_page, line_fault}
-use Rattle.rpg_program.specs.Lines.{Draft, Drafted, Line, after_movement, after_skip, after_space, assembled, blank_line, blanked, blanked_all, counted, drafted, exception_output, go_on_with, is_asked, laid, laid_over, line_out, lines_out, next_page, one_out, printed_line, put_on, put_out, remembered, spaced_before, unless_faulty, where_asked, with_field, with_fields}
+use Rattle.rpg_program.specs.LineFaults.{KeepsFieldRules, field_fault, fits_editing, fits_source, fits_word, has_kinds, has_storage, has_word, is_blank_fill, prints_page, line_fault}
+use Rattle.rpg_program.specs.Lines.{Draft, Drafted, Line, after_movement, after_skip, after_space, assembled, blank_line, blanked, blanked_all, with_page_counted, drafted, exception_output, go_on_with, is_asked, laid, laid_over, line_out, lines_out, next_page, one_out, printed_line, put_on, put_out, remembered, spaced_before, unless_faulty, where_asked, with_field, with_fields}
 use Rattle.rpg_program.specs.Rows.{has_entry, has_index, has_operand, is_one, is_one_entry, is_shaped}
 use Rattle.rpg_program.specs.Showing.{turned_on}
 use Rattle.rpg_program.specs.Values.{Number, number_of}
@@ -141,7 +141,7 @@ module _ {K L : Type 0} {R : K → K → Ordering} {S : L → L → Ordering} {o
   storage_same : (len : ℕ) (f : LineField K) → has_storage new new_words len (renamed_field at f) ≡ has_storage old words len f
   storage_same len f = λ i. (entry_same f.operand i && word_same f.editing i)
       && ((nat_le (width_as (kind_of (r.forms f.operand.field i)) (r.forms f.operand.field i) (how_same f.editing f.fill i)) f.end && nat_le f.end len)
-      && (not (f.is_blanked || is_page f.source) || may_write (r.forms f.operand.field i)))
+      && (not (f.is_blanked || prints_page f.source) || may_write (r.forms f.operand.field i)))
 
   kinds_same : (f : LineField K) → has_kinds new new_words (renamed_field at f) ≡ has_kinds old words f
   kinds_same f = λ i. one_entry_same f.operand i
@@ -194,7 +194,7 @@ module _ {K L : Type 0} {R : K → K → Ordering} {S : L → L → Ordering} {o
   remembered_there true x xs g h = All-push IsEntry xs x h g
   remembered_there false x xs g h = h
 
-  counted_agrees : (s : Source) (x : K × ℕ) → IsEntry x → (v : Fields R) (w : Fields S) → AgreeFields old at v w → AgreeFields old at (counted s x v) (counted s (renamed_pair x) w)
+  counted_agrees : (s : Source) (x : K × ℕ) → IsEntry x → (v : Fields R) (w : Fields S) → AgreeFields old at v w → AgreeFields old at (with_page_counted s x v) (with_page_counted s (renamed_pair x) w)
   counted_agrees sources.Value x there v w a = a
   counted_agrees sources.Page x there v w a = written r v w a x.0 there x.1 _ _ (λ i. Number (next_page (number_of (a.values x.0 there x.1 i))))
 

@@ -9,7 +9,7 @@ use Rattle.rpg_cycle.proofs.Taking.{takes}
 use Rattle.rpg_cycle.specs.Counting.{waiting_count}
 use Rattle.rpg_cycle.specs.Ends.{PhaseEnd, GoesOn, EndOfJob, Halt, Wrong}
 use Rattle.rpg_cycle.specs.Indicators.{any_on, halt_indicators, is_on, last_record, level_indicators, with_all, with_levels, with_type}
-use Rattle.rpg_cycle.specs.Phases.{Cycle, Done, Phase, UnderWay, begun, broken_level, detail_lines, does, done, either, end_where_last, from_there, halt_where_asked, identify, is_bypassed, needs_record, overflow_lines, read_record, select_from, select_one, select_record, select_waiting, set_off, show_match, take_in, total_time, type_indicator, with_config, with_inputs, ◌before◌}
+use Rattle.rpg_cycle.specs.Phases.{Cycle, Done, Phase, UnderWay, begun, broken_level, detail_lines, without_output, done, either, end_where_last, from_there, halt_where_asked, identify, is_bypassed, needs_record, overflow_lines, read_record, select_from, select_one, select_record, select_waiting, set_off, show_match, take_in, total_time, type_indicator, with_config, with_inputs, ◌before◌}
 use Rattle.rpg_cycle.specs.Staging.{after_selection}
 use Rattle.rpg_cycle.specs.Runs.{Records, next_of}
 use Rattle.rpg_cycle_records.specs.Earlier.{Left, Selected, control_fields, left_by}
@@ -24,7 +24,7 @@ use Rattle.rpg_machine.specs.Config.{Config, Output, charged}
 use Rattle.rpg_machine.specs.Outputs.{PutsOut}
 use Rattle.rpg_machine.specs.declared.time.OutputTime.TheVariants as times
 use Rattle.rpg_program.specs.Object.{Object, has_file}
-use Rattle.rpg_engine.specs.Reporting.{AreAlike, IsBad}
+use Rattle.rpg_engine.specs.Reporting.{AreSameOrBad, IsBad}
 
 -- ---- records that are alike to a cycle
 
@@ -52,25 +52,25 @@ reads_bad : (p : Object) (left : Left) (f : InputFile) (x : Option (List ℕ)) (
 reads_bad p left f None c bad = absurd bad
 reads_bad p left f (Some r) c bad = ap (λ b. cond b (identify p left f (padded p f r) c) (done (Halt 7) c)) bad
 
-reads_same : (p : Object) (left : Left) (f : InputFile) (x y : Option (List ℕ)) (c : UnderWay) → AreAlike p f x y → read_record p left f x c ≡ read_record p left f y c
+reads_same : (p : Object) (left : Left) (f : InputFile) (x y : Option (List ℕ)) (c : UnderWay) → AreSameOrBad p f x y → read_record p left f x c ≡ read_record p left f y c
 reads_same p left f x y c (inl is) = ap (λ o. read_record p left f o c) is
 reads_same p left f x y c (inr bad) = reads_bad p left f x c bad.0 ∙ sym (reads_bad p left f y c bad.1)
 
-takes_same : (p : Object) (left : Left) (f : InputFile) (x y : Option (List ℕ)) → AreAlike p f x y → Follows (take_in p left f x) (take_in p left f y)
+takes_same : (p : Object) (left : Left) (f : InputFile) (x y : Option (List ℕ)) → AreSameOrBad p f x y → Follows (take_in p left f x) (take_in p left f y)
 takes_same p left f x y alike c e d out h =
     let is = ap (λ (r : Done). cond (takes_in p c.inputs f) r (done GoesOn c)) (reads_same p left f x y c alike) in
     (h.0 ∙ ap (λ (r : Done). r.end) is, h.1 ∙ ap (λ (r : Done). r.leads) is, h.2)
 
-selects_same : (p : Object) (left : Left) (x x' y y' : Option (List ℕ)) → AreAlike p Primary x x' → AreAlike p Secondary y y' → Follows (select_record p left x y) (select_record p left x' y')
+selects_same : (p : Object) (left : Left) (x x' y y' : Option (List ℕ)) → AreSameOrBad p Primary x x' → AreSameOrBad p Secondary y y' → Follows (select_record p left x y) (select_record p left x' y')
 selects_same p left x x' y y' alike alike_too c =
-    either_same (is_on c.config last_record) (does (λ u. done GoesOn (with_config (with_all level_indicators true) u)))
+    either_same (is_on c.config last_record) (without_output (λ u. done GoesOn (with_config (with_all level_indicators true) u)))
     (take_in p left Primary x before take_in p left Secondary y before select_one p left) (take_in p left Primary x' before take_in p left Secondary y' before select_one p left)
     (λ m e d out h. behind_same (take_in p left Primary x') (take_in p left Secondary y before select_one p left) (take_in p left Secondary y' before select_one p left)
     (first_same (take_in p left Secondary y) (take_in p left Secondary y') (select_one p left) (takes_same p left Secondary y y' alike_too)) m e d out
     (first_same (take_in p left Primary x) (take_in p left Primary x') (take_in p left Secondary y before select_one p left) (takes_same p left Primary x x' alike) m e d out h)) c
 
 -- a cycle does the same with records that are alike
-pub cycles_same : (p : Object) (earlier : List Selected) (x x' y y' : Option (List ℕ)) → AreAlike p Primary x x' → AreAlike p Secondary y y' → Follows (Cycle p earlier x y) (Cycle p earlier x' y')
+pub cycles_same : (p : Object) (earlier : List Selected) (x x' y y' : Option (List ℕ)) → AreSameOrBad p Primary x x' → AreSameOrBad p Secondary y y' → Follows (Cycle p earlier x y) (Cycle p earlier x' y')
 cycles_same p earlier x x' y y' alike alike_too =
     behind_same (detail_lines p) _ _ (behind_same halt_where_asked _ _ (behind_same (set_off p) _ _
     (first_same _ _ _ (selects_same p (left_by p earlier) x x' y y' alike alike_too))))
@@ -101,7 +101,7 @@ record Picks (p : Object) (left : Left) (x y : Option (List ℕ)) (c d : UnderWa
   selects : select_one p left two GoesOn d last
 
 picks : (p : Object) (left : Left) (x y : Option (List ℕ)) (c d : UnderWay) (out : Output) (lit : Bool) → c.selected ≡ None → is_none d.selected ≡ false →
-    either lit (does (λ u. done GoesOn (with_config (with_all level_indicators true) u)))
+    either lit (without_output (λ u. done GoesOn (with_config (with_all level_indicators true) u)))
     (take_in p left Primary x before take_in p left Secondary y before select_one p left) c GoesOn d out → Picks p left x y c d
 picks p left x y c d out true none some g =
     absurd (let e : is_none d.selected ≡ true = ap is_none (ap (λ (u : UnderWay). u.selected) g.1 ∙ none) in let never : true ≡ false = sym e ∙ some in cc)

@@ -31,7 +31,7 @@ use Rattle.rpg_program.specs.Object.{Object, input_length}
 use Rattle.rpg_program.specs.declared.section.Place.{Place}
 use Rattle.rpg_verify.specs.Bound.{bound}
 use Rattle.rpg_engine.specs.Inputs.{OfFronts, OfInputs, records_of}
-use Rattle.rpg_engine.specs.Reporting.{AreAlike, IsBad, GoesOnFor, HasParts, HasSent, IsPutOut, IsPutOutBy, IsRunOver, IsUnread, MayBePutOut, Reports, WaitsFor, WentOn, following, records_in}
+use Rattle.rpg_engine.specs.Reporting.{AreSameOrBad, IsBad, GoesOnFor, HasParts, HasSent, IsPutOut, IsPutOutBy, IsRunOver, IsUnread, MayBePutOut, Reports, WaitsFor, WentOn, following_in, records_of_file}
 use Rattle.rpg_engine.specs.Streaming.{Asks, FailsToRead, HasAnswered, IsRunFault, SendsSome, StopsBy, StopsEarly, TakesNone, ended_stage, record_with}
 use Rattle.rpg_engine.specs.declared.fault.CycleFault.{CycleFault}
 use Rattle.rpg_engine.specs.declared.fault.CycleFault.TheVariants as stops
@@ -122,7 +122,7 @@ module _ {R : Type 0} (remaining : R → Option (List ℕ)) where
   -- the first record that a reader which was asked has to come, whatever follows
   known_first : (p : Object) (f : InputFile) (is_needed : Bool) (old new : RecordReader R) (x : HasAnswered remaining is_needed old new) → limit_of old ≡ input_length p f → is_needed ≡ true
       → (more : List ℕ) → CanFollow (input_of remaining new).ended more
-      → AreAlike p f (record_with new x.0) (first_if_any (records ((input_of remaining old).buffered ++ ((asked is_needed old new x).read ++ more))))
+      → AreSameOrBad p f (record_with new x.0) (first_if_any (records ((input_of remaining old).buffered ++ ((asked is_needed old new x).read ++ more))))
   known_first p f false old new x limit is more can = absurd (let never : false ≡ true = is in cc)
   known_first p f true old new (next.Record, asks) limit is more can = let gives = (asks.needed refl).0.input.fact more can in inl (sym (ap first_if_any gives.2))
   known_first p f true old new (next.Bad, asks) limit is more can =
@@ -214,9 +214,9 @@ pub record ReadFails (job : AtWork) (file : InputFile) (fault : ReadFault) {give
   pub part : List ℕ
   pub known : Option (List ℕ)
   pub unread : (more behind : List ℕ) → CanFollow i.ended more → CanFollow j.ended behind
-      → IsUnread fault (records_in file (record { primary = all_of since one.read more; secondary = all_of since_too two.read behind }))
-      (records_in file (record { primary = left_of a one.read more; secondary = left_of b two.read behind })) part (following file more behind)
-  pub first : file ≡ Secondary → job_needs_record job Primary ≡ true → (more : List ℕ) → CanFollow i.ended more → AreAlike job.program Primary known (first_if_any (left_of a one.read more))
+      → IsUnread fault (records_of_file file (record { primary = all_of since one.read more; secondary = all_of since_too two.read behind }))
+      (records_of_file file (record { primary = left_of a one.read more; secondary = left_of b two.read behind })) part (following_in file more behind)
+  pub first : file ≡ Secondary → job_needs_record job Primary ≡ true → (more : List ℕ) → CanFollow i.ended more → AreSameOrBad job.program Primary known (first_if_any (left_of a one.read more))
   pub printed : Appends print print' lines
   pub stored : Appends disk disk' records_put
 
@@ -326,7 +326,7 @@ module _ (first job : AtWork) (given others : Option (List ℕ)) (a b : Source) 
   waits_for : (file : InputFile) (fault : ReadFault) (print print' disk disk' : Option (List ℕ)) (fails : ReadFails job file fault s.primary.since s.secondary.since one two (paper s.out.lines) (disk_bytes s.out.records) print print' disk disk')
       → (more behind : List ℕ) → CanFollow i.ended more → CanFollow j.ended behind
       → WaitsFor job.program file fault (records_of (xs_of more) (ys_of behind)) (records_of (a.input.buffered ++ (one.read ++ more)) (b.input.buffered ++ (two.read ++ behind))) stands_now job.inputs
-      fails.part (following file more behind) fails.known
+      fails.part (following_in file more behind) fails.known
   waits_for file fault print print' disk disk' fails more behind can can_too = record {
     needed = going_on (is_going job.stage) (needs_record job.program stands_now job.inputs file) fails.needed;
     unread = fails.unread more behind can can_too;
@@ -369,9 +369,9 @@ module _ (first job : AtWork) (given others : Option (List ℕ)) (a b : Source) 
             goes_on = λ more behind can can_too.
                 let xs = xs_of more in
                 let ys = ys_of behind in
-                went_on day is more behind can can_too (λ earlier rs c k. WaitsFor first.program file fault (records_of xs ys) rs c k failed.part (following file more behind) failed.known)
+                went_on day is more behind can can_too (λ earlier rs c k. WaitsFor first.program file fault (records_of xs ys) rs c k failed.part (following_in file more behind) failed.known)
                 (subst (λ (p : Object). WaitsFor p file fault (records_of xs ys) (records_of (a.input.buffered ++ (one.read ++ more)) (b.input.buffered ++ (two.read ++ behind))) stands_now job.inputs
-                failed.part (following file more behind) failed.known) s.program (waits_for file fault print print' disk disk' failed more behind can can_too));
+                failed.part (following_in file more behind) failed.known) s.program (waits_for file fault print print' disk disk' failed more behind can can_too));
             longer = λ more behind can can_too course bytes run.
                 let u = reads_on first job given others a b cycles most s i j _ _ one two more behind can can_too in
                 let later = u.back course (runs_from first day (xs_of more) (ys_of behind) course bytes is run) in

@@ -26,7 +26,7 @@ use Rattle.rpg_files.specs.declared.reader.RecordReader.{RecordReader}
 use Rattle.rpg_machine.specs.Running.{config_on}
 use Rattle.rpg_program.specs.Object.{Object, input_length}
 use Rattle.rpg_paper.specs.Paper.{Position}
-use Rattle.rpg_engine.specs.Reporting.{AreAlike, IsBad}
+use Rattle.rpg_engine.specs.Reporting.{AreSameOrBad, IsBad}
 use Rattle.rpg_engine.specs.Streaming.{Asks, IsBehindRecord, IsNeedOf, TakesCycle, record_with}
 use Rattle.rpg_engine.proofs.Passing.{IfNeeded, Takes, cycle_takes, in_list, needed_takes}
 
@@ -62,7 +62,7 @@ source_of remaining r = record { input = input_of remaining r; count = count_of 
 
 -- a cycle that is given this of a file does the same with the file's first record; where it goes on, the others are left
 pub record IsFirstOf (p : Object) (f : InputFile) (is_needed : Bool) (x : Option (List ℕ)) (e : PhaseEnd) (before after : List (List ℕ)) : Type 0 where
-  pub alike : AreAlike p f x (next_of is_needed before)
+  pub alike : AreSameOrBad p f x (next_of is_needed before)
   pub left : e ≡ GoesOn → after ≡ rest_where_needed is_needed before
   pub counted : e ≡ GoesOn → length before ≡ length (in_list x) + length after
 

@@ -139,18 +139,18 @@ IsBad p f None = ⊥
 IsBad p f (Some r) = is_good_record p f r ≡ false
 
 -- they are the same, or both are bad
-abbrev pub AreAlike : Object → InputFile → Option (List ℕ) → Option (List ℕ) → Type 0
-AreAlike p f x y = (x ≡ y) ⊎ (IsBad p f x × IsBad p f y)
+abbrev pub AreSameOrBad : Object → InputFile → Option (List ℕ) → Option (List ℕ) → Type 0
+AreSameOrBad p f x y = (x ≡ y) ⊎ (IsBad p f x × IsBad p f y)
 
 -- the records of a file
-abbrev pub records_in : InputFile → Records → List (List ℕ)
-records_in Primary rs = rs.primary
-records_in Secondary rs = rs.secondary
+abbrev pub records_of_file : InputFile → Records → List (List ℕ)
+records_of_file Primary rs = rs.primary
+records_of_file Secondary rs = rs.secondary
 
 -- what follows the bytes that were read of a file
-abbrev pub following : InputFile → (more behind : List ℕ) → List ℕ
-following Primary more behind = more
-following Secondary more behind = behind
+abbrev pub following_in : InputFile → (more behind : List ℕ) → List ℕ
+following_in Primary more behind = more
+following_in Secondary more behind = behind
 
 -- Of these records those are left, and the next hadn't been read: of what is left a part of a line was read, and no more; or it is one more
 -- than an input may have.
@@ -162,8 +162,8 @@ IsUnread reading.TooMany all left part more = (0 < length left) × (length all �
 -- needed of its file is known, whatever follows.
 pub record WaitsFor (p : Object) (file : InputFile) (fault : ReadFault) (all left : Records) (c : Config) (i : Inputs) (part more : List ℕ) (known : Option (List ℕ)) : Type 0 where
   pub needed : needs_record p c i file ≡ true
-  pub unread : IsUnread fault (records_in file all) (records_in file left) part more
-  pub first : file ≡ Secondary → needs_record p c i Primary ≡ true → AreAlike p Primary known (first_if_any left.primary)
+  pub unread : IsUnread fault (records_of_file file all) (records_of_file file left) part more
+  pub first : file ≡ Secondary → needs_record p c i Primary ≡ true → AreSameOrBad p Primary known (first_if_any left.primary)
 
 -- The job hadn't ended: of the run over the inputs' records so many cycles went on, each writer has just what they put out, and the next
 -- waits for a record of the reader that failed. So each run over them has more cycles.
@@ -175,7 +175,7 @@ pub record NeedsRecord (p : Object) (day : ℤ) (file : InputFile) (fault : Read
   pub printed : Appends print print' (paper out.lines)
   pub stored : Appends disk disk' (disk_bytes out.records)
   pub goes_on : (more behind : List ℕ) → CanFollow a.ended more → CanFollow b.ended behind → WentOn cycles p day (a.read ++ more) (b.read ++ behind) out
-      (λ earlier rs c i. WaitsFor p file fault (records_of (a.read ++ more) (b.read ++ behind)) rs c i part (following file more behind) known)
+      (λ earlier rs c i. WaitsFor p file fault (records_of (a.read ++ more) (b.read ++ behind)) rs c i part (following_in file more behind) known)
   pub longer : OfEach a b (λ primary secondary. (course : Course) (bytes : Bytes) → IsRunOver p day primary secondary course bytes → cycles < course.cycles)
 
 -- there is a run over the inputs' records, and each writer has such parts of its bytes; where a reader failed the job waited for its record

@@ -27,7 +27,7 @@ use Rattle.rpg_engine.specs.declared.fault.RunFault.TheVariants as faults
 -- ---- one cycle
 
 -- a job that hasn't begun, with readers of its files that have read nothing
-pub record IsAtStart {R S : Type 0} (job : AtWork) (primary : RecordReader R) (secondary : RecordReader S) : Type 0 where
+pub record IsUnbegun {R S : Type 0} (job : AtWork) (primary : RecordReader R) (secondary : RecordReader S) : Type 0 where
   pub starts : (day : ℤ) × (job ≡ job_started job.program day (first_fields job.program))
   pub fresh_primary : IsFresh job.program.record_length primary
   pub fresh_secondary : IsFresh job.program.secondary_length secondary

@@ -4,7 +4,7 @@ ghost use Rattle.std.specs.Prelude.{◌≡◌, IfErr, IfOk};
 ghost use Rattle.rpg_files.specs.Reading.{reader_of};
 ghost use Rattle.rpg_verify.specs.Bound as words;
 ghost use Rattle.rpg_engine.specs.Devices.{AreLentOn, CanCountFaults, ReportsFrom, StopsFrom, TellsWhoseFaultOf};
-ghost use Rattle.rpg_engine.specs.Streaming.{IsAtStart, IsRunFault};
+ghost use Rattle.rpg_engine.specs.Streaming.{IsUnbegun, IsRunFault};
 
 use crate::cycle::next_cycle;
 use crate::fault::RunFault;
@@ -30,7 +30,7 @@ pub(crate) fn run<S: Store + Drop, R1: Read, R2: Read, W1: Write, W2: Write, W: 
     watcher: &mut W,
 ) -> Result<Report, RunFault>
     requires devices { CanCountFaults (reader_of primary.old) (reader_of secondary.old) print.old disk.old }
-    requires begins { IsAtStart job.old primary.old secondary.old }
+    requires begins { IsUnbegun job.old primary.old secondary.old }
     requires bound { bound ≡ words.bound job.old.program }
     ensures same { AreLentOn primary secondary }
     ensures alone { job.old.program.secondary_length ≡ 0 → secondary.new ≡ secondary.old }

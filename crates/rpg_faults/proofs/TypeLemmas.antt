@@ -16,7 +16,7 @@ use Rattle.rpg_faults.specs.Lengths.{AreJoinedLengths, first_lengths, input_spec
 use Rattle.rpg_faults.specs.Places.{first_length, input_columns, is_at_level, joined_length, level_fields, level_length, levels}
 use Rattle.rpg_faults.specs.declared.lengths.JoinedLengths.{JoinedLengths}
 use Rattle.rpg_sheet_specs.specs.declared.indicator.Three.{Three}
-use Rattle.rpg_sheet_specs.specs.declared.input.InputField.{InputField}
+use Rattle.rpg_sheet_specs.specs.declared.input.InputFieldSpec.{InputFieldSpec}
 use Rattle.rpg_sheet_specs.specs.declared.input.InputSpec.{InputSpec}
 use Rattle.rpg_sheet_specs.specs.declared.input.InputSpec.TheVariants as input
 use Rattle.rpg_sheet_specs.specs.declared.input.RecordCode.{RecordCode}
@@ -71,14 +71,14 @@ lengths_of-other specs s none =
     same_at_levels (λ level. min (joined_length level (specs ++ s ∷ [])) 65535) (λ level. min (joined_length level specs) 65535)
     (λ level. ap (λ n. min n 65535) (joined-push level specs s ∙ ap (λ n. joined_length level specs + n) (none level) ∙ omega arith))
 
-joined_at : (level : ℕ) (f : InputField) (b : Bool) → is_at_level level f ≡ b → joined_length level (input.Field f ∷ []) ≡ cond b (input_columns f) 0
+joined_at : (level : ℕ) (f : InputFieldSpec) (b : Bool) → is_at_level level f ≡ b → joined_length level (input.Field f ∷ []) ≡ cond b (input_columns f) 0
 joined_at level f true is = ap (λ b. sum_by input_columns (cond b (f ∷ []) [])) is ∙ omega arith
 joined_at level f false is = ap (λ b. sum_by input_columns (cond b (f ∷ []) [])) is
 
-lengths_of-none : (specs : List InputSpec) (f : InputField) → f.level ≡ None → lengths_of specs ≡ lengths_of (specs ++ input.Field f ∷ [])
+lengths_of-none : (specs : List InputSpec) (f : InputFieldSpec) → f.level ≡ None → lengths_of specs ≡ lengths_of (specs ++ input.Field f ∷ [])
 lengths_of-none specs f none = sym (lengths_of-other specs (input.Field f) (λ level. joined_at level f false (ap (λ o. option_map_or (λ l. l == level) o false) none)))
 
-lengths_of-level : (specs : List InputSpec) (f : InputField) (lengths : List ℕ) (n columns length : ℕ) → lengths ≡ lengths_of specs → f.level ≡ Some n → 1 ≤ n → n ≤ 9 → columns ≡ input_columns f
+lengths_of-level : (specs : List InputSpec) (f : InputFieldSpec) (lengths : List ℕ) (n columns length : ℕ) → lengths ≡ lengths_of specs → f.level ≡ Some n → 1 ≤ n → n ≤ 9 → columns ≡ input_columns f
     → length ≡ min (get_or lengths (n - 1) 0 + columns) 65535 → set lengths (n - 1) length ≡ lengths_of (specs ++ input.Field f ∷ [])
 lengths_of-level specs f lengths n columns length was at low high of is =
     ap (λ ls. set ls (n - 1) length) was ∙ set_level (λ level. min (joined_length level specs) 65535) (λ level. min (joined_length level (specs ++ input.Field f ∷ [])) 65535) 0 n length low high new old
@@ -98,7 +98,7 @@ lengths_of-level specs f lengths n columns length was at low high of is =
         let apart : is_at_level level f ≡ false = ap (λ o. option_map_or (λ l. l == level) o false) at ∙ ne_eqb n level (λ e. other (sym e)) in
         ap (λ n. min n 65535) (joined-push level specs (input.Field f) ∙ ap (λ k. joined_length level specs + k) (joined_at level f false apart) ∙ omega arith)
 
-module _ (f : InputField) (lengths : List ℕ) (specs : Option (List InputSpec)) (was : Some lengths ≡ option_map lengths_of specs) where
+module _ (f : InputFieldSpec) (lengths : List ℕ) (specs : Option (List InputSpec)) (was : Some lengths ≡ option_map lengths_of specs) where
   pub field_without_level : f.level ≡ None → Some lengths ≡ option_map (λ fs. lengths_of (fs ++ input.Field f ∷ [])) specs
   field_without_level none = by specs was
     where
@@ -137,7 +137,7 @@ module _ (before : List SpecCard) (c : SpecCard) (after : List SpecCard) (j : Jo
   first_other : (r : Role RecordType InputSpec) → input_role c.spec ≡ r → one_if_heading r ≡ 0 → j.first ≡ first_lengths (before ++ c ∷ after) (before ++ c ∷ [])
   first_other r is none = was.first ∙ sym (first_lengths-other before c after (ap (λ (r : Role RecordType InputSpec). one_if_heading r) is ∙ none))
 
-  pub with_field : (f : InputField) (new : Option (List ℕ)) → input_role c.spec ≡ Follower (input.Field f)
+  pub with_field : (f : InputFieldSpec) (new : Option (List ℕ)) → input_role c.spec ≡ Follower (input.Field f)
       → ((specs : Option (List InputSpec)) → j.open_type ≡ option_map lengths_of specs → new ≡ option_map (λ fs. lengths_of (fs ++ input.Field f ∷ [])) specs)
       → AreJoinedLengths (before ++ c ∷ after) (before ++ c ∷ []) (record { first = j.first; open_type = new })
   with_field f new is made = record {

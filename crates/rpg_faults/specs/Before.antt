@@ -3,7 +3,7 @@ use Rattle.std.specs.Prelude.{◌≡◌, List, [], ◌∷◌, ◌++◌, Bool, fa
 use Rattle.std.specs.Option.{option_map, option_map_or}
 use Rattle.rpg_cards.specs.Cards.{input_on}
 use Rattle.rpg_cards.specs.declared.spec_card.SpecCard.{SpecCard}
-use Rattle.rpg_sheet_specs.specs.declared.input.InputField.{InputField}
+use Rattle.rpg_sheet_specs.specs.declared.input.InputFieldSpec.{InputFieldSpec}
 use Rattle.rpg_sheet_specs.specs.declared.input.InputSpec.{InputSpec}
 use Rattle.rpg_sheet_specs.specs.declared.input.InputSpec.TheVariants as input
 
@@ -17,5 +17,5 @@ module _ {X : Type 0} (Kept : List SpecCard → List SpecCard → X → Type 0) 
   TellsInput breaks c after kept answer = (before : List SpecCard) → Kept (before ++ c ∷ after) before kept → answer ≡ option_map_or (breaks before after) (input_on c.spec) false
 
 -- what is kept of the open type, with one more field
-abbrev pub AddsField : {X : Type 0} → (List InputSpec → X) → InputField → Option X → Option X → Type 0
+abbrev pub AddsField : {X : Type 0} → (List InputSpec → X) → InputFieldSpec → Option X → Option X → Type 0
 AddsField kept_of f old new = (specs : Option (List InputSpec)) → old ≡ option_map kept_of specs → new ≡ option_map (λ fs. kept_of (fs ++ input.Field f ∷ [])) specs

@@ -6,7 +6,7 @@ use Rattle.rpg_cards.specs.Groups.{Group, group_count, groups, input_role, open_
 use Rattle.rpg_cards.specs.declared.spec_card.SpecCard.{SpecCard}
 use Rattle.rpg_faults.specs.Places.{first_length, has_bad, input_columns, joined_length, level_length, lengths_differ, levels}
 use Rattle.rpg_faults.specs.declared.lengths.JoinedLengths.{JoinedLengths}
-use Rattle.rpg_sheet_specs.specs.declared.input.InputField.{InputField}
+use Rattle.rpg_sheet_specs.specs.declared.input.InputFieldSpec.{InputFieldSpec}
 use Rattle.rpg_sheet_specs.specs.declared.input.InputSpec.{InputSpec}
 use Rattle.rpg_sheet_specs.specs.declared.input.RecordType.{RecordType}
 
@@ -42,5 +42,5 @@ abbrev pub some_length : ℕ → Option ℕ
 some_length n = if n == 0 then None else Some n
 
 -- with fields of that joined length before them
-abbrev pub length_behind : ℕ → List InputField → Option ℕ
+abbrev pub length_behind : ℕ → List InputFieldSpec → Option ℕ
 length_behind n fs = if has_bad fs then None else some_length (n + sum_by input_columns fs)

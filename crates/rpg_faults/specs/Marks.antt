@@ -21,7 +21,7 @@ use Rattle.rpg_sheet_specs.specs.declared.column_range.ColumnRange.{ColumnRange}
 use Rattle.rpg_sheet_specs.specs.declared.column_range.ColumnRange.TheVariants as range
 use Rattle.rpg_sheet_specs.specs.declared.file.FileSpec.{FileSpec}
 use Rattle.rpg_sheet_specs.specs.declared.indicator.Three.{Three}
-use Rattle.rpg_sheet_specs.specs.declared.input.InputField.{InputField}
+use Rattle.rpg_sheet_specs.specs.declared.input.InputFieldSpec.{InputFieldSpec}
 use Rattle.rpg_sheet_specs.specs.declared.input.InputSpec.{InputSpec}
 use Rattle.rpg_sheet_specs.specs.declared.input.InputSpec.TheVariants as input
 use Rattle.rpg_sheet_specs.specs.declared.input.RecordCode.{RecordCode}
@@ -37,7 +37,7 @@ code_columns file codes =
     else None
 
 -- the columns of an input field that break the rule
-abbrev pub field_range : Option FileSpec → List SpecCard → InputField → ColumnRange
+abbrev pub field_range : Option FileSpec → List SpecCard → InputFieldSpec → ColumnRange
 field_range file before f =
     if f.from == 0 then range.FirstColumn
     else if outside_record file f then range.LastColumn
@@ -71,12 +71,12 @@ deck_columns c = option_map (λ e. range.EntriesPerCard) (extension_on c.spec)
 abbrev pub missing_columns : List SpecCard → SpecCard → List SpecCard → Option ColumnRange
 missing_columns before c after =
     if calculations.bad_calculation_columns before c after then flow.calculation_columns c after
-    else if columns.bad_operand_columns (before ++ c ∷ after) c after then operands.missing_columns c after
+    else if columns.bad_operand_columns (before ++ c ∷ after) c after then operands.missing_operand_columns c after
     else limits.movement_columns c
 
 -- the columns of a card that is out of order
 abbrev pub order_columns : SpecCard → Option ColumnRange
-order_columns c = option_or (flow.order_columns c) (limits.stray_columns c.spec)
+order_columns c = option_or (flow.calculation_order_columns c) (limits.stray_columns c.spec)
 
 -- ---- each code
 

@@ -6,25 +6,25 @@ use Rattle.rpg_cards.specs.Groups.{followers, group_count, groups, input_role, o
 use Rattle.rpg_cards.specs.Levels.{is_at, match_level}
 use Rattle.rpg_cards.specs.declared.spec_card.SpecCard.{SpecCard}
 use Rattle.rpg_faults.specs.Lengths.{input_specs_in}
-use Rattle.rpg_faults.specs.Places.{first_matches, good_matches, has_bad, has_twice, input_columns, levels, match_fields}
+use Rattle.rpg_faults.specs.Places.{first_good_matches, good_matches, has_bad, has_twice, input_columns, levels, matched_fields}
 use Rattle.rpg_faults.specs.declared.matches.Further.{Further}
 use Rattle.rpg_faults.specs.declared.matches.Further.TheVariants as further
 use Rattle.rpg_faults.specs.declared.matches.Matches.{Matches}
 use Rattle.rpg_faults.specs.declared.matches.OpenMatches.{OpenMatches}
-use Rattle.rpg_sheet_specs.specs.declared.input.InputField.{InputField}
+use Rattle.rpg_sheet_specs.specs.declared.input.InputFieldSpec.{InputFieldSpec}
 use Rattle.rpg_sheet_specs.specs.declared.input.InputSpec.{InputSpec}
 
 -- those of the types up to the open one, with all their fields
 abbrev pub first_of_types : List SpecCard → List SpecCard → Option (List ℕ)
-first_of_types cards before = first_matches (take (group_count input_role before) (groups input_role cards))
+first_of_types cards before = first_good_matches (take (group_count input_role before) (groups input_role cards))
 
 -- one of the fields has that match level
-abbrev pub has_level : List InputField → ℕ → Bool
-has_level fs level = list_any (is_at match_level level) fs
+abbrev pub has_match_level : List InputFieldSpec → ℕ → Bool
+has_match_level fs level = list_any (is_at match_level level) fs
 
 -- which levels a type's match fields have, and their columns; what is more counts as 65,535
 abbrev pub matches_of : List InputSpec → OpenMatches
-matches_of specs = record { levels = map (has_level (match_fields specs)) levels; length = min (sum_by input_columns (match_fields specs)) 65535 }
+matches_of specs = record { levels = map (has_match_level (matched_fields specs)) levels; length = min (sum_by input_columns (matched_fields specs)) 65535 }
 
 -- what is known of the match fields of the open record type
 abbrev pub AreOpenMatches : List SpecCard → Matches → Type 0
@@ -38,22 +38,22 @@ pub record AreMatches (cards before : List SpecCard) (m : Matches) : Type 0 wher
 -- ---- a type's match fields, one by one
 
 -- so far each level stands once, with good columns
-pub record AreGood (fs : List InputField) (found : Option (List ℕ)) : Type 0 where
+pub record AreGood (fs : List InputFieldSpec) (found : Option (List ℕ)) : Type 0 where
   pub columns : has_bad fs ≡ false
   pub once : has_twice fs ≡ false
   pub lengths : found ≡ good_matches fs
 
 -- one more, which makes them good or bad
-abbrev pub AreWith : List InputField → InputField → Option (List ℕ) → Type 0
+abbrev pub AreWith : List InputFieldSpec → InputFieldSpec → Option (List ℕ) → Type 0
 AreWith fs f (Some lengths) = AreGood (fs ++ f ∷ []) (Some lengths)
-AreWith fs f None = (rest : List InputField) → good_matches (fs ++ f ∷ rest) ≡ None
+AreWith fs f None = (rest : List InputFieldSpec) → good_matches (fs ++ f ∷ rest) ≡ None
 
 -- those of the cards up to the next type, with fields that stand before
-abbrev pub matches_up_to : List InputField → List SpecCard → Option (List ℕ)
-matches_up_to fs cards = good_matches (fs ++ match_fields (followers input_role cards))
+abbrev pub matches_up_to : List InputFieldSpec → List SpecCard → Option (List ℕ)
+matches_up_to fs cards = good_matches (fs ++ matched_fields (followers input_role cards))
 
 -- what a further card makes of the lengths of the fields before it, whatever follows
-abbrev pub MakesOf : List InputField → SpecCard → Option (List ℕ) → Further → Type 0
+abbrev pub MakesOf : List InputFieldSpec → SpecCard → Option (List ℕ) → Further → Type 0
 MakesOf fs card found further.OtherType = (rest : List SpecCard) → found ≡ matches_up_to fs (card ∷ rest)
 MakesOf fs card found further.Bad = (rest : List SpecCard) → None ≡ matches_up_to fs (card ∷ rest)
-MakesOf fs card found (further.Found more) = (gs : List InputField) × AreGood gs more × ((rest : List SpecCard) → matches_up_to gs rest ≡ matches_up_to fs (card ∷ rest))
+MakesOf fs card found (further.Found more) = (gs : List InputFieldSpec) × AreGood gs more × ((rest : List SpecCard) → matches_up_to gs rest ≡ matches_up_to fs (card ∷ rest))

@@ -11,7 +11,7 @@ use Rattle.rpg_cards.specs.declared.spec_card.SpecCard.{SpecCard}
 use Rattle.rpg_faults_operands.specs.Editing.{width}
 use Rattle.rpg_sheet_specs.specs.declared.file.FileSpec.{FileSpec}
 use Rattle.rpg_sheet_specs.specs.declared.indicator.Three.{Three}
-use Rattle.rpg_sheet_specs.specs.declared.input.InputField.{InputField}
+use Rattle.rpg_sheet_specs.specs.declared.input.InputFieldSpec.{InputFieldSpec}
 use Rattle.rpg_sheet_specs.specs.declared.input.InputSpec.{InputSpec}
 use Rattle.rpg_sheet_specs.specs.declared.input.InputSpec.TheVariants as input
 use Rattle.rpg_sheet_specs.specs.declared.input.RecordCode.{RecordCode}
@@ -33,7 +33,7 @@ abbrev pub bad_codes : Option FileSpec → Three (Option RecordCode) → Bool
 bad_codes file codes = is_code_outside file codes.first || (is_code_outside file codes.second || is_code_outside file codes.third)
 
 -- columns from 0, to 0, turned round, or past the record
-abbrev pub outside_record : Option FileSpec → InputField → Bool
+abbrev pub outside_record : Option FileSpec → InputFieldSpec → Bool
 outside_record file f = f.from == 0 || (f.to == 0 || (nat_lt f.to f.from || is_past file f.to))
 
 -- an I card asks for a column that isn't in the record
@@ -53,15 +53,15 @@ outside_line cards file f = f.end == 0 || (is_past file f.end || is_wider cards 
 -- ---- control fields: those of one level and one type are joined
 
 -- 0 where the columns are 0 or turned round
-abbrev pub input_columns : InputField → ℕ
+abbrev pub input_columns : InputFieldSpec → ℕ
 input_columns f = if f.from == 0 then 0 else f.to + 1 - f.from
 
 -- the field is part of that control level
-abbrev pub is_at_level : ℕ → InputField → Bool
+abbrev pub is_at_level : ℕ → InputFieldSpec → Bool
 is_at_level level f = is_at control_level level f
 
 -- the fields of a control level
-abbrev pub level_fields : ℕ → List InputSpec → List InputField
+abbrev pub level_fields : ℕ → List InputSpec → List InputFieldSpec
 level_fields level specs = fields_at control_level level specs
 
 -- the joined length of a level, without fields whose columns are bad
@@ -69,11 +69,11 @@ abbrev pub joined_length : ℕ → List InputSpec → ℕ
 joined_length level specs = sum_by input_columns (level_fields level specs)
 
 -- one of the fields has no columns
-abbrev pub has_bad : List InputField → Bool
+abbrev pub has_bad : List InputFieldSpec → Bool
 has_bad fs = list_any (λ f. input_columns f == 0) fs
 
 -- that of a type that has the level, where all its columns are good
-abbrev pub good_length : List InputField → Option ℕ
+abbrev pub good_length : List InputFieldSpec → Option ℕ
 good_length [] = None
 good_length (f ∷ fs) = if has_bad (f ∷ fs) then None else Some (sum_by input_columns (f ∷ fs))
 
@@ -103,7 +103,7 @@ abbrev pub open_specs : List SpecCard → List InputSpec
 open_specs before = option_map_or (λ g. g.followers) (open_group input_role before) []
 
 -- the field with which a level's joined length passes 256
-abbrev pub passes_length : List SpecCard → InputField → Bool
+abbrev pub passes_length : List SpecCard → InputFieldSpec → Bool
 passes_length before f =
     option_map_or (λ level. nat_le (joined_length level (open_specs before)) 256 && nat_lt 256 (joined_length level (open_specs before) + input_columns f)) f.level false
 
@@ -116,31 +116,31 @@ controls_badly before after (input.Field f) = passes_length before f
 -- ---- match fields: a type has each level once, those of all its levels are joined, and each type that has some has the same
 
 -- the fields with a match level
-abbrev pub match_fields : List InputSpec → List InputField
-match_fields specs = fields_with match_level specs
+abbrev pub matched_fields : List InputSpec → List InputFieldSpec
+matched_fields specs = fields_with match_level specs
 
 -- the joined lengths of M1 to M9
-abbrev pub match_lengths : List InputField → List ℕ
+abbrev pub match_lengths : List InputFieldSpec → List ℕ
 match_lengths fs = map (λ level. sum_by input_columns (filter (is_at match_level level) fs)) levels
 
 -- a field has a match level that is among these
-abbrev pub repeats : List InputField → InputField → Bool
+abbrev pub repeats : List InputFieldSpec → InputFieldSpec → Bool
 repeats fs f = option_map_or (λ level. list_any (is_at match_level level) fs) f.match_level false
 
 -- a match level stands there twice
-abbrev pub has_twice : List InputField → Bool
+abbrev pub has_twice : List InputFieldSpec → Bool
 has_twice [] = false
 has_twice (f ∷ fs) = repeats fs f || has_twice fs
 
 -- the lengths of a type that has match fields, where no level stands twice and all columns are good
-abbrev pub good_matches : List InputField → Option (List ℕ)
+abbrev pub good_matches : List InputFieldSpec → Option (List ℕ)
 good_matches [] = None
 good_matches (f ∷ fs) = if has_bad (f ∷ fs) || has_twice (f ∷ fs) then None else Some (match_lengths (f ∷ fs))
 
 -- those of the first such type
-abbrev pub first_matches : List (Group RecordType InputSpec) → Option (List ℕ)
-first_matches [] = None
-first_matches (g ∷ gs) = option_or (good_matches (match_fields g.followers)) (first_matches gs)
+abbrev pub first_good_matches : List (Group RecordType InputSpec) → Option (List ℕ)
+first_good_matches [] = None
+first_good_matches (g ∷ gs) = option_or (good_matches (matched_fields g.followers)) (first_good_matches gs)
 
 -- two lists of lengths, and not the same
 abbrev pub matches_differ : Option (List ℕ) → Option (List ℕ) → Bool
@@ -148,18 +148,18 @@ matches_differ first own = option_map_or (λ ms. option_map_or (λ ns. not (poin
 
 -- a type has other match fields than the first type that has some
 abbrev pub has_other_matches : List SpecCard → List SpecCard → Bool
-has_other_matches before after = matches_differ (first_matches (groups input_role before)) (good_matches (match_fields (followers input_role after)))
+has_other_matches before after = matches_differ (first_good_matches (groups input_role before)) (good_matches (matched_fields (followers input_role after)))
 
 -- the match fields of the open record type, so far
-abbrev pub open_matches : List SpecCard → List InputField
-open_matches before = match_fields (open_specs before)
+abbrev pub open_matches : List SpecCard → List InputFieldSpec
+open_matches before = matched_fields (open_specs before)
 
 -- the match field with which the length of all match fields passes 256
-abbrev pub passes_matches : List InputField → InputField → Bool
+abbrev pub passes_matches : List InputFieldSpec → InputFieldSpec → Bool
 passes_matches fs f = is_match_field f && (nat_le (sum_by input_columns fs) 256 && nat_lt 256 (sum_by input_columns fs + input_columns f))
 
 -- after these a match field may not stand
-abbrev pub refuses : List InputField → InputField → Bool
+abbrev pub refuses : List InputFieldSpec → InputFieldSpec → Bool
 refuses fs f = repeats fs f || passes_matches fs f
 
 -- the match fields of an I card's type break the rule

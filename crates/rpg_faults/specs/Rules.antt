@@ -12,7 +12,7 @@ use Rattle.rpg_faults_limits.specs.Files.{breaks_files, lacks_input, moves_disk}
 use Rattle.rpg_faults_operands.specs.Indicators.{bad_indicator}
 use Rattle.rpg_faults_limits.specs.Limits.{passes_limit}
 use Rattle.rpg_faults_limits.specs.Names.{bad_size, redefines}
-use Rattle.rpg_faults_limits.specs.Order.{strays}
+use Rattle.rpg_faults_limits.specs.Order.{is_stray}
 use Rattle.rpg_faults_operands.specs.Columns as operands
 use Rattle.rpg_faults_operands.specs.Editing.{bad_editing}
 use Rattle.rpg_faults_operands.specs.Indexes.{bad_index}
@@ -34,7 +34,7 @@ rule F8 before c after = bad_indicator (before ++ c ∷ after) c
 rule F9 before c after = calculations.bad_calculation_columns before c after || (operands.bad_operand_columns (before ++ c ∷ after) c after || moves_disk (before ++ c ∷ after) before c)
 rule F10 before c after = goes_nowhere (before ++ c ∷ after) before c after
 rule F11 before c after = names_twice before c after
-rule F12 before c after = breaks_order before c after || strays before c
+rule F12 before c after = breaks_order before c after || is_stray before c
 rule F13 before c after = goes_apart (before ++ c ∷ after) before c after
 rule F14 before c after = calls_itself (before ++ c ∷ after) before c after
 rule F15 before c after = bad_rounding before c after

@@ -13,7 +13,7 @@ ghost use Rattle.rpg_sheet_specs.specs.declared.file.FileSpec.{FileSpec};
 use crate::state::Places;
 use rpg_cards::{GroupFile, IndexedCards, Sheets, SpecCard};
 use rpg_faults_operands::width;
-use rpg_sheet_specs::{InputField, InputSpec, OutputField, RecordCode, Three};
+use rpg_sheet_specs::{InputFieldSpec, InputSpec, OutputField, RecordCode, Three};
 
 /// Whether columns lie outside the record or the line, a field is wider than its end, or control fields or match fields don't agree.
 pub fn misplaces(
@@ -94,7 +94,7 @@ pub(crate) fn is_outside(length: Option<u16>, code: Option<RecordCode>) -> bool
     }
 }
 
-pub(crate) fn outside_record(length: Option<u16>, field: &InputField) -> bool
+pub(crate) fn outside_record(length: Option<u16>, field: &InputFieldSpec) -> bool
     ensures { (file : Option FileSpec) → length ≡ option_map (λ f. f.record_length) file → result ≡ rules.outside_record file field.now }
 {
     field.from == 0 || field.to == 0 || field.to < field.from || is_past(length, field.to)

@@ -9,7 +9,7 @@ ghost use Rattle.rpg_faults.specs.Places as rules;
 ghost use Rattle.rpg_faults.specs.Lengths.{AreJoinedLengths, AreOpenLengths, any_differs, lengths_of, some_length};
 
 use rpg_cards::SpecCard;
-use rpg_sheet_specs::{InputField, InputSpec};
+use rpg_sheet_specs::{InputFieldSpec, InputSpec};
 
 /// The greatest joined length of a level.
 const LIMIT: u16 = 256;
@@ -84,7 +84,7 @@ impl JoinedLengths {
     }
 
     /// Whether the joined length of a field's level passes its limit with it.
-    pub(crate) fn pass_limit_with(&self, field: &InputField) -> bool
+    pub(crate) fn pass_limit_with(&self, field: &InputFieldSpec) -> bool
         ensures { (before : List SpecCard) → AreOpenLengths before self.now → result ≡ rules.passes_length before field.now }
     {
         let Some(level) = field.level else {
@@ -121,7 +121,7 @@ fn with_type(first: [Option<u32>; 9], after: &[SpecCard]) -> [Option<u32>; 9]
 }
 
 /// The lengths of the open type with a further field.
-fn with_field(open_type: Option<[u16; 9]>, field: &InputField) -> Option<[u16; 9]>
+fn with_field(open_type: Option<[u16; 9]>, field: &InputFieldSpec) -> Option<[u16; 9]>
     ensures { AddsField lengths_of field.now open_type result }
 {
     let mut lengths = open_type?;
@@ -169,7 +169,7 @@ fn some_length(sum: u32) -> Option<u32>
     if sum == 0 { None } else { Some(sum) }
 }
 
-fn is_at_level(level: u8, field: &InputField) -> bool
+fn is_at_level(level: u8, field: &InputFieldSpec) -> bool
     ensures { result ≡ rules.is_at_level level field.now }
 {
     match field.level {
@@ -179,7 +179,7 @@ fn is_at_level(level: u8, field: &InputField) -> bool
 }
 
 /// How many columns a field has: 0 where they begin at 0 or are turned round.
-pub(crate) fn columns_of(field: &InputField) -> u16
+pub(crate) fn columns_of(field: &InputFieldSpec) -> u16
     ensures { result ≡ rules.input_columns field.now }
 {
     if field.from == 0 {

@@ -15,7 +15,7 @@ use crate::seen::Seen;
 use crate::state::Places;
 use rpg_cards::{IndexedCards, Sheets, SpecCard};
 use rpg_faults_flow::Labels;
-use rpg_sheet_specs::{ColumnFault, ColumnRange, InputField, InputSpec, RecordCode, Three};
+use rpg_sheet_specs::{ColumnFault, ColumnRange, InputFieldSpec, InputSpec, RecordCode, Three};
 
 /// The columns that a fault of a card speaks of: none where the card as a whole is meant.
 pub(crate) fn fault_columns(
@@ -151,7 +151,7 @@ fn code_columns(length: Option<u16>, codes: &Three<Option<RecordCode>>) -> Optio
     }
 }
 
-fn field_range(length: Option<u16>, lengths: &JoinedLengths, field: &InputField) -> ColumnRange
+fn field_range(length: Option<u16>, lengths: &JoinedLengths, field: &InputFieldSpec) -> ColumnRange
     ensures { marks.TellsRange (λ file before. marks.field_range file before field.now) length lengths.now result }
 {
     if field.from == 0 {

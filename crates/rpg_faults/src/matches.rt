@@ -6,13 +6,13 @@ ghost use Rattle.rpg_cards.specs.declared.spec_card.SpecCard.{SpecCard};
 ghost use Rattle.rpg_faults.specs.Matches.{AreGood, AreMatches, AreOpenMatches, AreWith, MakesOf, matches_of};
 ghost use Rattle.rpg_faults.specs.Before.{AddsCard, AddsField, TellsInput};
 ghost use Rattle.rpg_faults.specs.Places as rules;
-ghost use Rattle.rpg_sheet_specs.specs.declared.input.InputField.{InputField};
+ghost use Rattle.rpg_sheet_specs.specs.declared.input.InputFieldSpec.{InputFieldSpec};
 ghost use Rattle.rpg_sheet_specs.specs.declared.input.InputSpec.{InputSpec};
 ghost use Rattle.rpg_sheet_specs.specs.declared.input.InputSpec.TheVariants as input;
 
 use crate::lengths::columns_of;
 use rpg_cards::SpecCard;
-use rpg_sheet_specs::{InputField, InputSpec};
+use rpg_sheet_specs::{InputFieldSpec, InputSpec};
 
 /// The greatest length of a type's match fields together.
 const LIMIT: u16 = 256;
@@ -52,7 +52,7 @@ impl OpenMatches {
         length: 0,
     };
 
-    fn with(self, field: &InputField) -> Self
+    fn with(self, field: &InputFieldSpec) -> Self
         ensures { (specs : List InputSpec) → self ≡ matches_of specs → result ≡ matches_of (specs ++ input.Field field.now ∷ []) }
     {
         match field.match_level {
@@ -69,8 +69,8 @@ impl OpenMatches {
     }
 
     /// Whether a match field has a level that is there, or all of them are too long with it.
-    fn refuse(self, field: &InputField) -> bool
-        ensures { (specs : List InputSpec) → self ≡ matches_of specs → result ≡ rules.refuses (rules.match_fields specs) field.now }
+    fn refuse(self, field: &InputFieldSpec) -> bool
+        ensures { (specs : List InputSpec) → self ≡ matches_of specs → result ≡ rules.refuses (rules.matched_fields specs) field.now }
     {
         match field.match_level {
             None => false,
@@ -157,7 +157,7 @@ impl Matches {
 }
 
 /// The match fields of the open type with a further field.
-fn with_field(open_type: Option<OpenMatches>, field: &InputField) -> Option<OpenMatches>
+fn with_field(open_type: Option<OpenMatches>, field: &InputFieldSpec) -> Option<OpenMatches>
     ensures { AddsField matches_of field.now open_type result }
 {
     Some(open_type?.with(field))
@@ -174,7 +174,7 @@ fn are_other(first: Option<[u16; 9]>, own: Option<[u16; 9]>) -> bool
 
 /// The lengths of M1 to M9 up to the next record type: none without a match field, with a level that stands twice, or with bad columns.
 fn good_matches(after: &[SpecCard]) -> Option<[u16; 9]>
-    ensures { result ≡ rules.good_matches (rules.match_fields (followers input_role after.now)) }
+    ensures { result ≡ rules.good_matches (rules.matched_fields (followers input_role after.now)) }
 {
     let mut found = None;
     let mut rest = after;
@@ -191,7 +191,7 @@ fn good_matches(after: &[SpecCard]) -> Option<[u16; 9]>
 
 /// What a further card makes of the lengths of match fields that stand before it.
 fn matches_on(found: Option<[u16; 9]>, card: &SpecCard) -> Further
-    ensures { (fs : List InputField) → AreGood fs found → MakesOf fs card.now found result }
+    ensures { (fs : List InputFieldSpec) → AreGood fs found → MakesOf fs card.now found result }
 {
     match card.input() {
         Some(InputSpec::Type(_)) => Further::OtherType,
@@ -211,7 +211,7 @@ fn matches_on(found: Option<[u16; 9]>, card: &SpecCard) -> Further
 fn lengths_with(found: Option<[u16; 9]>, level: u8, columns: u16) -> Option<[u16; 9]>
     requires low { 1 ≤ level }
     requires high { level ≤ 9 }
-    ensures { (fs : List InputField) (f : InputField) → AreGood fs found → f.match_level ≡ Some level → columns ≡ rules.input_columns f → AreWith fs f result }
+    ensures { (fs : List InputFieldSpec) (f : InputFieldSpec) → AreGood fs found → f.match_level ≡ Some level → columns ≡ rules.input_columns f → AreWith fs f result }
 {
     let mut lengths = found.unwrap_or([0; 9]);
     let i = level as usize - 1;

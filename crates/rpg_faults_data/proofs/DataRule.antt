@@ -8,10 +8,10 @@ use Rattle.std.specs.List.{flat_map, range_with_len, slice_get}
 use Rattle.std.specs.Option.{is_some, option_and_then, option_map, option_map_or, option_or}
 use Rattle.std.specs.Prelude.{count_by, nat_le, nat_lt}
 use Rattle.rpg_cards.specs.Cards.{data_on, extension_on}
-use Rattle.rpg_cards.specs.Groups.{Group, data_card, data_role, followers, following, group_count, groups_from, opening, role_on}
+use Rattle.rpg_cards.specs.Groups.{Group, data_card_role, data_role, followers, following, group_count, groups_from, opening, role_on}
 use Rattle.rpg_cards.specs.Names.{tables_on}
 use Rattle.rpg_cards.specs.declared.spec_card.SpecCard.{SpecCard}
-use Rattle.rpg_faults_data.specs.Causes.{DataCard, PlacedEntry, begins, behind_begin, data_cause, deck_cards, entry_cause, fault_of, first_wrong, is_begin, missing, need_of, of_behind, of_data, of_deck, of_extension, of_table, of_tables, placed_entries, placed_on, with_data, wrong_entry}
+use Rattle.rpg_faults_data.specs.Causes.{DataCard, PlacedEntry, begins_table_data, after_deck_begin, data_cause, deck_cards, entry_cause, entry_fault, first_wrong, is_deck_begin, missing_deck, need_of, of_behind, of_data, of_deck, of_extension, of_table, of_tables, placed_entries, placed_entry_on, with_data_card, wrong_entry}
 use Rattle.rpg_faults_data.specs.declared.cause.DataCause.TheVariants as cause
 use Rattle.rpg_faults_data.specs.declared.wrong_entry.EntryFault.TheVariants.{Lower, NoNumber}
 use Rattle.rpg_faults_data.proofs.EntryLemmas.{any_wrong-none}
@@ -52,21 +52,21 @@ wrong_some t k o [] = refl
 wrong_some t k o (e ∷ es) =
     let low = t.ascending && option_map_or (λ b. is_lower t.decimals e.text b) o false in
     or_some (wrong_entry t k o e) (first_wrong t (k + 1) (Some e.text) es)
-    ∙ ap (λ b. b || is_some (first_wrong t (k + 1) (Some e.text) es)) (mapped_some (entry_cause t k e) (fault_of t o e.text) ∙ first_of_two (is_bad t.decimals e.text) low NoNumber Lower)
+    ∙ ap (λ b. b || is_some (first_wrong t (k + 1) (Some e.text) es)) (mapped_some (entry_cause t k e) (entry_fault t o e.text) ∙ first_of_two (is_bad t.decimals e.text) low NoNumber Lower)
     ∙ ap (λ b. is_wrong t o e.text || b) (wrong_some t (k + 1) (Some e.text) es)
 
 module _ (per_card width from len : ℕ) where
   all_texts : (ds : List DataCard)
-      → map text_of (flat_map (λ d. map (placed_on width from len d) (range_with_len 0 per_card)) ds) ≡ flat_map (entries_on per_card width from len) (texts ds)
+      → map text_of (flat_map (λ d. map (placed_entry_on width from len d) (range_with_len 0 per_card)) ds) ≡ flat_map (entries_on per_card width from len) (texts ds)
   all_texts [] = refl
   all_texts (d ∷ ds) =
-      map-append text_of (map (placed_on width from len d) (range_with_len 0 per_card)) (flat_map (λ c. map (placed_on width from len c) (range_with_len 0 per_card)) ds)
-      ∙ ap (λ l. l ++ map text_of (flat_map (λ c. map (placed_on width from len c) (range_with_len 0 per_card)) ds)) (map-map text_of (placed_on width from len d) (range_with_len 0 per_card))
+      map-append text_of (map (placed_entry_on width from len d) (range_with_len 0 per_card)) (flat_map (λ c. map (placed_entry_on width from len c) (range_with_len 0 per_card)) ds)
+      ∙ ap (λ l. l ++ map text_of (flat_map (λ c. map (placed_entry_on width from len c) (range_with_len 0 per_card)) ds)) (map-map text_of (placed_entry_on width from len d) (range_with_len 0 per_card))
       ∙ ap (λ l. entries_on per_card width from len d.text ++ l) (all_texts ds)
 
   placed_texts : (n : ℕ) (ds : List DataCard) → map text_of (placed_entries n per_card width from len ds) ≡ data_entries n per_card width from len (texts ds)
   placed_texts n ds =
-      sym (take-map text_of n (flat_map (λ d. map (placed_on width from len d) (range_with_len 0 per_card)) ds)) ∙ ap (take n) (all_texts ds)
+      sym (take-map text_of n (flat_map (λ d. map (placed_entry_on width from len d) (range_with_len 0 per_card)) ds)) ∙ ap (take n) (all_texts ds)
 
 table_some : (e : ExtensionSpec) (per_card : ℕ) (ds : List DataCard) (from : ℕ) (t : TableSpec)
     → is_some (of_table e per_card ds from t) ≡ bad_table_data t (data_entries e.entries per_card (data_columns e) from t.length (texts ds))
@@ -88,7 +88,7 @@ deck_texts : (cards : List SpecCard) → texts (deck_cards cards) ≡ followers 
 deck_texts [] = refl
 deck_texts (c ∷ cs) = by (data_on c.spec) (deck_texts cs)
   where
-    by : (x : Option DataSpec) → texts (deck_cards cs) ≡ followers data_role cs → texts (with_data c.number x (deck_cards cs)) ≡ following (role_on data_card x) (followers data_role cs)
+    by : (x : Option DataSpec) → texts (deck_cards cs) ≡ followers data_role cs → texts (with_data_card c.number x (deck_cards cs)) ≡ following (role_on data_card_role x) (followers data_role cs)
     by None e = e
     by (Some deck.Begin) e = refl
     by (Some (deck.Card text)) e = ap (λ l. text ∷ l) e
@@ -119,20 +119,20 @@ above_zero m = by (suc m == 0) refl
     by true e = let same = eqb-true (suc m) 0 e in absurd (omega arith)
     by false e = refl
 
-behind_is : (n : ℕ) (cards : List SpecCard) → deck_at n cards ≡ option_map (followers data_role) (behind_begin n cards)
+behind_is : (n : ℕ) (cards : List SpecCard) → deck_at n cards ≡ option_map (followers data_role) (after_deck_begin n cards)
 behind_is n [] = refl
 behind_is n (c ∷ cs) = by (data_on c.spec) n (λ m. behind_is m cs)
   where
-    by : (x : Option DataSpec) (n : ℕ) → ((m : ℕ) → deck_at m cs ≡ option_map (followers data_role) (behind_begin m cs))
-        → option_map (λ (g : Group (Unit {0}) (List ℕ)). g.followers) (slice_get (opening (role_on data_card x) None (followers data_role cs) (λ own. groups_from data_role own cs)) n)
-        ≡ option_map (followers data_role) (cond (option_map_or is_begin x false) (cond (n == 0) (Some cs) (behind_begin (n - 1) cs)) (behind_begin n cs))
+    by : (x : Option DataSpec) (n : ℕ) → ((m : ℕ) → deck_at m cs ≡ option_map (followers data_role) (after_deck_begin m cs))
+        → option_map (λ (g : Group (Unit {0}) (List ℕ)). g.followers) (slice_get (opening (role_on data_card_role x) None (followers data_role cs) (λ own. groups_from data_role own cs)) n)
+        ≡ option_map (followers data_role) (cond (option_map_or is_deck_begin x false) (cond (n == 0) (Some cs) (after_deck_begin (n - 1) cs)) (after_deck_begin n cs))
     by None n e = e n
     by (Some (deck.Card text)) n e = e n
     by (Some deck.Begin) zero e = refl
     by (Some deck.Begin) (suc m) e =
         let less : m ≡ suc m - 1 = omega arith in
-        e m ∙ ap (λ k. option_map (followers data_role) (behind_begin k cs)) less
-        ∙ ap (λ b. option_map (followers data_role) (cond b (Some cs) (behind_begin (suc m - 1) cs))) (sym (above_zero m))
+        e m ∙ ap (λ k. option_map (followers data_role) (after_deck_begin k cs)) less
+        ∙ ap (λ b. option_map (followers data_role) (cond b (Some cs) (after_deck_begin (suc m - 1) cs))) (sym (above_zero m))
 
 -- ---- E cards
 
@@ -143,11 +143,11 @@ only_if false o bad e = refl
 extension_some : (cards before : List SpecCard) (e : ExtensionSpec) (p : Option ℕ) → is_some (of_extension cards before e p) ≡ bad_data cards before e p
 extension_some cards before e None = if_some (has_table e) cause.NoData
 extension_some cards before e (Some per_card) =
-    by (behind_begin (wanted before) cards)
+    by (after_deck_begin (wanted before) cards)
     ∙ ap (λ o. option_map_or (λ ts. has_forms e && bad_deck e per_card ts) o true) (sym (behind_is (wanted before) cards))
   where
     by : (o : Option (List SpecCard))
-        → is_some (option_map_or (of_behind e per_card) o (Some (missing e per_card))) ≡ option_map_or (λ ts. has_forms e && bad_deck e per_card ts) (option_map (followers data_role) o) true
+        → is_some (option_map_or (of_behind e per_card) o (Some (missing_deck e per_card))) ≡ option_map_or (λ ts. has_forms e && bad_deck e per_card ts) (option_map (followers data_role) o) true
     by None = refl
     by (Some behind) =
         only_if (has_forms e) (of_deck e per_card (deck_cards behind)) (bad_deck e per_card (followers data_role behind))
@@ -155,9 +155,9 @@ extension_some cards before e (Some per_card) =
 
 -- ---- `**` cards
 
-begun_is : (cards : List SpecCard) → group_count data_role cards ≡ count_by begins cards
+begun_is : (cards : List SpecCard) → group_count data_role cards ≡ count_by begins_table_data cards
 begun_is [] = refl
-begun_is (c ∷ cs) = by (data_on c.spec) (begun_is cs) ∙ sym (sum_by-cons (λ (d : SpecCard). cond (begins d) 1 0) c cs)
+begun_is (c ∷ cs) = by (data_on c.spec) (begun_is cs) ∙ sym (sum_by-cons (λ (d : SpecCard). cond (begins_table_data d) 1 0) c cs)
   where
     none : (n : ℕ) → n ≡ 0 + n
     none n = omega arith
@@ -165,17 +165,17 @@ begun_is (c ∷ cs) = by (data_on c.spec) (begun_is cs) ∙ sym (sum_by-cons (λ
     one : (n : ℕ) → suc n ≡ 1 + n
     one n = omega arith
 
-    by : (x : Option DataSpec) → group_count data_role cs ≡ count_by begins cs
-        → length (opening (role_on data_card x) None (followers data_role cs) (λ own. groups_from data_role own cs)) ≡ cond (option_map_or is_begin x false) 1 0 + count_by begins cs
-    by None e = e ∙ none (count_by begins cs)
-    by (Some (deck.Card text)) e = e ∙ none (count_by begins cs)
-    by (Some deck.Begin) e = ap suc e ∙ one (count_by begins cs)
+    by : (x : Option DataSpec) → group_count data_role cs ≡ count_by begins_table_data cs
+        → length (opening (role_on data_card_role x) None (followers data_role cs) (λ own. groups_from data_role own cs)) ≡ cond (option_map_or is_deck_begin x false) 1 0 + count_by begins_table_data cs
+    by None e = e ∙ none (count_by begins_table_data cs)
+    by (Some (deck.Card text)) e = e ∙ none (count_by begins_table_data cs)
+    by (Some deck.Begin) e = ap suc e ∙ one (count_by begins_table_data cs)
 
 data_some : (cards before : List SpecCard) (o : Option DataSpec) → is_some (option_and_then (of_data cards before) o) ≡ option_map_or (is_unwanted cards before) o false
 data_some cards before None = refl
 data_some cards before (Some (deck.Card text)) = refl
 data_some cards before (Some deck.Begin) =
-    if_some (nat_le (wanted cards) (count_by begins before)) (cause.Spare (count_by begins before + 1) (wanted cards))
+    if_some (nat_le (wanted cards) (count_by begins_table_data before)) (cause.Spare (count_by begins_table_data before + 1) (wanted cards))
     ∙ ap (nat_le (wanted cards)) (sym (begun_is before))
 
 card_some : (cards before : List SpecCard) (o : Option ExtensionSpec)

@@ -8,7 +8,7 @@ use Rattle.std.specs.Option.{option_map_or}
 use Rattle.std.specs.Prelude.{MatchOption, is_some, unwrap_or}
 use Rattle.rpg_cards.proofs.GroupLemmas.{groups-push, one_if_heading}
 use Rattle.rpg_cards.specs.Cards.{data_on, extension_on}
-use Rattle.rpg_cards.specs.Groups.{data_card, data_role, followers, following, groups, role_on}
+use Rattle.rpg_cards.specs.Groups.{data_card_role, data_role, followers, following, groups, role_on}
 use Rattle.rpg_cards.specs.declared.spec_card.SpecCard.{SpecCard}
 use Rattle.rpg_faults_data.specs.Data.{wanted, wants_data}
 use Rattle.rpg_faults_data.specs.Decks as decks
@@ -95,8 +95,8 @@ texts_at cards i c less is =
 
 pub texts-card : (cards : List SpecCard) (i : ℕ) (c : SpecCard) (text : List ℕ) → i < length cards → c ≡ get_or cards i c → data_on c.spec ≡ Some (deck.Card text)
     → followers data_role (drop i cards) ≡ text ∷ followers data_role (drop (i + 1) cards)
-texts-card cards i c text less is on = texts_at cards i c less is ∙ ap (λ (d : Option DataSpec). following (role_on data_card d) (followers data_role (drop (i + 1) cards))) on
+texts-card cards i c text less is on = texts_at cards i c less is ∙ ap (λ (d : Option DataSpec). following (role_on data_card_role d) (followers data_role (drop (i + 1) cards))) on
 
 pub texts-other : (cards : List SpecCard) (i : ℕ) (c : SpecCard) → i < length cards → c ≡ get_or cards i c → data_on c.spec ≡ None
     → followers data_role (drop i cards) ≡ followers data_role (drop (i + 1) cards)
-texts-other cards i c less is on = texts_at cards i c less is ∙ ap (λ (d : Option DataSpec). following (role_on data_card d) (followers data_role (drop (i + 1) cards))) on
+texts-other cards i c less is on = texts_at cards i c less is ∙ ap (λ (d : Option DataSpec). following (role_on data_card_role d) (followers data_role (drop (i + 1) cards))) on

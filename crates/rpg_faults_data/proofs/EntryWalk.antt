@@ -10,7 +10,7 @@ use Rattle.std.specs.Option.{is_some, option_or}
 use Rattle.rpg_cards.proofs.IndexLemmas.{option_or_assoc}
 use Rattle.rpg_cards.specs.Cards.{data_on}
 use Rattle.rpg_cards.specs.declared.spec_card.SpecCard.{SpecCard}
-use Rattle.rpg_faults_data.specs.Causes.{DataCard, PlacedEntry, data_card, deck_cards, first_wrong, placed_entries, placed_on, with_data, wrong_entry}
+use Rattle.rpg_faults_data.specs.Causes.{DataCard, PlacedEntry, data_card, deck_cards, first_wrong, placed_entries, placed_entry_on, with_data_card, wrong_entry}
 use Rattle.rpg_faults_data.specs.declared.wrong_entry.EntryCause.{EntryCause}
 use Rattle.rpg_faults_data.specs.Data.{entry_on}
 use Rattle.rpg_sheet_specs.specs.declared.data.DataSpec.{DataSpec}
@@ -95,24 +95,24 @@ wrong_behind t k o (e ∷ es) gs =
 
 module _ (t : TableSpec) (k : ℕ) (o : Option (List ℕ)) (width from len n per_card count : ℕ) (d : DataCard) (ds cards : List DataCard) (all found : Option EntryCause)
     (least : count ≡ min n per_card) (split : cards ≡ d ∷ ds) (so_far : all ≡ first_wrong t k o (placed_entries n per_card width from len cards))
-    (here : found ≡ first_wrong t k o (map (placed_on width from len d) (range_with_len 0 count))) where
+    (here : found ≡ first_wrong t k o (map (placed_entry_on width from len d) (range_with_len 0 count))) where
   abbrev own : ℕ → List PlacedEntry
-  own m = map (placed_on width from len d) (range_with_len 0 m)
+  own m = map (placed_entry_on width from len d) (range_with_len 0 m)
 
   abbrev behind : ℕ → List PlacedEntry
   behind m = placed_entries m per_card width from len ds
 
   last_is : last_or o (map text_of (own count)) ≡ last_or o (map (entry_on width from len d.text) (range_with_len 0 count))
-  last_is = ap (last_or o) (map-map text_of (placed_on width from len d) (range_with_len 0 count))
+  last_is = ap (last_or o) (map-map text_of (placed_entry_on width from len d) (range_with_len 0 count))
 
   card_by_card : all ≡ option_or found (first_wrong t (k + count) (last_or o (map (entry_on width from len d.text) (range_with_len 0 count))) (behind (n - count)))
   card_by_card =
       so_far ∙ ap (λ l. first_wrong t k o (placed_entries n per_card width from len l)) split
-      ∙ ap (first_wrong t k o) (some_on (placed_on width from len) per_card n d ds)
+      ∙ ap (first_wrong t k o) (some_on (placed_entry_on width from len) per_card n d ds)
       ∙ ap (λ m. first_wrong t k o (own m ++ behind (n - m))) (sym least)
       ∙ wrong_behind t k o (own count) (behind (n - count))
       ∙ ap (λ f. option_or f (first_wrong t (k + length (own count)) (last_or o (map text_of (own count))) (behind (n - count)))) (sym here)
-      ∙ ap (λ m. option_or found (first_wrong t (k + m) (last_or o (map text_of (own count))) (behind (n - count)))) (length-map-range_with_len (placed_on width from len d) 0 count)
+      ∙ ap (λ m. option_or found (first_wrong t (k + m) (last_or o (map text_of (own count))) (behind (n - count)))) (length-map-range_with_len (placed_entry_on width from len d) 0 count)
       ∙ ap (λ l. option_or found (first_wrong t (k + count) l (behind (n - count)))) last_is
 
   pub found_on_card : is_some found ≡ true → found ≡ all
@@ -139,17 +139,17 @@ kept t k o width from len n per_card ds cards all m left next split so_far numbe
 -- ---- the cards of a deck, one by one
 
 cards_at : (cards : List SpecCard) (i : ℕ) (c : SpecCard) → i < length cards → c ≡ get_or cards i c
-    → deck_cards (drop i cards) ≡ with_data c.number (data_on c.spec) (deck_cards (drop (i + 1) cards))
+    → deck_cards (drop i cards) ≡ with_data_card c.number (data_on c.spec) (deck_cards (drop (i + 1) cards))
 cards_at cards i c less is =
     ap deck_cards (drop-cons cards i c less) ∙ ap (λ (d : SpecCard). deck_cards (d ∷ drop (suc i) cards)) (sym is)
-    ∙ ap (λ k. with_data c.number (data_on c.spec) (deck_cards (drop k cards))) (sym (add-one i))
+    ∙ ap (λ k. with_data_card c.number (data_on c.spec) (deck_cards (drop k cards))) (sym (add-one i))
 
 module _ (cards : List SpecCard) (i : ℕ) (c : SpecCard) (less : i < length cards) (is : c ≡ get_or cards i c) where
   pub at_data : (text : List ℕ) → data_on c.spec ≡ Some (deck.Card text) → deck_cards (drop i cards) ≡ data_card c.number text ∷ deck_cards (drop (i + 1) cards)
-  at_data text on = cards_at cards i c less is ∙ ap (λ (d : Option DataSpec). with_data c.number d (deck_cards (drop (i + 1) cards))) on
+  at_data text on = cards_at cards i c less is ∙ ap (λ (d : Option DataSpec). with_data_card c.number d (deck_cards (drop (i + 1) cards))) on
 
   pub at_begin : data_on c.spec ≡ Some deck.Begin → deck_cards (drop i cards) ≡ []
-  at_begin on = cards_at cards i c less is ∙ ap (λ (d : Option DataSpec). with_data c.number d (deck_cards (drop (i + 1) cards))) on
+  at_begin on = cards_at cards i c less is ∙ ap (λ (d : Option DataSpec). with_data_card c.number d (deck_cards (drop (i + 1) cards))) on
 
   pub at_other : data_on c.spec ≡ None → deck_cards (drop i cards) ≡ deck_cards (drop (i + 1) cards)
-  at_other on = cards_at cards i c less is ∙ ap (λ (d : Option DataSpec). with_data c.number d (deck_cards (drop (i + 1) cards))) on
+  at_other on = cards_at cards i c less is ∙ ap (λ (d : Option DataSpec). with_data_card c.number d (deck_cards (drop (i + 1) cards))) on

@@ -21,18 +21,18 @@ use Rattle.rpg_sheet_specs.specs.declared.extension.TableSpec.{TableSpec}
 -- ---- the cards of a deck
 
 -- what begins a deck
-abbrev pub is_begin : DataSpec → Bool
-is_begin deck.Begin = true
-is_begin (deck.Card text) = false
+abbrev pub is_deck_begin : DataSpec → Bool
+is_deck_begin deck.Begin = true
+is_deck_begin (deck.Card text) = false
 
 -- a `**` card
-abbrev pub begins : SpecCard → Bool
-begins c = option_map_or is_begin (data_on c.spec) false
+abbrev pub begins_table_data : SpecCard → Bool
+begins_table_data c = option_map_or is_deck_begin (data_on c.spec) false
 
 -- the cards after the `**` card with this number, from 0
-abbrev pub behind_begin : ℕ → List SpecCard → Option (List SpecCard)
-behind_begin n [] = None
-behind_begin n (c ∷ cs) = if begins c then (if n == 0 then Some cs else behind_begin (n - 1) cs) else behind_begin n cs
+abbrev pub after_deck_begin : ℕ → List SpecCard → Option (List SpecCard)
+after_deck_begin n [] = None
+after_deck_begin n (c ∷ cs) = if begins_table_data c then (if n == 0 then Some cs else after_deck_begin (n - 1) cs) else after_deck_begin n cs
 
 -- a card of data: its number and its text
 pub record DataCard : Type 0 where
@@ -44,15 +44,15 @@ abbrev pub data_card : ℕ → List ℕ → DataCard
 data_card n text = record { number = n; text = text }
 
 -- with one more card in front
-abbrev pub with_data : ℕ → Option DataSpec → List DataCard → List DataCard
-with_data n None ds = ds
-with_data n (Some deck.Begin) ds = []
-with_data n (Some (deck.Card text)) ds = data_card n text ∷ ds
+abbrev pub with_data_card : ℕ → Option DataSpec → List DataCard → List DataCard
+with_data_card n None ds = ds
+with_data_card n (Some deck.Begin) ds = []
+with_data_card n (Some (deck.Card text)) ds = data_card n text ∷ ds
 
 -- the cards of data up to the next `**` card
 abbrev pub deck_cards : List SpecCard → List DataCard
 deck_cards [] = []
-deck_cards (c ∷ cs) = with_data c.number (data_on c.spec) (deck_cards cs)
+deck_cards (c ∷ cs) = with_data_card c.number (data_on c.spec) (deck_cards cs)
 
 -- ---- the entries of a table: each takes `width` columns of a card and stands in `len` of them, from the column `from` on
 
@@ -63,20 +63,20 @@ pub record PlacedEntry : Type 0 where
   pub text : List ℕ
 
 -- the entry of that text, on that card from that column on
-abbrev pub placed_at : ℕ → ℕ → List ℕ → PlacedEntry
-placed_at card column text = record { card = card; column = column; text = text }
+abbrev pub placed_entry_at : ℕ → ℕ → List ℕ → PlacedEntry
+placed_entry_at card column text = record { card = card; column = column; text = text }
 
 -- the entry with this number on a card, from 0
-abbrev pub placed_on : ℕ → ℕ → ℕ → DataCard → ℕ → PlacedEntry
-placed_on width from len c i = placed_at c.number (i * width + from + 1) (entry_on width from len c.text i)
+abbrev pub placed_entry_on : ℕ → ℕ → ℕ → DataCard → ℕ → PlacedEntry
+placed_entry_on width from len c i = placed_entry_at c.number (i * width + from + 1) (entry_on width from len c.text i)
 
 -- so many entries of the cards, in their order
 abbrev pub placed_entries : ℕ → ℕ → ℕ → ℕ → ℕ → List DataCard → List PlacedEntry
-placed_entries n per_card width from len cards = take n (flat_map (λ c. map (placed_on width from len c) (range_with_len 0 per_card)) cards)
+placed_entries n per_card width from len cards = take n (flat_map (λ c. map (placed_entry_on width from len c) (range_with_len 0 per_card)) cards)
 
 -- so many entries of a card, by their layout
-abbrev pub on_card : Layout → DataCard → ℕ → List PlacedEntry
-on_card l c n = map (placed_on l.width l.from l.length c) (range_with_len 0 n)
+abbrev pub entries_on_card : Layout → DataCard → ℕ → List PlacedEntry
+entries_on_card l c n = map (placed_entry_on l.width l.from l.length c) (range_with_len 0 n)
 
 -- so many entries of a deck, by their layout
 abbrev pub on_deck : Layout → ℕ → List SpecCard → List PlacedEntry
@@ -85,8 +85,8 @@ on_deck l n cards = placed_entries n l.per_card l.width l.from l.length (deck_ca
 -- ---- the first entry that is wrong
 
 -- what is wrong with an entry, seen with the one before it
-abbrev pub fault_of : TableSpec → Option (List ℕ) → List ℕ → Option EntryFault
-fault_of t before x =
+abbrev pub entry_fault : TableSpec → Option (List ℕ) → List ℕ → Option EntryFault
+entry_fault t before x =
     if is_bad t.decimals x then Some NoNumber
     else if t.ascending && option_map_or (λ b. is_lower t.decimals x b) before false then Some Lower
     else None
@@ -97,7 +97,7 @@ entry_cause t number e f = record { name = t.name; number = number; card = e.car
 
 -- an entry, if it is wrong
 abbrev pub wrong_entry : TableSpec → ℕ → Option (List ℕ) → PlacedEntry → Option EntryCause
-wrong_entry t number before e = option_map (entry_cause t number e) (fault_of t before e.text)
+wrong_entry t number before e = option_map (entry_cause t number e) (entry_fault t before e.text)
 
 -- the first of the entries from this number on that is wrong
 abbrev pub first_wrong : TableSpec → ℕ → Option (List ℕ) → List PlacedEntry → Option EntryCause
@@ -120,8 +120,8 @@ abbrev pub need_of : ExtensionSpec → ℕ → Need
 need_of e per_card = record { entries = e.entries; per_card = per_card; cards = cards_for e.entries per_card }
 
 -- no `**` card is left
-abbrev pub missing : ExtensionSpec → ℕ → DataCause
-missing e per_card = if per_card == 0 then cause.NoDeck else cause.Missing (need_of e per_card)
+abbrev pub missing_deck : ExtensionSpec → ℕ → DataCause
+missing_deck e per_card = if per_card == 0 then cause.NoDeck else cause.Missing (need_of e per_card)
 
 -- the entries per card don't fit the card, or the cards don't fit the entries; else an entry is wrong
 abbrev pub of_deck : ExtensionSpec → ℕ → List DataCard → Option DataCause
@@ -138,13 +138,13 @@ of_behind e per_card behind = if has_forms e then of_deck e per_card (deck_cards
 -- of an E card, by its entries per card
 abbrev pub of_extension : List SpecCard → List SpecCard → ExtensionSpec → Option ℕ → Option DataCause
 of_extension cards before e None = if has_table e then Some cause.NoData else None
-of_extension cards before e (Some per_card) = option_map_or (of_behind e per_card) (behind_begin (wanted before) cards) (Some (missing e per_card))
+of_extension cards before e (Some per_card) = option_map_or (of_behind e per_card) (after_deck_begin (wanted before) cards) (Some (missing_deck e per_card))
 
 -- ---- data that no E card wants
 
 -- a `**` card by its number, from 1, and how many E cards want data
 abbrev pub of_begin : List SpecCard → List SpecCard → Option DataCause
-of_begin cards before = if nat_le (wanted cards) (count_by begins before) then Some (cause.Spare (count_by begins before + 1) (wanted cards)) else None
+of_begin cards before = if nat_le (wanted cards) (count_by begins_table_data before) then Some (cause.Spare (count_by begins_table_data before + 1) (wanted cards)) else None
 
 -- of a card of data
 abbrev pub of_data : List SpecCard → List SpecCard → DataSpec → Option DataCause

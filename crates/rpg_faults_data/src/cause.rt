@@ -82,7 +82,7 @@ fn of_extension(
 }
 
 fn missing(extension: &ExtensionSpec, per_card: u16) -> DataCause
-    ensures { result ≡ causes.missing extension.now per_card }
+    ensures { result ≡ causes.missing_deck extension.now per_card }
 {
     if per_card == 0 {
         DataCause::NoDeck
@@ -199,7 +199,7 @@ fn wanted(cards: &[SpecCard]) -> usize
 
 /// How many of these cards begin data.
 fn begun(cards: &[SpecCard]) -> usize
-    ensures count { result ≡ count_by causes.begins cards.now }
+    ensures count { result ≡ count_by causes.begins_table_data cards.now }
     ensures few { result ≤ length cards.now }
 {
     let mut count = 0;
@@ -210,7 +210,7 @@ fn begun(cards: &[SpecCard]) -> usize
 }
 
 fn begins(card: &SpecCard) -> bool
-    ensures { result ≡ causes.begins card.now }
+    ensures { result ≡ causes.begins_table_data card.now }
 {
     match card.data() {
         None => false,
@@ -220,7 +220,7 @@ fn begins(card: &SpecCard) -> bool
 
 /// The cards after the `**` card with this number, from 0.
 fn behind_begin(number: usize, cards: &[SpecCard]) -> Option<&[SpecCard]>
-    ensures { option_map (λ behind. behind.now) result ≡ causes.behind_begin number cards.now }
+    ensures { option_map (λ behind. behind.now) result ≡ causes.after_deck_begin number cards.now }
 {
     let mut number = number;
     let mut rest = cards;

@@ -82,7 +82,7 @@ fn wrong_on(
     requires few { count ≤ 65535 }
     requires table { HasNumberSize table.now.decimals layout.length }
     requires before { IfSome before (λ b. length b.now ≡ layout.length) }
-    ensures { result ≡ causes.first_wrong table.now first (option_copied before.entry) (causes.on_card layout (causes.data_card card text.now) count) }
+    ensures { result ≡ causes.first_wrong table.now first (option_copied before.entry) (causes.entries_on_card layout (causes.data_card card text.now) count) }
 {
     let mut before = before;
     for i in 0..count {
@@ -108,7 +108,7 @@ fn wrong_entry(
 ) -> Option<EntryCause>
     requires entry { HasNumberSize table.now.decimals (length entry.now) }
     requires before { IfSome before (λ b. length b.now ≡ length entry.now) }
-    ensures { result ≡ causes.wrong_entry table.now number (option_copied before.entry) (causes.placed_at card column entry.now) }
+    ensures { result ≡ causes.wrong_entry table.now number (option_copied before.entry) (causes.placed_entry_at card column entry.now) }
 {
     let fault = fault_of(table, before, entry)?;
     Some(EntryCause {
@@ -125,7 +125,7 @@ fn wrong_entry(
 fn fault_of(table: &TableSpec, before: Option<&[u8]>, entry: &[u8]) -> Option<EntryFault>
     requires entry { HasNumberSize table.now.decimals (length entry.now) }
     requires before { IfSome before (λ b. length b.now ≡ length entry.now) }
-    ensures { result ≡ causes.fault_of table.now (option_copied before.entry) entry.now }
+    ensures { result ≡ causes.entry_fault table.now (option_copied before.entry) entry.now }
 {
     if is_bad(table.decimals, entry) {
         return Some(EntryFault::NoNumber);

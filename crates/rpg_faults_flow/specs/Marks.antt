@@ -14,7 +14,7 @@ use Rattle.rpg_sheet_specs.specs.declared.calculation.CalculationSpec.{Calculati
 use Rattle.rpg_sheet_specs.specs.declared.calculation.Operation.{Operation}
 use Rattle.rpg_sheet_specs.specs.declared.column_range.ColumnRange.{ColumnRange}
 use Rattle.rpg_sheet_specs.specs.declared.column_range.ColumnRange.TheVariants as range
-use Rattle.rpg_sheet_specs.specs.declared.indicator.Condition.{Condition}
+use Rattle.rpg_sheet_specs.specs.declared.indicator.ConditionSpec.{ConditionSpec}
 use Rattle.rpg_sheet_specs.specs.declared.indicator.Three.{Three}
 use Rattle.rpg_sheet_specs.specs.declared.literal.Factor.TheVariants as factor
 
@@ -29,7 +29,7 @@ shown_range t =
     else range.ResultingIndicators
 
 -- the first condition that is there, else the columns of all three
-abbrev pub condition_range : Three (Option Condition) → ColumnRange
+abbrev pub condition_range : Three (Option ConditionSpec) → ColumnRange
 condition_range t =
     if is_some t.first then range.FirstCondition
     else if is_some t.second then range.SecondCondition
@@ -90,8 +90,8 @@ abbrev pub order_range : CalculationSpec → ColumnRange
 order_range k = if is_bracket (deed_of k) then range.Operation else range.ControlLevel
 
 -- F12 of a card, if it is a C card
-abbrev pub order_columns : SpecCard → Option ColumnRange
-order_columns c = option_map order_range (calculation_on c.spec)
+abbrev pub calculation_order_columns : SpecCard → Option ColumnRange
+calculation_order_columns c = option_map order_range (calculation_on c.spec)
 
 -- ---- F15: H where nothing is rounded, else MVR
 

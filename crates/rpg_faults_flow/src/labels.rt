@@ -79,7 +79,7 @@ impl<'a> Labels<'a> {
 
     /// What the first label of a name is.
     pub(crate) fn target(&self, name: &Name) -> Option<Target>
-        ensures { result ≡ option_map index.target_of (labels.label_named name.now (labels.labels (calculations.calculations self.now))) }
+        ensures { result ≡ option_map index.label_target (labels.label_named name.now (labels.labels (calculations.calculations self.now))) }
     {
         target_in(&self.names, name)
     }
@@ -203,7 +203,7 @@ fn note(
 }
 
 fn target_in(names: &HashMap<Name, FirstLabel>, name: &Name) -> Option<Target>
-    ensures { (ls : List Label) → index.IsLabelIndex names.now.entries ls → result ≡ option_map index.target_of (labels.label_named name.now ls) }
+    ensures { (ls : List Label) → index.IsLabelIndex names.now.entries ls → result ≡ option_map index.label_target (labels.label_named name.now ls) }
 {
     Some(names.get(name)?.target)
 }

@@ -14,7 +14,7 @@ use crate::labels::Labels;
 use crate::names::gives_again;
 use crate::rounding::may_half_adjust;
 use rpg_cards::{IndexedCards, SpecCard, columns, goes_on, last_card};
-use rpg_sheet_specs::{CalculationSpec, ColumnRange, Condition, Indicator, Operation, Three};
+use rpg_sheet_specs::{CalculationSpec, ColumnRange, ConditionSpec, Indicator, Operation, Three};
 
 /// F9 of a calculation: what is missing or not allowed.
 pub fn calculation_columns(card: &SpecCard, after: &[SpecCard]) -> Option<ColumnRange>
@@ -96,7 +96,7 @@ fn shown_range(indicators: Three<Option<Indicator>>) -> ColumnRange
 }
 
 /// The first condition, or where they are missing.
-fn condition_range(conditions: Three<Option<Condition>>) -> ColumnRange
+fn condition_range(conditions: Three<Option<ConditionSpec>>) -> ColumnRange
     ensures { result ≡ marks.condition_range conditions }
 {
     if conditions.first.is_some() {
@@ -140,7 +140,7 @@ pub fn twice_range(
 
 /// F12 of a calculation: BEGSR or ENDSR, else columns 7 and 8.
 pub fn order_columns(card: &SpecCard) -> Option<ColumnRange>
-    ensures { result ≡ marks.order_columns card.now }
+    ensures { result ≡ marks.calculation_order_columns card.now }
 {
     Some(order_range(card.calculation()?))
 }

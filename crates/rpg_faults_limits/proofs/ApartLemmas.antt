@@ -8,7 +8,7 @@ use Rattle.rpg_cards.proofs.GroupLemmas.{groups-push, one_if_heading, open_group
 use Rattle.rpg_cards.specs.Cards.{input_on, output_on}
 use Rattle.rpg_cards.specs.Groups.{Apart, Role, group_count, groups, input_card_role, input_role, open_group, output_card_role, output_role, role_on, with_card}
 use Rattle.rpg_cards.specs.declared.spec_card.SpecCard.{SpecCard}
-use Rattle.rpg_faults_limits.specs.Causes.{count_of, first_past, of_count, on_lines, on_types}
+use Rattle.rpg_faults_limits.specs.Causes.{measure_of, first_past, of_count, on_lines, on_types}
 use Rattle.rpg_faults_limits.specs.Limits.{alternative_count, code_count, condition_count, field_count, in_open, level_count, of_line, of_type, output_field_count}
 use Rattle.rpg_faults_limits.specs.declared.measures.Measure.{Measure}
 use Rattle.rpg_faults_limits.specs.declared.measures.Limit.TheVariants as limit
@@ -45,12 +45,12 @@ no_types before c none =
     open_group-push input_role before c ∙ ap (λ (r : Role RecordType InputSpec). with_card (open_group input_role before) r) apart in
     let number : group_count input_role (before ++ c ∷ []) ≡ group_count input_role before =
     groups-push input_role before c ∙ ap (λ (r : Role RecordType InputSpec). length (groups input_role before) + one_if_heading r) apart ∙ add-zero (length (groups input_role before)) in
-    none_of_four (count_of limit.RecordTypes (group_count input_role) 200 before c) (count_of limit.Codes (of_type code_count) 100 before c) (count_of limit.ControlFields (of_type level_count) 100 before c)
-    (count_of limit.InputFields (of_type field_count) 500 before c)
-    (unchanged (count_of limit.RecordTypes (group_count input_role) 200 before c) number)
-    (unchanged (count_of limit.Codes (of_type code_count) 100 before c) (ap (in_open code_count) group))
-    (unchanged (count_of limit.ControlFields (of_type level_count) 100 before c) (ap (in_open level_count) group))
-    (unchanged (count_of limit.InputFields (of_type field_count) 500 before c) (ap (in_open field_count) group))
+    none_of_four (measure_of limit.RecordTypes (group_count input_role) 200 before c) (measure_of limit.Codes (of_type code_count) 100 before c) (measure_of limit.ControlFields (of_type level_count) 100 before c)
+    (measure_of limit.InputFields (of_type field_count) 500 before c)
+    (unchanged (measure_of limit.RecordTypes (group_count input_role) 200 before c) number)
+    (unchanged (measure_of limit.Codes (of_type code_count) 100 before c) (ap (in_open code_count) group))
+    (unchanged (measure_of limit.ControlFields (of_type level_count) 100 before c) (ap (in_open level_count) group))
+    (unchanged (measure_of limit.InputFields (of_type field_count) 500 before c) (ap (in_open field_count) group))
 
 pub no_lines : (before : List SpecCard) (c : SpecCard) → output_on c.spec ≡ None → on_lines before c ≡ None
 no_lines before c none =
@@ -59,9 +59,9 @@ no_lines before c none =
     open_group-push output_role before c ∙ ap (λ (r : Role OutputRecord OutputSpec). with_card (open_group output_role before) r) apart in
     let number : group_count output_role (before ++ c ∷ []) ≡ group_count output_role before =
     groups-push output_role before c ∙ ap (λ (r : Role OutputRecord OutputSpec). length (groups output_role before) + one_if_heading r) apart ∙ add-zero (length (groups output_role before)) in
-    none_of_four (count_of limit.Lines (group_count output_role) 1000 before c) (count_of limit.Alternatives (of_line alternative_count) 50 before c)
-    (count_of limit.Conditions (of_line condition_count) 60 before c) (count_of limit.OutputFields (of_line output_field_count) 200 before c)
-    (unchanged (count_of limit.Lines (group_count output_role) 1000 before c) number)
-    (unchanged (count_of limit.Alternatives (of_line alternative_count) 50 before c) (ap (in_open alternative_count) group))
-    (unchanged (count_of limit.Conditions (of_line condition_count) 60 before c) (ap (in_open condition_count) group))
-    (unchanged (count_of limit.OutputFields (of_line output_field_count) 200 before c) (ap (in_open output_field_count) group))
+    none_of_four (measure_of limit.Lines (group_count output_role) 1000 before c) (measure_of limit.Alternatives (of_line alternative_count) 50 before c)
+    (measure_of limit.Conditions (of_line condition_count) 60 before c) (measure_of limit.OutputFields (of_line output_field_count) 200 before c)
+    (unchanged (measure_of limit.Lines (group_count output_role) 1000 before c) number)
+    (unchanged (measure_of limit.Alternatives (of_line alternative_count) 50 before c) (ap (in_open alternative_count) group))
+    (unchanged (measure_of limit.Conditions (of_line condition_count) 60 before c) (ap (in_open condition_count) group))
+    (unchanged (measure_of limit.OutputFields (of_line output_field_count) 200 before c) (ap (in_open output_field_count) group))

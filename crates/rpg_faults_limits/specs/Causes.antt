@@ -13,16 +13,16 @@ use Rattle.rpg_faults_limits.specs.Limits.{alternative_count, bad_entries_of, by
 use Rattle.rpg_sheet_specs.specs.declared.extension.ExtensionSpec.{ExtensionSpec}
 
 -- what is counted, before a card and with it
-abbrev pub count_of : Limit → (List SpecCard → ℕ) → ℕ → List SpecCard → SpecCard → Measure
-count_of what measure most before c = record { limit = what; most = most; before = measure before; with = measure (before ++ c ∷ []) }
+abbrev pub measure_of : Limit → (List SpecCard → ℕ) → ℕ → List SpecCard → SpecCard → Measure
+measure_of what measure most before c = record { limit = what; most = most; before = measure before; with = measure (before ++ c ∷ []) }
 
 -- the limit is kept before the card and passed with it
-abbrev pub is_past : Measure → Bool
-is_past k = nat_le k.before k.most && nat_lt k.most k.with
+abbrev pub passes_with_card : Measure → Bool
+passes_with_card k = nat_le k.before k.most && nat_lt k.most k.with
 
 -- so many with the card, where that passes the limit
 abbrev pub of_count : Measure → Option LimitCause
-of_count k = if is_past k then Some (Passed k.limit k.with) else None
+of_count k = if passes_with_card k then Some (Passed k.limit k.with) else None
 
 -- the first count that passes its limit
 abbrev pub first_past : List Measure → Option LimitCause
@@ -30,30 +30,30 @@ first_past [] = None
 first_past (k ∷ ks) = option_or (of_count k) (first_past ks)
 
 -- record types, and what is on the cards of one
-abbrev pub type_counts : List SpecCard → SpecCard → List Measure
-type_counts before c =
-    count_of limit.RecordTypes (group_count input_role) 200 before c
-    ∷ count_of limit.Codes (of_type code_count) 100 before c
-    ∷ count_of limit.ControlFields (of_type level_count) 100 before c
-    ∷ count_of limit.InputFields (of_type field_count) 500 before c
+abbrev pub type_measures : List SpecCard → SpecCard → List Measure
+type_measures before c =
+    measure_of limit.RecordTypes (group_count input_role) 200 before c
+    ∷ measure_of limit.Codes (of_type code_count) 100 before c
+    ∷ measure_of limit.ControlFields (of_type level_count) 100 before c
+    ∷ measure_of limit.InputFields (of_type field_count) 500 before c
     ∷ []
 
 -- which of these passes its limit
 abbrev pub on_types : List SpecCard → SpecCard → Option LimitCause
-on_types before c = first_past (type_counts before c)
+on_types before c = first_past (type_measures before c)
 
 -- lines, and what is on the cards of one
-abbrev pub line_counts : List SpecCard → SpecCard → List Measure
-line_counts before c =
-    count_of limit.Lines (group_count output_role) 1000 before c
-    ∷ count_of limit.Alternatives (of_line alternative_count) 50 before c
-    ∷ count_of limit.Conditions (of_line condition_count) 60 before c
-    ∷ count_of limit.OutputFields (of_line output_field_count) 200 before c
+abbrev pub line_measures : List SpecCard → SpecCard → List Measure
+line_measures before c =
+    measure_of limit.Lines (group_count output_role) 1000 before c
+    ∷ measure_of limit.Alternatives (of_line alternative_count) 50 before c
+    ∷ measure_of limit.Conditions (of_line condition_count) 60 before c
+    ∷ measure_of limit.OutputFields (of_line output_field_count) 200 before c
     ∷ []
 
 -- which of these passes its limit
 abbrev pub on_lines : List SpecCard → SpecCard → Option LimitCause
-on_lines before c = first_past (line_counts before c)
+on_lines before c = first_past (line_measures before c)
 
 -- the 101st subroutine
 abbrev pub on_subroutines : List SpecCard → SpecCard → List SpecCard → Option LimitCause
@@ -61,15 +61,15 @@ on_subroutines before c after = if passes_subroutines before c after then Some (
 
 -- calculation cards and subroutines
 abbrev pub on_calculations : List SpecCard → SpecCard → List SpecCard → Option LimitCause
-on_calculations before c after = option_or (of_count (count_of limit.Calculations calculation_count 1000 before c)) (on_subroutines before c after)
+on_calculations before c after = option_or (of_count (measure_of limit.Calculations calculation_count 1000 before c)) (on_subroutines before c after)
 
 -- names and constants, and their bytes
 abbrev pub storage_counts : List SpecCard → List SpecCard → SpecCard → List Measure
 storage_counts cards before c =
-    count_of limit.Names name_count 4000 before c
-    ∷ count_of limit.NameBytes name_bytes 65535 before c
-    ∷ count_of limit.Bytes (bytes_up_to cards) 65535 before c
-    ∷ count_of limit.Fields (fields_up_to cards) 4000 before c
+    measure_of limit.Names name_count 4000 before c
+    ∷ measure_of limit.NameBytes name_bytes 65535 before c
+    ∷ measure_of limit.Bytes (bytes_up_to cards) 65535 before c
+    ∷ measure_of limit.Fields (fields_up_to cards) 4000 before c
     ∷ []
 
 -- which of these passes its limit

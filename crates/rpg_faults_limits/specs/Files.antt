@@ -68,12 +68,12 @@ abbrev pub moves : Movement → Bool
 moves m = is_some m.space_before || is_some m.space_after || is_some m.skip_before || is_some m.skip_after
 
 -- the disk file
-abbrev pub is_disk : FileSpec → Bool
-is_disk f = same_use Disk (file_use f)
+abbrev pub is_disk_file : FileSpec → Bool
+is_disk_file f = same_use Disk (file_use f)
 
 -- a line of the disk file has neither spaces nor skips
 abbrev pub moves_disk_by : List SpecCard → List SpecCard → OutputRecord → Bool
-moves_disk_by cards before r = moves r.movement && option_map_or is_disk (file_by (option_or r.file (open_file output_role before)) cards) false
+moves_disk_by cards before r = moves r.movement && option_map_or is_disk_file (file_by (option_or r.file (open_file output_role before)) cards) false
 
 -- F9 of a card: a line of the disk file spaces or skips
 abbrev pub moves_disk : List SpecCard → List SpecCard → SpecCard → Bool

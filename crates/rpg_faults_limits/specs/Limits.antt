@@ -32,10 +32,10 @@ in_open measure g = option_map_or measure g 0
 -- ---- record types
 
 -- the codes of an AND card
-abbrev pub codes_on : InputSpec → ℕ
-codes_on (input.Type t) = 0
-codes_on (input.And codes) = filled_count codes
-codes_on (input.Field f) = 0
+abbrev pub and_code_count : InputSpec → ℕ
+and_code_count (input.Type t) = 0
+and_code_count (input.And codes) = filled_count codes
+and_code_count (input.Field f) = 0
 
 -- an I card with a field
 abbrev pub is_input_field_card : InputSpec → Bool
@@ -51,7 +51,7 @@ is_level_field (input.Field f) = is_some f.level
 
 -- the codes of a record type, with those of its AND cards
 abbrev pub code_count : Group RecordType InputSpec → ℕ
-code_count g = filled_count g.heading.codes + sum_by codes_on g.followers
+code_count g = filled_count g.heading.codes + sum_by and_code_count g.followers
 
 -- the control fields of a record type
 abbrev pub level_count : Group RecordType InputSpec → ℕ

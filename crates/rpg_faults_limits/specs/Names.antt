@@ -9,7 +9,7 @@ use Rattle.rpg_cards.specs.declared.spec_card.SpecCard.{SpecCard}
 use Rattle.rpg_sheet_specs.specs.declared.calculation.CalculationSpec.{CalculationSpec}
 use Rattle.rpg_sheet_specs.specs.declared.extension.ExtensionSpec.{ExtensionSpec}
 use Rattle.rpg_sheet_specs.specs.declared.extension.TableSpec.{TableSpec}
-use Rattle.rpg_sheet_specs.specs.declared.input.InputField.{InputField}
+use Rattle.rpg_sheet_specs.specs.declared.input.InputFieldSpec.{InputFieldSpec}
 use Rattle.rpg_symbols.specs.Fields.{same_form}
 
 -- ---- F2: a name that is defined again in another form, also by the alternating table of one card
@@ -38,7 +38,7 @@ abbrev pub bad_size_of_tables : ExtensionSpec → Bool
 bad_size_of_tables e = list_any bad_size_of_table (tables_on e)
 
 -- columns that are turned round have no size
-abbrev pub bad_size_of_field : InputField → Bool
+abbrev pub bad_size_of_field : InputFieldSpec → Bool
 bad_size_of_field f = nat_le f.from f.to && is_none (field_form f)
 
 -- decimals without a length, or a size that is out of range

@@ -26,10 +26,10 @@ abbrev pub is_behind_codes : List SpecCard → Bool
 is_behind_codes before = option_map_or takes_codes (option_and_then (λ (c : SpecCard). input_on c.spec) (card_right_before before)) false
 
 -- F12 of an I card
-abbrev pub strays_on_input : List SpecCard → InputSpec → Bool
-strays_on_input before (input.Type t) = false
-strays_on_input before (input.And codes) = not (is_behind_codes before)
-strays_on_input before (input.Field f) = is_none (open_group input_role before)
+abbrev pub is_stray_input : List SpecCard → InputSpec → Bool
+is_stray_input before (input.Type t) = false
+is_stray_input before (input.And codes) = not (is_behind_codes before)
+is_stray_input before (input.Field f) = is_none (open_group input_role before)
 
 -- ---- O: the conditions of an AND or OR card continue those of a record, AND or OR card
 
@@ -45,12 +45,12 @@ abbrev pub is_behind_conditions : List SpecCard → Bool
 is_behind_conditions before = option_map_or takes_conditions (option_and_then (λ (c : SpecCard). output_on c.spec) (card_right_before before)) false
 
 -- F12 of an O card
-abbrev pub strays_on_output : List SpecCard → OutputSpec → Bool
-strays_on_output before (output.Record r) = false
-strays_on_output before (output.And t) = not (is_behind_conditions before)
-strays_on_output before (output.Or t) = not (is_behind_conditions before)
-strays_on_output before (output.Field f) = is_none (open_group output_role before)
+abbrev pub is_stray_output : List SpecCard → OutputSpec → Bool
+is_stray_output before (output.Record r) = false
+is_stray_output before (output.And t) = not (is_behind_conditions before)
+is_stray_output before (output.Or t) = not (is_behind_conditions before)
+is_stray_output before (output.Field f) = is_none (open_group output_role before)
 
 -- F12 of I and O cards
-abbrev pub strays : List SpecCard → SpecCard → Bool
-strays before c = option_map_or (strays_on_input before) (input_on c.spec) false || option_map_or (strays_on_output before) (output_on c.spec) false
+abbrev pub is_stray : List SpecCard → SpecCard → Bool
+is_stray before c = option_map_or (is_stray_input before) (input_on c.spec) false || option_map_or (is_stray_output before) (output_on c.spec) false

@@ -146,7 +146,7 @@ fn is_for_disk(
     line: &OutputRecord,
 ) -> bool
     requires { AreSheets source.now before.now sheets.now }
-    ensures { result ≡ option_map_or files.is_disk (known.file_by (option_or line.now.file (open_file output_role before.now)) source.now) false }
+    ensures { result ≡ option_map_or files.is_disk_file (known.file_by (option_or line.now.file (open_file output_role before.now)) source.now) false }
 {
     match &line.file {
         Some(name) => matches!(serves_as(source, name), Some(FileUse::Disk)),

@@ -10,7 +10,7 @@ use rpg_sheet_specs::{InputSpec, OutputSpec};
 /// F12 of I and O cards: an AND or OR card that doesn't continue the card right before it, and a field card without a record type or a line.
 pub fn strays(source: &IndexedCards, sheets: &Sheets, before: &[SpecCard], card: &SpecCard) -> bool
     requires { AreSheets source.now before.now sheets.now }
-    ensures { result ≡ order.strays before.now card.now }
+    ensures { result ≡ order.is_stray before.now card.now }
 {
     if let Some(input) = card.input() {
         return match input {

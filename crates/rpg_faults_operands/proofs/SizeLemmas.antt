@@ -17,7 +17,7 @@ use Rattle.rpg_sheet_specs.specs.declared.calculation.CalculationSpec.{Calculati
 use Rattle.rpg_sheet_specs.specs.declared.entry.Entry.{Entry}
 use Rattle.rpg_sheet_specs.specs.declared.extension.ExtensionSpec.{ExtensionSpec}
 use Rattle.rpg_sheet_specs.specs.declared.extension.TableSpec.{TableSpec}
-use Rattle.rpg_sheet_specs.specs.declared.input.InputField.{InputField}
+use Rattle.rpg_sheet_specs.specs.declared.input.InputFieldSpec.{InputFieldSpec}
 use Rattle.rpg_sheet_specs.specs.declared.spec.Spec.{Spec}
 use Rattle.rpg_symbols.specs.Fields.{defined_form, given, number_form}
 use Rattle.rpg_text.specs.Texts.{is_between}
@@ -46,7 +46,7 @@ sized_with : (c : Class) (ascending : Bool) (n len : ℕ) (decimals : Option ℕ
 sized_with c ascending n len None = if_true (is_between 1 256 len) _ (text_size len)
 sized_with c ascending n len (Some decimals) = if_true (is_between 1 15 len && nat_le decimals 9 && nat_le decimals len) _ (number_size len decimals)
 
-field_sized : (f : InputField) → HasSizeIf (field_form f)
+field_sized : (f : InputFieldSpec) → HasSizeIf (field_form f)
 field_sized f = if_else (nat_le f.from f.to) _ (sized_with class.Plain false 1 (f.to + 1 - f.from) f.decimals)
 
 table_sized : (entries : ℕ) (t : TableSpec) → HasSizeIf (table_form entries t)
@@ -73,7 +73,7 @@ unfolding AreSized
 extension_sized None = tt
 extension_sized (Some e) = append (map (definition_in e) (tables_on e)) [] (tables_sized e (tables_on e)) tt
 
-input_sized : (o : Option InputField) → AreSized (option_to_list (option_map definition_of o))
+input_sized : (o : Option InputFieldSpec) → AreSized (option_to_list (option_map definition_of o))
 unfolding AreSized
 input_sized None = tt
 input_sized (Some f) = (field_sized f, tt)

@@ -7,41 +7,41 @@ use Rattle.rpg_faults_operands.specs.Indicators.{bad_in_calculation, bad_in_outp
 use Rattle.rpg_sheet_specs.specs.declared.calculation.CalculationSpec.{CalculationSpec}
 use Rattle.rpg_sheet_specs.specs.declared.column_range.ColumnRange.{ColumnRange}
 use Rattle.rpg_sheet_specs.specs.declared.column_range.ColumnRange.TheVariants as range
-use Rattle.rpg_sheet_specs.specs.declared.indicator.Condition.{Condition}
+use Rattle.rpg_sheet_specs.specs.declared.indicator.ConditionSpec.{ConditionSpec}
 use Rattle.rpg_sheet_specs.specs.declared.indicator.Three.{Three}
-use Rattle.rpg_sheet_specs.specs.declared.input.InputField.{InputField}
+use Rattle.rpg_sheet_specs.specs.declared.input.InputFieldSpec.{InputFieldSpec}
 use Rattle.rpg_sheet_specs.specs.declared.input.InputSpec.{InputSpec}
 use Rattle.rpg_sheet_specs.specs.declared.input.InputSpec.TheVariants as input
 use Rattle.rpg_sheet_specs.specs.declared.spec.Spec.{Spec}
 use Rattle.rpg_sheet_specs.specs.declared.spec.Spec.TheVariants as spec
 
 -- the columns of the first of three that passes
-abbrev pub first_of : {X : Type 0} → (X → Bool) → ColumnRange → ColumnRange → ColumnRange → Three (Option X) → Option ColumnRange
-first_of test a b c t =
+abbrev pub first_passing : {X : Type 0} → (X → Bool) → ColumnRange → ColumnRange → ColumnRange → Three (Option X) → Option ColumnRange
+first_passing test a b c t =
     if option_map_or test t.first false then Some a
     else if option_map_or test t.second false then Some b
     else if option_map_or test t.third false then Some c
     else None
 
 -- the first condition of a C card that passes
-abbrev pub first_condition : (Condition → Bool) → Three (Option Condition) → Option ColumnRange
-first_condition test t = first_of test range.FirstCondition range.SecondCondition range.ThirdCondition t
+abbrev pub first_condition : (ConditionSpec → Bool) → Three (Option ConditionSpec) → Option ColumnRange
+first_condition test t = first_passing test range.FirstCondition range.SecondCondition range.ThirdCondition t
 
 -- the first resulting indicator that can't be set
 abbrev pub first_result : Three (Option ℕ) → Option ColumnRange
-first_result t = first_of cannot_be_set range.ResultPlus range.ResultMinus range.ResultZero t
+first_result t = first_passing cannot_be_set range.ResultPlus range.ResultMinus range.ResultZero t
 
 -- the first condition of an O card that isn't allowed
-abbrev pub first_line_condition : List SpecCard → Three (Option Condition) → Option ColumnRange
-first_line_condition cards t = first_of (bad_in_output cards) range.FirstLineCondition range.SecondLineCondition range.ThirdLineCondition t
+abbrev pub first_line_condition : List SpecCard → Three (Option ConditionSpec) → Option ColumnRange
+first_line_condition cards t = first_passing (bad_in_output cards) range.FirstLineCondition range.SecondLineCondition range.ThirdLineCondition t
 
 -- that of a text field is for plus or minus
-abbrev pub text_indicator : InputField → ColumnRange
+abbrev pub text_indicator : InputFieldSpec → ColumnRange
 text_indicator f = if is_some f.indicators.first then range.InputPlus else range.InputMinus
 
 -- F8 of an input field
-abbrev pub indicator_on_field : InputField → Option ColumnRange
-indicator_on_field f = option_or (first_of cannot_be_set range.InputPlus range.InputMinus range.InputZero f.indicators) (Some (text_indicator f))
+abbrev pub indicator_on_field : InputFieldSpec → Option ColumnRange
+indicator_on_field f = option_or (first_passing cannot_be_set range.InputPlus range.InputMinus range.InputZero f.indicators) (Some (text_indicator f))
 
 -- F8 of an I card
 abbrev pub indicator_on_input : InputSpec → Option ColumnRange

@@ -4,9 +4,9 @@ use Rattle.std.specs.Option.{option_map_or}
 use Rattle.rpg_cards.specs.Levels.{has_match_field}
 use Rattle.rpg_cards.specs.declared.spec_card.SpecCard.{SpecCard}
 use Rattle.rpg_sheet_specs.specs.declared.calculation.CalculationSpec.{CalculationSpec}
-use Rattle.rpg_sheet_specs.specs.declared.indicator.Condition.{Condition}
+use Rattle.rpg_sheet_specs.specs.declared.indicator.ConditionSpec.{ConditionSpec}
 use Rattle.rpg_sheet_specs.specs.declared.indicator.Three.{Three}
-use Rattle.rpg_sheet_specs.specs.declared.input.InputField.{InputField}
+use Rattle.rpg_sheet_specs.specs.declared.input.InputFieldSpec.{InputFieldSpec}
 use Rattle.rpg_sheet_specs.specs.declared.input.InputSpec.{InputSpec}
 use Rattle.rpg_sheet_specs.specs.declared.input.InputSpec.TheVariants as input
 use Rattle.rpg_sheet_specs.specs.declared.output.OutputSpec.{OutputSpec}
@@ -29,29 +29,29 @@ cannot_be_set n = (n == 100) || (n == 111) || (n == 129)
 -- ---- conditions
 
 -- MR is for sources that match the records of their files
-abbrev pub may_ask : List SpecCard → Bool
-may_ask cards = has_match_field cards
+abbrev pub may_name_mr : List SpecCard → Bool
+may_name_mr cards = has_match_field cards
 
 -- MR in a source without match fields
 abbrev pub is_barred_mr : List SpecCard → ℕ → Bool
-is_barred_mr cards n = (n == 129) && not (may_ask cards)
+is_barred_mr cards n = (n == 129) && not (may_name_mr cards)
 
 -- 1P
 abbrev pub is_1p : ℕ → Bool
 is_1p n = n == 111
 
 -- conditions of output may name any indicator, and MR only where it is allowed
-abbrev pub bad_in_output : List SpecCard → Condition → Bool
+abbrev pub bad_in_output : List SpecCard → ConditionSpec → Bool
 bad_in_output cards c = is_barred_mr cards c.indicator
 
 -- conditions of calculations may name any indicator but 1P, and MR only where it is allowed
-abbrev pub bad_in_calculation : List SpecCard → Condition → Bool
+abbrev pub bad_in_calculation : List SpecCard → ConditionSpec → Bool
 bad_in_calculation cards c = is_1p c.indicator || is_barred_mr cards c.indicator
 
 -- ---- cards
 
 -- a text is only blank or not
-abbrev pub bad_on_field : InputField → Bool
+abbrev pub bad_on_field : InputFieldSpec → Bool
 bad_on_field f = any_of cannot_be_set f.indicators || (is_none f.decimals && (is_some f.indicators.first || is_some f.indicators.second))
 
 -- F8 of an I card

@@ -20,15 +20,15 @@ use Rattle.rpg_sheet_specs.specs.declared.output.OutputField.{OutputField}
 -- ---- F1, F5: the first operand that breaks the rule
 
 -- there is an operand, and it passes
-abbrev pub passes : (Operand → Bool) → Option Operand → Bool
-passes test o = option_map_or test o false
+abbrev pub operand_passes : (Operand → Bool) → Option Operand → Bool
+operand_passes test o = option_map_or test o false
 
 -- the first column whose operand passes: factor 1, factor 2, the result field, else the name of an output field
 abbrev pub first_operand : (Operand → Bool) → SpecCard → List SpecCard → ColumnRange
 first_operand test c after =
-    if passes test (operands_ending c after).first then range.FirstFactor
-    else if passes test (operands_ending c after).second then range.SecondFactor
-    else if passes test (operands_ending c after).third then range.ResultName
+    if operand_passes test (operands_ending c after).first then range.FirstFactor
+    else if operand_passes test (operands_ending c after).second then range.SecondFactor
+    else if operand_passes test (operands_ending c after).third then range.ResultName
     else range.OutputName
 
 -- F1 of a card
@@ -76,8 +76,8 @@ abbrev pub beside_no_field : OutputField → ColumnRange
 beside_no_field f = if is_some f.code then range.OutputCode else if f.blank_after then range.BlankAfter else range.OutputName
 
 -- F9 of a card's operands
-abbrev pub missing_columns : SpecCard → List SpecCard → Option ColumnRange
-missing_columns c after = option_map_or (λ k. Some (unordered_search k)) (card_ending c after) (option_map beside_no_field (output_field_on c.spec))
+abbrev pub missing_operand_columns : SpecCard → List SpecCard → Option ColumnRange
+missing_operand_columns c after = option_map_or (λ k. Some (unordered_search k)) (card_ending c after) (option_map beside_no_field (output_field_on c.spec))
 
 -- ---- F17: the code if it may have the fill, else the fill or the word
 

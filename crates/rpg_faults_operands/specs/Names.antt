@@ -10,13 +10,13 @@ use Rattle.rpg_sheet_specs.specs.declared.entry.EntryIndex.TheVariants as index
 use Rattle.rpg_faults_operands.specs.Operands.{Operand, operands_on}
 
 -- a literal index names no field
-abbrev pub name_in : EntryIndex → Option (List ℕ)
-name_in (index.Literal n) = None
-name_in (index.Name x) = Some x
+abbrev pub name_in_index : EntryIndex → Option (List ℕ)
+name_in_index (index.Literal n) = None
+name_in_index (index.Name x) = Some x
 
 -- the field that indexes an entry, if a field does
 abbrev pub index_name : Entry → Option (List ℕ)
-index_name e = option_and_then name_in e.index
+index_name e = option_and_then name_in_index e.index
 
 -- a name that no card defines
 abbrev pub is_undefined : List SpecCard → List ℕ → Bool

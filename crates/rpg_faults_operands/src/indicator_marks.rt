@@ -7,7 +7,7 @@ ghost use Rattle.rpg_faults_operands.specs.IndicatorMarks as marks;
 use crate::indicators::{is_bad_in_calculation, is_bad_in_output, is_never_set};
 use rpg_cards::{IndexedCards, SpecCard, line_conditions_on};
 use rpg_sheet_specs::{
-    CalculationSpec, ColumnRange, Condition, Indicator, InputField, InputSpec, Spec, Three,
+    CalculationSpec, ColumnRange, ConditionSpec, Indicator, InputFieldSpec, InputSpec, Spec, Three,
 };
 
 /// F8: the first indicator that isn't allowed.
@@ -32,7 +32,7 @@ fn indicator_on_input(input: &InputSpec) -> Option<ColumnRange>
     }
 }
 
-fn indicator_on_field(field: &InputField) -> Option<ColumnRange>
+fn indicator_on_field(field: &InputFieldSpec) -> Option<ColumnRange>
     ensures { result ≡ marks.indicator_on_field field.now }
 {
     let indicators = field.indicators;
@@ -47,7 +47,7 @@ fn indicator_on_field(field: &InputField) -> Option<ColumnRange>
     }
 }
 
-fn text_indicator(field: &InputField) -> ColumnRange
+fn text_indicator(field: &InputFieldSpec) -> ColumnRange
     ensures { result ≡ marks.text_indicator field.now }
 {
     if field.indicators.first.is_some() {
@@ -71,7 +71,7 @@ fn indicator_on_calculation(
 
 fn first_condition(
     source: &IndexedCards,
-    conditions: Three<Option<Condition>>,
+    conditions: Three<Option<ConditionSpec>>,
 ) -> Option<ColumnRange>
     ensures { result ≡ marks.first_condition (indicators.bad_in_calculation source.now) conditions }
 {
@@ -102,7 +102,7 @@ fn first_result(shown: Three<Option<Indicator>>) -> Option<ColumnRange>
 
 fn first_line_condition(
     source: &IndexedCards,
-    conditions: Three<Option<Condition>>,
+    conditions: Three<Option<ConditionSpec>>,
 ) -> Option<ColumnRange>
     ensures { result ≡ marks.first_line_condition source.now conditions }
 {

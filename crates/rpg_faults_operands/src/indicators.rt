@@ -6,7 +6,7 @@ ghost use Rattle.rpg_faults_operands.specs.Indicators as indicators;
 
 use rpg_cards::{IndexedCards, SpecCard};
 use rpg_sheet_specs::{
-    CalculationSpec, Condition, Indicator, InputField, InputSpec, OutputSpec, Spec, Three,
+    CalculationSpec, ConditionSpec, Indicator, InputFieldSpec, InputSpec, OutputSpec, Spec, Three,
 };
 
 /// F8: an indicator that its columns don't allow.
@@ -44,7 +44,7 @@ fn cannot_mark_type(indicator: Option<Indicator>) -> bool
     }
 }
 
-fn is_bad_on_field(field: &InputField) -> bool
+fn is_bad_on_field(field: &InputFieldSpec) -> bool
     ensures { result ≡ indicators.bad_on_field field.now }
 {
     let indicators = field.indicators;
@@ -92,7 +92,7 @@ pub(crate) fn is_never_set(indicator: Option<Indicator>) -> bool
 }
 
 /// Conditions of calculations may name any indicator but 1P, and MR only where it is allowed.
-pub(crate) fn is_bad_in_calculation(source: &IndexedCards, condition: Option<Condition>) -> bool
+pub(crate) fn is_bad_in_calculation(source: &IndexedCards, condition: Option<ConditionSpec>) -> bool
     ensures { result ≡ option_map_or (indicators.bad_in_calculation source.now) condition false }
 {
     match condition {
@@ -104,7 +104,7 @@ pub(crate) fn is_bad_in_calculation(source: &IndexedCards, condition: Option<Con
 }
 
 /// Conditions of output may name any indicator, and MR only where it is allowed.
-pub(crate) fn is_bad_in_output(source: &IndexedCards, condition: Option<Condition>) -> bool
+pub(crate) fn is_bad_in_output(source: &IndexedCards, condition: Option<ConditionSpec>) -> bool
     ensures { result ≡ option_map_or (indicators.bad_in_output source.now) condition false }
 {
     match condition {
@@ -121,7 +121,7 @@ fn is_barred_mr(source: &IndexedCards, indicator: Indicator) -> bool
 
 /// Whether conditions may name MR, which is for sources that match the records of their files.
 fn may_ask(source: &IndexedCards) -> bool
-    ensures { result ≡ indicators.may_ask source.now }
+    ensures { result ≡ indicators.may_name_mr source.now }
 {
     source.has_match_field()
 }

@@ -113,7 +113,7 @@ fn wrong_beside(field: &OutputField, form: FieldForm) -> ColumnRange
 
 /// F9 of operands: high or low of a search, what an output card has without a field, or the missing field.
 pub fn missing_columns(card: &SpecCard, after: &[SpecCard]) -> Option<ColumnRange>
-    ensures { result ≡ marks.missing_columns card.now after.now }
+    ensures { result ≡ marks.missing_operand_columns card.now after.now }
 {
     match last_card(card, after) {
         None => Some(beside_no_field(card.output_field()?)),

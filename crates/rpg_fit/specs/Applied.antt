@@ -3,11 +3,11 @@ use Rattle.std.specs.Prelude.{◌≡◌, ℕ, true, List, [], ◌∷◌, MatchBo
 use Rattle.rpg_fit_deck.specs.declared.editor.Editor.{Editor}
 use Rattle.rpg_fit_deck.specs.declared.sentence.Rule.{Rule}
 use Rattle.rpg_fit_deck.specs.declared.fitted.Fitted.{Fitted}
-use Rattle.rpg_fit_deck.specs.Stopping.{IsOf, IsSource, goes_on}
+use Rattle.rpg_fit_deck.specs.Stopping.{IsOf, IsSource, may_continue}
 
 -- a rule is applied if no rule before it rejected the deck and memory sufficed; otherwise the deck stays as it is
 abbrev pub AppliedInTurn : (Rule → Editor → Editor → Type 0) → Rule → Editor → Editor → Type 0
-AppliedInTurn leaves rule old new = MatchBool (goes_on old) (leaves rule old new) (new ≡ old)
+AppliedInTurn leaves rule old new = MatchBool (may_continue old) (leaves rule old new) (new ≡ old)
 
 -- rules one after the other
 abbrev pub Applied : (Rule → Editor → Editor → Type 0) → List Rule → Editor → Editor → Type 0
@@ -20,4 +20,4 @@ AsRulesLeave leaves rules source last = (first : Editor) × IsSource source firs
 
 -- what rules made of a source that none of them rejected
 abbrev pub IsRewritten : (Rule → Editor → Editor → Type 0) → List Rule → List ℕ → Fitted → Type 0
-IsRewritten leaves rules source fitted = (last : Editor) × AsRulesLeave leaves rules source last × (goes_on last ≡ true) × IsOf last fitted
+IsRewritten leaves rules source fitted = (last : Editor) × AsRulesLeave leaves rules source last × (may_continue last ≡ true) × IsOf last fitted

@@ -10,10 +10,10 @@ use Rattle.rpg_fit.specs.declared.fault.FitFault.{FitFault}
 use Rattle.rpg_fit.specs.declared.fault.FitFault.TheVariants as faults
 
 -- why a deck isn't rewritten
-abbrev pub fault_of : Stopped → FitFault
-fault_of (stops.Refused refusal) = faults.Refused refusal
-fault_of stops.TooMany = faults.TooMany
-fault_of stops.NoMemory = faults.NoMemory
+abbrev pub fit_fault : Stopped → FitFault
+fit_fault (stops.Refused refusal) = faults.Refused refusal
+fit_fault stops.TooMany = faults.TooMany
+fit_fault stops.NoMemory = faults.NoMemory
 
 -- a refusal is the first one by the rules
 abbrev pub IsReason : (Rule → Editor → Editor → Type 0) → List Rule → List ℕ → FitFault → Type 0

@@ -2,7 +2,7 @@
 
 ghost use Rattle.std.specs.Prelude.{◌≡◌};
 ghost use Rattle.rpg_fit.specs.declared.fault.FitFault.TheVariants.{NoMemory};
-ghost use Rattle.rpg_fit.specs.Faults.{fault_of};
+ghost use Rattle.rpg_fit.specs.Faults.{fit_fault};
 
 use rpg_faults::SourceFault;
 use rpg_fit_deck::{Refusal, Stopped};
@@ -27,7 +27,7 @@ impl From<AllocError> for FitFault {
 }
 
 impl From<Stopped> for FitFault {
-    ghost from_gives = { λ stopped fault. fault ≡ fault_of stopped };
+    ghost from_gives = { λ stopped fault. fault ≡ fit_fault stopped };
 
     fn from(stopped: Stopped) -> Self {
         match stopped {

@@ -3,7 +3,7 @@
 use rpg_fit_deck::{Card, Editor, Seen, Sentence, View, Word};
 use rpg_fit_words::{
     Array, Calculation, Columns, Group, Indicator, Line, List, NewCard, Operand, Place, Printer,
-    Section, Stop, Time, array_of, arrays, fresh_name, groups, insert_at, is_card,
+    RuleStop, Section, Time, array_of, arrays, fresh_name, groups, insert_at, is_card,
     is_field_put_first, is_name_used, is_total_skipped_late, lines, printer_of,
 };
 use std::alloc::Global;
@@ -34,7 +34,7 @@ impl DatePart {
 /// # Errors
 ///
 /// A line with a part of the date may be put out before any calculation, no name is free, or memory is refused.
-pub fn dates(alloc: Global, editor: &mut Editor) -> Result<(), Stop> {
+pub fn dates(alloc: Global, editor: &mut Editor) -> Result<(), RuleStop> {
     let view = editor.view(alloc)?;
     let parts = undefined_parts(alloc, &view)?;
     match parts.checked()? {
@@ -44,7 +44,7 @@ pub fn dates(alloc: Global, editor: &mut Editor) -> Result<(), Stop> {
 }
 
 /// The parts of the date that a deck uses and no card defines.
-fn undefined_parts(alloc: Global, view: &View) -> Result<List<DatePart>, Stop> {
+fn undefined_parts(alloc: Global, view: &View) -> Result<List<DatePart>, RuleStop> {
     let arrays = arrays(alloc, view)?;
     let mut found = List::new(alloc);
     for part in &DatePart::ALL {
@@ -57,7 +57,12 @@ fn undefined_parts(alloc: Global, view: &View) -> Result<List<DatePart>, Stop> {
 }
 
 /// Puts the calculations that fill parts of the date.
-fn fill(alloc: Global, editor: &mut Editor, view: &View, parts: &[DatePart]) -> Result<(), Stop> {
+fn fill(
+    alloc: Global,
+    editor: &mut Editor,
+    view: &View,
+    parts: &[DatePart],
+) -> Result<(), RuleStop> {
     check_lines(alloc, view, parts)?;
     let number = first_card(view, parts);
     let filling = Filling {
@@ -139,7 +144,7 @@ fn first_card(view: &View, parts: &[DatePart]) -> usize {
 }
 
 /// Rejects parts of the date on lines that may be put out before any calculation.
-fn check_lines(alloc: Global, view: &View, parts: &[DatePart]) -> Result<(), Stop> {
+fn check_lines(alloc: Global, view: &View, parts: &[DatePart]) -> Result<(), RuleStop> {
     let printer = printer_of(view);
     let lines = lines(alloc, view)?;
     let is_late = is_total_skipped_late(alloc, view, printer, lines.as_slice())?;
@@ -168,19 +173,19 @@ fn check_line(
     line: &Line,
     parts: &[DatePart],
     is_early: bool,
-) -> Result<(), Stop> {
+) -> Result<(), RuleStop> {
     for field in line.fields.iter() {
         let name = field.card.value(32, 37);
         if is_part(parts, name) && (is_early || is_field_put_first(printer, line, field)) {
             let why = "% on a line that may be put out before any calculation";
-            return Err(Stop::refused(field.number, Sentence::about(why, Word::of(name))));
+            return Err(RuleStop::refused(field.number, Sentence::about(why, Word::of(name))));
         }
     }
     Ok(())
 }
 
 /// Whether a deck has total calculations or total lines.
-fn has_total(alloc: Global, view: &View) -> Result<bool, Stop> {
+fn has_total(alloc: Global, view: &View) -> Result<bool, RuleStop> {
     Ok(
         has_total_line(lines(alloc, view)?.as_slice())
             || has_total_group(groups(alloc, view)?.as_slice()),
@@ -222,7 +227,7 @@ impl Filling {
         parts: &[DatePart],
         place: Place,
         level: Indicator,
-    ) -> Result<(), Stop> {
+    ) -> Result<(), RuleStop> {
         let mut cards = List::new(alloc);
         for part in &[DatePart::Month, DatePart::Day, DatePart::Year] {
             if is_part(parts, part.name()) {

@@ -3,7 +3,8 @@
 use crate::figure::{Beside, Figure, Instead, Use, replacement};
 use rpg_fit_deck::{Card, Editor, Seen, Sentence, View, Word};
 use rpg_fit_words::{
-    Calculation, Columns, Indicator, Operand, Place, Stop, form_of, fresh_name, insert_at, is_card,
+    Calculation, Columns, Indicator, Operand, Place, RuleStop, form_of, fresh_name, insert_at,
+    is_card,
 };
 use std::alloc::Global;
 
@@ -48,7 +49,7 @@ impl Fields {
 /// # Errors
 ///
 /// A constant has no such meaning beside the other operand, a name is needed and none is free, or memory is refused.
-pub fn figures(alloc: Global, editor: &mut Editor) -> Result<(), Stop> {
+pub fn figures(alloc: Global, editor: &mut Editor) -> Result<(), RuleStop> {
     let view = editor.view(alloc)?;
     let mut fields = Fields::none();
     for seen in view.cards.iter() {
@@ -66,7 +67,7 @@ fn rewrite_card(
     view: &View,
     fields: &mut Fields,
     seen: Seen,
-) -> Result<(), Stop> {
+) -> Result<(), RuleStop> {
     let mut now = seen;
     now.card = rewritten(alloc, editor, view, fields, now, Columns::Factor1)?;
     now.card = rewritten(alloc, editor, view, fields, now, Columns::Factor2)?;
@@ -81,7 +82,7 @@ fn rewritten(
     fields: &mut Fields,
     seen: Seen,
     columns: Columns,
-) -> Result<Card, Stop> {
+) -> Result<Card, RuleStop> {
     let constant = Word::of(columns.value(&seen.card));
     let Some(figure) = Figure::of(constant.text()) else {
         return Ok(seen.card);
@@ -99,15 +100,20 @@ fn rewritten(
 }
 
 /// What stands for the figurative constant in columns.
-fn meaning(view: &View, seen: &Seen, columns: Columns, figure: Figure) -> Result<Instead, Stop> {
+fn meaning(
+    view: &View,
+    seen: &Seen,
+    columns: Columns,
+    figure: Figure,
+) -> Result<Instead, RuleStop> {
     let constant = columns.value(&seen.card);
     let Some(beside) = beside(view, other_operand(&seen.card, columns)) else {
         let why = "% stands with a name that nothing defines";
-        return Err(Stop::refused(seen.number, Sentence::about(why, Word::of(constant))));
+        return Err(RuleStop::refused(seen.number, Sentence::about(why, Word::of(constant))));
     };
     match replacement(figure, constant, seen.card.value(28, 32), beside) {
         Ok(instead) => Ok(instead),
-        Err(why) => Err(Stop::refused(seen.number, why)),
+        Err(why) => Err(RuleStop::refused(seen.number, why)),
     }
 }
 
@@ -154,7 +160,7 @@ fn field(
     fields: &mut Fields,
     figure: Figure,
     number: usize,
-) -> Result<Word, Stop> {
+) -> Result<Word, RuleStop> {
     if let Some(name) = fields.of(figure) {
         return Ok(name);
     }

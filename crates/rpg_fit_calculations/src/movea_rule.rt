@@ -5,7 +5,7 @@ use crate::movea::{Entries, Moves, Side, moves_of};
 use crate::now::{Now, replace};
 use rpg_fit_deck::{Card, Editor, Seen, Sentence, View, Word};
 use rpg_fit_words::{
-    Array, Columns, Flagged, FreeIndicators, Group, List, NewCard, Operand, Stop, array_of,
+    Array, Columns, Flagged, FreeIndicators, Group, List, NewCard, Operand, RuleStop, array_of,
     form_of, groups, under_flag, unused_prefix, with_room,
 };
 use std::alloc::Global;
@@ -15,7 +15,7 @@ use std::alloc::Global;
 /// # Errors
 ///
 /// A MOVEA can't be done entry by entry, a name or an indicator is needed and none is free, or memory is refused.
-pub fn moves(alloc: Global, editor: &mut Editor) -> Result<(), Stop> {
+pub fn moves(alloc: Global, editor: &mut Editor) -> Result<(), RuleStop> {
     let view = editor.view(alloc)?;
     let found = groups(alloc, &view)?;
     let mut free = FreeIndicators::new();
@@ -33,7 +33,7 @@ fn rewrite_group(
     editor: &mut Editor,
     free: &mut FreeIndicators,
     group: &Group,
-) -> Result<(), Stop> {
+) -> Result<(), RuleStop> {
     let now = Now::of(alloc, editor, group)?;
     match meaning(&now)? {
         None => Ok(()),
@@ -46,7 +46,7 @@ fn rewrite_group(
 }
 
 /// What a MOVEA becomes; none if its operands can't be read.
-fn meaning(now: &Now) -> Result<Option<Moves>, Stop> {
+fn meaning(now: &Now) -> Result<Option<Moves>, RuleStop> {
     let factor = Columns::Factor2.value(&now.seen.card);
     let result = Columns::Result.value(&now.seen.card);
     let Some(from) = side(now, factor)? else {
@@ -58,25 +58,25 @@ fn meaning(now: &Now) -> Result<Option<Moves>, Stop> {
     let is_same = Operand::of(factor).name == Operand::of(result).name;
     match moves_of(from, to, is_same) {
         Ok(moves) => Ok(Some(moves)),
-        Err(why) => Err(Stop::refused(now.seen.number, why)),
+        Err(why) => Err(RuleStop::refused(now.seen.number, why)),
     }
 }
 
 /// What an operand of MOVEA has; none if nothing defines it, or if its array has no such entry.
-fn side(now: &Now, text: &[u8]) -> Result<Option<Side>, Stop> {
+fn side(now: &Now, text: &[u8]) -> Result<Option<Side>, RuleStop> {
     if is_literal(text) {
         return Ok(Some(Side::Field(literal_length(text))));
     }
     let operand = Operand::of(text);
     if operand.has_index_field() {
-        return Err(Stop::refused(
+        return Err(RuleStop::refused(
             now.seen.number,
             Sentence::of("MOVEA from or to an entry by an index field"),
         ));
     }
     match form_of(&now.view, operand.name) {
         None => Ok(None),
-        Some(form) if form.is_number() => Err(Stop::refused(
+        Some(form) if form.is_number() => Err(RuleStop::refused(
             now.seen.number,
             Sentence::of("MOVEA of a number"),
         )),
@@ -124,7 +124,7 @@ fn move_entries(
     free: &mut FreeIndicators,
     group: &Group,
     moves: Moves,
-) -> Result<(), Stop> {
+) -> Result<(), RuleStop> {
     make_rooms(alloc, editor, group)?;
     let now = Now::of(alloc, editor, group)?;
     let work = work_prefix(&now.view, now.seen.number)?;
@@ -144,7 +144,7 @@ fn move_entries(
 }
 
 /// Gives the arrays of a MOVEA names with room for an index, in the order of their names.
-fn make_rooms(alloc: Global, editor: &mut Editor, group: &Group) -> Result<(), Stop> {
+fn make_rooms(alloc: Global, editor: &mut Editor, group: &Group) -> Result<(), RuleStop> {
     let now = Now::of(alloc, editor, group)?;
     if is_factor_first(&now.seen.card) {
         make_room(alloc, editor, group, Columns::Factor2)?;
@@ -167,7 +167,7 @@ fn make_room(
     editor: &mut Editor,
     group: &Group,
     columns: Columns,
-) -> Result<(), Stop> {
+) -> Result<(), RuleStop> {
     let now = Now::of(alloc, editor, group)?;
     let name = Operand::of(columns.value(&now.seen.card)).name;
     if let Some(array) = array_of(now.arrays.as_slice(), name) {
@@ -178,13 +178,13 @@ fn make_room(
 }
 
 /// The first characters of work fields, with which no name begins.
-fn work_prefix(view: &View, number: usize) -> Result<Word, Stop> {
+fn work_prefix(view: &View, number: usize) -> Result<Word, RuleStop> {
     for stem in &[b"MV", b"MW", b"MX", b"M#"] {
         if let Some(prefix) = unused_prefix(view, *stem, b"#$@VWXYZ") {
             return Ok(prefix);
         }
     }
-    Err(Stop::refused(number, Sentence::of("no name is free")))
+    Err(RuleStop::refused(number, Sentence::of("no name is free")))
 }
 
 /// What the calculations in place of a MOVEA share.
@@ -217,7 +217,7 @@ impl Plan {
         group: &Group,
         before: List<NewCard>,
         moves: Moves,
-    ) -> Result<(), Stop> {
+    ) -> Result<(), RuleStop> {
         let mut cards = before;
         self.push_moves(&mut cards, moves);
         let cards = cards.checked()?;

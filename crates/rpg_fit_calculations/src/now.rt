@@ -1,7 +1,7 @@
 //! A calculation as it is now, and cards in its place.
 
 use rpg_fit_deck::{Editor, Seen, Sentence, View};
-use rpg_fit_words::{Array, Group, NewCard, Stop, arrays, put_cards};
+use rpg_fit_words::{Array, Group, NewCard, RuleStop, arrays, put_cards};
 use std::alloc::Global;
 
 /// A deck as it is now, and the last card of one of its calculations, which other changes may have given another name.
@@ -14,7 +14,7 @@ pub(crate) struct Now {
 
 impl Now {
     /// A calculation that was found before, as it is now.
-    pub(crate) fn of(alloc: Global, editor: &Editor, group: &Group) -> Result<Now, Stop> {
+    pub(crate) fn of(alloc: Global, editor: &Editor, group: &Group) -> Result<Now, RuleStop> {
         let view = editor.view(alloc)?;
         let arrays = arrays(alloc, &view)?;
         let mut seen = group.last;

@@ -4,7 +4,7 @@ use crate::now::{Now, replace};
 use rpg_fit_deck::{Card, Editor, Sentence, Word};
 use rpg_fit_words::{
     Array, Calculation, Columns, Flagged, FreeIndicators, FreshNames, Group, Indicator, List,
-    NewCard, Operand, Stop, array_of, arrays, fresh_name, groups, under_flag, with_room,
+    NewCard, Operand, RuleStop, array_of, arrays, fresh_name, groups, under_flag, with_room,
 };
 use std::alloc::Global;
 
@@ -16,7 +16,7 @@ const LOOP_FROM: usize = 31;
 /// # Errors
 ///
 /// A calculation can't be done entry by entry, a name or an indicator is needed and none is free, or memory is refused.
-pub fn whole_calculations(alloc: Global, editor: &mut Editor) -> Result<(), Stop> {
+pub fn whole_calculations(alloc: Global, editor: &mut Editor) -> Result<(), RuleStop> {
     let view = editor.view(alloc)?;
     let arrays = arrays(alloc, &view)?;
     let found = groups(alloc, &view)?;
@@ -65,38 +65,38 @@ fn is_entry_of(text: &[u8], array: &[u8]) -> bool {
 }
 
 /// Rejects a calculation with whole arrays that can't be done entry by entry.
-fn check(now: &Now, next: Option<&Group>) -> Result<(), Stop> {
+fn check(now: &Now, next: Option<&Group>) -> Result<(), RuleStop> {
     let number = now.seen.number;
     let card = &now.seen.card;
     let operation = card.value(28, 32);
     let result = Columns::Result.value(card);
     if !is_one_of(operation, &BY_ENTRY) {
         let why = Sentence::about("a whole array beside %", Word::of(operation));
-        return Err(Stop::refused(number, why));
+        return Err(RuleStop::refused(number, why));
     }
     if !is_whole(now.arrays.as_slice(), result) {
-        return Err(Stop::refused(number, Sentence::of("a whole array into a field")));
+        return Err(RuleStop::refused(number, Sentence::of("a whole array into a field")));
     }
     if !card.is_blank(54, 59) {
         let why = Sentence::of("resulting indicators of a whole array");
-        return Err(Stop::refused(number, why));
+        return Err(RuleStop::refused(number, why));
     }
     if let Some(group) = next {
         if group.operation() == b"MVR".as_slice() {
             let why = Sentence::of("MVR after a DIV of whole arrays");
-            return Err(Stop::refused(group.last.number, why));
+            return Err(RuleStop::refused(group.last.number, why));
         }
     }
     check_own_entry(card, result, number)
 }
 
 /// Rejects an entry of the result as a factor.
-fn check_own_entry(card: &Card, array: &[u8], number: usize) -> Result<(), Stop> {
+fn check_own_entry(card: &Card, array: &[u8], number: usize) -> Result<(), RuleStop> {
     if is_entry_of(Columns::Factor1.value(card), array)
         || is_entry_of(Columns::Factor2.value(card), array)
     {
         let why = "an entry of % as a factor of the whole of it";
-        return Err(Stop::refused(number, Sentence::about(why, Word::of(array))));
+        return Err(RuleStop::refused(number, Sentence::about(why, Word::of(array))));
     }
     Ok(())
 }
@@ -119,7 +119,7 @@ fn rewrite_group(
     free: &mut FreeIndicators,
     group: &Group,
     next: Option<&Group>,
-) -> Result<(), Stop> {
+) -> Result<(), RuleStop> {
     let now = Now::of(alloc, editor, group)?;
     check(&now, next)?;
     match least_entries(now.arrays.as_slice(), &now.seen.card) {
@@ -130,7 +130,12 @@ fn rewrite_group(
 }
 
 /// Gives the whole arrays of a calculation names with room for an index.
-fn make_rooms(alloc: Global, editor: &mut Editor, group: &Group, index: &Word) -> Result<(), Stop> {
+fn make_rooms(
+    alloc: Global,
+    editor: &mut Editor,
+    group: &Group,
+    index: &Word,
+) -> Result<(), RuleStop> {
     for columns in &Columns::ALL {
         make_room(
             alloc,
@@ -150,7 +155,7 @@ fn make_room(
     group: &Group,
     columns: Columns,
     tail: usize,
-) -> Result<(), Stop> {
+) -> Result<(), RuleStop> {
     let now = Now::of(alloc, editor, group)?;
     let name = columns.value(&now.seen.card);
     if is_whole(now.arrays.as_slice(), name) {
@@ -187,7 +192,7 @@ fn by_entry(
     free: &mut FreeIndicators,
     group: &Group,
     entries: usize,
-) -> Result<(), Stop> {
+) -> Result<(), RuleStop> {
     make_rooms(alloc, editor, group, &Word::of_number(entries))?;
     let now = Now::of(alloc, editor, group)?;
     let under = under_flag(alloc, &now.view, group, free, false)?;
@@ -201,7 +206,7 @@ fn put_entries(
     now: &Now,
     under: Flagged,
     entries: usize,
-) -> Result<(), Stop> {
+) -> Result<(), RuleStop> {
     let base = base_of(now, under.level).with(9, 17, under.conditions.text());
     let mut cards = under.before;
     for place in 0..entries {
@@ -234,7 +239,7 @@ fn by_loop(
     free: &mut FreeIndicators,
     group: &Group,
     entries: usize,
-) -> Result<(), Stop> {
+) -> Result<(), RuleStop> {
     let index = FreshNames::of(b"X#", 2).take(&editor.view(alloc)?, group.last.number)?;
     make_rooms(alloc, editor, group, &index)?;
     let now = Now::of(alloc, editor, group)?;
@@ -263,7 +268,7 @@ fn put_loop(
     entry: NewCard,
     before: List<NewCard>,
     entries: usize,
-) -> Result<(), Stop> {
+) -> Result<(), RuleStop> {
     let mut cards = before;
     cards.push_all(&frame.begin());
     cards.push(entry);
@@ -297,7 +302,7 @@ struct Loop {
 }
 
 impl Loop {
-    fn of(now: &Now, level: Indicator, flag: Indicator, index: Word) -> Result<Loop, Stop> {
+    fn of(now: &Now, level: Indicator, flag: Indicator, index: Word) -> Result<Loop, RuleStop> {
         let number = now.seen.number;
         Ok(Loop {
             level,

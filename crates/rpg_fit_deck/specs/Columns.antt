@@ -8,8 +8,8 @@ unfoldable pub column_of : Card → ℕ → ℕ
 column_of card column = slice_index_or card.columns (column - 1) 32
 
 -- the columns from the first to the last
-unfoldable pub columns_of : Card → ℕ → ℕ → List ℕ
-columns_of card first last = if nat_le (first - 1) last && nat_le last 80 then slice_range card.columns (first - 1) last else []
+unfoldable pub characters_in_columns : Card → ℕ → ℕ → List ℕ
+characters_in_columns card first last = if nat_le (first - 1) last && nat_le last 80 then slice_range card.columns (first - 1) last else []
 
 -- a text without the blanks in front of it
 abbrev pub without_blanks : List ℕ → List ℕ
@@ -17,12 +17,12 @@ without_blanks [] = []
 without_blanks (c ∷ text) = if is_blank c then without_blanks text else c ∷ text
 
 -- what stands in columns, without the blanks on both sides
-unfoldable pub value_of : Card → ℕ → ℕ → List ℕ
-value_of card first last = without_blanks (trimmed (columns_of card first last))
+unfoldable pub value_in_columns : Card → ℕ → ℕ → List ℕ
+value_in_columns card first last = without_blanks (trimmed (characters_in_columns card first last))
 
 -- the form: column 6
-unfoldable pub form_of : Card → ℕ
-form_of card = column_of card 6
+unfoldable pub form_letter : Card → ℕ
+form_letter card = column_of card 6
 
 -- a comment, or nothing at all
 unfoldable pub is_comment : Card → Bool

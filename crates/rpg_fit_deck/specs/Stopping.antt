@@ -22,8 +22,8 @@ abbrev pub has_run_out : Editor → Bool
 has_run_out editor = editor.ran_out
 
 -- no rule has rejected the deck, and memory sufficed
-abbrev pub goes_on : Editor → Bool
-goes_on editor = is_none (refusal_of editor) && not (has_run_out editor)
+abbrev pub may_continue : Editor → Bool
+may_continue editor = is_none (refusal_of editor) && not (has_run_out editor)
 
 -- what stopped the rules still does, and no rule has rejected the deck since
 abbrev pub StaysStopped : Editor → Editor → Type 0
@@ -31,7 +31,7 @@ StaysStopped old new = (refusal_of new ≡ refusal_of old) × (has_run_out old �
 
 -- a deck that no rule has seen
 abbrev pub IsSource : List ℕ → Editor → Type 0
-IsSource source editor = (map (λ line. line.now) editor.lines.items ≡ lines source) × (nothing_told editor.slots.items ≡ true) × (goes_on editor ≡ true)
+IsSource source editor = (map (λ line. line.now) editor.lines.items ≡ lines source) × (nothing_told editor.slots.items ≡ true) × (may_continue editor ≡ true)
 
 -- the new deck is what an editor has
 abbrev pub IsOf : Editor → Fitted → Type 0

@@ -2,7 +2,7 @@
 
 ghost use Rattle.std.specs.Prelude.{◌≡◌};
 ghost use Rattle.rpg_text.specs.Texts.{all_blank, trimmed};
-ghost use Rattle.rpg_fit_deck.specs.Columns.{column_of, columns_of, form_of, is_comment, value_of, without_blanks};
+ghost use Rattle.rpg_fit_deck.specs.Columns.{column_of, characters_in_columns, form_letter, is_comment, value_in_columns, without_blanks};
 
 use rpg_text::{is_blank, trimmed};
 
@@ -44,9 +44,9 @@ impl Card {
     }
 
     /// The columns from the first to the last.
-    #[tactic(auto, unfolding(crate::specs::Columns::columns_of))]
+    #[tactic(auto, unfolding(crate::specs::Columns::characters_in_columns))]
     pub fn columns(&self, first: usize, last: usize) -> &[u8]
-        ensures { result.now ≡ columns_of self.now first last }
+        ensures { result.now ≡ characters_in_columns self.now first last }
     {
         let before = first.saturating_sub(1);
         if before <= last && last <= COLUMNS {
@@ -57,16 +57,16 @@ impl Card {
     }
 
     /// What stands in columns, without the blanks on both sides.
-    #[tactic(auto, unfolding(crate::specs::Columns::value_of))]
+    #[tactic(auto, unfolding(crate::specs::Columns::value_in_columns))]
     pub fn value(&self, first: usize, last: usize) -> &[u8]
-        ensures { result.now ≡ value_of self.now first last }
+        ensures { result.now ≡ value_in_columns self.now first last }
     {
         without_blanks(trimmed(self.columns(first, last)))
     }
 
     /// Whether columns are blank.
     pub fn is_blank(&self, first: usize, last: usize) -> bool
-        ensures { result ≡ all_blank (columns_of self.now first last) }
+        ensures { result ≡ all_blank (characters_in_columns self.now first last) }
     {
         is_blank(self.columns(first, last))
     }
@@ -77,9 +77,9 @@ impl Card {
     }
 
     /// Its form: column 6.
-    #[tactic(auto, unfolding(crate::specs::Columns::form_of))]
+    #[tactic(auto, unfolding(crate::specs::Columns::form_letter))]
     pub fn form(&self) -> u8
-        ensures { result ≡ form_of self.now }
+        ensures { result ≡ form_letter self.now }
     {
         self.column(6)
     }

@@ -3,7 +3,7 @@
 ghost use Rattle.std.specs.Prelude.{◌≡◌, true, Some, None, IfErr, IfOk, OnOk, unwrap_or};
 ghost use Rattle.rpg_fit_deck.specs.New.{nothing_told};
 ghost use Rattle.rpg_fit_deck.specs.Laws.{IsFitted};
-ghost use Rattle.rpg_fit_deck.specs.Stopping.{IsOf, IsSource, StaysStopped, StopsFor, goes_on, has_run_out, refusal_for, refusal_of};
+ghost use Rattle.rpg_fit_deck.specs.Stopping.{IsOf, IsSource, StaysStopped, StopsFor, may_continue, has_run_out, refusal_for, refusal_of};
 
 use crate::card::Card;
 use crate::fitted::Fitted;
@@ -61,7 +61,7 @@ impl<'a> Editor<'a> {
 
     /// Whether to go on: memory sufficed so far, and no rule rejected the deck.
     pub fn goes_on(&self) -> bool
-        ensures { result ≡ goes_on self.now }
+        ensures { result ≡ may_continue self.now }
     {
         self.refusal.is_none() && !self.ran_out
     }
@@ -197,7 +197,7 @@ impl<'a> Editor<'a> {
     pub fn finish(self, alloc: Global, source: &[u8]) -> Result<Fitted, Stopped>
         ensures laws { IfOk result (λ fitted. IsFitted source.now fitted) }
         ensures its_own { IfOk result (λ fitted. IsOf self.entry fitted) }
-        ensures went_on { OnOk result (goes_on self.entry ≡ true) }
+        ensures went_on { OnOk result (may_continue self.entry ≡ true) }
         ensures stopped { IfErr result (λ why. StopsFor (refusal_of self.entry) why) }
     {
         if let Some(refusal) = self.refusal {

@@ -1,7 +1,7 @@
 //! Short texts: names, operands, conditions and numbers.
 
 ghost use Rattle.std.specs.Prelude.{◌≡◌, ◌≤◌, ◌-◌, [], ◌∷◌, length};
-ghost use Rattle.rpg_fit_deck.specs.Words.{cut, followed_by, room_of, text_of};
+ghost use Rattle.rpg_fit_deck.specs.Words.{cut, word_with_text, room_of, word_text};
 
 /// The longest word: an operand of a calculation.
 const LONGEST: usize = 10;
@@ -16,7 +16,7 @@ pub struct Word {
 impl Word {
     /// The first 10 characters of a text.
     pub fn of(text: &[u8]) -> Word
-        ensures text { text_of result ≡ cut text.now }
+        ensures text { word_text result ≡ cut text.now }
         ensures room { room_of result ≡ 10 - length text.now }
     {
         let mut word = Word::empty();
@@ -25,9 +25,9 @@ impl Word {
     }
 
     /// No character.
-    #[tactic(auto, unfolding(crate::specs::Words::text_of))]
+    #[tactic(auto, unfolding(crate::specs::Words::word_text))]
     pub fn empty() -> Word
-        ensures text { text_of result ≡ [] }
+        ensures text { word_text result ≡ [] }
         ensures room { room_of result ≡ 10 }
     {
         Word {
@@ -50,9 +50,9 @@ impl Word {
     }
 
     /// Appends a character if there is room.
-    #[tactic(auto, unfolding(crate::specs::Words::text_of))]
+    #[tactic(auto, unfolding(crate::specs::Words::word_text))]
     pub fn push(&mut self, character: u8)
-        ensures text { text_of self.new ≡ followed_by self.old (character ∷ []) }
+        ensures text { word_text self.new ≡ word_with_text self.old (character ∷ []) }
         ensures room { room_of self.new ≡ room_of self.old - 1 }
     {
         if self.length < LONGEST {
@@ -63,7 +63,7 @@ impl Word {
 
     /// Appends as much of a text as there is room for.
     pub fn push_all(&mut self, text: &[u8])
-        ensures text { text_of self.new ≡ followed_by self.old text.now }
+        ensures text { word_text self.new ≡ word_with_text self.old text.now }
         ensures room { room_of self.new ≡ room_of self.old - length text.now }
     {
         for character in text {
@@ -73,16 +73,16 @@ impl Word {
 
     /// This word and then a text.
     pub fn and(mut self, text: &[u8]) -> Word
-        ensures { text_of result ≡ followed_by self text.now }
+        ensures { word_text result ≡ word_with_text self text.now }
     {
         self.push_all(text);
         self
     }
 
     /// Its characters.
-    #[tactic(auto, unfolding(crate::specs::Words::text_of))]
+    #[tactic(auto, unfolding(crate::specs::Words::word_text))]
     pub fn text(&self) -> &[u8]
-        ensures { result.now ≡ text_of self.now }
+        ensures { result.now ≡ word_text self.now }
     {
         &self.characters[..self.length.min(LONGEST)]
     }

@@ -5,7 +5,7 @@ use crate::dollar_code::dollar_code;
 use crate::field::name_on;
 use crate::word_form::WordForm;
 use rpg_fit_deck::{Editor, Seen, Sentence, View, Word};
-use rpg_fit_words::{Line, Operand, Stop, form_of, lines};
+use rpg_fit_words::{Line, Operand, RuleStop, form_of, lines};
 use std::alloc::Global;
 
 /// Puts an edit code in place of each word in which a dollar sign floats.
@@ -13,7 +13,7 @@ use std::alloc::Global;
 /// # Errors
 ///
 /// The deck is rejected, or memory is refused.
-pub fn dollars(alloc: Global, editor: &mut Editor) -> Result<(), Stop> {
+pub fn dollars(alloc: Global, editor: &mut Editor) -> Result<(), RuleStop> {
     let view = editor.view(alloc)?;
     let lines = lines(alloc, &view)?;
     for line in lines.iter() {
@@ -22,7 +22,7 @@ pub fn dollars(alloc: Global, editor: &mut Editor) -> Result<(), Stop> {
     Ok(())
 }
 
-fn code_fields(editor: &mut Editor, view: &View, line: &Line) -> Result<(), Stop> {
+fn code_fields(editor: &mut Editor, view: &View, line: &Line) -> Result<(), RuleStop> {
     for field in line.fields.iter() {
         if has_word(field) {
             code_field(editor, view, field)?;
@@ -36,7 +36,7 @@ pub(crate) fn has_word(field: &Seen) -> bool {
     !field.card.is_blank(32, 37) && field.card.is_blank(38, 38) && !field.card.is_blank(45, 70)
 }
 
-fn code_field(editor: &mut Editor, view: &View, field: &Seen) -> Result<(), Stop> {
+fn code_field(editor: &mut Editor, view: &View, field: &Seen) -> Result<(), RuleStop> {
     let word = Constant::of(&field.card);
     let name = Operand::of(name_on(&field.card)).name;
     let around = WordForm::of(word.text()).around_dollar();
@@ -44,7 +44,7 @@ fn code_field(editor: &mut Editor, view: &View, field: &Seen) -> Result<(), Stop
         (Some(around), Some(form)) if form.is_number() => {
             match dollar_code(around, form.length, form.places()) {
                 Ok(code) => put_code(editor, field, code),
-                Err(why) => return Err(Stop::refused(field.number, Sentence::of(why))),
+                Err(why) => return Err(RuleStop::refused(field.number, Sentence::of(why))),
             }
         }
         _ => {}

@@ -2,8 +2,8 @@
 
 use rpg_fit_deck::{Editor, Seen, Sentence, Word};
 use rpg_fit_words::{
-    Alternative, Condition, Indicator, Line, List, NewCard, Stop, Term, Time, lines, lines_now,
-    name_files, printer_of, put_cards,
+    Alternative, Conjunction, Indicator, Line, List, NewCard, RuleStop, Term, Time, lines,
+    lines_now, name_files, printer_of, put_cards,
 };
 use std::alloc::Global;
 
@@ -15,7 +15,7 @@ const MOST_ALTERNATIVES: usize = 2000;
 /// # Errors
 ///
 /// The deck is rejected, or memory is refused.
-pub fn or_spaces(alloc: Global, editor: &mut Editor) -> Result<(), Stop> {
+pub fn or_spaces(alloc: Global, editor: &mut Editor) -> Result<(), RuleStop> {
     let view = editor.view(alloc)?;
     let overflow = match printer_of(&view) {
         Some(printer) => printer.overflow,
@@ -29,7 +29,7 @@ fn split_lines(
     editor: &mut Editor,
     lines: &[Line],
     overflow: Indicator,
-) -> Result<(), Stop> {
+) -> Result<(), RuleStop> {
     for line in lines {
         if let Some(card) = own_spaces(line) {
             let split = Split {
@@ -108,7 +108,7 @@ struct Split<'a> {
 }
 
 impl Split<'_> {
-    fn rewrite(&self, alloc: Global, editor: &mut Editor) -> Result<(), Stop> {
+    fn rewrite(&self, alloc: Global, editor: &mut Editor) -> Result<(), RuleStop> {
         let parts = parts_of(alloc, self.line);
         let parts = parts.checked()?;
         if parts.len() == 1 {
@@ -119,7 +119,12 @@ impl Split<'_> {
     }
 
     /// Puts a line for each part in the line's place.
-    fn put_lines(&self, alloc: Global, editor: &mut Editor, parts: &[Part]) -> Result<(), Stop> {
+    fn put_lines(
+        &self,
+        alloc: Global,
+        editor: &mut Editor,
+        parts: &[Part],
+    ) -> Result<(), RuleStop> {
         editor.tell(
             self.card,
             Sentence::about("% lines in place of one", Word::of_number(parts.len())),
@@ -133,7 +138,7 @@ impl Split<'_> {
     }
 
     /// Puts the name of its file on each line, since this one goes.
-    fn name_all(&self, alloc: Global, editor: &mut Editor) -> Result<(), Stop> {
+    fn name_all(&self, alloc: Global, editor: &mut Editor) -> Result<(), RuleStop> {
         let lines = lines_now(alloc, editor)?;
         name_files(editor, lines.as_slice(), self.card);
         Ok(())
@@ -145,7 +150,7 @@ impl Split<'_> {
         alloc: Global,
         cards: &mut List<NewCard>,
         parts: &[Part],
-    ) -> Result<(), Stop> {
+    ) -> Result<(), RuleStop> {
         for part in parts {
             self.push_line(alloc, cards, part)?;
         }
@@ -153,7 +158,12 @@ impl Split<'_> {
     }
 
     /// Appends the cards of a part's line, unless it is never put out.
-    fn push_line(&self, alloc: Global, cards: &mut List<NewCard>, part: &Part) -> Result<(), Stop> {
+    fn push_line(
+        &self,
+        alloc: Global,
+        cards: &mut List<NewCard>,
+        part: &Part,
+    ) -> Result<(), RuleStop> {
         let mut alternatives = List::new(alloc);
         self.push_alternatives(alloc, &mut alternatives, part)?;
         let alternatives = alternatives.checked()?;
@@ -169,9 +179,9 @@ impl Split<'_> {
     fn push_alternatives(
         &self,
         alloc: Global,
-        apart: &mut List<Condition>,
+        apart: &mut List<Conjunction>,
         part: &Part,
-    ) -> Result<(), Stop> {
+    ) -> Result<(), RuleStop> {
         let all = self.line.alternatives.as_slice();
         let earlier = all.get(..part.first).unwrap_or(&[]);
         for alternative in all.get(part.first..part.end).unwrap_or(&[]) {
@@ -183,10 +193,10 @@ impl Split<'_> {
     fn push_alternative(
         &self,
         alloc: Global,
-        apart: &mut List<Condition>,
-        condition: &Condition,
+        apart: &mut List<Conjunction>,
+        condition: &Conjunction,
         earlier: &[Alternative],
-    ) -> Result<(), Stop> {
+    ) -> Result<(), RuleStop> {
         let mut left = List::new(alloc);
         left.push(*condition);
         for other in earlier {
@@ -199,7 +209,7 @@ impl Split<'_> {
     }
 
     /// Whether a condition is one of overflow output.
-    fn is_overflow(&self, condition: &Condition) -> bool {
+    fn is_overflow(&self, condition: &Conjunction) -> bool {
         self.line.time != Time::Exception
             && !self.overflow.is_blank()
             && condition.has(Term::on(self.overflow))
@@ -209,9 +219,9 @@ impl Split<'_> {
     fn without(
         &self,
         alloc: Global,
-        conditions: &List<Condition>,
-        other: &Condition,
-    ) -> Result<List<Condition>, Stop> {
+        conditions: &List<Conjunction>,
+        other: &Conjunction,
+    ) -> Result<List<Conjunction>, RuleStop> {
         let conditions = conditions.checked()?;
         let mut left = List::new(alloc);
         for condition in conditions {
@@ -228,10 +238,10 @@ impl Split<'_> {
     /// opposite.
     fn push_without(
         &self,
-        left: &mut List<Condition>,
-        condition: &Condition,
-        other: &Condition,
-    ) -> Result<(), Stop> {
+        left: &mut List<Conjunction>,
+        condition: &Conjunction,
+        other: &Conjunction,
+    ) -> Result<(), RuleStop> {
         let mut met = *condition;
         for term in other.terms() {
             if !condition.has(*term) {
@@ -244,13 +254,13 @@ impl Split<'_> {
     }
 
     /// Rejects a further alternative: an earlier line may turn overflow on, and no deck has so many.
-    fn check(&self, asked: Indicator, alternatives: usize) -> Result<(), Stop> {
+    fn check(&self, asked: Indicator, alternatives: usize) -> Result<(), RuleStop> {
         if !self.overflow.is_blank() && asked == self.overflow {
             let why = Sentence::of("an earlier alternative asks for overflow");
-            return Err(Stop::refused(self.card, why));
+            return Err(RuleStop::refused(self.card, why));
         }
         if alternatives >= MOST_ALTERNATIVES {
-            return Err(Stop::refused(self.card, Sentence::of("more than 2000 alternatives")));
+            return Err(RuleStop::refused(self.card, Sentence::of("more than 2000 alternatives")));
         }
         Ok(())
     }

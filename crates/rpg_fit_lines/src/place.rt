@@ -2,7 +2,7 @@
 
 use crate::field::{end_on, name_on};
 use rpg_fit_deck::{Editor, Seen, Sentence, Word};
-use rpg_fit_words::{Condition, Line, List, NewCard, Stop, lines_now};
+use rpg_fit_words::{Conjunction, Line, List, NewCard, RuleStop, lines_now};
 use std::alloc::Global;
 
 /// How many cards a deck has at most.
@@ -16,7 +16,7 @@ const MOST_TERMS: usize = 3;
 /// # Errors
 ///
 /// The deck is rejected, or memory is refused.
-pub fn places(alloc: Global, editor: &mut Editor) -> Result<(), Stop> {
+pub fn places(alloc: Global, editor: &mut Editor) -> Result<(), RuleStop> {
     let lines = lines_now(alloc, editor)?;
     for line in lines.iter() {
         place_fields(alloc, editor, line)?;
@@ -24,7 +24,7 @@ pub fn places(alloc: Global, editor: &mut Editor) -> Result<(), Stop> {
     Ok(())
 }
 
-fn place_fields(alloc: Global, editor: &mut Editor, line: &Line) -> Result<(), Stop> {
+fn place_fields(alloc: Global, editor: &mut Editor, line: &Line) -> Result<(), RuleStop> {
     let mut before = Before {
         fields: List::new(alloc),
         highest: 0,
@@ -56,7 +56,7 @@ impl Before {
 
     /// Replaces *PLACE by copies of the fields before it. Where these alone are more than a deck may have, they stay as they are: the
     /// deck is too long.
-    fn place(&mut self, editor: &mut Editor, place: &Seen) -> Result<(), Stop> {
+    fn place(&mut self, editor: &mut Editor, place: &Seen) -> Result<(), RuleStop> {
         self.check(place)?;
         let copies = self.fields.as_slice().len();
         if copies > MOST_CARDS {
@@ -73,20 +73,25 @@ impl Before {
     }
 
     /// Rejects *PLACE after PAGE, which would be counted twice, and where copies would come before the fields' ends.
-    fn check(&self, place: &Seen) -> Result<(), Stop> {
+    fn check(&self, place: &Seen) -> Result<(), RuleStop> {
         if has_page(self.fields.as_slice()) {
-            return Err(Stop::refused(place.number, Sentence::of("PAGE stands before *PLACE")));
+            return Err(RuleStop::refused(place.number, Sentence::of("PAGE stands before *PLACE")));
         }
         if end_on(&place.card) < self.highest.saturating_mul(2) {
             let highest = Word::of_number(self.highest);
             let why = Sentence::about("its end is less than twice %", highest);
-            return Err(Stop::refused(place.number, why));
+            return Err(RuleStop::refused(place.number, why));
         }
         Ok(())
     }
 
     /// Puts a copy of each of so many fields before *PLACE.
-    fn copy_all(&mut self, editor: &mut Editor, place: &Seen, fields: usize) -> Result<(), Stop> {
+    fn copy_all(
+        &mut self,
+        editor: &mut Editor,
+        place: &Seen,
+        fields: usize,
+    ) -> Result<(), RuleStop> {
         let further = end_on(&place.card).saturating_sub(self.highest);
         for index in 0..fields {
             if let Some(field) = self.fields.as_slice().get(index).copied() {
@@ -110,12 +115,12 @@ fn has_page(fields: &[NewCard]) -> bool {
 }
 
 /// A copy of a field so much further to the right, under the conditions of *PLACE and its own, without blank after.
-fn moved(field: NewCard, place: &Seen, further: usize) -> Result<NewCard, Stop> {
-    let own = Condition::at(&field.card, 23);
-    let together = Condition::at(&place.card, 23).and_missing(&own);
+fn moved(field: NewCard, place: &Seen, further: usize) -> Result<NewCard, RuleStop> {
+    let own = Conjunction::at(&field.card, 23);
+    let together = Conjunction::at(&place.card, 23).and_missing(&own);
     if together.len() > MOST_TERMS {
         let why = Sentence::of("more than three conditions together");
-        return Err(Stop::refused(place.number, why));
+        return Err(RuleStop::refused(place.number, why));
     }
     let end = Word::of_number(end_on(&field.card).saturating_add(further));
     Ok(NewCard {

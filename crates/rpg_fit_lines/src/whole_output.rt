@@ -5,7 +5,7 @@ use crate::row::{Row, Span};
 use crate::width::field_width;
 use rpg_fit_deck::{Editor, Seen, Sentence, View, Word};
 use rpg_fit_words::{
-    Array, Line, List, NewCard, Operand, Stop, array_of, arrays, form_of, lines, with_room,
+    Array, Line, List, NewCard, Operand, RuleStop, array_of, arrays, form_of, lines, with_room,
 };
 use std::alloc::Global;
 
@@ -20,7 +20,7 @@ const GAP: usize = 2;
 /// # Errors
 ///
 /// The deck is rejected, or memory is refused.
-pub fn whole_outputs(alloc: Global, editor: &mut Editor) -> Result<(), Stop> {
+pub fn whole_outputs(alloc: Global, editor: &mut Editor) -> Result<(), RuleStop> {
     let view = editor.view(alloc)?;
     spread_lines(alloc, editor, &view, lines(alloc, &view)?.as_slice())
 }
@@ -30,7 +30,7 @@ fn spread_lines(
     editor: &mut Editor,
     view: &View,
     lines: &[Line],
-) -> Result<(), Stop> {
+) -> Result<(), RuleStop> {
     let mut deck = Arrays {
         view,
         arrays: arrays(alloc, view)?,
@@ -48,7 +48,7 @@ fn spread_fields(
     editor: &mut Editor,
     deck: &mut Arrays,
     line: &Line,
-) -> Result<(), Stop> {
+) -> Result<(), RuleStop> {
     let mut before = List::new(alloc);
     for field in line.fields.iter() {
         match deck.array(field) {
@@ -69,7 +69,7 @@ fn spread_array(
     before: &mut List<Span>,
     field: &Seen,
     array: Array,
-) -> Result<(), Stop> {
+) -> Result<(), RuleStop> {
     let row = deck.row(field, array);
     check(row, before.as_slice(), field.number)?;
     before.push(row.span());
@@ -79,20 +79,20 @@ fn spread_array(
 }
 
 /// Rejects entries without room in their line.
-fn check(row: Row, before: &[Span], card: usize) -> Result<(), Stop> {
+fn check(row: Row, before: &[Span], card: usize) -> Result<(), RuleStop> {
     if row.begins_early() {
-        return Err(Stop::refused(card, Sentence::of("its first entry begins before column 1")));
+        return Err(RuleStop::refused(card, Sentence::of("its first entry begins before column 1")));
     }
     for field in before {
         if row.has_between(*field) {
             let why = Sentence::of("an earlier field stands between its entries");
-            return Err(Stop::refused(card, why));
+            return Err(RuleStop::refused(card, why));
         }
     }
     if row.entries > MOST_FIELDS {
         let entries = Word::of_number(row.entries);
         let why = Sentence::about("% entries, and a line has 200 fields", entries);
-        return Err(Stop::refused(card, why));
+        return Err(RuleStop::refused(card, why));
     }
     Ok(())
 }
@@ -184,7 +184,7 @@ impl Arrays<'_> {
         editor: &mut Editor,
         field: &Seen,
         array: Array,
-    ) -> Result<Word, Stop> {
+    ) -> Result<Word, RuleStop> {
         let entries = Word::of_number(array.entries);
         let name = self.name_now(array.name);
         let tail = entries.len().saturating_add(1);

@@ -3,7 +3,7 @@
 use crate::wide_word::ShortNumber;
 use rpg_fit_deck::{Editor, Word};
 use rpg_fit_words::{
-    Calculation, Group, Indicator, List, Place, Stop, Time, fresh_name, groups, insert_at,
+    Calculation, Group, Indicator, List, Place, RuleStop, Time, fresh_name, groups, insert_at,
 };
 use std::alloc::Global;
 
@@ -73,7 +73,7 @@ impl WideFields {
     }
 
     /// Whether memory sufficed.
-    pub fn check(&self) -> Result<(), Stop> {
+    pub fn check(&self) -> Result<(), RuleStop> {
         self.fields.checked()?;
         self.copies.checked()?;
         Ok(())
@@ -86,7 +86,7 @@ impl WideFields {
         editor: &mut Editor,
         number: ShortNumber,
         when: PutOut,
-    ) -> Result<Word, Stop> {
+    ) -> Result<Word, RuleStop> {
         let name = match self.find(number) {
             Some(name) => name,
             None => self.make(alloc, editor, number, when)?,
@@ -120,7 +120,7 @@ impl WideFields {
         editor: &mut Editor,
         number: ShortNumber,
         when: PutOut,
-    ) -> Result<Word, Stop> {
+    ) -> Result<Word, RuleStop> {
         let name = fresh_name(&editor.view(alloc)?, b"W#", number.field.number)?;
         if when.time == Time::Exception && !has_exception(alloc, editor)? {
             let never = copied(b"0", name, number).unless(Indicator::ALWAYS);
@@ -151,7 +151,7 @@ impl WideFields {
         editor: &mut Editor,
         number: ShortNumber,
         copy: CopyAt,
-    ) -> Result<(), Stop> {
+    ) -> Result<(), RuleStop> {
         if self.has_copy(copy) {
             return Ok(());
         }
@@ -172,7 +172,7 @@ impl WideFields {
 }
 
 /// Whether a deck has an EXCPT.
-fn has_exception(alloc: Global, editor: &Editor) -> Result<bool, Stop> {
+fn has_exception(alloc: Global, editor: &Editor) -> Result<bool, RuleStop> {
     let view = editor.view(alloc)?;
     let groups = groups(alloc, &view)?;
     for group in groups.iter() {
@@ -202,7 +202,7 @@ fn put(
     place: Place,
     calculation: Calculation,
     number: ShortNumber,
-) -> Result<(), Stop> {
+) -> Result<(), RuleStop> {
     let card = number.field.number;
     insert_at(alloc, editor, place, &[calculation.made_of(card)], card)
 }
@@ -213,7 +213,7 @@ fn put_before_exceptions(
     editor: &mut Editor,
     calculation: Calculation,
     number: ShortNumber,
-) -> Result<(), Stop> {
+) -> Result<(), RuleStop> {
     let view = editor.view(alloc)?;
     let groups = groups(alloc, &view)?;
     for group in groups.iter() {

@@ -7,7 +7,7 @@ use crate::wide_field::{PutOut, WideFields};
 use crate::word_form::WordForm;
 use rpg_fit_deck::{Editor, Seen, Sentence, View, Word};
 use rpg_fit_words::{
-    Form, Line, NewCard, Operand, Printer, Stop, Time, form_of, is_card, is_date_part,
+    Form, Line, NewCard, Operand, Printer, RuleStop, Time, form_of, is_card, is_date_part,
     is_field_put_first, is_total_skipped_late, lines, printer_of,
 };
 use std::alloc::Global;
@@ -21,12 +21,17 @@ const MOST_DIGITS: usize = 15;
 /// # Errors
 ///
 /// The deck is rejected, or memory is refused.
-pub fn words(alloc: Global, editor: &mut Editor) -> Result<(), Stop> {
+pub fn words(alloc: Global, editor: &mut Editor) -> Result<(), RuleStop> {
     let view = editor.view(alloc)?;
     widen_all(alloc, editor, &view, lines(alloc, &view)?.as_slice())
 }
 
-fn widen_all(alloc: Global, editor: &mut Editor, view: &View, lines: &[Line]) -> Result<(), Stop> {
+fn widen_all(
+    alloc: Global,
+    editor: &mut Editor,
+    view: &View,
+    lines: &[Line],
+) -> Result<(), RuleStop> {
     let printer = printer_of(view);
     let deck = Deck {
         view,
@@ -55,7 +60,7 @@ struct Deck<'a> {
 }
 
 impl Deck<'_> {
-    fn widen_lines(&self, alloc: Global, editor: &mut Editor) -> Result<(), Stop> {
+    fn widen_lines(&self, alloc: Global, editor: &mut Editor) -> Result<(), RuleStop> {
         let mut wide = WideFields::new(alloc);
         for (place, line) in self.lines.iter().enumerate() {
             let at = LineAt { line, place };
@@ -70,7 +75,7 @@ impl Deck<'_> {
         editor: &mut Editor,
         wide: &mut WideFields,
         at: LineAt,
-    ) -> Result<(), Stop> {
+    ) -> Result<(), RuleStop> {
         for field in at.line.fields.iter() {
             if let Some(number) = self.short_number(field) {
                 self.check(at, field, number)?;
@@ -101,10 +106,10 @@ impl Deck<'_> {
     }
 
     /// Rejects a number whose copy might not have its value where the line is put out.
-    fn check(&self, at: LineAt, field: &Seen, number: ShortNumber) -> Result<(), Stop> {
+    fn check(&self, at: LineAt, field: &Seen, number: ShortNumber) -> Result<(), RuleStop> {
         if number.places > MOST_DIGITS {
             let why = Sentence::about("a word with % places", Word::of_number(number.places));
-            return Err(Stop::refused(field.number, why));
+            return Err(RuleStop::refused(field.number, why));
         }
         let name = Operand::of(name_on(&field.card));
         if name.has_index_field() {
@@ -120,7 +125,7 @@ impl Deck<'_> {
     }
 
     /// Rejects a number that has a value before any calculation or that a line before it blanks.
-    fn check_value(&self, at: LineAt, field: &Seen, name: &[u8]) -> Result<(), Stop> {
+    fn check_value(&self, at: LineAt, field: &Seen, name: &[u8]) -> Result<(), RuleStop> {
         if self.begins_with_value(name) && self.may_come_early(at.line, field) {
             return refused(
                 field,
@@ -129,7 +134,7 @@ impl Deck<'_> {
         }
         if self.may_be_blanked(at, name) {
             let why = "a word with more places than digits, and a line before it blanks %";
-            return Err(Stop::refused(field.number, Sentence::about(why, Word::of(name))));
+            return Err(RuleStop::refused(field.number, Sentence::about(why, Word::of(name))));
         }
         Ok(())
     }
@@ -184,7 +189,7 @@ impl Deck<'_> {
         wide: &mut WideFields,
         at: LineAt,
         number: ShortNumber,
-    ) -> Result<(), Stop> {
+    ) -> Result<(), RuleStop> {
         let when = PutOut {
             time: at.line.time,
             has_overflow: self.has_overflow(at.line),
@@ -218,8 +223,8 @@ pub(crate) struct ShortNumber {
 }
 
 /// The deck is refused for a field.
-fn refused(field: &Seen, why: &'static str) -> Result<(), Stop> {
-    Err(Stop::refused(field.number, Sentence::of(why)))
+fn refused(field: &Seen, why: &'static str) -> Result<(), RuleStop> {
+    Err(RuleStop::refused(field.number, Sentence::of(why)))
 }
 
 /// Whether a name is the date or a part of it.

@@ -4,8 +4,8 @@ use crate::overflow::Overflow;
 use crate::page_reset::fetches;
 use rpg_fit_deck::{Address, Editor, Sentence, View, Word};
 use rpg_fit_words::{
-    Calculation, Condition, FreeIndicators, Indicator, Line, List, NewCard, Place, Stop, Term,
-    Time, insert_at, is_card, name_files, push_conditioned, put_cards,
+    Calculation, Conjunction, FreeIndicators, Indicator, Line, List, NewCard, Place, RuleStop,
+    Term, Time, insert_at, is_card, name_files, push_conditioned, put_cards,
 };
 use std::alloc::Global;
 
@@ -77,7 +77,7 @@ struct Steps {
 
 impl Moves<'_> {
     /// Makes the lines and the calculations.
-    pub fn make(&self, alloc: Global, editor: &mut Editor) -> Result<(), Stop> {
+    pub fn make(&self, alloc: Global, editor: &mut Editor) -> Result<(), RuleStop> {
         name_files(editor, self.lines, self.card);
         let mut made = self.begin(alloc)?;
         let copied = self.make_all(alloc, editor, &mut made)?;
@@ -86,7 +86,7 @@ impl Moves<'_> {
         Ok(())
     }
 
-    fn begin(&self, alloc: Global) -> Result<Made, Stop> {
+    fn begin(&self, alloc: Global) -> Result<Made, RuleStop> {
         let mut free = FreeIndicators::new();
         let at_overflow = free.take(self.view, self.card)?;
         Ok(Made {
@@ -98,7 +98,12 @@ impl Moves<'_> {
     }
 
     /// Makes the lines of both times, and returns how many of them are copies of overflow lines.
-    fn make_all(&self, alloc: Global, editor: &mut Editor, made: &mut Made) -> Result<usize, Stop> {
+    fn make_all(
+        &self,
+        alloc: Global,
+        editor: &mut Editor,
+        made: &mut Made,
+    ) -> Result<usize, RuleStop> {
         let totals = self.copy_overflow(alloc, made, Part::Total)?;
         let details = self.copy_overflow(alloc, made, Part::Detail)?;
         self.move_part(alloc, editor, made, Part::Total)?;
@@ -107,7 +112,7 @@ impl Moves<'_> {
     }
 
     /// Appends copies of the overflow lines of a time, and returns how many there are.
-    fn copy_overflow(&self, alloc: Global, made: &mut Made, part: Part) -> Result<usize, Stop> {
+    fn copy_overflow(&self, alloc: Global, made: &mut Made, part: Part) -> Result<usize, RuleStop> {
         let mut lines: usize = 0;
         for line in self.lines {
             if part.has(line.time) && self.overflow.has(line) {
@@ -119,7 +124,7 @@ impl Moves<'_> {
     }
 
     /// Appends a copy of an overflow line.
-    fn copy_line(&self, alloc: Global, made: &mut Made, line: &Line) -> Result<(), Stop> {
+    fn copy_line(&self, alloc: Global, made: &mut Made, line: &Line) -> Result<(), RuleStop> {
         let mut conditions = List::new(alloc);
         self.overflow.push_conditions(&mut conditions, line);
         let flag = made.at_overflow;
@@ -143,7 +148,7 @@ impl Moves<'_> {
         editor: &mut Editor,
         made: &mut Made,
         part: Part,
-    ) -> Result<(), Stop> {
+    ) -> Result<(), RuleStop> {
         if !self.fetches_at(part) {
             return Ok(());
         }
@@ -171,7 +176,7 @@ impl Moves<'_> {
         editor: &mut Editor,
         made: &mut Made,
         steps: &mut Steps,
-    ) -> Result<(), Stop> {
+    ) -> Result<(), RuleStop> {
         for line in self.lines {
             if steps.part.has(line.time) {
                 self.move_line(alloc, made, steps, line)?;
@@ -188,13 +193,13 @@ impl Moves<'_> {
         made: &mut Made,
         steps: &mut Steps,
         line: &Line,
-    ) -> Result<(), Stop> {
+    ) -> Result<(), RuleStop> {
         let later = self.later(alloc, line);
         self.move_later(alloc, made, steps, line, later.checked()?)
     }
 
     /// The conditions under which a line may be put out after the first output, at which alone 1P is on, and other than at overflow.
-    fn later(&self, alloc: Global, line: &Line) -> List<Condition> {
+    fn later(&self, alloc: Global, line: &Line) -> List<Conjunction> {
         let mut found = List::new(alloc);
         for alternative in line.alternatives.iter() {
             let condition = &alternative.condition;
@@ -213,8 +218,8 @@ impl Moves<'_> {
         made: &mut Made,
         steps: &mut Steps,
         line: &Line,
-        later: &[Condition],
-    ) -> Result<(), Stop> {
+        later: &[Conjunction],
+    ) -> Result<(), RuleStop> {
         if later.is_empty() {
             return Ok(());
         }
@@ -229,7 +234,7 @@ impl Moves<'_> {
     }
 
     /// The indicator under which a line is put out.
-    fn flag(&self, made: &mut Made, steps: &mut Steps, line: &Line) -> Result<Indicator, Stop> {
+    fn flag(&self, made: &mut Made, steps: &mut Steps, line: &Line) -> Result<Indicator, RuleStop> {
         match steps.flag {
             Some(flag) => Ok(flag),
             None => {
@@ -246,8 +251,8 @@ impl Moves<'_> {
         alloc: Global,
         steps: &mut Steps,
         flag: Indicator,
-        conditions: &[Condition],
-    ) -> Result<(), Stop> {
+        conditions: &[Conjunction],
+    ) -> Result<(), RuleStop> {
         let level = steps.part.level();
         let on = Calculation::of(b"SETON").high(flag).made_of(self.card);
         let asked = with_term(alloc, conditions, Term::on(self.indicator));
@@ -265,7 +270,7 @@ impl Moves<'_> {
     }
 
     /// The alternatives with which a line stays: those that hold at the first output, there alone, and those of overflow.
-    fn kept(&self, alloc: Global, line: &Line, part: Part) -> List<Condition> {
+    fn kept(&self, alloc: Global, line: &Line, part: Part) -> List<Conjunction> {
         let mut kept = List::new(alloc);
         if matches!(part, Part::Detail) {
             self.push_first(&mut kept, line);
@@ -275,8 +280,8 @@ impl Moves<'_> {
     }
 
     /// Appends the conditions of a line that hold at the first output, each with 1P, so that they hold there alone.
-    fn push_first(&self, kept: &mut List<Condition>, line: &Line) {
-        let first = Condition::on(Indicator::FIRST_PAGE);
+    fn push_first(&self, kept: &mut List<Conjunction>, line: &Line) {
+        let first = Conjunction::on(Indicator::FIRST_PAGE);
         for alternative in line.alternatives.iter() {
             let condition = &alternative.condition;
             if condition.holds_first() && !self.overflow.is_output(line, condition) {
@@ -292,7 +297,7 @@ impl Moves<'_> {
         editor: &mut Editor,
         line: &Line,
         part: Part,
-    ) -> Result<(), Stop> {
+    ) -> Result<(), RuleStop> {
         let kept = self.kept(alloc, line, part);
         let kept = kept.checked()?;
         if !kept.is_empty() {
@@ -308,8 +313,8 @@ impl Moves<'_> {
         alloc: Global,
         editor: &mut Editor,
         line: &Line,
-        alternatives: &[Condition],
-    ) -> Result<(), Stop> {
+        alternatives: &[Conjunction],
+    ) -> Result<(), RuleStop> {
         let mut cards = List::new(alloc);
         line.push_copy(&mut cards, line.new_head().with(16, 16, &[]), alternatives)?;
         put_cards(editor, line.head.at, cards.checked()?, self.card);
@@ -317,7 +322,7 @@ impl Moves<'_> {
     }
 
     /// Puts the lines that EXCPT puts out after all others.
-    fn put_tail(&self, alloc: Global, editor: &mut Editor, made: &Made) -> Result<(), Stop> {
+    fn put_tail(&self, alloc: Global, editor: &mut Editor, made: &Made) -> Result<(), RuleStop> {
         let tail = made.tail.checked()?;
         let behind = behind_output(&editor.view(alloc)?);
         put_cards(editor, behind, tail, self.card);
@@ -371,11 +376,11 @@ fn push_exception(
     cards: &mut List<NewCard>,
     line: &Line,
     flag: Indicator,
-    conditions: &[Condition],
-) -> Result<(), Stop> {
+    conditions: &[Conjunction],
+) -> Result<(), RuleStop> {
     let mut flagged = List::new(alloc);
     for condition in conditions {
-        flagged.push(Condition::on(flag).and_all(condition));
+        flagged.push(Conjunction::on(flag).and_all(condition));
     }
     line.push_copy(
         cards,
@@ -385,7 +390,7 @@ fn push_exception(
 }
 
 /// Conditions with one more term.
-fn with_term(alloc: Global, conditions: &[Condition], term: Term) -> List<Condition> {
+fn with_term(alloc: Global, conditions: &[Conjunction], term: Term) -> List<Conjunction> {
     let mut found = List::new(alloc);
     for condition in conditions {
         found.push(condition.and(term));

@@ -5,7 +5,7 @@ use crate::overflow::Overflow;
 use crate::page_reset::fetches;
 use rpg_fit_deck::{Address, Editor, Seen, Sentence, View};
 use rpg_fit_words::{
-    Condition, Indicator, IndicatorUse, Line, Stop, Term, Time, indicator_uses, lines,
+    Conjunction, Indicator, IndicatorUse, Line, RuleStop, Term, Time, indicator_uses, lines,
     reaches_overflow, settle,
 };
 use std::alloc::Global;
@@ -16,12 +16,17 @@ pub fn fetch(alloc: Global, editor: &mut Editor) {
     settle(editor, outcome);
 }
 
-fn fetch_lines(alloc: Global, editor: &mut Editor) -> Result<(), Stop> {
+fn fetch_lines(alloc: Global, editor: &mut Editor) -> Result<(), RuleStop> {
     let view = editor.view(alloc)?;
     rewrite(alloc, editor, &view, lines(alloc, &view)?.as_slice())
 }
 
-fn rewrite(alloc: Global, editor: &mut Editor, view: &View, lines: &[Line]) -> Result<(), Stop> {
+fn rewrite(
+    alloc: Global,
+    editor: &mut Editor,
+    view: &View,
+    lines: &[Line],
+) -> Result<(), RuleStop> {
     match first_fetching(lines) {
         Some(card) => {
             let deck = Deck {
@@ -57,7 +62,7 @@ struct Deck<'a> {
 }
 
 impl Deck<'_> {
-    fn rewrite(&self, alloc: Global, editor: &mut Editor) -> Result<(), Stop> {
+    fn rewrite(&self, alloc: Global, editor: &mut Editor) -> Result<(), RuleStop> {
         let indicator = self.indicator()?;
         self.check_times()?;
         self.check_first()?;
@@ -72,12 +77,12 @@ impl Deck<'_> {
         moves.make(alloc, editor)
     }
 
-    fn refused(&self, why: &'static str) -> Stop {
-        Stop::refused(self.card, Sentence::of(why))
+    fn refused(&self, why: &'static str) -> RuleStop {
+        RuleStop::refused(self.card, Sentence::of(why))
     }
 
     /// The overflow indicator.
-    fn indicator(&self) -> Result<Indicator, Stop> {
+    fn indicator(&self) -> Result<Indicator, RuleStop> {
         match self.overflow.indicator() {
             Some(indicator) => Ok(indicator),
             None => Err(self.refused("fetch without an overflow indicator")),
@@ -85,10 +90,10 @@ impl Deck<'_> {
     }
 
     /// Refuses lines that EXCPT puts out already.
-    fn check_times(&self) -> Result<(), Stop> {
+    fn check_times(&self) -> Result<(), RuleStop> {
         for line in self.lines {
             if line.time == Time::Exception {
-                return Err(Stop::refused(
+                return Err(RuleStop::refused(
                     line.head.number,
                     Sentence::of("fetch in a deck that has lines of time E"),
                 ));
@@ -98,7 +103,7 @@ impl Deck<'_> {
     }
 
     /// Refuses heading and detail lines that fetch overflow where the first output may reach it.
-    fn check_first(&self) -> Result<(), Stop> {
+    fn check_first(&self) -> Result<(), RuleStop> {
         if fetches_detail(self.lines) && reaches_overflow(self.overflow.printer, self.lines) {
             return Err(self.refused(
                 "fetch on a detail line, and the first output may reach overflow",
@@ -108,11 +113,11 @@ impl Deck<'_> {
     }
 
     /// Refuses a deck that asks for the overflow indicator, or turns it on or off, anywhere but in alternatives of lines.
-    fn check_uses(&self, alloc: Global, indicator: Indicator) -> Result<(), Stop> {
+    fn check_uses(&self, alloc: Global, indicator: Indicator) -> Result<(), RuleStop> {
         let uses = indicator_uses(alloc, self.view)?;
         for one in uses.iter() {
             if one.indicator == indicator && one.form != b'F' && !self.is_alternative(*one) {
-                return Err(Stop::refused(
+                return Err(RuleStop::refused(
                     one.number,
                     Sentence::about(
                         "fetch, and % is asked for beside overflow lines",
@@ -127,7 +132,7 @@ impl Deck<'_> {
     /// Whether an indicator stands on a card of a line's alternatives, where it has to be on.
     fn is_alternative(&self, one: IndicatorUse) -> bool {
         match card_at(self.lines, one.at) {
-            Some(seen) => !Condition::at(&seen.card, 23).has(Term::off(one.indicator)),
+            Some(seen) => !Conjunction::at(&seen.card, 23).has(Term::off(one.indicator)),
             None => false,
         }
     }

@@ -1,7 +1,7 @@
 //! Overflow output.
 
 use rpg_fit_deck::View;
-use rpg_fit_words::{Condition, Indicator, Line, List, Printer, Term, printer_of};
+use rpg_fit_words::{Conjunction, Indicator, Line, List, Printer, Term, printer_of};
 
 /// What a deck does at overflow.
 #[derive(Clone, Copy)]
@@ -35,7 +35,7 @@ impl Overflow {
     }
 
     /// Whether a line is put out at overflow under a condition.
-    pub fn is_output(&self, line: &Line, condition: &Condition) -> bool {
+    pub fn is_output(&self, line: &Line, condition: &Conjunction) -> bool {
         match self.printer {
             Some(printer) => printer.is_overflow(line, condition),
             None => false,
@@ -43,7 +43,7 @@ impl Overflow {
     }
 
     /// Whether a line's condition is one of a kind of its alternatives.
-    pub fn is_of(&self, kind: Kind, line: &Line, condition: &Condition) -> bool {
+    pub fn is_of(&self, kind: Kind, line: &Line, condition: &Conjunction) -> bool {
         self.is_output(line, condition) == matches!(kind, Kind::AtOverflow)
     }
 
@@ -58,7 +58,7 @@ impl Overflow {
     }
 
     /// Appends the conditions under which a line is put out at overflow, in their order.
-    pub fn push_conditions(&self, found: &mut List<Condition>, line: &Line) {
+    pub fn push_conditions(&self, found: &mut List<Conjunction>, line: &Line) {
         for alternative in line.alternatives.iter() {
             if self.is_output(line, &alternative.condition) {
                 found.push(alternative.condition);
@@ -78,7 +78,7 @@ impl Overflow {
     }
 
     /// Whether a condition asks for the overflow indicator.
-    pub fn is_asked(&self, condition: &Condition) -> bool {
+    pub fn is_asked(&self, condition: &Conjunction) -> bool {
         match self.indicator() {
             Some(indicator) => condition.asks(indicator),
             None => false,

@@ -2,7 +2,7 @@
 
 use crate::overflow::{Kind, Overflow};
 use rpg_fit_deck::Seen;
-use rpg_fit_words::{Condition, Indicator, Line, List, Term, Time};
+use rpg_fit_words::{Conjunction, Indicator, Line, List, Term, Time};
 use std::alloc::Global;
 
 /// A field that prints PAGE, and its line.
@@ -28,20 +28,20 @@ pub(crate) fn page_card(line: &Line) -> Option<usize> {
 }
 
 /// Whether PAGE is set back by calculations for an alternative: it isn't the first output, when none has been done, and it may hold.
-fn is_live(alternative: &Condition, own: &Condition) -> bool {
+fn is_live(alternative: &Conjunction, own: &Conjunction) -> bool {
     let first = Term::on(Indicator::FIRST_PAGE);
     !alternative.has(first) && !own.has(first) && !alternative.clashes_with(own)
 }
 
 impl PageField<'_> {
     /// Its own conditions.
-    pub fn own(&self) -> Condition {
-        Condition::at(&self.field.card, 23)
+    pub fn own(&self) -> Conjunction {
+        Conjunction::at(&self.field.card, 23)
     }
 
     /// When PAGE is set back for the alternatives of a kind: where one of them and its own conditions hold. The overflow indicator isn't
     /// asked for.
-    pub fn resets(&self, alloc: Global, overflow: Overflow, kind: Kind) -> List<Condition> {
+    pub fn resets(&self, alloc: Global, overflow: Overflow, kind: Kind) -> List<Conjunction> {
         let own = self.own();
         let mut found = List::new(alloc);
         for alternative in self.line.alternatives.iter() {
@@ -65,7 +65,7 @@ impl PageField<'_> {
 }
 
 /// A condition without the overflow indicator, where it is one of overflow output.
-fn without_overflow(overflow: Overflow, kind: Kind, condition: &Condition) -> Condition {
+fn without_overflow(overflow: Overflow, kind: Kind, condition: &Conjunction) -> Conjunction {
     match overflow.indicator() {
         Some(indicator) if matches!(kind, Kind::AtOverflow) => {
             condition.without(Term::on(indicator))
@@ -75,7 +75,7 @@ fn without_overflow(overflow: Overflow, kind: Kind, condition: &Condition) -> Co
 }
 
 /// Whether a condition is one of some.
-fn is_among(conditions: &[Condition], condition: &Condition) -> bool {
+fn is_among(conditions: &[Conjunction], condition: &Conjunction) -> bool {
     for other in conditions {
         if other.is_same(condition) {
             return true;
@@ -85,7 +85,7 @@ fn is_among(conditions: &[Condition], condition: &Condition) -> bool {
 }
 
 /// Appends a condition unless it is there.
-fn push_new(found: &mut List<Condition>, condition: Condition) {
+fn push_new(found: &mut List<Conjunction>, condition: Conjunction) {
     if !is_among(found.as_slice(), &condition) {
         found.push(condition);
     }

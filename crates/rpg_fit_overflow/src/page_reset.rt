@@ -5,8 +5,8 @@ use crate::page_field::{PageField, is_page, page_card};
 use crate::page_steps::{Marks, reset, reset_at_overflow};
 use rpg_fit_deck::{Card, Editor, Sentence, View, Word};
 use rpg_fit_words::{
-    Condition, Indicator, Line, List, Stop, Term, Time, is_card, is_field_put_first, is_put_first,
-    is_total_skipped_late, lines, settle,
+    Conjunction, Indicator, Line, List, RuleStop, Term, Time, is_card, is_field_put_first,
+    is_put_first, is_total_skipped_late, lines, settle,
 };
 use std::alloc::Global;
 
@@ -16,7 +16,7 @@ pub fn pages(alloc: Global, editor: &mut Editor) {
     settle(editor, outcome);
 }
 
-fn reset_pages(alloc: Global, editor: &mut Editor) -> Result<(), Stop> {
+fn reset_pages(alloc: Global, editor: &mut Editor) -> Result<(), RuleStop> {
     let view = editor.view(alloc)?;
     reset_lines(alloc, editor, &view, lines(alloc, &view)?.as_slice())
 }
@@ -26,7 +26,7 @@ fn reset_lines(
     editor: &mut Editor,
     view: &View,
     lines: &[Line],
-) -> Result<(), Stop> {
+) -> Result<(), RuleStop> {
     let overflow = Overflow::of(view);
     let deck = Deck {
         view,
@@ -69,13 +69,13 @@ struct Deck<'a> {
 #[derive(Drop)]
 struct Resets {
     /// Before the lines of the field's time.
-    normal: List<Condition>,
+    normal: List<Conjunction>,
     /// Before overflow output.
-    at_overflow: List<Condition>,
+    at_overflow: List<Conjunction>,
 }
 
 impl Deck<'_> {
-    fn reset_lines(&self, alloc: Global, editor: &mut Editor) -> Result<(), Stop> {
+    fn reset_lines(&self, alloc: Global, editor: &mut Editor) -> Result<(), RuleStop> {
         let mut marks = Marks::new();
         for (place, line) in self.lines.iter().enumerate() {
             let earlier = self.lines.get(..place).unwrap_or(&[]);
@@ -91,7 +91,7 @@ impl Deck<'_> {
         marks: &mut Marks,
         line: &Line,
         earlier: &[Line],
-    ) -> Result<(), Stop> {
+    ) -> Result<(), RuleStop> {
         for field in line.fields.iter() {
             let page = PageField { line, field };
             if is_page(field) && !page.own().is_empty() {
@@ -108,7 +108,7 @@ impl Deck<'_> {
         marks: &mut Marks,
         page: PageField,
         earlier: &[Line],
-    ) -> Result<(), Stop> {
+    ) -> Result<(), RuleStop> {
         let resets = Resets {
             normal: page.resets(alloc, self.overflow, Kind::Normal),
             at_overflow: page.resets(alloc, self.overflow, Kind::AtOverflow),
@@ -118,7 +118,7 @@ impl Deck<'_> {
     }
 
     /// Refuses a field for which PAGE can't be set back.
-    fn check(&self, page: PageField, earlier: &[Line], resets: &Resets) -> Result<(), Stop> {
+    fn check(&self, page: PageField, earlier: &[Line], resets: &Resets) -> Result<(), RuleStop> {
         self.check_field(page)?;
         self.check_overflow(page)?;
         self.check_normal(page, earlier, !resets.normal.checked()?.is_empty())?;
@@ -129,7 +129,12 @@ impl Deck<'_> {
     }
 
     /// Refuses PAGE that can't be set back before the lines of its time.
-    fn check_normal(&self, page: PageField, earlier: &[Line], is_reset: bool) -> Result<(), Stop> {
+    fn check_normal(
+        &self,
+        page: PageField,
+        earlier: &[Line],
+        is_reset: bool,
+    ) -> Result<(), RuleStop> {
         self.check_earlier(page, earlier, is_reset)?;
         if is_reset {
             return self.check_fetched(page);
@@ -138,7 +143,7 @@ impl Deck<'_> {
     }
 
     /// Refuses PAGE in a line that EXCPT puts out, twice in a line, and on an I card.
-    fn check_field(&self, page: PageField) -> Result<(), Stop> {
+    fn check_field(&self, page: PageField) -> Result<(), RuleStop> {
         if page.line.time == Time::Exception {
             return refused(page, "PAGE under conditions on a line of time E");
         }
@@ -152,7 +157,7 @@ impl Deck<'_> {
     }
 
     /// Refuses PAGE where its line, other than at overflow, or its own conditions ask for overflow.
-    fn check_overflow(&self, page: PageField) -> Result<(), Stop> {
+    fn check_overflow(&self, page: PageField) -> Result<(), RuleStop> {
         if self.asks_normally(page.line) || self.overflow.is_asked(&page.own()) {
             return refused(page, "overflow is asked for beside PAGE under conditions");
         }
@@ -171,7 +176,12 @@ impl Deck<'_> {
     }
 
     /// Refuses PAGE where an earlier line prints it at the same time: it would be set back before that line.
-    fn check_earlier(&self, page: PageField, earlier: &[Line], is_reset: bool) -> Result<(), Stop> {
+    fn check_earlier(
+        &self,
+        page: PageField,
+        earlier: &[Line],
+        is_reset: bool,
+    ) -> Result<(), RuleStop> {
         let is_first = is_field_put_first(self.overflow.printer, page.line, page.field);
         for line in earlier {
             if let Some(card) = page_card(line) {
@@ -197,7 +207,7 @@ impl Deck<'_> {
         line: &Line,
         card: usize,
         is_reset: bool,
-    ) -> Result<(), Stop> {
+    ) -> Result<(), RuleStop> {
         if is_reset && self.overflow.is_put_later(line) {
             return refused_by(
                 page,
@@ -209,7 +219,7 @@ impl Deck<'_> {
     }
 
     /// Refuses PAGE where overflow lines are fetched that print it too.
-    fn check_fetched(&self, page: PageField) -> Result<(), Stop> {
+    fn check_fetched(&self, page: PageField) -> Result<(), RuleStop> {
         for line in self.lines {
             let is_other = line.head.at != page.line.head.at && page_card(line).is_some();
             if self.fetches && is_other && self.overflow.has(line) {
@@ -223,7 +233,7 @@ impl Deck<'_> {
     }
 
     /// Refuses PAGE at overflow where it may be printed between the end of total calculations and its line, or before there are any.
-    fn check_at_overflow(&self, page: PageField) -> Result<(), Stop> {
+    fn check_at_overflow(&self, page: PageField) -> Result<(), RuleStop> {
         if self.is_total_skipped {
             return refused(
                 page,
@@ -259,7 +269,7 @@ impl Deck<'_> {
         marks: &mut Marks,
         page: PageField,
         resets: &Resets,
-    ) -> Result<(), Stop> {
+    ) -> Result<(), RuleStop> {
         let card = page.field.number;
         if !resets.normal.is_empty() {
             let conditions = resets.normal.as_slice();
@@ -304,18 +314,18 @@ fn is_page_read(view: &View) -> bool {
 
 /// The conditions of a field, without the blanks around them.
 fn spelled(field: &Card) -> Word {
-    let conditions = Condition::at(field, 23).columns(0);
+    let conditions = Conjunction::at(field, 23).columns(0);
     Word::of(field.with(23, 31, conditions.text()).value(23, 31))
 }
 
 /// The deck is refused for a field.
-fn refused(page: PageField, why: &'static str) -> Result<(), Stop> {
-    Err(Stop::refused(page.field.number, Sentence::of(why)))
+fn refused(page: PageField, why: &'static str) -> Result<(), RuleStop> {
+    Err(RuleStop::refused(page.field.number, Sentence::of(why)))
 }
 
 /// The deck is refused for a field, because of another card.
-fn refused_by(page: PageField, why: &'static str, card: usize) -> Result<(), Stop> {
-    Err(Stop::refused(
+fn refused_by(page: PageField, why: &'static str, card: usize) -> Result<(), RuleStop> {
+    Err(RuleStop::refused(
         page.field.number,
         Sentence::about(why, Word::of_number(card)),
     ))

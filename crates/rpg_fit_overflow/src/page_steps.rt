@@ -2,8 +2,8 @@
 
 use rpg_fit_deck::{Editor, View, Word};
 use rpg_fit_words::{
-    Calculation, Condition, FreeIndicators, FreshNames, Indicator, List, NewCard, Place, Stop,
-    Term, Time, insert_at, push_conditioned,
+    Calculation, Conjunction, FreeIndicators, FreshNames, Indicator, List, NewCard, Place,
+    RuleStop, Term, Time, insert_at, push_conditioned,
 };
 use std::alloc::Global;
 
@@ -34,9 +34,9 @@ pub(crate) fn reset(
     alloc: Global,
     editor: &mut Editor,
     time: Time,
-    conditions: &[Condition],
+    conditions: &[Conjunction],
     card: usize,
-) -> Result<(), Stop> {
+) -> Result<(), RuleStop> {
     let is_total = time == Time::Total;
     let level = if is_total {
         Indicator::ALWAYS
@@ -67,7 +67,7 @@ struct Saving {
 }
 
 impl Marks {
-    fn saving(&mut self, view: &View, card: usize) -> Result<Saving, Stop> {
+    fn saving(&mut self, view: &View, card: usize) -> Result<Saving, RuleStop> {
         let flag = self.indicators.take(view, card)?;
         let saved = self.names.take(view, card)?;
         let at_zero = self.indicators.take(view, card)?;
@@ -86,9 +86,9 @@ pub(crate) fn reset_at_overflow(
     editor: &mut Editor,
     view: &View,
     marks: &mut Marks,
-    conditions: &[Condition],
+    conditions: &[Conjunction],
     card: usize,
-) -> Result<(), Stop> {
+) -> Result<(), RuleStop> {
     let saving = marks.saving(view, card)?;
     saving.put_before(alloc, editor, conditions)?;
     insert_at(alloc, editor, Place::DetailFront, &saving.after(), card)
@@ -100,15 +100,19 @@ impl Saving {
         &self,
         alloc: Global,
         editor: &mut Editor,
-        conditions: &[Condition],
-    ) -> Result<(), Stop> {
+        conditions: &[Conjunction],
+    ) -> Result<(), RuleStop> {
         let mut cards = List::new(alloc);
         self.push_before(&mut cards, conditions)?;
         insert_at(alloc, editor, Place::TotalEnd, cards.checked()?, self.card)
     }
 
     /// Turns the flag on where one of the conditions holds, and then saves PAGE and sets it back.
-    fn push_before(&self, cards: &mut List<NewCard>, conditions: &[Condition]) -> Result<(), Stop> {
+    fn push_before(
+        &self,
+        cards: &mut List<NewCard>,
+        conditions: &[Conjunction],
+    ) -> Result<(), RuleStop> {
         let level = Indicator::ALWAYS;
         let on = Calculation::of(b"SETON").high(self.flag);
         cards.push(self.total(Calculation::of(b"SETOF").high(self.flag)));
@@ -129,7 +133,7 @@ impl Saving {
 
     /// Gives PAGE its value again where the flag is on and PAGE is still 0. Both indicators go off.
     fn after(&self) -> [NewCard; 3] {
-        let both = Condition::on(self.flag).and(Term::on(self.at_zero));
+        let both = Conjunction::on(self.flag).and(Term::on(self.at_zero));
         [
             Calculation::of(b"COMP")
                 .when(self.flag)

@@ -1,6 +1,6 @@
 -- Names that no card has.
 use Rattle.std.specs.Prelude.{◌≡◌, ℕ, ◌+◌, ◌-◌, ◌/◌, ◌%◌, ◌<◌, ◌≤◌, Bool, true, ◌==◌, ◌||◌, nat_lt, List, [], ◌∷◌, ◌++◌, length, take, if◌then◌else◌}
-use Rattle.rpg_fit_deck.specs.Words.{cut, text_of}
+use Rattle.rpg_fit_deck.specs.Words.{cut, word_text}
 use Rattle.rpg_fit_deck.specs.declared.view.View.{View}
 use Rattle.rpg_fit_terms.specs.declared.fresh.FreshNames.{FreshNames}
 use Rattle.rpg_fit_terms.specs.Names.{is_name_used, is_reserved}
@@ -36,12 +36,12 @@ AllTaken view stem room from = (n : ℕ) → from ≤ n → n < 10000 → NameIs
 
 -- the same of names of a stem, and of those that are left
 abbrev pub IsTaken : View → FreshNames → ℕ → Type 0
-IsTaken view names n = NameIsTaken view (text_of names.stem) names.room n
+IsTaken view names n = NameIsTaken view (word_text names.stem) names.room n
 
 -- all names tried so far are taken
 abbrev pub AreTaken : View → FreshNames → Type 0
-AreTaken view names = AllTaken view (text_of names.stem) names.room names.next
+AreTaken view names = AllTaken view (word_text names.stem) names.room names.next
 
 -- names of a stem, of which none was taken
 abbrev pub AreNew : List ℕ → ℕ → FreshNames → Type 0
-AreNew stem room names = (text_of names.stem ≡ cut stem) × (names.room ≡ room) × (names.next ≡ 0)
+AreNew stem room names = (word_text names.stem ≡ cut stem) × (names.room ≡ room) × (names.next ≡ 0)

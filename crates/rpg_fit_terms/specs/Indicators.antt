@@ -1,15 +1,15 @@
 -- Where indicators stand on cards.
 use Rattle.std.specs.Prelude.{◌≡◌, ℕ, ◌+◌, ◌/◌, ◌%◌, ◌<◌, ◌≤◌, Bool, true, ◌==◌, ◌&&◌, not, List, [], ◌∷◌, if◌then◌else◌}
 use Rattle.std.specs.List.{list_any}
-use Rattle.rpg_fit_deck.specs.Columns.{column_of, form_of, is_comment}
+use Rattle.rpg_fit_deck.specs.Columns.{column_of, form_letter, is_comment}
 use Rattle.rpg_fit_deck.specs.declared.card.Card.{Card}
 use Rattle.rpg_fit_deck.specs.declared.view.View.{View}
 use Rattle.rpg_fit_terms.specs.declared.free_indicator.FreeIndicators.{FreeIndicators}
 use Rattle.rpg_fit_terms.specs.declared.indicator.Indicator.{Indicator}
 
 -- the first column of each indicator on cards of a form: I (73), C (67), O (79) and F (70)
-abbrev pub indicator_columns : ℕ → List ℕ
-indicator_columns form =
+abbrev pub indicator_starts : ℕ → List ℕ
+indicator_starts form =
     if form == 73 then 19 ∷ 63 ∷ 65 ∷ 67 ∷ 69 ∷ []
     else (if form == 67 then 10 ∷ 13 ∷ 16 ∷ 54 ∷ 56 ∷ 58 ∷ []
     else (if form == 79 then 24 ∷ 27 ∷ 30 ∷ []
@@ -25,7 +25,7 @@ stands_in indicator card columns = list_any (λ column. stands_at indicator card
 
 -- an indicator stands on a card that is no comment
 unfoldable pub is_indicator_on : Indicator → Card → Bool
-is_indicator_on indicator card = not (is_comment card) && stands_in indicator card (indicator_columns (form_of card))
+is_indicator_on indicator card = not (is_comment card) && stands_in indicator card (indicator_starts (form_letter card))
 
 -- some card has an indicator
 unfoldable pub is_indicator_used : View → Indicator → Bool
@@ -40,8 +40,8 @@ abbrev pub halt : ℕ → Indicator
 halt n = record { first = 72; second = 48 + n % 10 }
 
 -- the number of the greatest indicator that wasn't tried
-abbrev pub left_of : FreeIndicators → ℕ
-left_of free = free.left
+abbrev pub greatest_untried : FreeIndicators → ℕ
+greatest_untried free = free.left
 
 -- cards have all indicators above a number, up to another one
 abbrev pub AreUsed : View → ℕ → ℕ → Type 0

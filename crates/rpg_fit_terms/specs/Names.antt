@@ -2,34 +2,34 @@
 use Rattle.std.specs.Prelude.{ℕ, Bool, ◌==◌, ◌&&◌, ◌||◌, not, List, [], ◌∷◌, codes, nat_eq, if◌then◌else◌}
 use Rattle.std.specs.List.{after_first, before_first, list_any, starts_with}
 use Rattle.std.specs.Str.{bytes_eq}
-use Rattle.rpg_fit_deck.specs.Columns.{form_of, is_comment, value_of}
+use Rattle.rpg_fit_deck.specs.Columns.{form_letter, is_comment, value_in_columns}
 use Rattle.rpg_fit_deck.specs.declared.card.Card.{Card}
 use Rattle.rpg_fit_deck.specs.declared.view.View.{View}
 use Rattle.rpg_fit_terms.specs.declared.name.Columns.{Columns}
 
 -- An operand is a name, or a name, a comma and an index.
-abbrev pub is_comma : ℕ → Bool
-is_comma c = c == 44
+abbrev pub ends_name : ℕ → Bool
+ends_name c = c == 44
 
 -- the name before the comma
 abbrev pub name_in : List ℕ → List ℕ
-name_in operand = before_first is_comma operand
+name_in operand = before_first ends_name operand
 
 -- the index after the comma
 abbrev pub index_in : List ℕ → List ℕ
-index_in operand = after_first is_comma operand
+index_in operand = after_first ends_name operand
 
 -- the columns from first to last
-abbrev pub columns : ℕ → ℕ → Columns
-columns first last = record { first = first; last = last }
+abbrev pub columns_between : ℕ → ℕ → Columns
+columns_between first last = record { first = first; last = last }
 
 -- where cards of a form have operands: E (69), I (73), C (67) and O (79)
-abbrev pub name_columns : ℕ → List Columns
-name_columns form =
-    if form == 69 then columns 27 32 ∷ columns 46 51 ∷ []
-    else (if form == 73 then columns 53 58 ∷ []
-    else (if form == 67 then columns 18 27 ∷ columns 33 42 ∷ columns 43 48 ∷ []
-    else (if form == 79 then columns 32 37 ∷ [] else [])))
+abbrev pub operand_columns : ℕ → List Columns
+operand_columns form =
+    if form == 69 then columns_between 27 32 ∷ columns_between 46 51 ∷ []
+    else (if form == 73 then columns_between 53 58 ∷ []
+    else (if form == 67 then columns_between 18 27 ∷ columns_between 33 42 ∷ columns_between 43 48 ∷ []
+    else (if form == 79 then columns_between 32 37 ∷ [] else [])))
 
 -- an operand has a name, as its name or its index
 abbrev pub is_name_in : List ℕ → List ℕ → Bool
@@ -41,19 +41,19 @@ is_prefix_in prefix operand = starts_with nat_eq (name_in operand) prefix || sta
 
 -- some of a card's columns have an operand that passes a test
 abbrev pub has_operand_in : (List ℕ → Bool) → Card → List Columns → Bool
-has_operand_in test card places = list_any (λ c. test (value_of card c.first c.last)) places
+has_operand_in test card places = list_any (λ c. test (value_in_columns card c.first c.last)) places
 
 -- so do those of a card that is no comment
-abbrev pub has_operand : (List ℕ → Bool) → Card → Bool
-has_operand test card = not (is_comment card) && has_operand_in test card (name_columns (form_of card))
+abbrev pub card_has_operand : (List ℕ → Bool) → Card → Bool
+card_has_operand test card = not (is_comment card) && has_operand_in test card (operand_columns (form_letter card))
 
 -- some card has a name
 unfoldable pub is_name_used : View → List ℕ → Bool
-is_name_used view name = list_any (λ seen. has_operand (is_name_in name) seen.card) view.cards.items
+is_name_used view name = list_any (λ seen. card_has_operand (is_name_in name) seen.card) view.cards.items
 
 -- some card has a name that begins with a text
 unfoldable pub is_prefix_used : View → List ℕ → Bool
-is_prefix_used view prefix = list_any (λ seen. has_operand (is_prefix_in prefix) seen.card) view.cards.items
+is_prefix_used view prefix = list_any (λ seen. card_has_operand (is_prefix_in prefix) seen.card) view.cards.items
 
 -- names that stand for something in every deck
 abbrev pub is_date_part : List ℕ → Bool

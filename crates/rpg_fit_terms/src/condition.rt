@@ -1,7 +1,7 @@
 //! Conditions: indicators that have to be on, or off, together.
 
 use crate::indicator::Indicator;
-use crate::stop::Stop;
+use crate::stop::RuleStop;
 use rpg_fit_deck::{Card, Sentence, Word};
 
 /// How many conditions stand together at most: the limit of an alternative.
@@ -52,16 +52,16 @@ impl Term {
 
 /// Conditions that have to hold together, in their order. It keeps 60 and remembers that there were more.
 #[derive(Clone, Copy)]
-pub struct Condition {
+pub struct Conjunction {
     terms: [Term; 60],
     length: usize,
     is_too_long: bool,
 }
 
-impl Condition {
+impl Conjunction {
     /// Always.
-    pub fn none() -> Condition {
-        Condition {
+    pub fn none() -> Conjunction {
+        Conjunction {
             terms: [Term::on(Indicator::BLANK); MOST_TERMS],
             length: 0,
             is_too_long: false,
@@ -69,13 +69,13 @@ impl Condition {
     }
 
     /// One indicator that has to be on.
-    pub fn on(indicator: Indicator) -> Condition {
-        Condition::none().and(Term::on(indicator))
+    pub fn on(indicator: Indicator) -> Conjunction {
+        Conjunction::none().and(Term::on(indicator))
     }
 
     /// The conditions in nine columns of a card, from a column on.
-    pub fn at(card: &Card, column: usize) -> Condition {
-        let mut condition = Condition::none();
+    pub fn at(card: &Card, column: usize) -> Conjunction {
+        let mut condition = Conjunction::none();
         for place in 0..TERMS_OF_CARD {
             let first = column.saturating_add(place.saturating_mul(3));
             if !card.is_blank(first, first.saturating_add(2)) {
@@ -108,9 +108,9 @@ impl Condition {
     /// # Errors
     ///
     /// There were more.
-    pub fn check(&self, card: usize) -> Result<(), Stop> {
+    pub fn check(&self, card: usize) -> Result<(), RuleStop> {
         if self.is_too_long {
-            return Err(Stop::refused(card, Sentence::of("more than 60 conditions together")));
+            return Err(RuleStop::refused(card, Sentence::of("more than 60 conditions together")));
         }
         Ok(())
     }
@@ -126,13 +126,13 @@ impl Condition {
     }
 
     /// This condition and then a term.
-    pub fn and(mut self, term: Term) -> Condition {
+    pub fn and(mut self, term: Term) -> Conjunction {
         self.push(term);
         self
     }
 
     /// This condition and then another one.
-    pub fn and_all(mut self, other: &Condition) -> Condition {
+    pub fn and_all(mut self, other: &Conjunction) -> Conjunction {
         for term in other.terms() {
             self.push(*term);
         }
@@ -141,7 +141,7 @@ impl Condition {
     }
 
     /// This condition and those terms of another one that it lacks.
-    pub fn and_missing(mut self, other: &Condition) -> Condition {
+    pub fn and_missing(mut self, other: &Conjunction) -> Conjunction {
         for term in other.terms() {
             if !self.has(*term) {
                 self.push(*term);
@@ -152,8 +152,8 @@ impl Condition {
     }
 
     /// This condition without a term.
-    pub fn without(&self, term: Term) -> Condition {
-        let mut rest = Condition::none();
+    pub fn without(&self, term: Term) -> Conjunction {
+        let mut rest = Conjunction::none();
         for one in self.terms() {
             if *one != term {
                 rest.push(*one);
@@ -184,7 +184,7 @@ impl Condition {
     }
 
     /// Whether it has a term of another condition the other way.
-    fn is_against(&self, other: &Condition) -> bool {
+    fn is_against(&self, other: &Conjunction) -> bool {
         for one in self.terms() {
             if other.has(one.opposite()) {
                 return true;
@@ -194,12 +194,12 @@ impl Condition {
     }
 
     /// Whether it never holds together with another one: some indicator has to be on and off.
-    pub fn clashes_with(&self, other: &Condition) -> bool {
+    pub fn clashes_with(&self, other: &Conjunction) -> bool {
         self.is_against(self) || other.is_against(other) || self.is_against(other)
     }
 
     /// Whether it has the same terms in the same order as another one.
-    pub fn is_same(&self, other: &Condition) -> bool {
+    pub fn is_same(&self, other: &Conjunction) -> bool {
         self.terms() == other.terms()
     }
 

@@ -2,7 +2,7 @@
 
 use crate::cards::is_card;
 use crate::name::is_date_part;
-use crate::stop::Stop;
+use crate::stop::RuleStop;
 use rpg_fit_deck::{Card, View, Word};
 use std::alloc::Global;
 
@@ -62,7 +62,7 @@ fn tables_of(card: &Card) -> [Option<Array>; 2] {
 }
 
 /// Appends the arrays of an E card.
-fn push_arrays(found: &mut Vec<Array>, card: &Card) -> Result<(), Stop> {
+fn push_arrays(found: &mut Vec<Array>, card: &Card) -> Result<(), RuleStop> {
     for table in &tables_of(card) {
         match table {
             Some(array) if !matches!(array.name.text(), [b'T', b'A', b'B', ..]) => {
@@ -79,7 +79,7 @@ fn push_arrays(found: &mut Vec<Array>, card: &Card) -> Result<(), Stop> {
 /// # Errors
 ///
 /// Memory is refused.
-pub fn arrays(alloc: Global, view: &View) -> Result<Vec<Array>, Stop> {
+pub fn arrays(alloc: Global, view: &View) -> Result<Vec<Array>, RuleStop> {
     let mut found = Vec::new(alloc);
     for seen in view.cards.iter() {
         if is_card(seen, b'E') {

@@ -1,10 +1,10 @@
 //! Indicators that no card has.
 
 ghost use Rattle.std.specs.Prelude.{◌≡◌, ◌+◌, ◌<◌, ◌≤◌, ℕ, true, false, IfNone, IfOk, IfSome, OnErr};
-ghost use Rattle.rpg_fit_terms.specs.Indicators.{AreUsed, halt, indicator_columns, is_indicator_on, is_indicator_used, left_of, numbered, stands_in};
+ghost use Rattle.rpg_fit_terms.specs.Indicators.{AreUsed, halt, indicator_starts, is_indicator_on, is_indicator_used, greatest_untried, numbered, stands_in};
 
 use crate::indicator::Indicator;
-use crate::stop::Stop;
+use crate::stop::RuleStop;
 use rpg_fit_deck::{Card, Sentence, View};
 
 /// The greatest number of an indicator.
@@ -34,7 +34,7 @@ const FILE: &[u8] = &[33];
 
 /// The first column of each indicator on cards of a form.
 fn indicator_columns(form: u8) -> &'static [u8]
-    ensures { result.now ≡ indicator_columns form }
+    ensures { result.now ≡ indicator_starts form }
 {
     match form {
         b'I' => INPUT,
@@ -86,7 +86,7 @@ fn if_free(view: &View, indicator: Indicator) -> Option<Indicator>
 impl FreeIndicators {
     /// All that no card has.
     pub fn new() -> FreeIndicators
-        ensures { left_of result ≡ 99 }
+        ensures { greatest_untried result ≡ 99 }
     {
         FreeIndicators { left: GREATEST }
     }
@@ -96,12 +96,12 @@ impl FreeIndicators {
     /// # Errors
     ///
     /// All are in use: the deck is rejected for a card.
-    pub fn take(&mut self, view: &View, card: usize) -> Result<Indicator, Stop>
+    pub fn take(&mut self, view: &View, card: usize) -> Result<Indicator, RuleStop>
         ensures unused { IfOk result (λ indicator. is_indicator_used view.now indicator ≡ false) }
-        ensures of_number { IfOk result (λ indicator. indicator ≡ numbered (left_of self.new + 1)) }
-        ensures below { IfOk result (λ _. left_of self.new < left_of self.old) }
-        ensures greatest { IfOk result (λ _. AreUsed view.now (left_of self.new + 1) (left_of self.old)) }
-        ensures all_used { OnErr result (AreUsed view.now 0 (left_of self.old)) }
+        ensures of_number { IfOk result (λ indicator. indicator ≡ numbered (greatest_untried self.new + 1)) }
+        ensures below { IfOk result (λ _. greatest_untried self.new < greatest_untried self.old) }
+        ensures greatest { IfOk result (λ _. AreUsed view.now (greatest_untried self.new + 1) (greatest_untried self.old)) }
+        ensures all_used { OnErr result (AreUsed view.now 0 (greatest_untried self.old)) }
     {
         let left = self.left;
         for down in 0..left {
@@ -113,7 +113,7 @@ impl FreeIndicators {
                 None => {}
             }
         }
-        Err(Stop::refused(card, Sentence::of("no indicator is free")))
+        Err(RuleStop::refused(card, Sentence::of("no indicator is free")))
     }
 }
 
@@ -122,7 +122,7 @@ impl FreeIndicators {
 /// # Errors
 ///
 /// All are in use: the deck is rejected for a card.
-pub fn free_halt(view: &View, card: usize) -> Result<Indicator, Stop>
+pub fn free_halt(view: &View, card: usize) -> Result<Indicator, RuleStop>
     ensures unused { IfOk result (λ indicator. is_indicator_used view.now indicator ≡ false) }
     ensures all_used { OnErr result ((n : ℕ) → 0 < n → n ≤ 9 → is_indicator_used view.now (halt n) ≡ true) }
 {
@@ -132,5 +132,5 @@ pub fn free_halt(view: &View, card: usize) -> Result<Indicator, Stop>
             None => {}
         }
     }
-    Err(Stop::refused(card, Sentence::of("no halt indicator is free")))
+    Err(RuleStop::refused(card, Sentence::of("no halt indicator is free")))
 }

@@ -1,12 +1,12 @@
 //! Names that no card has.
 
 ghost use Rattle.std.specs.Prelude.{◌≡◌, ◌<◌, false, [], ◌∷◌, ◌++◌, true, All, IfNone, IfOk, IfSome, OnErr, is_some, nat_lt, length, take};
-ghost use Rattle.rpg_fit_deck.specs.Words.{cut, text_of};
+ghost use Rattle.rpg_fit_deck.specs.Words.{cut, word_text};
 ghost use Rattle.rpg_fit_terms.specs.Fresh.{AllTaken, AreNew, AreTaken, IsTaken, candidate, digit, digits_of, is_taken};
 ghost use Rattle.rpg_fit_terms.specs.Names.{is_prefix_used};
 
 use crate::name::{is_name_used, is_prefix_used, is_reserved};
-use crate::stop::Stop;
+use crate::stop::RuleStop;
 use rpg_fit_deck::{Sentence, View, Word};
 
 /// How many names are tried at most: the stem, and the stem with 1 to 9,999.
@@ -41,7 +41,7 @@ fn digit(number: usize) -> u8
 
 /// The digits of a number below 10,000, without zeros in front; none for 0.
 fn digits_of(number: usize) -> Word
-    ensures { text_of result ≡ digits_of number }
+    ensures { word_text result ≡ digits_of number }
 {
     let last = digit(number);
     let tens = digit(number / 10);
@@ -93,7 +93,7 @@ impl FreshNames {
     #[tactic(auto, using(rpg_fit_deck::proofs::Texts::cut_two))]
     fn name(&self, number: usize) -> Option<Word>
         ensures room { is_some result ≡ nat_lt (length (digits_of number)) self.now.room }
-        ensures name { IfSome result (λ name. text_of name ≡ candidate (text_of self.now.stem) self.now.room number) }
+        ensures name { IfSome result (λ name. word_text name ≡ candidate (word_text self.now.stem) self.now.room number) }
     {
         let digits = digits_of(number);
         let length = digits.text().len();
@@ -106,7 +106,7 @@ impl FreshNames {
 
     /// The name of a number, if it has room and isn't taken.
     fn free_name(&self, view: &View, number: usize) -> Option<Word>
-        ensures free { IfSome result (λ name. is_taken view.now (text_of name) ≡ false) }
+        ensures free { IfSome result (λ name. is_taken view.now (word_text name) ≡ false) }
         ensures taken { IfNone result (IsTaken view.now self.now number) }
     {
         let name = self.name(number)?;
@@ -118,7 +118,7 @@ impl FreshNames {
 
     /// The next name that no card of the deck has; none if all are in use.
     fn next_free(&self, view: &View) -> Option<FreeName>
-        ensures free { IfSome result (λ found. is_taken view.now (text_of found.name) ≡ false) }
+        ensures free { IfSome result (λ found. is_taken view.now (word_text found.name) ≡ false) }
         ensures none_free { IfNone result (AreTaken view.now self.now) }
     {
         for number in self.next..MOST_NAMES {
@@ -137,7 +137,7 @@ impl FreshNames {
 
     /// The next name that no card of the deck has, which is not given again; none if all are in use.
     pub fn find(&mut self, view: &View) -> Option<Word>
-        ensures free { IfSome result (λ name. is_taken view.now (text_of name) ≡ false) }
+        ensures free { IfSome result (λ name. is_taken view.now (word_text name) ≡ false) }
         ensures none_free { IfNone result (AreTaken view.now self.old) }
     {
         let found = self.next_free(view)?;
@@ -150,13 +150,13 @@ impl FreshNames {
     /// # Errors
     ///
     /// All names are in use: the deck is rejected for a card.
-    pub fn take(&mut self, view: &View, card: usize) -> Result<Word, Stop>
-        ensures free { IfOk result (λ name. is_taken view.now (text_of name) ≡ false) }
+    pub fn take(&mut self, view: &View, card: usize) -> Result<Word, RuleStop>
+        ensures free { IfOk result (λ name. is_taken view.now (word_text name) ≡ false) }
         ensures none_free { OnErr result (AreTaken view.now self.old) }
     {
         match self.find(view) {
             Some(name) => Ok(name),
-            None => Err(Stop::refused(card, Sentence::of("no name is free"))),
+            None => Err(RuleStop::refused(card, Sentence::of("no name is free"))),
         }
     }
 }
@@ -166,8 +166,8 @@ impl FreshNames {
 /// # Errors
 ///
 /// All names are in use: the deck is rejected for a card.
-pub fn fresh_name(view: &View, stem: &[u8], card: usize) -> Result<Word, Stop>
-    ensures free { IfOk result (λ name. is_taken view.now (text_of name) ≡ false) }
+pub fn fresh_name(view: &View, stem: &[u8], card: usize) -> Result<Word, RuleStop>
+    ensures free { IfOk result (λ name. is_taken view.now (word_text name) ≡ false) }
     ensures none_free { OnErr result (AllTaken view.now (cut stem.now) 6 0) }
 {
     FreshNames::of(stem, ROOM).take(view, card)
@@ -176,7 +176,7 @@ pub fn fresh_name(view: &View, stem: &[u8], card: usize) -> Result<Word, Stop>
 /// A stem with a character after it, if no name of a card begins with that.
 #[tactic(auto, using(rpg_fit_deck::proofs::Texts::cut_two))]
 fn prefix_if_unused(view: &View, stem: &[u8], character: u8) -> Option<Word>
-    ensures unused { IfSome result (λ prefix. is_prefix_used view.now (text_of prefix) ≡ false) }
+    ensures unused { IfSome result (λ prefix. is_prefix_used view.now (word_text prefix) ≡ false) }
     ensures used { IfNone result (is_prefix_used view.now (cut (stem.now ++ character ∷ [])) ≡ true) }
 {
     let prefix = Word::of(stem).and(&[character]);
@@ -188,7 +188,7 @@ fn prefix_if_unused(view: &View, stem: &[u8], character: u8) -> Option<Word>
 
 /// The first text of a stem and one of some characters with which no name of a card begins.
 pub fn unused_prefix(view: &View, stem: &[u8], characters: &[u8]) -> Option<Word>
-    ensures unused { IfSome result (λ prefix. is_prefix_used view.now (text_of prefix) ≡ false) }
+    ensures unused { IfSome result (λ prefix. is_prefix_used view.now (word_text prefix) ≡ false) }
     ensures all_used { IfNone result (All (λ c. is_prefix_used view.now (cut (stem.now ++ c ∷ [])) ≡ true) characters.now) }
 {
     for character in characters {

@@ -13,7 +13,7 @@ mod renaming;
 mod stop;
 
 pub use cards::{NewCard, address_after, is_card, put_cards};
-pub use condition::{Condition, Term};
+pub use condition::{Conjunction, Term};
 pub use form::{Array, Form, array_of, arrays, form_of};
 pub use free_indicator::{FreeIndicators, free_halt};
 pub use fresh::{FreshNames, fresh_name, unused_prefix};
@@ -21,4 +21,4 @@ pub use indicator::Indicator;
 pub use name::{is_date_part, is_name_used};
 pub use operand::Operand;
 pub use renaming::{rename, with_room};
-pub use stop::{Reason, Stop, settle};
+pub use stop::{Reason, RuleStop, settle};

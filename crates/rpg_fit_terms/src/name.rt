@@ -2,7 +2,7 @@
 
 ghost use Rattle.std.specs.Prelude.{◌≡◌, nat_eq};
 ghost use Rattle.std.specs.List.{starts_with};
-ghost use Rattle.rpg_fit_terms.specs.Names.{has_operand, has_operand_in, is_date_part, is_name_in, is_name_used, is_prefix_in, is_prefix_used, is_reserved, name_columns};
+ghost use Rattle.rpg_fit_terms.specs.Names.{card_has_operand, has_operand_in, is_date_part, is_name_in, is_name_used, is_prefix_in, is_prefix_used, is_reserved, operand_columns};
 
 use crate::operand::Operand;
 use rpg_fit_deck::{Card, View};
@@ -56,7 +56,7 @@ const OUTPUT_NAMES: &[Columns] = &[Columns {
 
 /// Where cards of a form have names.
 pub(crate) fn name_columns(form: u8) -> &'static [Columns]
-    ensures { result.now ≡ name_columns form }
+    ensures { result.now ≡ operand_columns form }
 {
     match form {
         b'E' => TABLE_NAMES,
@@ -84,7 +84,7 @@ fn has_name_in(card: &Card, places: &[Columns], name: &[u8]) -> bool
 
 /// Whether a card has a name.
 fn is_name_on(card: &Card, name: &[u8]) -> bool
-    ensures { result ≡ has_operand (is_name_in name.now) card.now }
+    ensures { result ≡ card_has_operand (is_name_in name.now) card.now }
 {
     !card.is_comment() && has_name_in(card, name_columns(card.form()), name)
 }
@@ -121,7 +121,7 @@ fn has_prefix_in(card: &Card, places: &[Columns], prefix: &[u8]) -> bool
 
 /// Whether a card has a name that begins with a text.
 fn is_prefix_on(card: &Card, prefix: &[u8]) -> bool
-    ensures { result ≡ has_operand (is_prefix_in prefix.now) card.now }
+    ensures { result ≡ card_has_operand (is_prefix_in prefix.now) card.now }
 {
     !card.is_comment() && has_prefix_in(card, name_columns(card.form()), prefix)
 }

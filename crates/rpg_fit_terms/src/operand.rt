@@ -1,7 +1,7 @@
 //! Operands: names with an index.
 
 ghost use Rattle.std.specs.Prelude.{◌≡◌, ◌<◌, length, position, IfSome};
-ghost use Rattle.rpg_fit_terms.specs.Names.{index_in, is_comma, name_in};
+ghost use Rattle.rpg_fit_terms.specs.Names.{index_in, ends_name, name_in};
 
 /// A name, and the index after its comma; both may be empty.
 #[derive(Clone, Copy)]
@@ -46,7 +46,7 @@ impl<'a> Operand<'a> {
 
 /// The place of the first comma.
 fn comma(text: &[u8]) -> Option<usize>
-    ensures place { result ≡ position is_comma text.now }
+    ensures place { result ≡ position ends_name text.now }
     ensures within { IfSome result (λ comma. comma < length text.now) }
 {
     text.iter().position(|character| *character == b',')

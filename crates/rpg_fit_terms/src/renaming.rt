@@ -4,7 +4,7 @@ use crate::cards::is_card;
 use crate::fresh::FreshNames;
 use crate::name::{Columns, name_columns};
 use crate::operand::Operand;
-use crate::stop::Stop;
+use crate::stop::RuleStop;
 use rpg_fit_deck::{Card, Editor, Sentence, View, Word};
 use std::alloc::Global;
 
@@ -74,7 +74,7 @@ fn card_of(view: &View, name: &[u8]) -> usize {
 }
 
 /// A name that no card has, of at most so many characters: one that begins as this one does, if there is one.
-fn shorter_name(view: &View, name: &[u8], room: usize, card: usize) -> Result<Word, Stop> {
+fn shorter_name(view: &View, name: &[u8], room: usize, card: usize) -> Result<Word, RuleStop> {
     let stem = name.get(..room).unwrap_or(name);
     match FreshNames::of(stem, room).find(view) {
         Some(new) => Ok(new),
@@ -93,7 +93,7 @@ pub fn with_room(
     editor: &mut Editor,
     name: &[u8],
     tail: usize,
-) -> Result<Word, Stop> {
+) -> Result<Word, RuleStop> {
     let old = Word::of(name);
     if old.len().saturating_add(tail) <= RESULT {
         return Ok(old);

@@ -15,37 +15,37 @@ pub struct Reason {
 
 /// Why a rule stops before it has rewritten the deck.
 #[derive(Clone, Copy)]
-pub enum Stop {
+pub enum RuleStop {
     NoMemory,
     Refused(Reason),
 }
 
-impl Stop {
+impl RuleStop {
     /// The deck is rejected for a card.
-    pub fn refused(card: usize, why: Sentence) -> Stop {
-        Stop::Refused(Reason { card, why })
+    pub fn refused(card: usize, why: Sentence) -> RuleStop {
+        RuleStop::Refused(Reason { card, why })
     }
 }
 
-impl From<AllocError> for Stop {
+impl From<AllocError> for RuleStop {
     fn from(_: AllocError) -> Self {
-        Stop::NoMemory
+        RuleStop::NoMemory
     }
 }
 
-impl<T: Drop> From<AllocFailed<T>> for Stop {
+impl<T: Drop> From<AllocFailed<T>> for RuleStop {
     fn from(_: AllocFailed<T>) -> Self {
-        Stop::NoMemory
+        RuleStop::NoMemory
     }
 }
 
 /// Passes on to the editor how a rule ended.
-pub fn settle(editor: &mut Editor, outcome: Result<(), Stop>)
+pub fn settle(editor: &mut Editor, outcome: Result<(), RuleStop>)
     ensures { MatchResult outcome (λ _. editor.new ≡ editor.old) (λ stop. IsStoppedBy stop editor.old editor.new) }
 {
     match outcome {
         Ok(()) => {}
-        Err(Stop::NoMemory) => editor.run_out(),
-        Err(Stop::Refused(reason)) => editor.refuse(reason.card, reason.why),
+        Err(RuleStop::NoMemory) => editor.run_out(),
+        Err(RuleStop::Refused(reason)) => editor.refuse(reason.card, reason.why),
     }
 }

@@ -1,7 +1,7 @@
 //! Entries of arrays that are read into fields of their own.
 
 use rpg_fit_deck::{Card, Editor, Seen, View, Word};
-use rpg_fit_terms::{Form, FreeIndicators, FreshNames, Indicator, NewCard, Stop};
+use rpg_fit_terms::{Form, FreeIndicators, FreshNames, Indicator, NewCard, RuleStop};
 use rpg_fit_words::{Calculation, List};
 use std::alloc::Global;
 
@@ -67,7 +67,12 @@ impl Filling {
     }
 
     /// The field that an entry is read into. A new one is moved to the entry.
-    fn field_of(&mut self, view: &View, reading: &Reading, entry: &Entry) -> Result<Word, Stop> {
+    fn field_of(
+        &mut self,
+        view: &View,
+        reading: &Reading,
+        entry: &Entry,
+    ) -> Result<Word, RuleStop> {
         if let Some(field) = self.shadow(reading.indicator, entry) {
             return Ok(field);
         }
@@ -89,7 +94,7 @@ impl Filling {
         reading: &Reading,
         entry: &Entry,
         span: Span,
-    ) -> Result<(), Stop> {
+    ) -> Result<(), RuleStop> {
         let field = self.field_of(view, reading, entry)?;
         let card = field_card(reading, &field, span);
         editor.insert(reading.seen.at, card, reading.seen.number);

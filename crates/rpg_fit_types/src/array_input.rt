@@ -2,7 +2,7 @@
 
 use crate::array_entry::{Entry, Filling, Reading, Span};
 use rpg_fit_deck::{Card, Editor, Seen, Sentence, View, Word};
-use rpg_fit_terms::{Array, Indicator, Operand, Stop, array_of, arrays, settle, with_room};
+use rpg_fit_terms::{Array, Indicator, Operand, RuleStop, array_of, arrays, settle, with_room};
 use rpg_fit_words::{List, Place, RecordType, check_only_type, groups, insert_at, record_types};
 use std::alloc::Global;
 
@@ -12,7 +12,7 @@ pub fn input_arrays(alloc: Global, editor: &mut Editor) {
     settle(editor, outcome);
 }
 
-fn fill_all(alloc: Global, editor: &mut Editor) -> Result<(), Stop> {
+fn fill_all(alloc: Global, editor: &mut Editor) -> Result<(), RuleStop> {
     let view = editor.view(alloc)?;
     let types = record_types(alloc, &view)?;
     let arrays = arrays(alloc, &view)?;
@@ -31,7 +31,7 @@ fn fill_all(alloc: Global, editor: &mut Editor) -> Result<(), Stop> {
 }
 
 /// Puts the calculations of all types at the front of detail.
-fn insert_moves(alloc: Global, editor: &mut Editor, filling: &Filling) -> Result<(), Stop> {
+fn insert_moves(alloc: Global, editor: &mut Editor, filling: &Filling) -> Result<(), RuleStop> {
     let moves = filling.moves.checked()?;
     match moves.first() {
         Some(first) => insert_at(alloc, editor, Place::DetailFront, moves, first.number),
@@ -50,7 +50,7 @@ fn is_array(seen: &Seen, arrays: &[Array]) -> bool {
 }
 
 /// The fields of a type that are arrays or entries.
-fn array_fields(alloc: Global, kind: &RecordType, arrays: &[Array]) -> Result<Vec<Seen>, Stop> {
+fn array_fields(alloc: Global, kind: &RecordType, arrays: &[Array]) -> Result<Vec<Seen>, RuleStop> {
     let mut found = List::new(alloc);
     for field in kind.fields.iter() {
         if is_array(field, arrays) {
@@ -68,7 +68,7 @@ fn fill_type(
     types: &[RecordType],
     arrays: &[Array],
     kind: &RecordType,
-) -> Result<(), Stop> {
+) -> Result<(), RuleStop> {
     let fields = array_fields(alloc, kind, arrays)?;
     let with = match fields.first() {
         Some(first) => first.number,
@@ -91,13 +91,13 @@ fn indicator_of(
     filling: &mut Filling,
     kind: &RecordType,
     with: usize,
-) -> Result<Indicator, Stop> {
+) -> Result<Indicator, RuleStop> {
     let own = Indicator::at(&kind.head.card, 19);
     if own.is_number() {
         return Ok(own);
     }
     if !own.is_blank() {
-        return Err(Stop::refused(
+        return Err(RuleStop::refused(
             kind.head.number,
             Sentence::about(
                 "its indicator is %, and may be on in other cycles",
@@ -118,7 +118,7 @@ fn check_indicator(
     editor: &Editor,
     kind: &RecordType,
     indicator: Indicator,
-) -> Result<(), Stop> {
+) -> Result<(), RuleStop> {
     let view = editor.view(alloc)?;
     let groups = groups(alloc, &view)?;
     check_only_type(alloc, &view, groups.as_slice(), indicator, kind.head.number)
@@ -131,12 +131,12 @@ fn check_types(
     arrays: &[Array],
     kind: &RecordType,
     indicator: Indicator,
-) -> Result<(), Stop> {
+) -> Result<(), RuleStop> {
     for other in types {
         if Indicator::at(&other.head.card, 19) == indicator
             && !fill_same(alloc, other, kind, arrays)?
         {
-            return Err(Stop::refused(
+            return Err(RuleStop::refused(
                 kind.head.number,
                 Sentence::about(
                     "another type has indicator % too, and fills other entries",
@@ -154,7 +154,7 @@ fn fill_same(
     one: &RecordType,
     other: &RecordType,
     arrays: &[Array],
-) -> Result<bool, Stop> {
+) -> Result<bool, RuleStop> {
     let first = array_fields(alloc, one, arrays)?;
     let second = array_fields(alloc, other, arrays)?;
     Ok(first.len() == second.len() && all_fill_same(first.as_slice(), second.as_slice()))
@@ -198,16 +198,16 @@ fn is_filled_from(kind: &RecordType, field: &Seen, name: &[u8]) -> bool {
 }
 
 /// Rejects a field that is packed, or whose index a later card fills.
-fn check_field(kind: &RecordType, field: &Seen) -> Result<(), Stop> {
+fn check_field(kind: &RecordType, field: &Seen) -> Result<(), RuleStop> {
     if field.card.column(43) != b' ' {
-        return Err(Stop::refused(
+        return Err(RuleStop::refused(
             field.number,
             Sentence::of("packed or binary: rpg2 records first"),
         ));
     }
     let index = field_of(&field.card).index;
     if field_of(&field.card).has_index_field() && is_filled_from(kind, field, index) {
-        return Err(Stop::refused(
+        return Err(RuleStop::refused(
             field.number,
             Sentence::about("the index % is filled by a card after it", Word::of(index)),
         ));
@@ -232,7 +232,7 @@ fn fill_field(
     filling: &mut Filling,
     field: &Seen,
     indicator: Indicator,
-) -> Result<(), Stop> {
+) -> Result<(), RuleStop> {
     let view = editor.view(alloc)?;
     let name = name_now(&view, field);
     let arrays = arrays(alloc, &view)?;
@@ -273,10 +273,10 @@ fn fill_entry(
     filling: &mut Filling,
     reading: &Reading,
     name: &Word,
-) -> Result<(), Stop> {
+) -> Result<(), RuleStop> {
     let seen = &reading.seen;
     if width(&seen.card) != Some(reading.form.length) {
-        return Err(Stop::refused(
+        return Err(RuleStop::refused(
             seen.number,
             Sentence::of("columns of another length than an entry"),
         ));
@@ -312,7 +312,7 @@ fn fill_array(
     filling: &mut Filling,
     reading: &Reading,
     array: &Array,
-) -> Result<(), Stop> {
+) -> Result<(), RuleStop> {
     let seen = &reading.seen;
     match entries_of(reading, array.entries) {
         Some(count) => {
@@ -323,7 +323,7 @@ fn fill_array(
             editor.remove(seen.at, seen.number);
             Ok(())
         }
-        None => Err(Stop::refused(
+        None => Err(RuleStop::refused(
             seen.number,
             Sentence::of(
                 "a whole array that doesn't end with an entry, has too many, or has levels or indicators",
@@ -340,7 +340,7 @@ fn read_entries(
     reading: &Reading,
     name: &Word,
     count: usize,
-) -> Result<(), Stop> {
+) -> Result<(), RuleStop> {
     let view = editor.view(alloc)?;
     for place in 0..count {
         let entry = Entry {

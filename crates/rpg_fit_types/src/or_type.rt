@@ -1,7 +1,7 @@
 //! A type in place of each OR, and fields without a field record relation.
 
 use rpg_fit_deck::{Address, Card, Editor, Seen, Sentence, Word};
-use rpg_fit_terms::{Indicator, NewCard, Stop, address_after, put_cards, settle};
+use rpg_fit_terms::{Indicator, NewCard, RuleStop, address_after, put_cards, settle};
 use rpg_fit_words::{List, RecordType, record_types};
 use std::alloc::Global;
 
@@ -12,7 +12,7 @@ pub fn or_types(alloc: Global, editor: &mut Editor) {
     settle(editor, outcome);
 }
 
-fn separate_all(alloc: Global, editor: &mut Editor) -> Result<(), Stop> {
+fn separate_all(alloc: Global, editor: &mut Editor) -> Result<(), RuleStop> {
     let view = editor.view(alloc)?;
     let types = record_types(alloc, &view)?;
     for kind in types.iter() {
@@ -78,10 +78,10 @@ fn is_level_unrelated(kind: &RecordType, column: usize, level: &[u8]) -> bool {
 }
 
 /// Refuses a field whose level in two columns stands on a field without a relation too.
-fn check_level(kind: &RecordType, field: &Seen, column: usize) -> Result<(), Stop> {
+fn check_level(kind: &RecordType, field: &Seen, column: usize) -> Result<(), RuleStop> {
     let level = field.card.value(column, column.saturating_add(1));
     if !level.is_empty() && is_level_unrelated(kind, column, level) {
-        return Err(Stop::refused(
+        return Err(RuleStop::refused(
             field.number,
             Sentence::about(
                 "% stands with and without a field record relation",
@@ -93,12 +93,12 @@ fn check_level(kind: &RecordType, field: &Seen, column: usize) -> Result<(), Sto
 }
 
 /// Refuses relations that no alternative of the type has, and levels that stand with and without one.
-fn check_relations(kind: &RecordType) -> Result<(), Stop> {
+fn check_relations(kind: &RecordType) -> Result<(), RuleStop> {
     for field in kind.fields.iter() {
         let relation = relation(field);
         if !relation.is_blank() {
             if !has_indicator(kind, relation) {
-                return Err(Stop::refused(
+                return Err(RuleStop::refused(
                     field.number,
                     Sentence::about(
                         "field record relation % is no indicator of this type",
@@ -137,7 +137,7 @@ fn separate(
     editor: &mut Editor,
     kind: &RecordType,
     behind: Address,
-) -> Result<(), Stop> {
+) -> Result<(), RuleStop> {
     editor.tell(
         kind.head.number,
         Sentence::about(

@@ -1,7 +1,7 @@
 //! The order of record types by number.
 
 use rpg_fit_deck::{Seen, Word};
-use rpg_fit_terms::{Indicator, Stop};
+use rpg_fit_terms::{Indicator, RuleStop};
 use rpg_fit_words::List;
 use std::alloc::Global;
 
@@ -27,7 +27,7 @@ pub(crate) struct Step {
 const BEHIND_ALL: usize = 100;
 
 /// The steps of numbered types, in the order of their first cards.
-pub(crate) fn steps_of(alloc: Global, numbered: &[Numbered]) -> Result<Vec<Step>, Stop> {
+pub(crate) fn steps_of(alloc: Global, numbered: &[Numbered]) -> Result<Vec<Step>, RuleStop> {
     let mut steps = List::new(alloc);
     for one in numbered {
         if !is_step(steps.as_slice(), one.number) {
@@ -74,7 +74,7 @@ pub(crate) fn numbers_before(
     alloc: Global,
     steps: &[Step],
     step: &Step,
-) -> Result<Vec<usize>, Stop> {
+) -> Result<Vec<usize>, RuleStop> {
     let mut numbers = List::new(alloc);
     if may_follow(steps, 0, step) {
         numbers.push(0);

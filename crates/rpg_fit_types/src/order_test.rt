@@ -2,7 +2,7 @@
 
 use crate::order::{Numbered, Step, numbers_before, steps_of};
 use rpg_fit_deck::Word;
-use rpg_fit_terms::{Condition, Indicator, NewCard, Stop, Term};
+use rpg_fit_terms::{Conjunction, Indicator, NewCard, RuleStop, Term};
 use rpg_fit_words::{Calculation, List};
 use std::alloc::Global;
 
@@ -34,7 +34,7 @@ fn indicators_of(
     alloc: Global,
     numbered: &[Numbered],
     number: usize,
-) -> Result<Vec<Indicator>, Stop> {
+) -> Result<Vec<Indicator>, RuleStop> {
     let mut found = List::new(alloc);
     for one in numbered {
         if one.number == number && !is_among(found.as_slice(), one.indicator) {
@@ -54,7 +54,7 @@ fn push_comparison(cards: &mut List<NewCard>, marks: &Marks, indicator: Indicato
             .equal(marks.equal)
             .made_of(marks.card),
     );
-    let equal = Condition::on(indicator).and(Term::on(marks.equal));
+    let equal = Conjunction::on(indicator).and(Term::on(marks.equal));
     cards.push(
         Calculation::of(b"SETOF")
             .under(&equal)
@@ -84,7 +84,7 @@ fn push_step(
     numbered: &[Numbered],
     steps: &[Step],
     step: &Step,
-) -> Result<(), Stop> {
+) -> Result<(), RuleStop> {
     let before = numbers_before(alloc, steps, step)?;
     if before.len() > steps.len() {
         return Ok(());
@@ -103,7 +103,7 @@ fn push_last(
     marks: &Marks,
     numbered: &[Numbered],
     step: &Step,
-) -> Result<(), Stop> {
+) -> Result<(), RuleStop> {
     let indicators = indicators_of(alloc, numbered, step.number)?;
     for indicator in indicators.iter() {
         cards.push(
@@ -124,7 +124,7 @@ fn push_all_last(
     marks: &Marks,
     numbered: &[Numbered],
     steps: &[Step],
-) -> Result<(), Stop> {
+) -> Result<(), RuleStop> {
     for step in steps {
         push_last(alloc, cards, marks, numbered, step)?;
     }
@@ -136,7 +136,7 @@ pub(crate) fn order_cards(
     alloc: Global,
     marks: &Marks,
     numbered: &[Numbered],
-) -> Result<Vec<NewCard>, Stop> {
+) -> Result<Vec<NewCard>, RuleStop> {
     let steps = steps_of(alloc, numbered)?;
     let mut cards = List::new(alloc);
     for step in steps.iter() {

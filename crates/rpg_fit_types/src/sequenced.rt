@@ -3,7 +3,7 @@
 use crate::order::{Numbered, letters};
 use crate::order_test::{Marks, order_cards};
 use rpg_fit_deck::{Card, Editor, Sentence, View, Word};
-use rpg_fit_terms::{FreeIndicators, Indicator, Stop, free_halt, fresh_name, settle};
+use rpg_fit_terms::{FreeIndicators, Indicator, RuleStop, free_halt, fresh_name, settle};
 use rpg_fit_words::{List, Place, RecordType, check_only_type, groups, insert_at, record_types};
 use std::alloc::Global;
 
@@ -21,7 +21,7 @@ struct Given {
     letters: usize,
 }
 
-fn order_all(alloc: Global, editor: &mut Editor) -> Result<(), Stop> {
+fn order_all(alloc: Global, editor: &mut Editor) -> Result<(), RuleStop> {
     let view = editor.view(alloc)?;
     let types = record_types(alloc, &view)?;
     let mut given = Given {
@@ -57,7 +57,7 @@ fn order_file(
     editor: &mut Editor,
     given: &mut Given,
     file: &Word,
-) -> Result<(), Stop> {
+) -> Result<(), RuleStop> {
     let view = editor.view(alloc)?;
     let types = record_types(alloc, &view)?;
     let numbered = numbered_types(alloc, given, &view, types.as_slice(), file)?;
@@ -95,7 +95,7 @@ fn insert_tests(
     editor: &mut Editor,
     marks: &Marks,
     numbered: &[Numbered],
-) -> Result<(), Stop> {
+) -> Result<(), RuleStop> {
     let cards = order_cards(alloc, marks, numbered)?;
     insert_at(
         alloc,
@@ -107,11 +107,11 @@ fn insert_tests(
 }
 
 /// Refuses columns 17 and 18 that say nothing of an order.
-fn check_columns(kind: &RecordType) -> Result<(), Stop> {
+fn check_columns(kind: &RecordType) -> Result<(), RuleStop> {
     let many = kind.head.card.column(17);
     let optional = kind.head.card.column(18);
     if (many != b'1' && many != b'N') || (optional != b' ' && optional != b'O') {
-        return Err(Stop::refused(
+        return Err(RuleStop::refused(
             kind.head.number,
             Sentence::of("17 and 18 of a sequence by number are 1 or N, and O or blank"),
         ));
@@ -125,7 +125,7 @@ fn is_of(kind: &RecordType, file: &Word) -> bool {
 }
 
 /// Refuses columns 17 and 18 of a file's types.
-fn check_all_columns(types: &[RecordType], file: &Word) -> Result<(), Stop> {
+fn check_all_columns(types: &[RecordType], file: &Word) -> Result<(), RuleStop> {
     for kind in types {
         if is_of(kind, file) {
             check_columns(kind)?;
@@ -141,7 +141,7 @@ fn numbered_types(
     view: &View,
     types: &[RecordType],
     file: &Word,
-) -> Result<Vec<Numbered>, Stop> {
+) -> Result<Vec<Numbered>, RuleStop> {
     check_all_columns(types, file)?;
     let mut numbered = List::new(alloc);
     for kind in types {
@@ -177,13 +177,13 @@ fn indicator_of(
     view: &View,
     types: &[RecordType],
     kind: &RecordType,
-) -> Result<Indicator, Stop> {
+) -> Result<Indicator, RuleStop> {
     let own = Indicator::at(&kind.head.card, 19);
     if own.is_blank() {
         return given.free.take(view, kind.head.number);
     }
     if is_of_another(types, kind, own) {
-        return Err(Stop::refused(
+        return Err(RuleStop::refused(
             kind.head.number,
             Sentence::about("two types of other numbers have indicator %", own.word()),
         ));
@@ -199,12 +199,12 @@ fn change_types(
     given: &mut Given,
     numbered: &[Numbered],
     with: usize,
-) -> Result<(), Stop> {
+) -> Result<(), RuleStop> {
     for one in numbered {
         let letters = match letters(given.letters) {
             Some(letters) => letters,
             None => {
-                return Err(Stop::refused(
+                return Err(RuleStop::refused(
                     one.head.number,
                     Sentence::of("more than 104 types with a number"),
                 ));

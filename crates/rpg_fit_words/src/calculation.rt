@@ -1,7 +1,7 @@
 //! Calculations that rules make.
 
 use rpg_fit_deck::{Card, Word};
-use rpg_fit_terms::{Condition, Indicator, NewCard, Term};
+use rpg_fit_terms::{Conjunction, Indicator, NewCard, Term};
 
 /// A calculation card under way.
 #[derive(Clone, Copy)]
@@ -29,18 +29,18 @@ impl Calculation {
     }
 
     /// Under a condition of at most three terms.
-    pub fn under(self, condition: &Condition) -> Calculation {
+    pub fn under(self, condition: &Conjunction) -> Calculation {
         self.with(9, 17, condition.columns(0).text())
     }
 
     /// Where an indicator is on.
     pub fn when(self, indicator: Indicator) -> Calculation {
-        self.under(&Condition::on(indicator))
+        self.under(&Conjunction::on(indicator))
     }
 
     /// Where an indicator is off.
     pub fn unless(self, indicator: Indicator) -> Calculation {
-        self.under(&Condition::none().and(Term::off(indicator)))
+        self.under(&Conjunction::none().and(Term::off(indicator)))
     }
 
     pub fn factor1(self, factor: &[u8]) -> Calculation {

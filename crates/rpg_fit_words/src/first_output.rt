@@ -4,14 +4,14 @@ use crate::line::Line;
 use crate::printer::Printer;
 use crate::record_type::{RecordType, record_types};
 use rpg_fit_deck::{Card, Seen, View};
-use rpg_fit_terms::{Condition, Stop};
+use rpg_fit_terms::{Conjunction, RuleStop};
 use std::alloc::Global;
 
 /// The line of a page from which on there is overflow.
 const OVERFLOW_LINE: usize = 60;
 
 /// Whether a line is put out at overflow under a condition.
-fn is_overflow(printer: Option<Printer>, line: &Line, condition: &Condition) -> bool {
+fn is_overflow(printer: Option<Printer>, line: &Line, condition: &Conjunction) -> bool {
     match printer {
         Some(printer) => printer.is_overflow(line, condition),
         None => false,
@@ -33,7 +33,7 @@ pub fn is_put_first(printer: Option<Printer>, line: &Line) -> bool {
 
 /// Whether a field is put out at the first output.
 pub fn is_field_put_first(printer: Option<Printer>, line: &Line, field: &Seen) -> bool {
-    is_put_first(printer, line) && Condition::at(&field.card, 23).holds_first()
+    is_put_first(printer, line) && Conjunction::at(&field.card, 23).holds_first()
 }
 
 /// How many lines a card spaces: columns 17 and 18.
@@ -102,7 +102,7 @@ pub fn is_total_skipped_late(
     view: &View,
     printer: Option<Printer>,
     lines: &[Line],
-) -> Result<bool, Stop> {
+) -> Result<bool, RuleStop> {
     let types = record_types(alloc, view)?;
     Ok(have_levels_or_not(types.as_slice()) || reaches_overflow(printer, lines))
 }

@@ -4,7 +4,7 @@ use crate::calculation::Calculation;
 use crate::group::{Group, Section};
 use crate::list::List;
 use rpg_fit_deck::{View, Word};
-use rpg_fit_terms::{Condition, FreeIndicators, Indicator, NewCard, Stop};
+use rpg_fit_terms::{Conjunction, FreeIndicators, Indicator, NewCard, RuleStop};
 use std::alloc::Global;
 
 /// What calculations in place of another one stand under.
@@ -54,7 +54,7 @@ pub fn under_flag(
     group: &Group,
     free: &mut FreeIndicators,
     always: bool,
-) -> Result<Flagged, Stop> {
+) -> Result<Flagged, RuleStop> {
     if group.leading.is_empty() && !always {
         return Ok(Flagged {
             before: List::new(alloc),
@@ -71,7 +71,7 @@ pub fn under_flag(
     Ok(Flagged {
         before: flag_cards(alloc, group, level, flag),
         level,
-        conditions: Condition::on(flag).columns(0),
+        conditions: Conjunction::on(flag).columns(0),
         flag: Some(flag),
     })
 }
@@ -80,9 +80,9 @@ pub fn under_flag(
 fn push_alternative(
     cards: &mut List<NewCard>,
     lead: Word,
-    condition: &Condition,
+    condition: &Conjunction,
     end: NewCard,
-) -> Result<(), Stop> {
+) -> Result<(), RuleStop> {
     condition.check(end.number)?;
     let last = condition.cards().saturating_sub(1);
     for part in 0..condition.cards() {
@@ -109,9 +109,9 @@ fn blank(number: usize) -> NewCard {
 pub fn push_conditioned(
     cards: &mut List<NewCard>,
     level: Indicator,
-    alternatives: &[Condition],
+    alternatives: &[Conjunction],
     last: NewCard,
-) -> Result<(), Stop> {
+) -> Result<(), RuleStop> {
     let mut lead = level.word();
     for (place, condition) in alternatives.iter().enumerate() {
         let end = if place.saturating_add(1) == alternatives.len() {

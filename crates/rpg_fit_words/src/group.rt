@@ -1,7 +1,7 @@
 //! Calculations with their AN and OR cards.
 
 use rpg_fit_deck::{Address, Card, Seen, View};
-use rpg_fit_terms::{Indicator, Stop, is_card};
+use rpg_fit_terms::{Indicator, RuleStop, is_card};
 use std::alloc::Global;
 
 /// The part of the cycle that a calculation belongs to.
@@ -67,7 +67,7 @@ impl Group {
     }
 
     /// One more card, which is its last one now.
-    fn push(&mut self, seen: Seen) -> Result<(), Stop> {
+    fn push(&mut self, seen: Seen) -> Result<(), RuleStop> {
         self.leading.push(self.last)?;
         self.last = seen;
         Ok(())
@@ -80,7 +80,7 @@ fn continues(card: &Card) -> bool {
     level == b"AN".as_slice() || level == b"OR".as_slice()
 }
 
-fn push_card(alloc: Global, found: &mut Vec<Group>, seen: &Seen) -> Result<(), Stop> {
+fn push_card(alloc: Global, found: &mut Vec<Group>, seen: &Seen) -> Result<(), RuleStop> {
     if continues(&seen.card) {
         if let Some(group) = found.last_mut() {
             return group.push(*seen);
@@ -98,7 +98,7 @@ fn push_card(alloc: Global, found: &mut Vec<Group>, seen: &Seen) -> Result<(), S
 /// # Errors
 ///
 /// Memory is refused.
-pub fn groups(alloc: Global, view: &View) -> Result<Vec<Group>, Stop> {
+pub fn groups(alloc: Global, view: &View) -> Result<Vec<Group>, RuleStop> {
     let mut found = Vec::new(alloc);
     for seen in view.cards.iter() {
         if is_card(seen, b'C') {

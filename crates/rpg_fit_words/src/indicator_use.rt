@@ -3,7 +3,7 @@
 use crate::group::{Group, Section};
 use crate::list::List;
 use rpg_fit_deck::{Address, Seen, Sentence, View, Word};
-use rpg_fit_terms::{Condition, Indicator, Stop, is_card};
+use rpg_fit_terms::{Conjunction, Indicator, RuleStop, is_card};
 use std::alloc::Global;
 
 /// What a card does with an indicator.
@@ -52,7 +52,7 @@ fn push_three(found: &mut List<IndicatorUse>, seen: &Seen, kind: UseKind, column
 
 /// Appends the indicators that are asked in nine columns, from a column on.
 fn push_asked(found: &mut List<IndicatorUse>, seen: &Seen, column: usize) {
-    for term in Condition::at(&seen.card, column).terms() {
+    for term in Conjunction::at(&seen.card, column).terms() {
         push_use(found, seen, UseKind::Asked, term.indicator);
     }
 }
@@ -86,7 +86,7 @@ fn push_card(found: &mut List<IndicatorUse>, seen: &Seen) {
 /// # Errors
 ///
 /// Memory is refused.
-pub fn indicator_uses(alloc: Global, view: &View) -> Result<Vec<IndicatorUse>, Stop> {
+pub fn indicator_uses(alloc: Global, view: &View) -> Result<Vec<IndicatorUse>, RuleStop> {
     let mut found = List::new(alloc);
     for seen in view.cards.iter() {
         if !seen.card.is_comment() {
@@ -127,11 +127,11 @@ pub fn check_only_type(
     groups: &[Group],
     indicator: Indicator,
     card: usize,
-) -> Result<(), Stop> {
+) -> Result<(), RuleStop> {
     let uses = indicator_uses(alloc, view)?;
     for one in uses.iter() {
         if one.indicator == indicator && is_set_elsewhere(groups, one) {
-            return Err(Stop::refused(
+            return Err(RuleStop::refused(
                 card,
                 Sentence::of_two(
                     "indicator % of its type is turned on or off by card % too",

@@ -25,7 +25,7 @@ pub use place::{Place, insert_at};
 pub use printer::{Printer, printer_of};
 pub use record_type::{RecordType, record_types};
 pub use rpg_fit_terms::{
-    Array, Condition, Form, FreeIndicators, FreshNames, Indicator, NewCard, Operand, Reason, Stop,
-    Term, address_after, array_of, arrays, form_of, free_halt, fresh_name, is_card, is_date_part,
-    is_name_used, put_cards, rename, settle, unused_prefix, with_room,
+    Array, Conjunction, Form, FreeIndicators, FreshNames, Indicator, NewCard, Operand, Reason,
+    RuleStop, Term, address_after, array_of, arrays, form_of, free_halt, fresh_name, is_card,
+    is_date_part, is_name_used, put_cards, rename, settle, unused_prefix, with_room,
 };

@@ -2,7 +2,7 @@
 
 use crate::list::List;
 use rpg_fit_deck::{Card, Editor, Seen, View, Word};
-use rpg_fit_terms::{Condition, NewCard, Stop, is_card};
+use rpg_fit_terms::{Conjunction, NewCard, RuleStop, is_card};
 use std::alloc::Global;
 
 /// When a line is put out.
@@ -39,13 +39,13 @@ impl Time {
 #[derive(Clone, Copy)]
 pub struct Alternative {
     pub card: Seen,
-    pub condition: Condition,
+    pub condition: Conjunction,
 }
 
 impl Alternative {
     /// Appends the conditions of an AND card.
-    fn push_card(&mut self, seen: &Seen) -> Result<(), Stop> {
-        self.condition = self.condition.and_all(&Condition::at(&seen.card, 23));
+    fn push_card(&mut self, seen: &Seen) -> Result<(), RuleStop> {
+        self.condition = self.condition.and_all(&Conjunction::at(&seen.card, 23));
         self.condition.check(seen.number)
     }
 }
@@ -75,13 +75,13 @@ fn is_or(card: &Card) -> bool {
 fn alternative_at(seen: &Seen) -> Alternative {
     Alternative {
         card: *seen,
-        condition: Condition::at(&seen.card, 23),
+        condition: Conjunction::at(&seen.card, 23),
     }
 }
 
 impl Line {
     /// A line that has its record card alone.
-    fn begin(alloc: Global, head: &Seen, file: Word) -> Result<Line, Stop> {
+    fn begin(alloc: Global, head: &Seen, file: Word) -> Result<Line, RuleStop> {
         let mut alternatives = Vec::new(alloc);
         alternatives.push(alternative_at(head))?;
         Ok(Line {
@@ -95,7 +95,7 @@ impl Line {
     }
 
     /// Appends an AND or OR card.
-    fn push_more(&mut self, seen: &Seen) -> Result<(), Stop> {
+    fn push_more(&mut self, seen: &Seen) -> Result<(), RuleStop> {
         self.more.push(*seen)?;
         if is_or(&seen.card) {
             self.alternatives.push(alternative_at(seen))?;
@@ -128,8 +128,8 @@ impl Line {
         &self,
         cards: &mut List<NewCard>,
         head: NewCard,
-        alternatives: &[Condition],
-    ) -> Result<(), Stop> {
+        alternatives: &[Conjunction],
+    ) -> Result<(), RuleStop> {
         let number = self.head.number;
         let mut first = head;
         for condition in alternatives {
@@ -152,7 +152,7 @@ fn condition_card(word: &[u8], number: usize) -> NewCard {
 }
 
 /// Appends the AND cards that an alternative needs after its first card.
-fn push_and_cards(cards: &mut List<NewCard>, condition: &Condition, number: usize) {
+fn push_and_cards(cards: &mut List<NewCard>, condition: &Conjunction, number: usize) {
     for part in 1..condition.cards() {
         cards.push(condition_card(b"AND", number).with(23, 31, condition.columns(part).text()));
     }
@@ -171,7 +171,7 @@ fn remove_cards(editor: &mut Editor, cards: &[Seen], with: usize) {
 }
 
 /// Appends a card to the line that it belongs to.
-fn push_to_last(found: &mut Vec<Line>, seen: &Seen) -> Result<(), Stop> {
+fn push_to_last(found: &mut Vec<Line>, seen: &Seen) -> Result<(), RuleStop> {
     match found.last_mut() {
         Some(line) if continues(&seen.card) => line.push_more(seen),
         Some(line) => {
@@ -188,7 +188,7 @@ fn push_card(
     found: &mut Vec<Line>,
     file: &mut Word,
     seen: &Seen,
-) -> Result<(), Stop> {
+) -> Result<(), RuleStop> {
     if continues(&seen.card) || seen.card.is_blank(7, 16) {
         return push_to_last(found, seen);
     }
@@ -205,7 +205,7 @@ fn push_card(
 /// # Errors
 ///
 /// An alternative has more than 60 conditions, or memory is refused.
-pub fn lines(alloc: Global, view: &View) -> Result<Vec<Line>, Stop> {
+pub fn lines(alloc: Global, view: &View) -> Result<Vec<Line>, RuleStop> {
     let mut found = Vec::new(alloc);
     let mut file = Word::empty();
     for seen in view.cards.iter() {
@@ -221,7 +221,7 @@ pub fn lines(alloc: Global, view: &View) -> Result<Vec<Line>, Stop> {
 /// # Errors
 ///
 /// An alternative has more than 60 conditions, or memory is refused.
-pub fn lines_now(alloc: Global, editor: &Editor) -> Result<Vec<Line>, Stop> {
+pub fn lines_now(alloc: Global, editor: &Editor) -> Result<Vec<Line>, RuleStop> {
     let view = editor.view(alloc)?;
     lines(alloc, &view)
 }

@@ -1,6 +1,6 @@
 //! Lists that rules fill.
 
-use rpg_fit_terms::Stop;
+use rpg_fit_terms::RuleStop;
 use std::alloc::Global;
 
 /// Values in their order. A list for which memory ran out remembers it, so that only `checked` and `finish` return an error.
@@ -54,9 +54,9 @@ impl<T: Copy> List<T> {
     /// # Errors
     ///
     /// Memory was refused for one of them.
-    pub fn checked(&self) -> Result<&[T], Stop> {
+    pub fn checked(&self) -> Result<&[T], RuleStop> {
         if self.ran_out {
-            Err(Stop::NoMemory)
+            Err(RuleStop::NoMemory)
         } else {
             Ok(self.values.as_slice())
         }
@@ -67,9 +67,9 @@ impl<T: Copy> List<T> {
     /// # Errors
     ///
     /// Memory was refused for one of them.
-    pub fn finish(self) -> Result<Vec<T>, Stop> {
+    pub fn finish(self) -> Result<Vec<T>, RuleStop> {
         if self.ran_out {
-            Err(Stop::NoMemory)
+            Err(RuleStop::NoMemory)
         } else {
             Ok(self.values)
         }

@@ -2,7 +2,7 @@
 
 use crate::group::{Group, Section, groups};
 use rpg_fit_deck::{Address, Editor, View};
-use rpg_fit_terms::{NewCard, Stop, address_after, is_card, put_cards};
+use rpg_fit_terms::{NewCard, RuleStop, address_after, is_card, put_cards};
 use std::alloc::Global;
 
 /// A place for calculations in the cycle.
@@ -74,7 +74,7 @@ pub fn insert_at(
     place: Place,
     cards: &[NewCard],
     with: usize,
-) -> Result<(), Stop> {
+) -> Result<(), RuleStop> {
     let view = editor.view(alloc)?;
     let groups = groups(alloc, &view)?;
     let before = address_of(&view, groups.as_slice(), place);

@@ -2,7 +2,7 @@
 
 use crate::line::{Line, Time};
 use rpg_fit_deck::{View, Word};
-use rpg_fit_terms::{Condition, Indicator, Term, is_card};
+use rpg_fit_terms::{Conjunction, Indicator, Term, is_card};
 
 /// A deck's first printer.
 #[derive(Clone, Copy)]
@@ -35,7 +35,7 @@ impl Printer {
     }
 
     /// Whether a line is put out at overflow under a condition.
-    pub fn is_overflow(&self, line: &Line, condition: &Condition) -> bool {
+    pub fn is_overflow(&self, line: &Line, condition: &Conjunction) -> bool {
         !self.overflow.is_blank()
             && line.time != Time::Exception
             && self.has(line)

@@ -1,7 +1,7 @@
 //! Record types.
 
 use rpg_fit_deck::{Card, Seen, View, Word};
-use rpg_fit_terms::{Stop, is_card};
+use rpg_fit_terms::{RuleStop, is_card};
 use std::alloc::Global;
 
 /// A record type.
@@ -21,7 +21,7 @@ fn continues(card: &Card) -> bool {
 }
 
 /// Appends a card to the type that it belongs to.
-fn push_to_last(found: &mut Vec<RecordType>, seen: &Seen) -> Result<(), Stop> {
+fn push_to_last(found: &mut Vec<RecordType>, seen: &Seen) -> Result<(), RuleStop> {
     if let Some(kind) = found.last_mut() {
         if continues(&seen.card) {
             kind.more.push(*seen)?;
@@ -38,7 +38,7 @@ fn push_card(
     found: &mut Vec<RecordType>,
     file: &mut Word,
     seen: &Seen,
-) -> Result<(), Stop> {
+) -> Result<(), RuleStop> {
     if continues(&seen.card) || seen.card.is_blank(7, 16) {
         return push_to_last(found, seen);
     }
@@ -59,7 +59,7 @@ fn push_card(
 /// # Errors
 ///
 /// Memory is refused.
-pub fn record_types(alloc: Global, view: &View) -> Result<Vec<RecordType>, Stop> {
+pub fn record_types(alloc: Global, view: &View) -> Result<Vec<RecordType>, RuleStop> {
     let mut found = Vec::new(alloc);
     let mut file = Word::empty();
     for seen in view.cards.iter() {

@@ -101,16 +101,16 @@ meant_level control.And = None
 meant_level control.Or = None
 
 -- an AN or OR card, by columns 7 and 8
-abbrev pub is_and_or : ControlLevel → Bool
-is_and_or control.Detail = false
-is_and_or (control.Total n) = false
-is_and_or control.Subroutine = false
-is_and_or control.And = true
-is_and_or control.Or = true
+abbrev pub is_continuation : ControlLevel → Bool
+is_continuation control.Detail = false
+is_continuation (control.Total n) = false
+is_continuation control.Subroutine = false
+is_continuation control.And = true
+is_continuation control.Or = true
 
 -- an OR card
-abbrev pub is_or_card : CalculationSpec → Bool
-is_or_card k = by k.control_level
+abbrev pub is_or_calculation : CalculationSpec → Bool
+is_or_calculation k = by k.control_level
   where
     by : ControlLevel → Bool
     by control.Detail = false
@@ -120,8 +120,8 @@ is_or_card k = by k.control_level
     by control.Or = true
 
 -- 9-17 of one card, if any are filled
-abbrev pub asked_on : CalculationSpec → List Conditions
-asked_on k = asked (meant_conditions k.conditions)
+abbrev pub filled_conditions_on : CalculationSpec → List Conditions
+filled_conditions_on k = asked (meant_conditions k.conditions)
   where
     asked : List Condition → List Conditions
     asked [] = []
@@ -130,26 +130,26 @@ asked_on k = asked (meant_conditions k.conditions)
 -- 9-17 of the cards up to the next OR card
 abbrev pub asked_further : List CalculationSpec → List Conditions
 asked_further [] = []
-asked_further (k ∷ ks) = if is_or_card k then [] else asked_on k ++ asked_further ks
+asked_further (k ∷ ks) = if is_or_calculation k then [] else filled_conditions_on k ++ asked_further ks
 
 -- each OR card begins an alternative, which the AN cards after it continue
 abbrev pub asked_else : List CalculationSpec → List (List Conditions)
 asked_else [] = []
-asked_else (k ∷ ks) = if is_or_card k then (asked_on k ++ asked_further ks) ∷ asked_else ks else asked_else ks
+asked_else (k ∷ ks) = if is_or_calculation k then (filled_conditions_on k ++ asked_further ks) ∷ asked_else ks else asked_else ks
 
 -- ---- calculations
 
 -- the AN and OR cards at the front of these cards
 abbrev pub joined_after : List SpecCard → List CalculationSpec
 joined_after [] = []
-joined_after (c ∷ cs) = option_map_or (λ k. if is_and_or k.control_level then k ∷ joined_after cs else []) (calculation_on c.spec) []
+joined_after (c ∷ cs) = option_map_or (λ k. if is_continuation k.control_level then k ∷ joined_after cs else []) (calculation_on c.spec) []
 
 -- a card and the AN and OR cards after it; the last of them has the operation
 abbrev pub meant_calculation : CalculationSpec → List CalculationSpec → Calculation Key
 meant_calculation k joined = record {
   control = k.control_level;
   level = meant_level k.control_level;
-  alternatives = (asked_on k ++ asked_further joined) ∷ asked_else joined;
+  alternatives = (filled_conditions_on k ++ asked_further joined) ∷ asked_else joined;
   deed = let last = unwrap_or (last_or None joined) k in done_by last last.operation;
 }
 
@@ -157,7 +157,7 @@ meant_calculation k joined = record {
 abbrev pub meant_from : Bool → List SpecCard → List (Calculation Key)
 meant_from follows_one [] = []
 meant_from follows_one (c ∷ cs) =
-    option_map_or (λ k. if follows_one && is_and_or k.control_level then [] else meant_calculation k (joined_after cs) ∷ []) (calculation_on c.spec) []
+    option_map_or (λ k. if follows_one && is_continuation k.control_level then [] else meant_calculation k (joined_after cs) ∷ []) (calculation_on c.spec) []
     ++ meant_from (is_some (calculation_on c.spec)) cs
 
 -- the calculations of a source, in the order of their cards

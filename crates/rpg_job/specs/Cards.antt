@@ -6,10 +6,10 @@ use Rattle.rpg_sheet_specs.specs.declared.indicator.Three.{Three}
 use Rattle.rpg_sheet_specs.specs.declared.spec.Spec.{Spec}
 
 -- the cards before the first one that passes the test
-abbrev pub up_to : (Spec → Bool) → List SpecCard → List SpecCard
-up_to test [] = []
-up_to test (c ∷ cs) = if test c.spec then [] else c ∷ up_to test cs
+abbrev pub cards_before : (Spec → Bool) → List SpecCard → List SpecCard
+cards_before test [] = []
+cards_before test (c ∷ cs) = if test c.spec then [] else c ∷ cards_before test cs
 
 -- the values of those ranges of three that are filled
-abbrev pub filled : {X : Type 0} → Three (Option X) → List X
-filled t = option_to_list t.first ++ option_to_list t.second ++ option_to_list t.third
+abbrev pub filled_values : {X : Type 0} → Three (Option X) → List X
+filled_values t = option_to_list t.first ++ option_to_list t.second ++ option_to_list t.third

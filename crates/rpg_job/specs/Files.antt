@@ -66,9 +66,9 @@ abbrev pub the_file_named : Option (List ℕ) → List SpecCard → Option FileS
 the_file_named name cards = option_and_then (λ n. the_file (λ f. pointwise nat_eq n f.name) cards) name
 
 -- the record length, 24-27; 0 if there is no such file
-abbrev pub length_of : Option FileSpec → ℕ
-length_of file = option_map_or (λ f. f.record_length) file 0
+abbrev pub file_record_length : Option FileSpec → ℕ
+file_record_length file = option_map_or (λ f. f.record_length) file 0
 
 -- the overflow indicator: 33-34 of the printer's card
-abbrev pub overflow_of : List SpecCard → Option ℕ
-overflow_of cards = option_and_then (λ f. f.overflow) (the_file is_printer cards)
+abbrev pub overflow_indicator : List SpecCard → Option ℕ
+overflow_indicator cards = option_and_then (λ f. f.overflow) (the_file is_printer cards)

@@ -18,7 +18,7 @@ use Rattle.rpg_sheet_specs.specs.declared.data.DataSpec.TheVariants as deck
 use Rattle.rpg_sheet_specs.specs.declared.extension.ExtensionSpec.{ExtensionSpec}
 use Rattle.rpg_sheet_specs.specs.declared.extension.TableSpec.{TableSpec}
 use Rattle.rpg_sheet_specs.specs.declared.spec.Spec.{Spec}
-use Rattle.rpg_job.specs.Cards.{up_to}
+use Rattle.rpg_job.specs.Cards.{cards_before}
 
 -- a constant has the value that is written
 abbrev pub meant_constant : Constant → Value
@@ -42,18 +42,18 @@ abbrev pub begins_deck : Spec → Bool
 begins_deck s = option_map_or begins_deck_by (data_on s) false
 
 -- the text of a data card
-abbrev pub data_card : DataSpec → Option (List ℕ)
-data_card deck.Begin = None
-data_card (deck.Card text) = Some text
+abbrev pub data_text : DataSpec → Option (List ℕ)
+data_text deck.Begin = None
+data_text (deck.Card text) = Some text
 
 -- the texts of the data cards
 abbrev pub data_cards : List SpecCard → List (List ℕ)
-data_cards cards = filter_map (λ c. option_map_or data_card (data_on c.spec) None) cards
+data_cards cards = filter_map (λ c. option_map_or data_text (data_on c.spec) None) cards
 
 -- the data of each table: the texts of the cards from each ** to the next
 abbrev pub meant_decks : List SpecCard → List (List (List ℕ))
 meant_decks [] = []
-meant_decks (c ∷ cs) = if begins_deck c.spec then data_cards (up_to begins_deck cs) ∷ meant_decks cs else meant_decks cs
+meant_decks (c ∷ cs) = if begins_deck c.spec then data_cards (cards_before begins_deck cs) ∷ meant_decks cs else meant_decks cs
 
 -- ---- the tables and arrays with data
 
@@ -68,14 +68,14 @@ pub record Stored : Type 0 where
   pub deck : List (List ℕ)
 
 -- with an alternating table (46-57) the data cards hold pairs
-abbrev pub width_of : ExtensionSpec → ℕ
-width_of e = option_map_or (λ (t : TableSpec). e.table.length + t.length) e.alternating e.table.length
+abbrev pub entry_width : ExtensionSpec → ℕ
+entry_width e = option_map_or (λ (t : TableSpec). e.table.length + t.length) e.alternating e.table.length
 
 -- the tables whose values one set of data has: the E card's, and its alternating one
 abbrev pub stored_on : (ExtensionSpec × ℕ) × List (List ℕ) → List Stored
 stored_on p =
-    record { table = p.0.0.table; entries = p.0.0.entries; per_card = p.0.1; width = width_of p.0.0; before = 0; deck = p.1 }
-    ∷ option_to_list (option_map (λ t. record { table = t; entries = p.0.0.entries; per_card = p.0.1; width = width_of p.0.0; before = p.0.0.table.length; deck = p.1 }) p.0.0.alternating)
+    record { table = p.0.0.table; entries = p.0.0.entries; per_card = p.0.1; width = entry_width p.0.0; before = 0; deck = p.1 }
+    ∷ option_to_list (option_map (λ t. record { table = t; entries = p.0.0.entries; per_card = p.0.1; width = entry_width p.0.0; before = p.0.0.table.length; deck = p.1 }) p.0.0.alternating)
 
 -- an E card whose data follow the sheets: 33-35 is filled
 abbrev pub wanting : ExtensionSpec → Option (ExtensionSpec × ℕ)

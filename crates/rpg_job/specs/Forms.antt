@@ -16,7 +16,7 @@ use Rattle.rpg_program.specs.declared.form.Kind.TheVariants as kind
 use Rattle.rpg_edit_marks.specs.declared.code.EditCode.{EditCode}
 use Rattle.rpg_sheet_specs.specs.declared.entry.Entry.{Entry}
 use Rattle.rpg_sheet_specs.specs.declared.extension.TableSpec.{TableSpec}
-use Rattle.rpg_sheet_specs.specs.declared.input.InputField.{InputField}
+use Rattle.rpg_sheet_specs.specs.declared.input.InputFieldSpec.{InputFieldSpec}
 use Rattle.rpg_sheet_specs.specs.declared.input.InputSpec.{InputSpec}
 use Rattle.rpg_sheet_specs.specs.declared.input.InputSpec.TheVariants as input
 use Rattle.rpg_sheet_specs.specs.declared.literal.Factor.{Factor}
@@ -46,7 +46,7 @@ sized_as c entries ascending len (Some d) =
 -- ---- the cards that define a name
 
 -- an I card: the name 53-58, as long as the columns 44-47 to 48-51, with the decimals 52
-abbrev pub meant_field_form : InputField → Option FieldForm
+abbrev pub meant_field_form : InputFieldSpec → Option FieldForm
 meant_field_form f = if nat_le f.from f.to then sized_as class.Plain 1 false (f.to + 1 - f.from) f.decimals else None
 
 -- what an I card defines
@@ -116,13 +116,13 @@ is_in_factor c (Some (factor.Entry e)) = false
 is_in_factor c (Some (factor.Literal l)) = is_literal c l
 
 -- a text is a constant of that text
-abbrev pub is_text : Constant → List ℕ → Bool
-is_text (constant.Number n) text = false
-is_text (constant.Text t) text = pointwise nat_eq t text
+abbrev pub is_constant_of_text : Constant → List ℕ → Bool
+is_constant_of_text (constant.Number n) text = false
+is_constant_of_text (constant.Text t) text = pointwise nat_eq t text
 
 -- the constant stands in the output field, which has no edit code
 abbrev pub is_in_field : Constant → Option EditCode → Option (List ℕ) → Bool
-is_in_field c None text = option_map_or (is_text c) text false
+is_in_field c None text = option_map_or (is_constant_of_text c) text false
 is_in_field c (Some code) text = false
 
 -- the constant stands on the O card

@@ -31,7 +31,7 @@ use Rattle.rpg_edit_marks.specs.declared.code.Fill.TheVariants as fills
 use Rattle.rpg_sheet_specs.specs.declared.entry.Entry.{Entry}
 use Rattle.rpg_sheet_specs.specs.declared.entry.EntryIndex.{EntryIndex}
 use Rattle.rpg_sheet_specs.specs.declared.entry.EntryIndex.TheVariants as entry
-use Rattle.rpg_sheet_specs.specs.declared.indicator.Condition as written
+use Rattle.rpg_sheet_specs.specs.declared.indicator.ConditionSpec as written
 use Rattle.rpg_sheet_specs.specs.declared.indicator.Three.{Three}
 use Rattle.rpg_sheet_specs.specs.declared.output.LineTime.{LineTime}
 use Rattle.rpg_sheet_specs.specs.declared.output.LineTime.TheVariants as time
@@ -41,8 +41,8 @@ use Rattle.rpg_sheet_specs.specs.declared.output.OutputRecord.{OutputRecord}
 use Rattle.rpg_sheet_specs.specs.declared.output.OutputSpec.{OutputSpec}
 use Rattle.rpg_sheet_specs.specs.declared.output.OutputSpec.TheVariants as output
 use Rattle.rpg_sheet_specs.specs.declared.spec.Spec.{Spec}
-use Rattle.rpg_job.specs.Files.{is_disk, is_printer, length_of, the_file, the_file_named}
-use Rattle.rpg_job.specs.Cards.{filled, up_to}
+use Rattle.rpg_job.specs.Files.{is_disk, is_printer, file_record_length, the_file, the_file_named}
+use Rattle.rpg_job.specs.Cards.{filled_values, cards_before}
 
 -- ---- files and times
 
@@ -52,8 +52,8 @@ is_on_disk name cards = option_map_or is_disk (the_file_named name cards) false
 
 -- the record length of an output file
 abbrev pub length_on : List SpecCard → File → ℕ
-length_on cards files.Printer = length_of (the_file is_printer cards)
-length_on cards files.Disk = length_of (the_file is_disk cards)
+length_on cards files.Printer = file_record_length (the_file is_printer cards)
+length_on cards files.Disk = file_record_length (the_file is_disk cards)
 
 -- 15: H, D, T or E
 abbrev pub meant_time : LineTime → Time
@@ -76,12 +76,12 @@ meant_moves file m = moves_by file m.space_before m.space_after m.skip_before m.
 -- ---- conditions: 23-25, 26-28 and 29-31
 
 -- a condition on a card as the machine tests it
-abbrev pub meant_condition : written.Condition → Condition
+abbrev pub meant_condition : written.ConditionSpec → Condition
 meant_condition c = record { indicator = c.indicator; is_negated = c.negated }
 
 -- the conditions of a card, in the order of the columns
-abbrev pub meant_conditions : Three (Option written.Condition) → List Condition
-meant_conditions t = map meant_condition (filled t)
+abbrev pub meant_conditions : Three (Option written.ConditionSpec) → List Condition
+meant_conditions t = map meant_condition (filled_values t)
 
 -- those of an AND card, and those of an OR card
 abbrev pub and_card : OutputSpec → Option (List Condition)
@@ -107,7 +107,7 @@ or_on s = option_and_then or_card (output_on s)
 
 -- the conditions of the AND cards before the first OR card
 abbrev pub further : List SpecCard → List Condition
-further cards = flat_map (λ c. unwrap_or (and_on c.spec) []) (up_to (λ s. is_some (or_on s)) cards)
+further cards = flat_map (λ c. unwrap_or (and_on c.spec) []) (cards_before (λ s. is_some (or_on s)) cards)
 
 -- each OR card gives other conditions under which the line is put out, with those of the AND cards after it
 abbrev pub others : List SpecCard → List (List Condition)
@@ -172,8 +172,8 @@ abbrev pub begins_line : Spec → Bool
 begins_line s = is_some (output_record_on s)
 
 -- 7-14: the file's name, or blank for the file of the previous line
-abbrev pub meant_file : Option (List ℕ) → Option OutputRecord → Option (List ℕ)
-meant_file before r = option_or (option_and_then (λ r. r.file) r) before
+abbrev pub meant_line_file : Option (List ℕ) → Option OutputRecord → Option (List ℕ)
+meant_line_file before r = option_or (option_and_then (λ r. r.file) r) before
 
 module _ (all : List SpecCard) where
   -- a line with its fields and conditions
@@ -194,7 +194,7 @@ module _ (all : List SpecCard) where
   -- the lines of these cards, after a line of that file
   abbrev pub lines_after : Option (List ℕ) → List SpecCard → List (Line Key)
   lines_after name [] = []
-  lines_after name (c ∷ cs) = let file = meant_file name (output_record_on c.spec) in option_to_list (option_map (line_with file (up_to begins_line cs)) (output_record_on c.spec)) ++ lines_after file cs
+  lines_after name (c ∷ cs) = let file = meant_line_file name (output_record_on c.spec) in option_to_list (option_map (line_with file (cards_before begins_line cs)) (output_record_on c.spec)) ++ lines_after file cs
 
 -- the lines of a source, in the order of their cards
 abbrev pub meant_lines : List SpecCard → List (Line Key)

@@ -11,13 +11,13 @@ use Rattle.rpg_program.specs.declared.input.ControlField.{ControlField}
 use Rattle.rpg_program.specs.declared.input.InputField as moved
 use Rattle.rpg_program.specs.declared.input.InputFile.TheVariants.{Primary, Secondary}
 use Rattle.rpg_program.specs.declared.input.RecordCode as asked
-use Rattle.rpg_sheet_specs.specs.declared.input.InputField.{InputField}
+use Rattle.rpg_sheet_specs.specs.declared.input.InputFieldSpec.{InputFieldSpec}
 use Rattle.rpg_sheet_specs.specs.declared.input.InputSpec.{InputSpec}
 use Rattle.rpg_sheet_specs.specs.declared.input.InputSpec.TheVariants as input
 use Rattle.rpg_sheet_specs.specs.declared.input.RecordCode.{RecordCode}
 use Rattle.rpg_sheet_specs.specs.declared.input.RecordType.{RecordType}
 use Rattle.rpg_sheet_specs.specs.declared.spec.Spec.{Spec}
-use Rattle.rpg_job.specs.Cards.{filled, up_to}
+use Rattle.rpg_job.specs.Cards.{filled_values, cards_before}
 use Rattle.rpg_job.specs.Files.{is_secondary, the_file_named}
 
 -- ---- record identification codes: 21-27, 28-34 and 35-41 of the type card and of its AND cards
@@ -29,7 +29,7 @@ asked_for c = record { position = c.position; is_negated = c.negated; character 
 -- those of an AND card
 abbrev pub codes_in : InputSpec → List RecordCode
 codes_in (input.Type t) = []
-codes_in (input.And codes) = filled codes
+codes_in (input.And codes) = filled_values codes
 codes_in (input.Field f) = []
 
 -- the record codes on a card
@@ -39,7 +39,7 @@ codes_on c = option_map_or codes_in (input_on c.spec) []
 -- ---- fields
 
 -- the columns 44-47 to 48-51 of the record are moved to the field 53-58; 65-66 turns on if it is plus, 67-68 minus, 69-70 zero or blank
-abbrev pub move_of : InputField → moved.InputField Key
+abbrev pub move_of : InputFieldSpec → moved.InputField Key
 move_of f = record {
   from = f.from;
   to = f.to;
@@ -48,7 +48,7 @@ move_of f = record {
 }
 
 -- a control or match field of that level; it is numeric if 52 is filled
-abbrev pub part_of : InputField → ℕ → ControlField
+abbrev pub part_of : InputFieldSpec → ℕ → ControlField
 part_of f level = record { level = level; is_numeric = is_some f.decimals; from = f.from; to = f.to }
 
 -- ---- record types
@@ -62,12 +62,12 @@ abbrev pub is_from_secondary : Option (List ℕ) → List SpecCard → Bool
 is_from_secondary name cards = option_map_or is_secondary (the_file_named name cards) false
 
 -- 7-14: the file's name, or blank for the file of the previous type
-abbrev pub meant_file : Option (List ℕ) → Option RecordType → Option (List ℕ)
-meant_file before t = option_or (option_and_then (λ t. t.file) t) before
+abbrev pub meant_type_file : Option (List ℕ) → Option RecordType → Option (List ℕ)
+meant_type_file before t = option_or (option_and_then (λ t. t.file) t) before
 
 module _ (all : List SpecCard) where
   -- from its file's name, its type card, its codes and its field cards
-  abbrev pub meant_type : Option (List ℕ) → RecordType → List RecordCode → List InputField → TypeRow Key
+  abbrev pub meant_type : Option (List ℕ) → RecordType → List RecordCode → List InputFieldSpec → TypeRow Key
   meant_type name t codes fields = record {
     file = if is_from_secondary name all then Secondary else Primary;
     indicator = t.indicator;  -- 19-20
@@ -79,12 +79,12 @@ module _ (all : List SpecCard) where
 
   -- a type card with the cards that belong to it
   abbrev pub type_with : Option (List ℕ) → List SpecCard → RecordType → TypeRow Key
-  type_with name own t = meant_type name t (filled t.codes ++ flat_map codes_on own) (filter_map (λ c. input_field_on c.spec) own)
+  type_with name own t = meant_type name t (filled_values t.codes ++ flat_map codes_on own) (filter_map (λ c. input_field_on c.spec) own)
 
   -- the types of these cards, after a type of that file
   abbrev pub types_after : Option (List ℕ) → List SpecCard → List (TypeRow Key)
   types_after name [] = []
-  types_after name (c ∷ cs) = let file = meant_file name (type_on c.spec) in option_to_list (option_map (type_with file (up_to begins_type cs)) (type_on c.spec)) ++ types_after file cs
+  types_after name (c ∷ cs) = let file = meant_type_file name (type_on c.spec) in option_to_list (option_map (type_with file (cards_before begins_type cs)) (type_on c.spec)) ++ types_after file cs
 
 -- the record types of a source, in the order of their cards
 abbrev pub meant_types : List SpecCard → List (TypeRow Key)

@@ -25,12 +25,12 @@ is_at_total_time control.And = false
 is_at_total_time control.Or = false
 
 -- columns 7 and 8 have SR
-abbrev pub is_in_subroutine : ControlLevel → Bool
-is_in_subroutine control.Detail = false
-is_in_subroutine (control.Total n) = false
-is_in_subroutine control.Subroutine = true
-is_in_subroutine control.And = false
-is_in_subroutine control.Or = false
+abbrev pub has_sr : ControlLevel → Bool
+has_sr control.Detail = false
+has_sr (control.Total n) = false
+has_sr control.Subroutine = true
+has_sr control.And = false
+has_sr control.Or = false
 
 -- ---- subroutines: each from the calculation after its BEGSR to the one before the next BEGSR
 
@@ -73,5 +73,5 @@ abbrev pub meant_sections : List (Calculation Key) → Sections Key
 meant_sections calculations = record {
   detail = filter (λ g. is_at_detail_time g.control) calculations;
   total = filter (λ g. is_at_total_time g.control) calculations;
-  subroutines = meant_subroutines (filter (λ g. is_in_subroutine g.control) calculations);
+  subroutines = meant_subroutines (filter (λ g. has_sr g.control) calculations);
 }

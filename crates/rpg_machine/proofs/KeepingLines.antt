@@ -9,7 +9,7 @@ use Rattle.rpg_program.specs.Ends.{End, Fault, GoesOn, Halt, Wrong}
 use Rattle.rpg_program.specs.Entries.{position_of}
 use Rattle.rpg_program.specs.Forms.{form_at, kind_of}
 use Rattle.rpg_program.specs.LineFaults.{AreRight, field_fault, fits_source}
-use Rattle.rpg_program.specs.Lines.{Draft, Drafted, after_movement, after_skip, after_space, assembled, blank_line, blanked_all, blanked_at, counted, drafted, exception_output, go_on_with, is_asked, laid, line_out, lines_out, one_out, put_on, put_out, remembered, spaced_before, unless_faulty, where_asked, with_field, with_fields}
+use Rattle.rpg_program.specs.Lines.{Draft, Drafted, after_movement, after_skip, after_space, assembled, blank_line, blanked_all, blanked_at, with_page_counted, drafted, exception_output, go_on_with, is_asked, laid, line_out, lines_out, one_out, put_on, put_out, remembered, spaced_before, unless_faulty, where_asked, with_field, with_fields}
 use Rattle.rpg_program.specs.Showing.{turned_on}
 use Rattle.rpg_program.specs.Values.{Number, Text, Value, number_of}
 use Rattle.rpg_program.specs.World.{Fields, World, three_hold, value_in}
@@ -96,7 +96,7 @@ module _ (p : Object) (rows : All IsFieldRow p.fields) where
   page_there f e fields fits i h =
       in_form i.form.kind i.form.length (value_in fields (f, e)) (ap kind_of (sym i.there) ∙ (page_kind (form_at p.fields f) h).0) (fits.each f i.form i.there e i.low i.high)
 
-  counted_fits : (source : Source) (f e : ℕ) (fields : Fields nat_cmp) → AreFit p.fields fields → IsFieldEntry p.fields f e → fits_source source (form_at p.fields f) ≡ true → AreFit p.fields (counted source (f, e) fields)
+  counted_fits : (source : Source) (f e : ℕ) (fields : Fields nat_cmp) → AreFit p.fields fields → IsFieldEntry p.fields f e → fits_source source (form_at p.fields f) ≡ true → AreFit p.fields (with_page_counted source (f, e) fields)
   counted_fits sources.Value f e fields fits i h = fits
   counted_fits sources.Page f e fields fits i h =
       let is = number_is (value_in fields (f, e)) (page_there f e fields fits i h) in

@@ -61,8 +61,8 @@ module _ (source : Source) (s : State) (k : CalculationSpec) where
   result = meant_result k.result_field
 
   -- the result field of LOKUP, which may be blank
-  abbrev pub table : Option (Operand Key)
-  table = option_map entry_named k.result_field
+  abbrev pub table_operand : Option (Operand Key)
+  table_operand = option_map entry_named k.result_field
 
   -- the table that LOKUP takes an entry of
   abbrev pub table_field : Option Key
@@ -75,8 +75,8 @@ module _ (source : Source) (s : State) (k : CalculationSpec) where
   -- ---- what that is now
 
   -- the entry that an operand names
-  abbrev pub entry : Operand Key → Entry Key
-  entry o = entry_of source.forms s.world.data.fields o
+  abbrev pub operand_entry : Operand Key → Entry Key
+  operand_entry o = entry_of source.forms s.world.data.fields o
 
   -- the form of an operand
   abbrev pub form : Operand Key → Option FieldForm
@@ -91,42 +91,42 @@ module _ (source : Source) (s : State) (k : CalculationSpec) where
   len o = length_of (form o)
 
   -- its number, with the decimal point
-  abbrev pub number : Operand Key → Fraction
-  number o = exact source.forms s.world.data (entry o)
+  abbrev pub operand_number : Operand Key → Fraction
+  operand_number o = exact source.forms s.world.data (operand_entry o)
 
   -- the numbers of the factors
   abbrev pub first : Fraction
-  first = number factor_1_or_result
+  first = operand_number factor_1_or_result
 
   -- the number of factor 2
   abbrev pub second : Fraction
-  second = number factor_2
+  second = operand_number factor_2
 
   -- its number, without the decimal point
-  abbrev pub digits : Operand Key → ℤ
-  digits o = number_at s.world.data o.field (entry o).position
+  abbrev pub operand_digits : Operand Key → ℤ
+  operand_digits o = number_at s.world.data o.field (operand_entry o).position
 
   -- the characters of an operand
-  abbrev pub characters : Operand Key → List ℕ
-  characters o = characters_at s.world.data o.field (entry o).position
+  abbrev pub operand_characters : Operand Key → List ℕ
+  operand_characters o = characters_at s.world.data o.field (operand_entry o).position
 
   -- the sum of the array in factor 2
   abbrev pub sum : Fraction
-  sum = summed source.forms s.world.data (entry factor_2)
+  sum = summed source.forms s.world.data (operand_entry factor_2)
 
   -- what LOKUP finds: factor 1 among the entries of factor 2, from its index on
   abbrev pub found : Option Found
-  found = found_in source.forms s.world.data (entry factor_1) (entry factor_2) indicators
+  found = found_in source.forms s.world.data (operand_entry factor_1) (operand_entry factor_2) indicators
 
   -- what a division leaves: its quotient has the decimals of the result field
-  abbrev pub left : Fraction
-  left = left_over first (decimals_of (form factor_1_or_result)) second (decimals_of (form factor_2)) (decimals_of (form result))
+  abbrev pub remainder_left : Fraction
+  remainder_left = left_over first (decimals_of (form factor_1_or_result)) second (decimals_of (form factor_2)) (decimals_of (form result))
 
   -- ---- what comes of it
 
   -- the next calculation follows, with this data
-  abbrev pub goes_on : Data key_cmp → MeantOutcome
-  goes_on d = On (record s { world = with_data d s.world; next = s.next + 1 }) no_output
+  abbrev pub continues : Data key_cmp → MeantOutcome
+  continues d = On (record s { world = with_data d s.world; next = s.next + 1 }) no_output
 
   -- the job halts by that number
   abbrev pub halts : ℕ → MeantOutcome
@@ -154,12 +154,12 @@ module _ (source : Source) (s : State) (k : CalculationSpec) where
 
   -- the same for both factors and the table
   abbrev pub searching : MeantOutcome → MeantOutcome
-  searching = unless_out_of_range (factor_1 ∷ factor_2 ∷ option_to_list table)
+  searching = unless_out_of_range (factor_1 ∷ factor_2 ∷ option_to_list table_operand)
 
   -- The result field becomes this number: its decimals too many are cut off or half adjusted, and its digits too many on the left are lost. The
   -- indicators show its sign.
   abbrev pub becomes_in : Data key_cmp → Bool → Fraction → MeantOutcome
-  becomes_in d half n = goes_on (store d (entry result) indicators (stored_value half (form result) n))
+  becomes_in d half n = continues (store d (operand_entry result) indicators (stored_value half (form result) n))
 
   -- with an H in 53 half adjusted
   abbrev pub becomes : Fraction → MeantOutcome
@@ -167,7 +167,7 @@ module _ (source : Source) (s : State) (k : CalculationSpec) where
 
   -- the result field takes a value
   abbrev pub takes : Value → MeantOutcome
-  takes v = goes_on (set_value s.world.data result.field (entry result).position v)
+  takes v = continues (set_value s.world.data result.field (operand_entry result).position v)
 
   -- the result field takes the number that a text spells; halt 4 if it spells none
   abbrev pub takes_number : Option ℤ → MeantOutcome
@@ -212,7 +212,7 @@ module _ (source : Source) (s : State) (k : CalculationSpec) where
     pub by_zero : is_zero second ≡ true → does op.Divide ≡ computing (halts 1)
     -- the result field becomes factor 1 divided by factor 2, and what is left is kept for MVR
     pub exactly : is_zero second ≡ false → k.half_adjust ≡ false → does op.Divide
-        ≡ computing (becomes_in (record s.world.data { remainder = left }) false (over first second))
+        ≡ computing (becomes_in (record s.world.data { remainder = remainder_left }) false (over first second))
     -- half adjusted it leaves nothing new
     pub half_adjusted : is_zero second ≡ false → k.half_adjust ≡ true → does op.Divide
         ≡ computing (becomes_in s.world.data true (over first second))
@@ -223,15 +223,15 @@ module _ (source : Source) (s : State) (k : CalculationSpec) where
   pub record Moves (operation : Operation) (places : List ℕ → List ℕ → List ℕ) (number_places : ℕ → ℤ → ℕ → ℤ → ℤ) : Type 0 where
     -- number to number: digits over digits
     pub number_to_number : kind factor_2 ≡ kinds.Number → kind result ≡ kinds.Number → does operation
-        ≡ assigning (takes (Number (number_places (len factor_2) (digits factor_2) (len result) (digits result))))
+        ≡ assigning (takes (Number (number_places (len factor_2) (operand_digits factor_2) (len result) (operand_digits result))))
     -- number to text: the characters that are written for it
     pub number_to_text : kind factor_2 ≡ kinds.Number → kind result ≡ kinds.Text → does operation
-        ≡ assigning (takes (Text (places (zoned_text (len factor_2) (digits factor_2)) (characters result))))
+        ≡ assigning (takes (Text (places (zoned_text (len factor_2) (operand_digits factor_2)) (operand_characters result))))
     pub text_to_text : kind factor_2 ≡ kinds.Text → kind result ≡ kinds.Text → does operation
-        ≡ assigning (takes (Text (places (characters factor_2) (characters result))))
+        ≡ assigning (takes (Text (places (operand_characters factor_2) (operand_characters result))))
     -- text to number: over the characters that are written for the number; halt 4 if they then spell no number
     pub text_to_number : kind factor_2 ≡ kinds.Text → kind result ≡ kinds.Number → does operation
-        ≡ assigning (takes_number (number_in (places (characters factor_2) (zoned_text (len result) (digits result)))))
+        ≡ assigning (takes_number (number_in (places (operand_characters factor_2) (zoned_text (len result) (operand_digits result)))))
 
   -- ---- COMP and LOKUP
 
@@ -239,27 +239,27 @@ module _ (source : Source) (s : State) (k : CalculationSpec) where
   pub record Compares : Type 0 where
     -- numbers by their values
     pub numbers : kind factor_1 ≡ kinds.Number → does op.Compare
-        ≡ comparing (goes_on (turned (shown indicators (fraction_cmp (number factor_1) (number factor_2))) s.world.data))
+        ≡ comparing (continues (turned (shown indicators (fraction_cmp (operand_number factor_1) (operand_number factor_2))) s.world.data))
     -- texts by the order of characters
     pub texts : kind factor_1 ≡ kinds.Text → does op.Compare
-        ≡ comparing (goes_on (turned (shown indicators (text_cmp (characters factor_1) (characters factor_2))) s.world.data))
+        ≡ comparing (continues (turned (shown indicators (text_cmp (operand_characters factor_1) (operand_characters factor_2))) s.world.data))
 
   -- LOKUP
   pub record LooksUp : Type 0 where
     -- nothing is found: all named indicators turn off, and the index of factor 2 becomes 1
     pub nothing : found ≡ None → does op.LookUp
-        ≡ searching (goes_on (turned (named_off indicators) (index_set factor_2.index 1 s.world.data)))
+        ≡ searching (continues (turned (named_off indicators) (index_set factor_2.index 1 s.world.data)))
     -- something is found: its position goes where it belongs, and the indicator for high, low or equal turns on
     pub something : (f : Found) → found ≡ Some f → holds_position source.forms factor_2.index table_field f.position ≡ true
-        → does op.LookUp ≡ searching (goes_on (turned (shown indicators f.order) (pointing_at f.position)))
+        → does op.LookUp ≡ searching (continues (turned (shown indicators f.order) (pointing_at f.position)))
 
   -- ---- SETON, SETOF, EXCPT
 
   -- SETON, SETOF and EXCPT
   pub record Sets : Type 0 where
     -- all named indicators turn on, or off
-    pub on : does op.SetOn ≡ goes_on (turned (all_on indicators) s.world.data)
-    pub off : does op.SetOff ≡ goes_on (turned (named_off indicators) s.world.data)
+    pub on : does op.SetOn ≡ continues (turned (all_on indicators) s.world.data)
+    pub off : does op.SetOff ≡ continues (turned (named_off indicators) s.world.data)
     -- the lines of time E are put out
     pub except : does op.Except ≡ affected s (exception_output source.forms source.words source.overflow source.lines s.world)
 
@@ -270,7 +270,7 @@ module _ (source : Source) (s : State) (k : CalculationSpec) where
   target = label_position (meant_name k.factor_2) (calculations_in source.sections s.part)
 
   -- GOTO, TAG, EXSR, BEGSR and ENDSR
-  pub record Leads : Type 0 where
+  pub record TransfersControl : Type 0 where
     -- a label after this calculation is next
     pub go_to_later : nat_lt target s.next ≡ false → does op.GoTo ≡ On (at_next s target) no_output
     -- an earlier one costs one of the allowance
@@ -280,5 +280,5 @@ module _ (source : Source) (s : State) (k : CalculationSpec) where
     pub end_subroutine : (part : Part) (next : ℕ) (others : List (Part × ℕ)) → s.back ≡ (part, next) ∷ others → does op.EndSubroutine
         ≡ On (record s { part = part; next = next; back = others }) no_output
     -- these do nothing
-    pub label : does op.Label ≡ goes_on s.world.data
-    pub begin_subroutine : does op.BeginSubroutine ≡ goes_on s.world.data
+    pub label : does op.Label ≡ continues s.world.data
+    pub begin_subroutine : does op.BeginSubroutine ≡ continues s.world.data

@@ -1,6 +1,6 @@
 //! Laws of the definitions. The function does nothing: it is called for its contract alone.
 ghost use Rattle.rpg_meaning.specs.Calculations.Meaning.{Source, State};
-ghost use Rattle.rpg_meaning.specs.Operations.{Compares, Computes, Divides, Leads, LooksUp, Moves, Sets};
+ghost use Rattle.rpg_meaning.specs.Operations.{Compares, Computes, Divides, TransfersControl, LooksUp, Moves, Sets};
 ghost use Rattle.rpg_decimal_words.specs.Move.{number_moved_left, number_moved_right, overlay_left, overlay_right};
 ghost use Rattle.rpg_sheet_specs.specs.declared.calculation.CalculationSpec.{CalculationSpec};
 ghost use Rattle.rpg_sheet_specs.specs.declared.calculation.Operation.TheVariants as op;
@@ -14,5 +14,5 @@ pub fn operations_do()
     ensures compares { (source : Source) (s : State) (k : CalculationSpec) → Compares source s k }
     ensures looks_up { (source : Source) (s : State) (k : CalculationSpec) → LooksUp source s k }
     ensures sets { (source : Source) (s : State) (k : CalculationSpec) → Sets source s k }
-    ensures leads { (source : Source) (s : State) (k : CalculationSpec) → Leads source s k }
+    ensures leads { (source : Source) (s : State) (k : CalculationSpec) → TransfersControl source s k }
 {}

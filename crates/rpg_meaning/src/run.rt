@@ -6,7 +6,7 @@ ghost use Rattle.rpg_engine.specs.Devices.{EndsWellOn, ReportsOn, SendsPartsOn, 
 ghost use Rattle.rpg_engine.specs.Refusing.{IsToldOfDate};
 ghost use Rattle.rpg_faults.specs.Source.{cards_in};
 ghost use Rattle.rpg_files.specs.Counting.{faults_of};
-ghost use Rattle.rpg_meaning.specs.Sources.Running.{HasNoSecondary, IsAsBefore, IsFaultless, SourcePrints, SourceStops};
+ghost use Rattle.rpg_meaning.specs.Sources.Running.{HasNoSecondary, IsAsBefore, IsFaultlessSource, SourcePrints, SourceStops};
 
 use crate::source::CompiledSource;
 use crate::source_laws::source_to_print;
@@ -35,7 +35,7 @@ pub fn run_source<R1: Read, R2: Read, W1: Write, W2: Write, W: Watcher>(
     requires disk { faults_of disk.old < 2 ^ 64 - 1 }
 
     // The source has no fault. A bad date is reported.
-    ensures faultless { IsFaultless source.now.text.items }
+    ensures faultless { IsFaultlessSource source.now.text.items }
     ensures refused { IsToldOfDate result date.now }
     // Then nothing is read or written; and the secondary input is never read if no card names a secondary file.
     ensures untouched { date_in date.now ≡ None → IsAsBefore input × IsAsBefore secondary × IsAsBefore print × IsAsBefore disk }

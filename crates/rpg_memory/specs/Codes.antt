@@ -19,17 +19,17 @@ value_to (Number n) = inl n
 value_to (Text t) = inr t
 
 -- a value again
-abbrev value_from : ℤ ⊎ List ℕ → Value
-value_from (inl n) = Number n
-value_from (inr t) = Text t
+abbrev value_of_code : ℤ ⊎ List ℕ → Value
+value_of_code (inl n) = Number n
+value_of_code (inr t) = Text t
 
-pub value_law : (v : Value) → value_from (value_to v) ≡ v
+pub value_law : (v : Value) → value_of_code (value_to v) ≡ v
 value_law (Number n) = refl
 value_law (Text t) = refl
 
 -- the code of a value
 abbrev pub value_code : Coded Value
-value_code = code_by (ℤ ⊎ List ℕ) (coded⊎ coded_ℤ (coded_list coded_ℕ)) value_to value_from value_law
+value_code = code_by (ℤ ⊎ List ℕ) (coded⊎ coded_ℤ (coded_list coded_ℕ)) value_to value_of_code value_law
 
 -- the code of the values of all entries
 abbrev pub values_code : Coded Values

@@ -60,8 +60,8 @@ abbrev pub on_line : ℕ → World nat_cmp → World nat_cmp
 on_line line w = record w { paper = record w.paper { here = record { page = 0; line = line } } }
 
 -- a line was placed there: pages are counted from it
-abbrev pub after_line : Working → Working
-after_line w = record w { last = Some w.world.paper.here.line; world = on_line w.world.paper.here.line w.world }
+abbrev pub with_line_placed : Working → Working
+with_line_placed w = record w { last = Some w.world.paper.here.line; world = on_line w.world.paper.here.line w.world }
 
 -- the data became those: program and paper are as they were
 abbrev pub data_put : Data nat_cmp → Working → Working

@@ -3,7 +3,7 @@ ghost use Rattle.std.specs.Prelude.{◌≡◌, ◌<◌, ◌≤◌, ◌++◌, OnE
 ghost use Rattle.rpg_paper.specs.Form.{way_of};
 ghost use Rattle.rpg_text.specs.Texts.{trimmed};
 ghost use Rattle.rpg_program.specs.Lines as lines;
-ghost use Rattle.rpg_memory.specs.Memory.{after_line, standing_of};
+ghost use Rattle.rpg_memory.specs.Memory.{with_line_placed, standing_of};
 
 use crate::indicators::{turn_off, turn_on};
 use crate::memory::Memory;
@@ -68,7 +68,7 @@ impl<'a, S: Store + Drop> Memory<'a, S> {
     /// Places a line of text where the form is.
     pub fn place(&mut self, text: &[u8], print: &mut Vec<u8>) -> Result<(), AllocError>
         ensures bytes { OnOk result (print.new.items ≡ print.old.items ++ way_of (standing_of self.old) ++ trimmed text.now) }
-        ensures placed { OnOk result (self.new ≡ after_line self.old) }
+        ensures placed { OnOk result (self.new ≡ with_line_placed self.old) }
         ensures same { OnErr result (self.new ≡ self.old) }
         ensures same_bytes { OnErr result (print.new.items ≡ print.old.items) }
     {

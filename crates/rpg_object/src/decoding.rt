@@ -2,7 +2,7 @@
 
 ghost use Rattle.std.specs.Prelude.{◌≡◌, IfOk, Some};
 ghost use Rattle.rpg_object_format.specs.Format.{fault_at};
-ghost use Rattle.rpg_object_format.specs.Reading.{Gives};
+ghost use Rattle.rpg_object_format.specs.Reading.{ReadsAs};
 ghost use Rattle.rpg_program.specs.Kept.{IsProgram};
 ghost use Rattle.rpg_program.specs.Object.{Object, seen};
 ghost use Rattle.rpg_object.specs.Decoding.{fault_text, FaultIs, IsOkBarMemory};
@@ -46,7 +46,7 @@ impl Error for DecodeFault {}
 /// Reads the rows after the name.
 #[tactic(auto, unfolding(rpg_object_format::specs::Format::pair, rpg_object_format::specs::Format::row, crate::specs::Program::tables, crate::specs::Program::body))]
 fn body_at(alloc: Global, bytes: &[u8]) -> Result<(Rows, &[u8]), ReadFault>
-    ensures { Gives (λ x. (seen x.0, x.1.now)) result (body.reading bytes.now) }
+    ensures { ReadsAs (λ x. (seen x.0, x.1.now)) result (body.reading bytes.now) }
 {
     let (header, rest) = header_at(bytes)?;
     let settings = header.settings;
@@ -85,7 +85,7 @@ fn body_at(alloc: Global, bytes: &[u8]) -> Result<(Rows, &[u8]), ReadFault>
 /// The rows that the bytes spell, all of the bytes.
 #[tactic(auto, unfolding(crate::specs::Program::reading))]
 fn rows_of(alloc: Global, bytes: &[u8]) -> Result<Rows, ReadFault>
-    ensures { Gives seen result (reading bytes.now) }
+    ensures { ReadsAs seen result (reading bytes.now) }
 {
     if !bytes.starts_with(b"RPGOBJ") {
         return Err(fault_at(bytes, Code::NoObject));

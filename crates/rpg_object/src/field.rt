@@ -5,7 +5,7 @@ ghost use Rattle.rpg_program.specs.Forms.{is_date};
 ghost use Rattle.rpg_object_format.specs.declared.fault.Code.{Code};
 ghost use Rattle.rpg_object_format.specs.Format.{read_byte, read_two};
 ghost use Rattle.rpg_object_format.specs.Numbers.{allowed};
-ghost use Rattle.rpg_object_format.specs.Reading.{Gives};
+ghost use Rattle.rpg_object_format.specs.Reading.{ReadsAs};
 ghost use Rattle.rpg_program.specs.Kept.{may_have_entries};
 ghost use Rattle.rpg_object.specs.Fields.{class_number, class_of, entries_within, field, fields, is_decimals, kind_by_number, kind_number, longest_field, most_decimals, most_entries, sequence_of, shortest};
 ghost use Rattle.rpg_object.specs.FirstValues.{HasLength};
@@ -149,35 +149,35 @@ fn entries_within(most: u16, length: u16, storage: u32, n: u16) -> Result<u16, C
 
 #[tactic(auto, unfolding(rpg_object_format::specs::Format::read_byte))]
 fn kind_at(bytes: &[u8]) -> Result<(Kind, &[u8]), ReadFault>
-    ensures { Gives (λ x. (x.0, x.1.now)) result (read_byte kind_by_number bytes.now) }
+    ensures { ReadsAs (λ x. (x.0, x.1.now)) result (read_byte kind_by_number bytes.now) }
 {
     byte_at(bytes, kind_of)
 }
 
 #[tactic(auto, unfolding(rpg_object_format::specs::Format::read_byte))]
 fn class_at(bytes: &[u8], kind: Kind) -> Result<(Class, &[u8]), ReadFault>
-    ensures { Gives (λ x. (x.0, x.1.now)) result (read_byte (class_of kind) bytes.now) }
+    ensures { ReadsAs (λ x. (x.0, x.1.now)) result (read_byte (class_of kind) bytes.now) }
 {
     byte_at(bytes, |n| class_of(kind, n))
 }
 
 #[tactic(auto, unfolding(rpg_object_format::specs::Format::read_byte))]
 fn sequence_at(bytes: &[u8], class: Class) -> Result<(bool, &[u8]), ReadFault>
-    ensures { Gives (λ x. (x.0, x.1.now)) result (read_byte (sequence_of class) bytes.now) }
+    ensures { ReadsAs (λ x. (x.0, x.1.now)) result (read_byte (sequence_of class) bytes.now) }
 {
     byte_at(bytes, |n| sequence_of(class, n))
 }
 
 #[tactic(auto, unfolding(rpg_object_format::specs::Format::read_byte))]
 fn decimals_at(bytes: &[u8], most: u8, length: u16) -> Result<(u8, &[u8]), ReadFault>
-    ensures { Gives (λ x. (x.0, x.1.now)) result (read_byte (allowed (is_decimals most length)) bytes.now) }
+    ensures { ReadsAs (λ x. (x.0, x.1.now)) result (read_byte (allowed (is_decimals most length)) bytes.now) }
 {
     byte_at(bytes, |n| decimals_of(most, length, n))
 }
 
 #[tactic(auto, unfolding(rpg_object_format::specs::Format::read_two))]
 fn entries_at(bytes: &[u8], most: u16, length: u16, storage: u32) -> Result<(u16, &[u8]), ReadFault>
-    ensures { Gives (λ x. (x.0, x.1.now)) result (read_two (entries_within most length storage) bytes.now) }
+    ensures { ReadsAs (λ x. (x.0, x.1.now)) result (read_two (entries_within most length storage) bytes.now) }
 {
     number_at(bytes, |n| entries_within(most, length, storage, n))
 }
@@ -185,7 +185,7 @@ fn entries_at(bytes: &[u8], most: u16, length: u16, storage: u32) -> Result<(u16
 /// Reads a field that takes its bytes from the storage that is left.
 #[tactic(auto, unfolding(rpg_object_format::specs::Format::byte, rpg_object_format::specs::Format::two_bytes, rpg_object_format::specs::Format::pair, rpg_object_format::specs::Format::row, crate::specs::Fields::field))]
 fn field_at(bytes: &[u8], storage: u32) -> Result<(FieldForm, &[u8]), ReadFault>
-    ensures { Gives (λ x. (x.0, x.1.now)) result ((field storage).reading bytes.now) }
+    ensures { ReadsAs (λ x. (x.0, x.1.now)) result ((field storage).reading bytes.now) }
 {
     let (kind, rest) = kind_at(bytes)?;
     let (class, rest) = class_at(rest, kind)?;
@@ -212,7 +212,7 @@ pub fn fields_at(
     count: u16,
     bytes: &[u8],
 ) -> Result<(Vec<FieldForm>, &[u8]), ReadFault>
-    ensures read { Gives (λ x. (x.0.items, x.1.now)) result ((fields count).reading bytes.now) }
+    ensures read { ReadsAs (λ x. (x.0.items, x.1.now)) result ((fields count).reading bytes.now) }
     ensures lengths { IfOk result (λ x. All HasLength x.0.items) }
 {
     let mut fields = Vec::with_capacity(alloc, count as usize)?;

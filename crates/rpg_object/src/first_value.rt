@@ -4,7 +4,7 @@ ghost use Rattle.std.specs.Prelude.{◌≡◌, ◌++◌, ◌≤◌, All, length,
 ghost use Rattle.rpg_decimal_words.specs.Zoned.{number_in};
 ghost use Rattle.rpg_program.specs.declared.form.Kind.TheVariants as kinds;
 ghost use Rattle.rpg_program.specs.Values.{held};
-ghost use Rattle.rpg_object_format.specs.Reading.{Gives};
+ghost use Rattle.rpg_object_format.specs.Reading.{ReadsAs};
 ghost use Rattle.rpg_program.specs.Kept.{AreEntriesOf, AreValuesOf, IsValueOf};
 ghost use Rattle.rpg_object.specs.FirstValues as spec;
 ghost use Rattle.rpg_object.specs.FirstValues.{as_written, read_value, value, value_text, values_format, HasLength};
@@ -44,7 +44,7 @@ fn number_written(text: &[u8]) -> Result<i64, Code>
 fn number_value_at(bytes: &[u8], len: u16) -> Result<(Value, &[u8]), ReadFault>
     requires low { 1 ≤ len }
     requires high { len ≤ 15 }
-    ensures { Gives (λ x. (held x.0, x.1.now)) result (read_value kinds.Number len bytes.now) }
+    ensures { ReadsAs (λ x. (held x.0, x.1.now)) result (read_value kinds.Number len bytes.now) }
 {
     let len = len as usize;
     if bytes.len() < len {
@@ -59,7 +59,7 @@ fn number_value_at(bytes: &[u8], len: u16) -> Result<(Value, &[u8]), ReadFault>
 
 /// Reads the characters of a text.
 fn text_value_at(alloc: Global, bytes: &[u8], len: u16) -> Result<(Value, &[u8]), ReadFault>
-    ensures { Gives (λ x. (held x.0, x.1.now)) result (read_value kinds.Text len bytes.now) }
+    ensures { ReadsAs (λ x. (held x.0, x.1.now)) result (read_value kinds.Text len bytes.now) }
 {
     let len = len as usize;
     if bytes.len() < len {
@@ -76,7 +76,7 @@ fn text_value_at(alloc: Global, bytes: &[u8], len: u16) -> Result<(Value, &[u8])
 #[tactic(auto, unfolding(crate::specs::FirstValues::value))]
 fn value_at(alloc: Global, bytes: &[u8], form: FieldForm) -> Result<(Value, &[u8]), ReadFault>
     requires { HasLength form }
-    ensures { Gives (λ x. (held x.0, x.1.now)) result ((value form.kind form.length).reading bytes.now) }
+    ensures { ReadsAs (λ x. (held x.0, x.1.now)) result ((value form.kind form.length).reading bytes.now) }
 {
     match form.kind {
         Kind::Number => number_value_at(bytes, form.length),
@@ -91,7 +91,7 @@ fn entries_at(
     bytes: &[u8],
 ) -> Result<(Vec<Value>, &[u8]), ReadFault>
     requires { HasLength form }
-    ensures { Gives (λ x. (map held x.0.items, x.1.now)) result ((spec.entries_format form).reading bytes.now) }
+    ensures { ReadsAs (λ x. (map held x.0.items, x.1.now)) result ((spec.entries_format form).reading bytes.now) }
 {
     let mut entries = Vec::with_capacity(alloc, form.entries as usize)?;
     let mut rest = bytes;
@@ -110,7 +110,7 @@ pub fn values_at<'a>(
     bytes: &'a [u8],
 ) -> Result<(Vec<Vec<Value>>, &'a [u8]), ReadFault>
     requires { All HasLength fields.now }
-    ensures { Gives (λ x. (map (λ vs. map held vs.items) x.0.items, x.1.now)) result ((values_format fields.now).reading bytes.now) }
+    ensures { ReadsAs (λ x. (map (λ vs. map held vs.items) x.0.items, x.1.now)) result ((values_format fields.now).reading bytes.now) }
 {
     let mut values = Vec::with_capacity(alloc, fields.len())?;
     let mut rest = bytes;

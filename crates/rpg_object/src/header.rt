@@ -3,7 +3,7 @@
 ghost use Rattle.std.specs.Prelude.{◌≡◌, ◌++◌, Result, OnOk};
 ghost use Rattle.rpg_object_format.specs.declared.fault.Code.{Code};
 ghost use Rattle.rpg_object_format.specs.Format.{read_two};
-ghost use Rattle.rpg_object_format.specs.Reading.{Gives};
+ghost use Rattle.rpg_object_format.specs.Reading.{ReadsAs};
 ghost use Rattle.rpg_program.specs.declared.rows.Version.TheVariants as versions;
 ghost use Rattle.rpg_object.specs.Header as spec;
 ghost use Rattle.rpg_object.specs.Header.{overflow_of, version_of};
@@ -62,14 +62,14 @@ fn version_of(n: u16) -> Result<Version, Code>
 
 #[tactic(auto, unfolding(rpg_object_format::specs::Format::read_two))]
 fn version_at(bytes: &[u8]) -> Result<(Version, &[u8]), ReadFault>
-    ensures { Gives (λ x. (x.0, x.1.now)) result (read_two version_of bytes.now) }
+    ensures { ReadsAs (λ x. (x.0, x.1.now)) result (read_two version_of bytes.now) }
 {
     number_at(bytes, version_of)
 }
 
 #[tactic(auto, unfolding(rpg_object_format::specs::Format::two_bytes, rpg_object_instructions::specs::Shapes::row_where))]
 fn secondary_length_at(version: Version, bytes: &[u8]) -> Result<(u16, &[u8]), ReadFault>
-    ensures { Gives (λ x. (x.0, x.1.now)) result ((spec.secondary_length version).reading bytes.now) }
+    ensures { ReadsAs (λ x. (x.0, x.1.now)) result ((spec.secondary_length version).reading bytes.now) }
 {
     match version {
         Version::One => {
@@ -92,14 +92,14 @@ fn overflow_of(n: u16) -> Result<Option<u8>, Code>
 
 #[tactic(auto, unfolding(rpg_object_format::specs::Format::read_two))]
 fn overflow_at(bytes: &[u8]) -> Result<(Option<u8>, &[u8]), ReadFault>
-    ensures { Gives (λ x. (x.0, x.1.now)) result (read_two overflow_of bytes.now) }
+    ensures { ReadsAs (λ x. (x.0, x.1.now)) result (read_two overflow_of bytes.now) }
 {
     number_at(bytes, overflow_of)
 }
 
 #[tactic(auto, unfolding(rpg_object_format::specs::Format::two_bytes, rpg_object_format::specs::Format::pair, rpg_object_format::specs::Format::row, crate::specs::Header::settings))]
 fn settings_at(bytes: &[u8]) -> Result<(Settings, &[u8]), ReadFault>
-    ensures { Gives (λ x. (x.0, x.1.now)) result (spec.settings.reading bytes.now) }
+    ensures { ReadsAs (λ x. (x.0, x.1.now)) result (spec.settings.reading bytes.now) }
 {
     let (allowance, rest) = number_between_at(bytes, 1, 65_535)?;
     let (record_length, rest) = number_between_at(rest, 1, 9_999)?;
@@ -120,7 +120,7 @@ fn settings_at(bytes: &[u8]) -> Result<(Settings, &[u8]), ReadFault>
 
 #[tactic(auto, unfolding(rpg_object_format::specs::Format::two_bytes, rpg_object_format::specs::Format::pair, rpg_object_format::specs::Format::row, crate::specs::Header::counts))]
 fn counts_at(bytes: &[u8]) -> Result<(Counts, &[u8]), ReadFault>
-    ensures { Gives (λ x. (x.0, x.1.now)) result (spec.counts.reading bytes.now) }
+    ensures { ReadsAs (λ x. (x.0, x.1.now)) result (spec.counts.reading bytes.now) }
 {
     let (fields, rest) = count_at(bytes, 4_000)?;
     let (types, rest) = count_at(rest, 200)?;
@@ -144,7 +144,7 @@ fn counts_at(bytes: &[u8]) -> Result<(Counts, &[u8]), ReadFault>
 /// Reads the header after the name.
 #[tactic(auto, unfolding(rpg_object_format::specs::Format::two_bytes, rpg_object_format::specs::Format::pair, rpg_object_format::specs::Format::row, crate::specs::Header::header_format))]
 pub fn header_at(bytes: &[u8]) -> Result<(Header, &[u8]), ReadFault>
-    ensures { Gives (λ x. (x.0, x.1.now)) result (spec.header_format.reading bytes.now) }
+    ensures { ReadsAs (λ x. (x.0, x.1.now)) result (spec.header_format.reading bytes.now) }
 {
     let (version, rest) = version_at(bytes)?;
     let (settings, rest) = settings_at(rest)?;

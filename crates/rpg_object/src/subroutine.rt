@@ -1,7 +1,7 @@
 //! Subroutines: each with its level and its instructions.
 
 ghost use Rattle.std.specs.Prelude.{◌≡◌, ◌++◌, ◌≤◌, All, length, map, IfOk, OnOk};
-ghost use Rattle.rpg_object_format.specs.Reading.{Gives};
+ghost use Rattle.rpg_object_format.specs.Reading.{ReadsAs};
 ghost use Rattle.rpg_program.specs.Kept.{IsSubroutineRow};
 ghost use Rattle.rpg_program.specs.Object.{subroutine_row};
 ghost use Rattle.rpg_program.specs.Sections.{instructions_in};
@@ -16,7 +16,7 @@ use std::alloc::{AllocError, Global};
 /// Reads a subroutine that takes its instructions from those that are left.
 #[tactic(auto, unfolding(rpg_object_format::specs::Format::two_bytes, rpg_object_format::specs::Format::pair, rpg_object_format::specs::Format::row, crate::specs::Subroutines::subroutine))]
 fn subroutine_at(alloc: Global, left: u16, bytes: &[u8]) -> Result<(Subroutine, &[u8]), ReadFault>
-    ensures read { Gives (λ x. (subroutine_row x.0, x.1.now)) result ((spec.subroutine left).reading bytes.now) }
+    ensures read { ReadsAs (λ x. (subroutine_row x.0, x.1.now)) result ((spec.subroutine left).reading bytes.now) }
     ensures few { IfOk result (λ x. length x.0.instructions.items ≤ 65535) }
 {
     let (level, rest) = any_number_at(bytes)?;
@@ -38,7 +38,7 @@ pub fn subroutines_at(
     left: u16,
     bytes: &[u8],
 ) -> Result<(Vec<Subroutine>, &[u8]), ReadFault>
-    ensures { Gives (λ x. (map subroutine_row x.0.items, x.1.now)) result ((spec.subroutines count left).reading bytes.now) }
+    ensures { ReadsAs (λ x. (map subroutine_row x.0.items, x.1.now)) result ((spec.subroutines count left).reading bytes.now) }
 {
     let mut subroutines = Vec::with_capacity(alloc, count as usize)?;
     let mut rest = bytes;

@@ -4,7 +4,7 @@ ghost use Rattle.std.specs.Prelude.{◌≡◌, ℕ, ◌/◌, ◌%◌, ◌^◌, �
 ghost use Rattle.rpg_text.specs.Texts.{is_between};
 ghost use Rattle.rpg_object_format.specs.Format.{ends_early, fault_at, keep, read_byte, read_two, spelled_along};
 ghost use Rattle.rpg_object_format.specs.Numbers.{allowed, is_any_number, flag_number, exactly, two, up_to, flag};
-ghost use Rattle.rpg_object_format.specs.Reading.{Gives, GivesByte, GivesTwo};
+ghost use Rattle.rpg_object_format.specs.Reading.{ReadsAs, GivesByte, GivesTwo};
 
 use crate::fault::{Code, Fault, ReadFault};
 use std::alloc::AllocError;
@@ -119,7 +119,7 @@ fn flag(n: u8) -> Result<bool, Code>
 /// Reads a number of two bytes within limits.
 #[tactic(auto, unfolding(crate::specs::Format::read_two))]
 pub fn number_between_at(bytes: &[u8], low: u16, high: u16) -> Result<(u16, &[u8]), ReadFault>
-    ensures { Gives (λ x. (x.0, x.1.now)) result (read_two (allowed (is_between low high)) bytes.now) }
+    ensures { ReadsAs (λ x. (x.0, x.1.now)) result (read_two (allowed (is_between low high)) bytes.now) }
 {
     number_at(bytes, |n| between(low, high, n))
 }
@@ -127,7 +127,7 @@ pub fn number_between_at(bytes: &[u8], low: u16, high: u16) -> Result<(u16, &[u8
 /// Reads any number of two bytes.
 #[tactic(auto, unfolding(crate::specs::Format::read_two))]
 pub fn any_number_at(bytes: &[u8]) -> Result<(u16, &[u8]), ReadFault>
-    ensures { Gives (λ x. (x.0, x.1.now)) result (read_two (allowed is_any_number) bytes.now) }
+    ensures { ReadsAs (λ x. (x.0, x.1.now)) result (read_two (allowed is_any_number) bytes.now) }
 {
     number_at(bytes, |n| Ok(n))
 }
@@ -135,7 +135,7 @@ pub fn any_number_at(bytes: &[u8]) -> Result<(u16, &[u8]), ReadFault>
 /// Reads a byte within limits.
 #[tactic(auto, unfolding(crate::specs::Format::read_byte))]
 pub fn byte_between_at(bytes: &[u8], low: u8, high: u8) -> Result<(u8, &[u8]), ReadFault>
-    ensures { Gives (λ x. (x.0, x.1.now)) result (read_byte (allowed (is_between low high)) bytes.now) }
+    ensures { ReadsAs (λ x. (x.0, x.1.now)) result (read_byte (allowed (is_between low high)) bytes.now) }
 {
     byte_at(bytes, |n| byte_between(low, high, n))
 }
@@ -143,7 +143,7 @@ pub fn byte_between_at(bytes: &[u8], low: u8, high: u8) -> Result<(u8, &[u8]), R
 /// Reads a count of rows up to a limit.
 #[tactic(auto, unfolding(crate::specs::Format::read_two))]
 pub fn count_at(bytes: &[u8], limit: u16) -> Result<(u16, &[u8]), ReadFault>
-    ensures { Gives (λ x. (x.0, x.1.now)) result (read_two (up_to limit) bytes.now) }
+    ensures { ReadsAs (λ x. (x.0, x.1.now)) result (read_two (up_to limit) bytes.now) }
 {
     number_at(bytes, |n| up_to(limit, n))
 }
@@ -151,7 +151,7 @@ pub fn count_at(bytes: &[u8], limit: u16) -> Result<(u16, &[u8]), ReadFault>
 /// Reads a yes or no.
 #[tactic(auto, unfolding(crate::specs::Format::read_byte))]
 pub fn flag_at(bytes: &[u8]) -> Result<(bool, &[u8]), ReadFault>
-    ensures { Gives (λ x. (x.0, x.1.now)) result (read_byte flag bytes.now) }
+    ensures { ReadsAs (λ x. (x.0, x.1.now)) result (read_byte flag bytes.now) }
 {
     byte_at(bytes, |n| flag(n))
 }
@@ -159,7 +159,7 @@ pub fn flag_at(bytes: &[u8]) -> Result<(bool, &[u8]), ReadFault>
 /// Reads a byte that is always the same.
 #[tactic(auto, unfolding(crate::specs::Format::read_byte))]
 pub fn only_byte_at(bytes: &[u8], k: u8, code: Code) -> Result<((), &[u8]), ReadFault>
-    ensures { Gives (λ x. (x.0, x.1.now)) result (read_byte (exactly k code) bytes.now) }
+    ensures { ReadsAs (λ x. (x.0, x.1.now)) result (read_byte (exactly k code) bytes.now) }
 {
     byte_at(bytes, |n| only(k as u16, code, n as u16))
 }
@@ -167,7 +167,7 @@ pub fn only_byte_at(bytes: &[u8], k: u8, code: Code) -> Result<((), &[u8]), Read
 /// Reads a number of two bytes that is always the same.
 #[tactic(auto, unfolding(crate::specs::Format::read_two))]
 pub fn only_number_at(bytes: &[u8], k: u16, code: Code) -> Result<((), &[u8]), ReadFault>
-    ensures { Gives (λ x. (x.0, x.1.now)) result (read_two (exactly k code) bytes.now) }
+    ensures { ReadsAs (λ x. (x.0, x.1.now)) result (read_two (exactly k code) bytes.now) }
 {
     number_at(bytes, |n| only(k, code, n))
 }

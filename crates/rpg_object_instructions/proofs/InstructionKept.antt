@@ -13,8 +13,8 @@ use Rattle.rpg_object_format.specs.Format.{byte, pair, row, two_bytes}
 use Rattle.rpg_program.specs.Kept.{AreConditions, AreIndicators, IsAnOperand, IsInstructionRow, IsOperandRow, IsOptionalRow, IsTwoBytes}
 use Rattle.rpg_object_instructions.specs.declared.operation.Columns.{Columns}
 use Rattle.rpg_object_instructions.specs.declared.operation.Numbers.{Numbers}
-use Rattle.rpg_object_instructions.specs.declared.operation.Operation.{Operation}
-use Rattle.rpg_object_instructions.specs.declared.operation.Operation.TheVariants as op
+use Rattle.rpg_object_instructions.specs.declared.operation.Opcode.{Opcode}
+use Rattle.rpg_object_instructions.specs.declared.operation.Opcode.TheVariants as op
 use Rattle.rpg_object_instructions.specs.Indicators.{indicators_of, negations_of}
 use Rattle.rpg_object_instructions.specs.Instructions.{arithmetic, assignment, bare, branch_columns, call, comparison, half_column, indicators_column, instruction, move, negations_column, no_columns, no_shows, numbers_format, operand_column, operation_number, operation_of, remainder, search, setting, target_column, unused_shows, used_columns, used_numbers}
 use Rattle.rpg_object_instructions.specs.Operands.{no_operand, operand_or_none, unused_operand}
@@ -98,7 +98,7 @@ target_there : (target : ℕ) → IsTwoBytes target → (target_column branch_co
 unfolding two_bytes
 target_there target h = (refl, h)
 
-calculates : (o : Operation) (half : Bool) (a b r : Operand ℕ) (s : Shows) → IsOperandRow a → IsOperandRow b → IsOperandRow r → AreIndicators s → HoldColumns arithmetic (record (bare o) { half = half; factor1 = a; factor2 = b; result = r; shows = s })
+calculates : (o : Opcode) (half : Bool) (a b r : Operand ℕ) (s : Shows) → IsOperandRow a → IsOperandRow b → IsOperandRow r → AreIndicators s → HoldColumns arithmetic (record (bare o) { half = half; factor1 = a; factor2 = b; result = r; shows = s })
 calculates o half a b r s ha hb hr hs = record {
   half = half_there half;
   factor1 = operand_used a ha;
@@ -109,7 +109,7 @@ calculates o half a b r s ha hb hr hs = record {
   negations = no_negations s;
 }
 
-assigns : (o : Operation) (half : Bool) (b r : Operand ℕ) (s : Shows) → IsOperandRow b → IsOperandRow r → AreIndicators s → HoldColumns assignment (record (bare o) { half = half; factor2 = b; result = r; shows = s })
+assigns : (o : Opcode) (half : Bool) (b r : Operand ℕ) (s : Shows) → IsOperandRow b → IsOperandRow r → AreIndicators s → HoldColumns assignment (record (bare o) { half = half; factor2 = b; result = r; shows = s })
 assigns o half b r s hb hr hs = record {
   half = half_there half;
   factor1 = no_operand_there;
@@ -120,7 +120,7 @@ assigns o half b r s hb hr hs = record {
   negations = no_negations s;
 }
 
-moves : (o : Operation) (b r : Operand ℕ) → IsOperandRow b → IsOperandRow r → HoldColumns move (record (bare o) { factor2 = b; result = r })
+moves : (o : Opcode) (b r : Operand ℕ) → IsOperandRow b → IsOperandRow r → HoldColumns move (record (bare o) { factor2 = b; result = r })
 moves o b r hb hr = record {
   half = no_half;
   factor1 = no_operand_there;
@@ -168,7 +168,7 @@ searches a b r s ha hb hr hs = record {
   negations = no_negations s;
 }
 
-sets : (o : Operation) (s : Shows) → AreIndicators s → HoldColumns setting (record (bare o) { shows = s })
+sets : (o : Opcode) (s : Shows) → AreIndicators s → HoldColumns setting (record (bare o) { shows = s })
 sets o s hs = record {
   half = no_half;
   factor1 = no_operand_there;
@@ -183,7 +183,7 @@ negations_there : (cs : Conditions) → (negations_column branch_columns (indica
 unfolding byte
 negations_there cs = let n = negations_hold cs in (n.allowed_so, n.small)
 
-branches : (o : Operation) (cs : Conditions) (target : ℕ) → AreConditions cs → IsTwoBytes target → HoldColumns branch_columns (record (bare o) { shows = indicators_of cs; target = target; negations = negations_of cs })
+branches : (o : Opcode) (cs : Conditions) (target : ℕ) → AreConditions cs → IsTwoBytes target → HoldColumns branch_columns (record (bare o) { shows = indicators_of cs; target = target; negations = negations_of cs })
 branches o cs target hc ht = record {
   half = no_half;
   factor1 = no_operand_there;
@@ -194,7 +194,7 @@ branches o cs target hc ht = record {
   negations = negations_there cs;
 }
 
-calls : (o : Operation) (subroutine : ℕ) → IsTwoBytes subroutine → HoldColumns call (record (bare o) { target = subroutine })
+calls : (o : Opcode) (subroutine : ℕ) → IsTwoBytes subroutine → HoldColumns call (record (bare o) { target = subroutine })
 calls o subroutine h = record {
   half = no_half;
   factor1 = no_operand_there;
@@ -216,7 +216,7 @@ excepts = record {
   negations = no_negations no_shows;
 }
 
-operation_read : (o : Operation) → (operation_of (operation_number o) ≡ Ok o) × (operation_number o < 2 ^ 8)
+operation_read : (o : Opcode) → (operation_of (operation_number o) ≡ Ok o) × (operation_number o < 2 ^ 8)
 operation_read op.Add = (refl, omega arith)
 operation_read op.Subtract = (refl, omega arith)
 operation_read op.Multiply = (refl, omega arith)

@@ -14,8 +14,8 @@ use Rattle.rpg_object_format.proofs.Laws.{IsFormat, byte_law, pair_law, row_law}
 use Rattle.rpg_object_format.proofs.Rules.{any_number_law, byte_where_law, choice_rule, yes_or_no_law}
 use Rattle.rpg_object_instructions.specs.declared.operation.Columns.{Columns}
 use Rattle.rpg_object_instructions.specs.declared.operation.Numbers.{Numbers}
-use Rattle.rpg_object_instructions.specs.declared.operation.Operation.{Operation}
-use Rattle.rpg_object_instructions.specs.declared.operation.Operation.TheVariants as op
+use Rattle.rpg_object_instructions.specs.declared.operation.Opcode.{Opcode}
+use Rattle.rpg_object_instructions.specs.declared.operation.Opcode.TheVariants as op
 use Rattle.rpg_object_instructions.specs.Indicators.{are_negations, conditions_of, indicators_of, negations_of, shows_format}
 use Rattle.rpg_object_instructions.specs.Instructions.{HasOneSpelling, instruction, instruction_of, no_shows, numbers_format, numbers_of, operation_number, operations, unused_shows, used_columns, used_numbers}
 use Rattle.rpg_object_instructions.specs.Operands.{no_operand, operand, unused_operand}
@@ -91,17 +91,17 @@ unfolding numbers_format used_numbers row pair byte
 bits_allowed n h used = passed (are_negations n.shows) n.negations (rw used at h.1.1.1.1.1.1.1).0
 
 module _ (half : Bool) (a b r : Operand ℕ) (s : Shows) (target bits : ℕ) where
-  abbrev with_operation : Operation → Numbers
+  abbrev with_operation : Opcode → Numbers
   with_operation o = record { operation = o; half = half; factor1 = a; factor2 = b; result = r; shows = s; target = target; negations = bits }
 
-  branch_again : (o : Operation) → (are_negations s bits ≡ true) →
+  branch_again : (o : Opcode) → (are_negations s bits ≡ true) →
       record (clear (with_operation op.Jump)) { operation = o; shows = indicators_of (conditions_of s bits); negations = negations_of (conditions_of s bits) } ≡ record (clear (with_operation op.Jump)) { operation = o }
   branch_again o h =
       ap (λ (t : Shows). record (clear (with_operation op.Jump)) { operation = o; shows = t; negations = negations_of (conditions_of s bits) }) (indicators_there s bits)
       ∙ ap (λ (k : ℕ). record (clear (with_operation op.Jump)) { operation = o; negations = k }) (negations_there s bits h)
 
   -- an instruction of numbers has these numbers, but for what its operation doesn't use
-  used_again : (o : Operation) → AllowsBits (with_operation o) → numbers_of (instruction_of (with_operation o)) ≡ clear (with_operation o)
+  used_again : (o : Opcode) → AllowsBits (with_operation o) → numbers_of (instruction_of (with_operation o)) ≡ clear (with_operation o)
   used_again op.Add h = refl
   used_again op.Subtract h = refl
   used_again op.Multiply h = refl
@@ -122,7 +122,7 @@ module _ (half : Bool) (a b r : Operand ℕ) (s : Shows) (target bits : ℕ) whe
   used_again op.CrossFoot h = refl
   used_again op.LookUp h = ap (λ (o : Operand ℕ). record (clear (with_operation op.LookUp)) { result = o }) (operand_again r)
 
-  one_spelling : (o : Operation) → HasOneSpelling (instruction_of (with_operation o))
+  one_spelling : (o : Opcode) → HasOneSpelling (instruction_of (with_operation o))
   one_spelling op.Add = tt
   one_spelling op.Subtract = tt
   one_spelling op.Multiply = tt

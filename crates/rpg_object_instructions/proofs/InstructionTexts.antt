@@ -11,7 +11,7 @@ use Rattle.rpg_program.specs.declared.operation.Side.TheVariants as sides
 use Rattle.rpg_object_format.specs.Format.{byte, two_bytes, pair, row}
 use Rattle.rpg_program.specs.Kept.{IsIndexRow, IsInstructionRow, IsOptionalRow}
 use Rattle.rpg_object_instructions.specs.declared.operation.Numbers.{Numbers}
-use Rattle.rpg_object_instructions.specs.declared.operation.Operation.{Operation}
+use Rattle.rpg_object_instructions.specs.declared.operation.Opcode.{Opcode}
 use Rattle.rpg_object_instructions.specs.Indicators.{shows_format}
 use Rattle.rpg_object_instructions.specs.Instructions.{action_numbers, instruction, numbers_format, numbers_of, numbers_text, unused_shows, used_numbers}
 use Rattle.rpg_object_instructions.specs.Operands.{operand, operand_or_none, unused_operand}
@@ -19,7 +19,7 @@ use Rattle.rpg_object_instructions.specs.Shapes.{row_where}
 
 -- ---- an action by its columns
 
-abbrev pub of_columns : Operation → Bool → Operand ℕ → Operand ℕ → Operand ℕ → Shows → Numbers
+abbrev pub of_columns : Opcode → Bool → Operand ℕ → Operand ℕ → Operand ℕ → Shows → Numbers
 of_columns o half a b r s = record { operation = o; half = half; factor1 = a; factor2 = b; result = r; shows = s; target = 0; negations = 0 }
 
 -- an action has neither a target nor N bits

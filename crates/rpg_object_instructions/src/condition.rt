@@ -3,7 +3,7 @@
 ghost use Rattle.std.specs.Prelude.{◌≡◌, ◌<◌};
 ghost use Rattle.rpg_object_format.specs.Format.{read_byte};
 ghost use Rattle.rpg_object_format.specs.Numbers.{allowed};
-ghost use Rattle.rpg_object_format.specs.Reading.{Gives};
+ghost use Rattle.rpg_object_format.specs.Reading.{ReadsAs};
 ghost use Rattle.rpg_object_instructions.specs.Indicators.{are_negations, bit, condition_with, conditions_format, conditions_of, has_bit, indicator_in, indicators_of, is_negation, may_negate, negations_of};
 
 use crate::indicator::shows_at;
@@ -46,7 +46,7 @@ fn negations_for(shows: Shows, n: u8) -> Result<u8, Code>
 /// Reads the N bits of conditions with these indicators.
 #[tactic(auto, unfolding(rpg_object_format::specs::Format::read_byte))]
 pub(crate) fn negations_at(bytes: &[u8], shows: Shows) -> Result<(u8, &[u8]), ReadFault>
-    ensures { Gives (λ x. (x.0, x.1.now)) result (read_byte (allowed (are_negations shows)) bytes.now) }
+    ensures { ReadsAs (λ x. (x.0, x.1.now)) result (read_byte (allowed (are_negations shows)) bytes.now) }
 {
     byte_at(bytes, |n| negations_for(shows, n))
 }
@@ -117,7 +117,7 @@ pub fn indicators_of(conditions: Conditions) -> Shows
 /// Reads three conditions.
 #[tactic(auto, unfolding(rpg_object_format::specs::Format::byte, rpg_object_format::specs::Format::pair, rpg_object_format::specs::Format::row, crate::specs::Indicators::conditions_format))]
 pub fn conditions_at(bytes: &[u8]) -> Result<(Conditions, &[u8]), ReadFault>
-    ensures { Gives (λ x. (x.0, x.1.now)) result (conditions_format.reading bytes.now) }
+    ensures { ReadsAs (λ x. (x.0, x.1.now)) result (conditions_format.reading bytes.now) }
 {
     let (shows, rest) = shows_at(bytes)?;
     let (negations, rest) = negations_at(rest, shows)?;

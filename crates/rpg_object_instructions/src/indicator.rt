@@ -2,7 +2,7 @@
 
 ghost use Rattle.std.specs.Prelude.{◌≡◌};
 ghost use Rattle.rpg_object_format.specs.Format.{read_byte};
-ghost use Rattle.rpg_object_format.specs.Reading.{Gives};
+ghost use Rattle.rpg_object_format.specs.Reading.{ReadsAs};
 ghost use Rattle.rpg_object_instructions.specs.Indicators.{indicator_by_number, indicator_number, shows_format};
 
 use rpg_object_format::fault::{Code, ReadFault};
@@ -32,7 +32,7 @@ pub fn indicator_number(indicator: Option<u8>) -> u8
 /// Reads an indicator, or 0 for none.
 #[tactic(auto, unfolding(rpg_object_format::specs::Format::read_byte))]
 pub fn indicator_at(bytes: &[u8]) -> Result<(Option<u8>, &[u8]), ReadFault>
-    ensures { Gives (λ x. (x.0, x.1.now)) result (read_byte indicator_by_number bytes.now) }
+    ensures { ReadsAs (λ x. (x.0, x.1.now)) result (read_byte indicator_by_number bytes.now) }
 {
     byte_at(bytes, indicator_of)
 }
@@ -40,7 +40,7 @@ pub fn indicator_at(bytes: &[u8]) -> Result<(Option<u8>, &[u8]), ReadFault>
 /// Reads three indicators.
 #[tactic(auto, unfolding(rpg_object_format::specs::Format::byte, rpg_object_format::specs::Format::pair, rpg_object_format::specs::Format::row, crate::specs::Indicators::shows_format))]
 pub fn shows_at(bytes: &[u8]) -> Result<(Shows, &[u8]), ReadFault>
-    ensures { Gives (λ x. (x.0, x.1.now)) result (shows_format.reading bytes.now) }
+    ensures { ReadsAs (λ x. (x.0, x.1.now)) result (shows_format.reading bytes.now) }
 {
     let (plus, rest) = indicator_at(bytes)?;
     let (minus, rest) = indicator_at(rest)?;

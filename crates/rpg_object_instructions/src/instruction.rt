@@ -1,7 +1,7 @@
 //! Instructions, 20 bytes each.
 
 ghost use Rattle.std.specs.Prelude.{◌≡◌, ◌++◌, OnOk};
-ghost use Rattle.rpg_object_format.specs.Reading.{Gives};
+ghost use Rattle.rpg_object_format.specs.Reading.{ReadsAs};
 ghost use Rattle.rpg_program.specs.Kept.{IsInstructionRow, IsIndexRow};
 ghost use Rattle.rpg_object_instructions.specs.Instructions as rows;
 
@@ -9,7 +9,7 @@ use crate::condition::{conditions_of, indicators_of, negations_of};
 use crate::indicator::indicator_number;
 use crate::numbers::{NO_SHOWS, numbers_at};
 use crate::operand::{NO_OPERAND, index_number, operand_or_none, optional_of};
-use crate::operation::{Numbers, Operation, operation_number};
+use crate::operation::{Numbers, Opcode, operation_number};
 use rpg_object_format::fault::ReadFault;
 use rpg_object_format::number::{flag_number, high, low};
 use rpg_program::operation::{Action, Instruction, Operand, Operator, Shows, Side};
@@ -129,85 +129,81 @@ fn instruction_of(numbers: Numbers) -> Instruction<u16>
     ensures { result ≡ rows.instruction_of numbers }
 {
     match numbers.operation {
-        Operation::Add => Instruction::Act(compute(Operator::Add, numbers)),
-        Operation::Subtract => Instruction::Act(compute(Operator::Subtract, numbers)),
-        Operation::Multiply => Instruction::Act(compute(Operator::Multiply, numbers)),
-        Operation::Divide => Instruction::Act(divide(numbers)),
-        Operation::ZeroAdd => Instruction::Act(assign(false, numbers)),
-        Operation::ZeroSubtract => Instruction::Act(assign(true, numbers)),
-        Operation::TakeRemainder => Instruction::Act(take_remainder(numbers)),
-        Operation::Compare => Instruction::Act(compare(numbers)),
-        Operation::MoveRight => Instruction::Act(move_from(Side::Right, numbers)),
-        Operation::MoveLeft => Instruction::Act(move_from(Side::Left, numbers)),
-        Operation::SetOn => Instruction::Act(set_indicators(true, numbers)),
-        Operation::SetOff => Instruction::Act(set_indicators(false, numbers)),
-        Operation::Jump => branch(true, numbers),
-        Operation::Skip => branch(false, numbers),
-        Operation::Call => Instruction::Call {
+        Opcode::Add => Instruction::Act(compute(Operator::Add, numbers)),
+        Opcode::Subtract => Instruction::Act(compute(Operator::Subtract, numbers)),
+        Opcode::Multiply => Instruction::Act(compute(Operator::Multiply, numbers)),
+        Opcode::Divide => Instruction::Act(divide(numbers)),
+        Opcode::ZeroAdd => Instruction::Act(assign(false, numbers)),
+        Opcode::ZeroSubtract => Instruction::Act(assign(true, numbers)),
+        Opcode::TakeRemainder => Instruction::Act(take_remainder(numbers)),
+        Opcode::Compare => Instruction::Act(compare(numbers)),
+        Opcode::MoveRight => Instruction::Act(move_from(Side::Right, numbers)),
+        Opcode::MoveLeft => Instruction::Act(move_from(Side::Left, numbers)),
+        Opcode::SetOn => Instruction::Act(set_indicators(true, numbers)),
+        Opcode::SetOff => Instruction::Act(set_indicators(false, numbers)),
+        Opcode::Jump => branch(true, numbers),
+        Opcode::Skip => branch(false, numbers),
+        Opcode::Call => Instruction::Call {
             subroutine: numbers.target,
         },
-        Operation::Return => Instruction::Return {
+        Opcode::Return => Instruction::Return {
             subroutine: numbers.target,
         },
-        Operation::Except => Instruction::Except,
-        Operation::CrossFoot => Instruction::Act(cross_foot(numbers)),
-        Operation::LookUp => Instruction::Act(look_up(numbers)),
+        Opcode::Except => Instruction::Except,
+        Opcode::CrossFoot => Instruction::Act(cross_foot(numbers)),
+        Opcode::LookUp => Instruction::Act(look_up(numbers)),
     }
 }
 
 // ---- to numbers
 
-fn computing(operator: Operator) -> Operation
-    ensures { result ≡ rows.computing operator }
+fn computing(operator: Operator) -> Opcode
+    ensures { result ≡ rows.computing_operation operator }
 {
     match operator {
-        Operator::Add => Operation::Add,
-        Operator::Subtract => Operation::Subtract,
-        Operator::Multiply => Operation::Multiply,
+        Operator::Add => Opcode::Add,
+        Operator::Subtract => Opcode::Subtract,
+        Operator::Multiply => Opcode::Multiply,
     }
 }
 
-fn assigning(is_negated: bool) -> Operation
-    ensures { result ≡ rows.assigning is_negated }
+fn assigning(is_negated: bool) -> Opcode
+    ensures { result ≡ rows.assigning_operation is_negated }
 {
     if is_negated {
-        Operation::ZeroSubtract
+        Opcode::ZeroSubtract
     } else {
-        Operation::ZeroAdd
+        Opcode::ZeroAdd
     }
 }
 
-fn moving(side: Side) -> Operation
-    ensures { result ≡ rows.moving side }
+fn moving(side: Side) -> Opcode
+    ensures { result ≡ rows.moving_operation side }
 {
     match side {
-        Side::Right => Operation::MoveRight,
-        Side::Left => Operation::MoveLeft,
+        Side::Right => Opcode::MoveRight,
+        Side::Left => Opcode::MoveLeft,
     }
 }
 
-fn setting(is_on: bool) -> Operation
-    ensures { result ≡ rows.setting_of is_on }
+fn setting(is_on: bool) -> Opcode
+    ensures { result ≡ rows.setting_operation is_on }
 {
-    if is_on {
-        Operation::SetOn
-    } else {
-        Operation::SetOff
-    }
+    if is_on { Opcode::SetOn } else { Opcode::SetOff }
 }
 
-fn branching(is_taken_where: bool) -> Operation
-    ensures { result ≡ rows.branching is_taken_where }
+fn branching(is_taken_where: bool) -> Opcode
+    ensures { result ≡ rows.branching_operation is_taken_where }
 {
     if is_taken_where {
-        Operation::Jump
+        Opcode::Jump
     } else {
-        Operation::Skip
+        Opcode::Skip
     }
 }
 
 /// An operation without any number.
-fn bare(operation: Operation) -> Numbers
+fn bare(operation: Opcode) -> Numbers
     ensures { result ≡ rows.bare operation }
 {
     Numbers {
@@ -222,17 +218,17 @@ fn bare(operation: Operation) -> Numbers
     }
 }
 
-fn operation_in(action: Action<Operand<u16>>) -> Operation
+fn operation_in(action: Action<Operand<u16>>) -> Opcode
     ensures { result ≡ (rows.action_numbers action).operation }
 {
     match action {
         Action::Compute { operator, .. } => computing(operator),
-        Action::Divide { .. } => Operation::Divide,
+        Action::Divide { .. } => Opcode::Divide,
         Action::Assign { is_negated, .. } => assigning(is_negated),
-        Action::TakeRemainder { .. } => Operation::TakeRemainder,
-        Action::CrossFoot { .. } => Operation::CrossFoot,
-        Action::Compare { .. } => Operation::Compare,
-        Action::LookUp { .. } => Operation::LookUp,
+        Action::TakeRemainder { .. } => Opcode::TakeRemainder,
+        Action::CrossFoot { .. } => Opcode::CrossFoot,
+        Action::Compare { .. } => Opcode::Compare,
+        Action::LookUp { .. } => Opcode::LookUp,
         Action::Move { side, .. } => moving(side),
         Action::SetIndicators { is_on, .. } => setting(is_on),
     }
@@ -329,7 +325,7 @@ fn numbers_of(instruction: Instruction<u16>) -> Numbers
 {
     match instruction {
         Instruction::Act(action) => action_numbers(action),
-        Instruction::Except => bare(Operation::Except),
+        Instruction::Except => bare(Opcode::Except),
         Instruction::Branch {
             is_taken_where,
             conditions,
@@ -342,11 +338,11 @@ fn numbers_of(instruction: Instruction<u16>) -> Numbers
         },
         Instruction::Call { subroutine } => Numbers {
             target: subroutine,
-            ..bare(Operation::Call)
+            ..bare(Opcode::Call)
         },
         Instruction::Return { subroutine } => Numbers {
             target: subroutine,
-            ..bare(Operation::Return)
+            ..bare(Opcode::Return)
         },
     }
 }
@@ -357,7 +353,7 @@ fn numbers_of(instruction: Instruction<u16>) -> Numbers
 /// is B6.
 #[tactic(auto, unfolding(crate::specs::Shapes::row_where, crate::specs::Instructions::instruction))]
 pub fn instruction_at(bytes: &[u8]) -> Result<(Instruction<u16>, &[u8]), ReadFault>
-    ensures { Gives (λ x. (x.0, x.1.now)) result (rows.instruction.reading bytes.now) }
+    ensures { ReadsAs (λ x. (x.0, x.1.now)) result (rows.instruction.reading bytes.now) }
 {
     let (numbers, rest) = numbers_at(bytes)?;
     Ok((instruction_of(numbers), rest))

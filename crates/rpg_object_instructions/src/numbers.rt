@@ -2,13 +2,13 @@
 
 ghost use Rattle.std.specs.Prelude.{◌≡◌, ◌++◌};
 ghost use Rattle.rpg_object_format.specs.Format.{read_byte};
-ghost use Rattle.rpg_object_format.specs.Reading.{Gives};
+ghost use Rattle.rpg_object_format.specs.Reading.{ReadsAs};
 ghost use Rattle.rpg_object_instructions.specs.Instructions as rows;
 
 use crate::condition::negations_at;
 use crate::indicator::shows_at;
 use crate::operand::{NO_OPERAND, operand_at, unused_operand_at};
-use crate::operation::{Columns, Numbers, Operation, columns_of, operation_of};
+use crate::operation::{Columns, Numbers, Opcode, columns_of, operation_of};
 use rpg_object_format::fault::{Code, ReadFault};
 use rpg_object_format::number::{any_number_at, byte_at, flag_at, only_byte_at, only_number_at};
 use rpg_program::operation::{Operand, Shows};
@@ -21,15 +21,15 @@ pub const NO_SHOWS: Shows = Shows {
 };
 
 #[tactic(auto, unfolding(rpg_object_format::specs::Format::read_byte))]
-fn operation_at(bytes: &[u8]) -> Result<(Operation, &[u8]), ReadFault>
-    ensures { Gives (λ x. (x.0, x.1.now)) result (read_byte rows.operation_of bytes.now) }
+fn operation_at(bytes: &[u8]) -> Result<(Opcode, &[u8]), ReadFault>
+    ensures { ReadsAs (λ x. (x.0, x.1.now)) result (read_byte rows.operation_of bytes.now) }
 {
     byte_at(bytes, operation_of)
 }
 
 #[tactic(auto, unfolding(rpg_object_format::specs::Format::byte, crate::specs::Shapes::row_where))]
 fn half_at(bytes: &[u8], columns: Columns) -> Result<(bool, &[u8]), ReadFault>
-    ensures { Gives (λ x. (x.0, x.1.now)) result ((rows.half_column columns).reading bytes.now) }
+    ensures { ReadsAs (λ x. (x.0, x.1.now)) result ((rows.half_column columns).reading bytes.now) }
 {
     if columns.half {
         return flag_at(bytes);
@@ -40,7 +40,7 @@ fn half_at(bytes: &[u8], columns: Columns) -> Result<(bool, &[u8]), ReadFault>
 
 #[tactic(auto, unfolding(crate::specs::Shapes::row_where))]
 fn operand_column_at(bytes: &[u8], is_used: bool) -> Result<(Operand<u16>, &[u8]), ReadFault>
-    ensures { Gives (λ x. (x.0, x.1.now)) result ((rows.operand_column is_used).reading bytes.now) }
+    ensures { ReadsAs (λ x. (x.0, x.1.now)) result ((rows.operand_column is_used).reading bytes.now) }
 {
     if is_used {
         return operand_at(bytes);
@@ -51,7 +51,7 @@ fn operand_column_at(bytes: &[u8], is_used: bool) -> Result<(Operand<u16>, &[u8]
 
 #[tactic(auto, unfolding(rpg_object_format::specs::Format::byte, rpg_object_format::specs::Format::pair, rpg_object_format::specs::Format::row, crate::specs::Instructions::unused_shows))]
 fn unused_shows_at(bytes: &[u8]) -> Result<((), &[u8]), ReadFault>
-    ensures { Gives (λ x. (x.0, x.1.now)) result (rows.unused_shows.reading bytes.now) }
+    ensures { ReadsAs (λ x. (x.0, x.1.now)) result (rows.unused_shows.reading bytes.now) }
 {
     let (_, rest) = only_byte_at(bytes, 0, Code::Unused)?;
     let (_, rest) = only_byte_at(rest, 0, Code::Unused)?;
@@ -61,7 +61,7 @@ fn unused_shows_at(bytes: &[u8]) -> Result<((), &[u8]), ReadFault>
 
 #[tactic(auto, unfolding(crate::specs::Shapes::row_where))]
 fn indicators_at(bytes: &[u8], columns: Columns) -> Result<(Shows, &[u8]), ReadFault>
-    ensures { Gives (λ x. (x.0, x.1.now)) result ((rows.indicators_column columns).reading bytes.now) }
+    ensures { ReadsAs (λ x. (x.0, x.1.now)) result ((rows.indicators_column columns).reading bytes.now) }
 {
     if columns.indicators {
         return shows_at(bytes);
@@ -72,7 +72,7 @@ fn indicators_at(bytes: &[u8], columns: Columns) -> Result<(Shows, &[u8]), ReadF
 
 #[tactic(auto, unfolding(rpg_object_format::specs::Format::two_bytes, crate::specs::Shapes::row_where))]
 fn target_at(bytes: &[u8], columns: Columns) -> Result<(u16, &[u8]), ReadFault>
-    ensures { Gives (λ x. (x.0, x.1.now)) result ((rows.target_column columns).reading bytes.now) }
+    ensures { ReadsAs (λ x. (x.0, x.1.now)) result ((rows.target_column columns).reading bytes.now) }
 {
     if columns.target {
         return any_number_at(bytes);
@@ -87,7 +87,7 @@ fn negations_column_at(
     columns: Columns,
     shows: Shows,
 ) -> Result<(u8, &[u8]), ReadFault>
-    ensures { Gives (λ x. (x.0, x.1.now)) result ((rows.negations_column columns shows).reading bytes.now) }
+    ensures { ReadsAs (λ x. (x.0, x.1.now)) result ((rows.negations_column columns shows).reading bytes.now) }
 {
     if columns.negations {
         return negations_at(bytes, shows);
@@ -99,7 +99,7 @@ fn negations_column_at(
 /// Reads an operation and its numbers.
 #[tactic(auto, unfolding(rpg_object_format::specs::Format::byte, rpg_object_format::specs::Format::pair, rpg_object_format::specs::Format::row, crate::specs::Instructions::used_numbers, crate::specs::Instructions::numbers_format))]
 pub fn numbers_at(bytes: &[u8]) -> Result<(Numbers, &[u8]), ReadFault>
-    ensures { Gives (λ x. (x.0, x.1.now)) result (rows.numbers_format.reading bytes.now) }
+    ensures { ReadsAs (λ x. (x.0, x.1.now)) result (rows.numbers_format.reading bytes.now) }
 {
     let (operation, rest) = operation_at(bytes)?;
     let columns = columns_of(operation);

@@ -2,7 +2,7 @@
 
 ghost use Rattle.std.specs.Prelude.{◌≡◌, ◌<◌, ◌+◌, ◌^◌};
 ghost use Rattle.rpg_object_format.specs.Format.{read_two};
-ghost use Rattle.rpg_object_format.specs.Reading.{Gives};
+ghost use Rattle.rpg_object_format.specs.Reading.{ReadsAs};
 ghost use Rattle.rpg_program.specs.Kept.{IsIndexRow};
 ghost use Rattle.rpg_object_instructions.specs.Operands as rows;
 
@@ -37,7 +37,7 @@ pub fn index_number(index: Index<u16>) -> u16
 
 #[tactic(auto, unfolding(rpg_object_format::specs::Format::read_two))]
 fn index_at(bytes: &[u8]) -> Result<(Index<u16>, &[u8]), ReadFault>
-    ensures { Gives (λ x. (x.0, x.1.now)) result (read_two rows.index_rule bytes.now) }
+    ensures { ReadsAs (λ x. (x.0, x.1.now)) result (read_two rows.index_rule bytes.now) }
 {
     number_at(bytes, |n| Ok(index_of(n)))
 }
@@ -45,7 +45,7 @@ fn index_at(bytes: &[u8]) -> Result<(Index<u16>, &[u8]), ReadFault>
 /// Reads an operand.
 #[tactic(auto, unfolding(rpg_object_format::specs::Format::two_bytes, rpg_object_format::specs::Format::pair, rpg_object_format::specs::Format::row, crate::specs::Operands::operand))]
 pub fn operand_at(bytes: &[u8]) -> Result<(Operand<u16>, &[u8]), ReadFault>
-    ensures { Gives (λ x. (x.0, x.1.now)) result (rows.operand.reading bytes.now) }
+    ensures { ReadsAs (λ x. (x.0, x.1.now)) result (rows.operand.reading bytes.now) }
 {
     let (field, rest) = any_number_at(bytes)?;
     let (index, rest) = index_at(rest)?;
@@ -55,7 +55,7 @@ pub fn operand_at(bytes: &[u8]) -> Result<(Operand<u16>, &[u8]), ReadFault>
 /// Reads the field and the index of no operand.
 #[tactic(auto, unfolding(rpg_object_format::specs::Format::two_bytes, rpg_object_format::specs::Format::pair, rpg_object_format::specs::Format::row, crate::specs::Operands::unused_operand))]
 pub(crate) fn unused_operand_at(bytes: &[u8]) -> Result<((), &[u8]), ReadFault>
-    ensures { Gives (λ x. (x.0, x.1.now)) result (rows.unused_operand.reading bytes.now) }
+    ensures { ReadsAs (λ x. (x.0, x.1.now)) result (rows.unused_operand.reading bytes.now) }
 {
     let (_, rest) = only_number_at(bytes, 0, Code::Unused)?;
     let (_, rest) = only_number_at(rest, 0, Code::Unused)?;

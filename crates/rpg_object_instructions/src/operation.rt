@@ -8,7 +8,7 @@ use rpg_program::operation::{Operand, Shows};
 
 /// What an instruction does, apart from its operands.
 #[derive(Clone, Copy)]
-pub enum Operation {
+pub enum Opcode {
     Add,
     Subtract,
     Multiply,
@@ -45,7 +45,7 @@ pub struct Columns {
 /// The numbers of an instruction: 0, or its equivalent, where the operation doesn't use one.
 #[derive(Clone, Copy)]
 pub struct Numbers {
-    pub operation: Operation,
+    pub operation: Opcode,
     pub half: bool,
     pub factor1: Operand<u16>,
     pub factor2: Operand<u16>,
@@ -127,75 +127,73 @@ const CALL: Columns = Columns {
     ..NOTHING
 };
 
-pub fn operation_of(n: u8) -> Result<Operation, Code>
+pub fn operation_of(n: u8) -> Result<Opcode, Code>
     ensures { result ≡ rows.operation_of n }
 {
     match n {
-        1 => Ok(Operation::Add),
-        2 => Ok(Operation::Subtract),
-        3 => Ok(Operation::Multiply),
-        4 => Ok(Operation::Divide),
-        5 => Ok(Operation::ZeroAdd),
-        6 => Ok(Operation::ZeroSubtract),
-        7 => Ok(Operation::TakeRemainder),
-        8 => Ok(Operation::Compare),
-        9 => Ok(Operation::MoveRight),
-        10 => Ok(Operation::MoveLeft),
-        11 => Ok(Operation::SetOn),
-        12 => Ok(Operation::SetOff),
-        13 => Ok(Operation::Jump),
-        14 => Ok(Operation::Skip),
-        15 => Ok(Operation::Call),
-        16 => Ok(Operation::Return),
-        17 => Ok(Operation::Except),
-        18 => Ok(Operation::CrossFoot),
-        19 => Ok(Operation::LookUp),
+        1 => Ok(Opcode::Add),
+        2 => Ok(Opcode::Subtract),
+        3 => Ok(Opcode::Multiply),
+        4 => Ok(Opcode::Divide),
+        5 => Ok(Opcode::ZeroAdd),
+        6 => Ok(Opcode::ZeroSubtract),
+        7 => Ok(Opcode::TakeRemainder),
+        8 => Ok(Opcode::Compare),
+        9 => Ok(Opcode::MoveRight),
+        10 => Ok(Opcode::MoveLeft),
+        11 => Ok(Opcode::SetOn),
+        12 => Ok(Opcode::SetOff),
+        13 => Ok(Opcode::Jump),
+        14 => Ok(Opcode::Skip),
+        15 => Ok(Opcode::Call),
+        16 => Ok(Opcode::Return),
+        17 => Ok(Opcode::Except),
+        18 => Ok(Opcode::CrossFoot),
+        19 => Ok(Opcode::LookUp),
         _ => Err(Code::NotAllowed),
     }
 }
 
-pub fn operation_number(operation: Operation) -> u8
+pub fn operation_number(operation: Opcode) -> u8
     ensures { result ≡ rows.operation_number operation }
 {
     match operation {
-        Operation::Add => 1,
-        Operation::Subtract => 2,
-        Operation::Multiply => 3,
-        Operation::Divide => 4,
-        Operation::ZeroAdd => 5,
-        Operation::ZeroSubtract => 6,
-        Operation::TakeRemainder => 7,
-        Operation::Compare => 8,
-        Operation::MoveRight => 9,
-        Operation::MoveLeft => 10,
-        Operation::SetOn => 11,
-        Operation::SetOff => 12,
-        Operation::Jump => 13,
-        Operation::Skip => 14,
-        Operation::Call => 15,
-        Operation::Return => 16,
-        Operation::Except => 17,
-        Operation::CrossFoot => 18,
-        Operation::LookUp => 19,
+        Opcode::Add => 1,
+        Opcode::Subtract => 2,
+        Opcode::Multiply => 3,
+        Opcode::Divide => 4,
+        Opcode::ZeroAdd => 5,
+        Opcode::ZeroSubtract => 6,
+        Opcode::TakeRemainder => 7,
+        Opcode::Compare => 8,
+        Opcode::MoveRight => 9,
+        Opcode::MoveLeft => 10,
+        Opcode::SetOn => 11,
+        Opcode::SetOff => 12,
+        Opcode::Jump => 13,
+        Opcode::Skip => 14,
+        Opcode::Call => 15,
+        Opcode::Return => 16,
+        Opcode::Except => 17,
+        Opcode::CrossFoot => 18,
+        Opcode::LookUp => 19,
     }
 }
 
 /// The row of an operation in the table.
-pub fn columns_of(operation: Operation) -> Columns
+pub fn columns_of(operation: Opcode) -> Columns
     ensures { result ≡ rows.used_columns operation }
 {
     match operation {
-        Operation::Add | Operation::Subtract | Operation::Multiply | Operation::Divide => {
-            ARITHMETIC
-        }
-        Operation::ZeroAdd | Operation::ZeroSubtract | Operation::CrossFoot => ASSIGNMENT,
-        Operation::TakeRemainder => REMAINDER,
-        Operation::Compare => COMPARISON,
-        Operation::LookUp => SEARCH,
-        Operation::MoveRight | Operation::MoveLeft => MOVE,
-        Operation::SetOn | Operation::SetOff => SETTING,
-        Operation::Jump | Operation::Skip => BRANCH,
-        Operation::Call | Operation::Return => CALL,
-        Operation::Except => NOTHING,
+        Opcode::Add | Opcode::Subtract | Opcode::Multiply | Opcode::Divide => { ARITHMETIC }
+        Opcode::ZeroAdd | Opcode::ZeroSubtract | Opcode::CrossFoot => ASSIGNMENT,
+        Opcode::TakeRemainder => REMAINDER,
+        Opcode::Compare => COMPARISON,
+        Opcode::LookUp => SEARCH,
+        Opcode::MoveRight | Opcode::MoveLeft => MOVE,
+        Opcode::SetOn | Opcode::SetOff => SETTING,
+        Opcode::Jump | Opcode::Skip => BRANCH,
+        Opcode::Call | Opcode::Return => CALL,
+        Opcode::Except => NOTHING,
     }
 }

@@ -13,7 +13,7 @@ use Rattle.rpg_program.specs.Kept.{IsCodeRow, IsControlRow, IsInputRow, IsPlainT
 use Rattle.rpg_program.specs.declared.rows.Version.{Version}
 use Rattle.rpg_program.specs.declared.rows.Version.TheVariants as versions
 use Rattle.rpg_text.specs.Texts.{is_between}
-use Rattle.rpg_object_rows.specs.Types.{TypeParts, control_field_format, input_field_format, input_file, input_file_by_number, input_file_number, is_two, match_count, record_code_format, record_type_format, type_parts}
+use Rattle.rpg_object_rows.specs.Types.{TypeParts, control_field_format, input_field_format, input_file_format, input_file_by_number, input_file_number, is_two, match_count, record_code_format, record_type_format, type_parts}
 use Rattle.rpg_object_instructions.proofs.Choices.{all_from_table, between, counted, few, flag_from, table_from_all, within}
 use Rattle.rpg_object_instructions.proofs.IndicatorLaws.{indicator_law, shows_law}
 use Rattle.rpg_object_instructions.proofs.IndicatorsKept.{indicator_from, indicator_kept, shows_from, shows_kept}
@@ -36,7 +36,7 @@ input_field_law =
     row_law _ _ _ (λ a h. refl) (λ x. refl)
     (pair_law _ _ any_number_law (λ from. pair_law _ _ any_number_law (λ to. pair_law _ _ any_number_law (λ field. pair_law _ _ shows_law (λ s. unused_byte_law)))))
 
-input_file_law : (v : Version) → IsFormat (input_file v)
+input_file_law : (v : Version) → IsFormat (input_file_format v)
 input_file_law v = where_used_law (is_two v) _ Primary unused_byte (one_of_law (Primary ∷ Secondary ∷ []) input_file_number) unused_byte_law
 
 match_count_law : (v : Version) → IsFormat (match_count v)
@@ -103,12 +103,12 @@ file_from Primary = (refl, omega arith)
 file_from Secondary = (refl, omega arith)
 
 -- in version 1 the file is the primary
-primary_kept : (v : Version) (f : InputFile) → (input_file v).Holds f → v ≡ versions.One → f ≡ Primary
+primary_kept : (v : Version) (f : InputFile) → (input_file_format v).Holds f → v ≡ versions.One → f ≡ Primary
 unfolding row_where
 primary_kept versions.One f h one = h.0
 primary_kept versions.Two f h one = absurd cc
 
-input_file_from : (v : Version) (f : InputFile) → (v ≡ versions.One → f ≡ Primary) → (input_file v).Holds f
+input_file_from : (v : Version) (f : InputFile) → (v ≡ versions.One → f ≡ Primary) → (input_file_format v).Holds f
 unfolding row_where byte
 input_file_from versions.One f plain = (plain refl, (refl, omega arith))
 input_file_from versions.Two f plain = file_from f

@@ -32,8 +32,8 @@ abbrev pub input_file_by_number : ℕ → Result InputFile Code
 input_file_by_number = choice (Primary ∷ Secondary ∷ []) input_file_number
 
 -- the file of a type; in version 1 the primary, written as 0
-abbrev pub input_file : Version → Format InputFile
-input_file v = where_used (is_two v) (byte input_file_by_number input_file_number) Primary unused_byte
+abbrev pub input_file_format : Version → Format InputFile
+input_file_format v = where_used (is_two v) (byte input_file_by_number input_file_number) Primary unused_byte
 
 -- in version 1 there are none, and no byte is written
 abbrev pub match_count : Version → Format ℕ
@@ -69,7 +69,7 @@ TypeParts = Option ℕ × (InputFile × (ℕ × (ℕ × (ℕ × (ℕ × (List Re
 -- indicator, file, counts of codes, levels, input fields and match fields, and these
 unfoldable pub type_parts : Version → Format TypeParts
 type_parts v =
-    pair indicator_format (λ i. pair (input_file v) (λ file.
+    pair indicator_format (λ i. pair (input_file_format v) (λ file.
     pair (count 100) (λ codes. pair (count 100) (λ levels. pair (count 500) (λ inputs. pair (match_count v) (λ matches.
     pair (table codes record_code_format) (λ cs. pair (table levels control_field_format) (λ ls.
     pair (table inputs input_field_format) (λ is. table matches control_field_format)))))))))

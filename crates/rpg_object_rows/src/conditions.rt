@@ -2,7 +2,7 @@
 
 ghost use Rattle.std.specs.Prelude.{◌≡◌, ◌++◌};
 ghost use Rattle.rpg_program.specs.declared.condition.Condition as spec;
-ghost use Rattle.rpg_object_format.specs.Reading.{Gives};
+ghost use Rattle.rpg_object_format.specs.Reading.{ReadsAs};
 ghost use Rattle.rpg_program.specs.Kept.{IsConditionRow};
 ghost use Rattle.rpg_object_instructions.specs.Indicators.{condition_format};
 
@@ -14,7 +14,7 @@ use std::alloc::{AllocError, Global};
 
 #[tactic(auto, unfolding(rpg_object_format::specs::Format::byte, rpg_object_format::specs::Format::pair, rpg_object_format::specs::Format::row, rpg_object_instructions::specs::Indicators::condition_format))]
 fn condition_at(bytes: &[u8]) -> Result<(Condition, &[u8]), ReadFault>
-    ensures { Gives (λ x. (x.0, x.1.now)) result (condition_format.reading bytes.now) }
+    ensures { ReadsAs (λ x. (x.0, x.1.now)) result (condition_format.reading bytes.now) }
 {
     let (is_negated, rest) = flag_at(bytes)?;
     let (indicator, rest) = byte_between_at(rest, 1, 129)?;

@@ -3,7 +3,7 @@
 ghost use Rattle.std.specs.Prelude.{◌≡◌, ℕ, ◌++◌, All, length, OnOk};
 ghost use Rattle.rpg_program.specs.declared.operation.Instruction as spec;
 ghost use Rattle.rpg_object_format.specs.Format.{table};
-ghost use Rattle.rpg_object_format.specs.Reading.{Gives};
+ghost use Rattle.rpg_object_format.specs.Reading.{ReadsAs};
 ghost use Rattle.rpg_program.specs.Kept.{IsInstructionRow};
 ghost use Rattle.rpg_object_instructions.specs.Instructions as rows;
 
@@ -40,7 +40,7 @@ pub fn instructions_at(
     count: u16,
     bytes: &[u8],
 ) -> Result<(Vec<Instruction<u16>>, &[u8]), ReadFault>
-    ensures { Gives (λ x. (x.0.items, x.1.now)) result ((table count rows.instruction).reading bytes.now) }
+    ensures { ReadsAs (λ x. (x.0.items, x.1.now)) result ((table count rows.instruction).reading bytes.now) }
 {
     rows_at(alloc, count, bytes)
 }

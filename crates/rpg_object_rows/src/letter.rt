@@ -3,7 +3,7 @@
 ghost use Rattle.std.specs.Prelude.{◌≡◌};
 ghost use Rattle.rpg_object_format.specs.Format.{read_byte, read_two};
 ghost use Rattle.rpg_object_format.specs.Numbers.{allowed};
-ghost use Rattle.rpg_object_format.specs.Reading.{Gives};
+ghost use Rattle.rpg_object_format.specs.Reading.{ReadsAs};
 ghost use Rattle.rpg_object_rows.specs.Lines as rows;
 
 use rpg_edit_marks::{EditCode, Ending};
@@ -70,7 +70,7 @@ pub fn letter_number(letter: Letter) -> u8
 
 #[tactic(auto, unfolding(rpg_object_format::specs::Format::read_byte))]
 pub fn letter_at(bytes: &[u8]) -> Result<(Letter, &[u8]), ReadFault>
-    ensures { Gives (λ x. (x.0, x.1.now)) result (read_byte rows.letter_of bytes.now) }
+    ensures { ReadsAs (λ x. (x.0, x.1.now)) result (read_byte rows.letter_of bytes.now) }
 {
     byte_at(bytes, letter_of)
 }
@@ -88,7 +88,7 @@ fn word_field(letter: Letter, n: u16) -> Result<u16, Code>
 /// Reads the field of an edit word, which is 0 where there is none.
 #[tactic(auto, unfolding(rpg_object_format::specs::Format::read_two))]
 pub fn word_field_at(bytes: &[u8], letter: Letter) -> Result<(u16, &[u8]), ReadFault>
-    ensures { Gives (λ x. (x.0, x.1.now)) result (read_two (allowed (rows.is_word_field letter)) bytes.now) }
+    ensures { ReadsAs (λ x. (x.0, x.1.now)) result (read_two (allowed (rows.is_word_field letter)) bytes.now) }
 {
     number_at(bytes, |n| word_field(letter, n))
 }

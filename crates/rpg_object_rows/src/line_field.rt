@@ -3,7 +3,7 @@
 ghost use Rattle.std.specs.Prelude.{◌≡◌, ℕ, ◌++◌};
 ghost use Rattle.rpg_program.specs.declared.line.LineField as spec;
 ghost use Rattle.rpg_object_format.specs.Format.{read_byte};
-ghost use Rattle.rpg_object_format.specs.Reading.{Gives};
+ghost use Rattle.rpg_object_format.specs.Reading.{ReadsAs};
 ghost use Rattle.rpg_program.specs.Kept.{IsLineFieldRow};
 ghost use Rattle.rpg_object_rows.specs.Lines as rows;
 
@@ -39,7 +39,7 @@ fn source_number(source: Source) -> u8
 
 #[tactic(auto, unfolding(rpg_object_format::specs::Format::read_byte))]
 fn source_at(bytes: &[u8]) -> Result<(Source, &[u8]), ReadFault>
-    ensures { Gives (λ x. (x.0, x.1.now)) result (read_byte rows.source_by_number bytes.now) }
+    ensures { ReadsAs (λ x. (x.0, x.1.now)) result (read_byte rows.source_by_number bytes.now) }
 {
     byte_at(bytes, source_of)
 }
@@ -67,14 +67,14 @@ fn fill_number(fill: Fill) -> u8
 
 #[tactic(auto, unfolding(rpg_object_format::specs::Format::read_byte))]
 fn fill_at(bytes: &[u8]) -> Result<(Fill, &[u8]), ReadFault>
-    ensures { Gives (λ x. (x.0, x.1.now)) result (read_byte rows.fill_by_number bytes.now) }
+    ensures { ReadsAs (λ x. (x.0, x.1.now)) result (read_byte rows.fill_by_number bytes.now) }
 {
     byte_at(bytes, fill_of)
 }
 
 #[tactic(auto, unfolding(rpg_object_format::specs::Format::byte, rpg_object_format::specs::Format::two_bytes, rpg_object_format::specs::Format::pair, rpg_object_format::specs::Format::row, crate::specs::Lines::line_field_parts, crate::specs::Lines::line_field))]
 fn line_field_at(bytes: &[u8]) -> Result<(LineField<u16>, &[u8]), ReadFault>
-    ensures { Gives (λ x. (x.0, x.1.now)) result (rows.line_field.reading bytes.now) }
+    ensures { ReadsAs (λ x. (x.0, x.1.now)) result (rows.line_field.reading bytes.now) }
 {
     let (source, rest) = source_at(bytes)?;
     let (letter, rest) = letter_at(rest)?;

@@ -4,7 +4,7 @@ ghost use Rattle.std.specs.Prelude.{◌≡◌, ℕ, List, ◌++◌, ◌≤◌, A
 ghost use Rattle.rpg_program.specs.declared.condition.Condition as spec;
 ghost use Rattle.rpg_object_format.specs.Format.{read_byte, read_two, table};
 ghost use Rattle.rpg_object_format.specs.Numbers.{allowed, is_any_number};
-ghost use Rattle.rpg_object_format.specs.Reading.{Gives};
+ghost use Rattle.rpg_object_format.specs.Reading.{ReadsAs};
 ghost use Rattle.rpg_program.specs.Kept.{IsAlternativeRow, IsLineRow};
 ghost use Rattle.rpg_program.specs.Object.{LineRow, line_row};
 ghost use Rattle.rpg_object_instructions.specs.Indicators.{alternative};
@@ -39,7 +39,7 @@ fn file_number(file: File) -> u8
 
 #[tactic(auto, unfolding(rpg_object_format::specs::Format::read_byte))]
 fn file_at(bytes: &[u8]) -> Result<(File, &[u8]), ReadFault>
-    ensures { Gives (λ x. (x.0, x.1.now)) result (read_byte rows.file_by_number bytes.now) }
+    ensures { ReadsAs (λ x. (x.0, x.1.now)) result (read_byte rows.file_by_number bytes.now) }
 {
     byte_at(bytes, file_of)
 }
@@ -69,7 +69,7 @@ fn time_number(time: Time) -> u8
 
 #[tactic(auto, unfolding(rpg_object_format::specs::Format::read_byte))]
 fn time_at(bytes: &[u8]) -> Result<(Time, &[u8]), ReadFault>
-    ensures { Gives (λ x. (x.0, x.1.now)) result (read_byte rows.time_by_number bytes.now) }
+    ensures { ReadsAs (λ x. (x.0, x.1.now)) result (read_byte rows.time_by_number bytes.now) }
 {
     byte_at(bytes, time_of)
 }
@@ -87,21 +87,21 @@ fn alternative_count(n: u16) -> Result<u16, Code>
 
 #[tactic(auto, unfolding(rpg_object_format::specs::Format::read_two))]
 fn alternative_count_at(bytes: &[u8]) -> Result<(u16, &[u8]), ReadFault>
-    ensures { Gives (λ x. (x.0, x.1.now)) result (read_two rows.allowed_alternatives bytes.now) }
+    ensures { ReadsAs (λ x. (x.0, x.1.now)) result (read_two rows.allowed_alternatives bytes.now) }
 {
     number_at(bytes, alternative_count)
 }
 
 #[tactic(auto, unfolding(rpg_object_format::specs::Format::read_byte))]
 fn any_byte_at(bytes: &[u8]) -> Result<(u8, &[u8]), ReadFault>
-    ensures { Gives (λ x. (x.0, x.1.now)) result (read_byte (allowed is_any_number) bytes.now) }
+    ensures { ReadsAs (λ x. (x.0, x.1.now)) result (read_byte (allowed is_any_number) bytes.now) }
 {
     byte_at(bytes, |n| Ok(n))
 }
 
 #[tactic(auto, unfolding(rpg_object_format::specs::Format::byte, rpg_object_format::specs::Format::pair, rpg_object_format::specs::Format::row, crate::specs::Lines::spacing))]
 fn spacing_at(bytes: &[u8]) -> Result<(Spacing, &[u8]), ReadFault>
-    ensures { Gives (λ x. (x.0, x.1.now)) result (rows.spacing.reading bytes.now) }
+    ensures { ReadsAs (λ x. (x.0, x.1.now)) result (rows.spacing.reading bytes.now) }
 {
     let (space_before, rest) = any_byte_at(bytes)?;
     let (space_after, rest) = any_byte_at(rest)?;
@@ -150,7 +150,7 @@ impl Row for Vec<Condition> {
 /// Reads a line. No alternative is B5; more than 50, more than 60 conditions of one, or more than 200 fields are B7.
 #[tactic(auto, unfolding(rpg_object_format::specs::Format::byte, rpg_object_format::specs::Format::two_bytes, rpg_object_format::specs::Format::pair, rpg_object_format::specs::Format::row, rpg_object_format::specs::Format::times_with, crate::specs::Lines::line_parts, crate::specs::Lines::line))]
 pub fn line_at(alloc: Global, bytes: &[u8]) -> Result<(Line, &[u8]), ReadFault>
-    ensures { Gives (λ x. (line_row x.0, x.1.now)) result (rows.line.reading bytes.now) }
+    ensures { ReadsAs (λ x. (line_row x.0, x.1.now)) result (rows.line.reading bytes.now) }
 {
     let (file, rest) = file_at(bytes)?;
     let (time, rest) = time_at(rest)?;
@@ -231,7 +231,7 @@ impl Row for Line {
 /// Reads so many lines. How many there may be is the caller's to test.
 #[tactic(auto, unfolding(rpg_object_format::specs::Format::times_with))]
 pub fn lines_at(alloc: Global, count: u16, bytes: &[u8]) -> Result<(Vec<Line>, &[u8]), ReadFault>
-    ensures { Gives (λ x. (map line_row x.0.items, x.1.now)) result ((table count rows.line).reading bytes.now) }
+    ensures { ReadsAs (λ x. (map line_row x.0.items, x.1.now)) result ((table count rows.line).reading bytes.now) }
 {
     rows_at(alloc, count, bytes)
 }

@@ -5,7 +5,7 @@ ghost use Rattle.rpg_program.specs.declared.input.ControlField as control;
 ghost use Rattle.rpg_program.specs.declared.input.InputField as input;
 ghost use Rattle.rpg_program.specs.declared.input.RecordCode as code;
 ghost use Rattle.rpg_object_format.specs.Format.{table};
-ghost use Rattle.rpg_object_format.specs.Reading.{Gives};
+ghost use Rattle.rpg_object_format.specs.Reading.{ReadsAs};
 ghost use Rattle.rpg_program.specs.Kept.{IsCodeRow, IsControlRow, IsInputRow, IsPlainType, IsTypeRow};
 ghost use Rattle.rpg_program.specs.Object.{type_row};
 ghost use Rattle.rpg_program.specs.declared.rows.Version.TheVariants as versions;
@@ -25,7 +25,7 @@ use std::alloc::{AllocError, Global};
 
 #[tactic(auto, unfolding(rpg_object_format::specs::Format::byte, rpg_object_format::specs::Format::two_bytes, rpg_object_format::specs::Format::pair, rpg_object_format::specs::Format::row, crate::specs::Types::record_code_format))]
 fn record_code_at(bytes: &[u8]) -> Result<(RecordCode, &[u8]), ReadFault>
-    ensures { Gives (λ x. (x.0, x.1.now)) result (record_code_format.reading bytes.now) }
+    ensures { ReadsAs (λ x. (x.0, x.1.now)) result (record_code_format.reading bytes.now) }
 {
     let (position, rest) = any_number_at(bytes)?;
     let (is_negated, rest) = flag_at(rest)?;
@@ -70,7 +70,7 @@ impl Row for RecordCode {
 
 #[tactic(auto, unfolding(rpg_object_format::specs::Format::byte, rpg_object_format::specs::Format::two_bytes, rpg_object_format::specs::Format::pair, rpg_object_format::specs::Format::row, crate::specs::Types::control_field_format))]
 fn control_field_at(bytes: &[u8]) -> Result<(ControlField, &[u8]), ReadFault>
-    ensures { Gives (λ x. (x.0, x.1.now)) result (control_field_format.reading bytes.now) }
+    ensures { ReadsAs (λ x. (x.0, x.1.now)) result (control_field_format.reading bytes.now) }
 {
     let (level, rest) = byte_between_at(bytes, 1, 9)?;
     let (is_numeric, rest) = flag_at(rest)?;
@@ -119,7 +119,7 @@ impl Row for ControlField {
 
 #[tactic(auto, unfolding(rpg_object_format::specs::Format::byte, rpg_object_format::specs::Format::two_bytes, rpg_object_format::specs::Format::pair, rpg_object_format::specs::Format::row, crate::specs::Types::input_field_format))]
 fn input_field_at(bytes: &[u8]) -> Result<(InputField<u16>, &[u8]), ReadFault>
-    ensures { Gives (λ x. (x.0, x.1.now)) result (input_field_format.reading bytes.now) }
+    ensures { ReadsAs (λ x. (x.0, x.1.now)) result (input_field_format.reading bytes.now) }
 {
     let (from, rest) = any_number_at(bytes)?;
     let (to, rest) = any_number_at(rest)?;
@@ -192,7 +192,7 @@ fn input_file_number(file: InputFile) -> u8
 
 #[tactic(auto, unfolding(rpg_object_format::specs::Format::read_byte, rpg_object_format::specs::Format::byte, rpg_object_instructions::specs::Shapes::row_where))]
 fn input_file_at(version: Version, bytes: &[u8]) -> Result<(InputFile, &[u8]), ReadFault>
-    ensures { Gives (λ x. (x.0, x.1.now)) result ((rows.input_file version).reading bytes.now) }
+    ensures { ReadsAs (λ x. (x.0, x.1.now)) result ((rows.input_file_format version).reading bytes.now) }
 {
     match version {
         Version::One => {
@@ -205,7 +205,7 @@ fn input_file_at(version: Version, bytes: &[u8]) -> Result<(InputFile, &[u8]), R
 
 #[tactic(auto, unfolding(rpg_object_format::specs::Format::two_bytes, rpg_object_instructions::specs::Shapes::row_where, rpg_object_instructions::specs::Shapes::no_number))]
 fn match_count_at(version: Version, bytes: &[u8]) -> Result<(u16, &[u8]), ReadFault>
-    ensures { Gives (λ x. (x.0, x.1.now)) result ((rows.match_count version).reading bytes.now) }
+    ensures { ReadsAs (λ x. (x.0, x.1.now)) result ((rows.match_count version).reading bytes.now) }
 {
     match version {
         Version::One => Ok((0, bytes)),
@@ -231,7 +231,7 @@ pub fn record_type_at(
     version: Version,
     bytes: &[u8],
 ) -> Result<(RecordType, &[u8]), ReadFault>
-    ensures { Gives (λ x. (type_row x.0, x.1.now)) result ((rows.record_type_format version).reading bytes.now) }
+    ensures { ReadsAs (λ x. (type_row x.0, x.1.now)) result ((rows.record_type_format version).reading bytes.now) }
 {
     let (indicator, rest) = indicator_at(bytes)?;
     let (file, rest) = input_file_at(version, rest)?;
@@ -307,7 +307,7 @@ pub fn record_types_at(
     count: u16,
     bytes: &[u8],
 ) -> Result<(Vec<RecordType>, &[u8]), ReadFault>
-    ensures { Gives (λ x. (map type_row x.0.items, x.1.now)) result ((table count (rows.record_type_format version)).reading bytes.now) }
+    ensures { ReadsAs (λ x. (map type_row x.0.items, x.1.now)) result ((table count (rows.record_type_format version)).reading bytes.now) }
 {
     let mut types = Vec::with_capacity(alloc, count as usize)?;
     let mut rest = bytes;

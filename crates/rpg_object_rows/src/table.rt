@@ -3,7 +3,7 @@
 ghost use Rattle.std.specs.Prelude.{◌≡◌, ℕ, List, ◌++◌, map, All, Result, OnOk};
 ghost use Rattle.rpg_object_format.specs.declared.fault.Fault.{Fault};
 ghost use Rattle.rpg_object_format.specs.Format.{keep, read_times, spelled_along};
-ghost use Rattle.rpg_object_format.specs.Reading.{Gives};
+ghost use Rattle.rpg_object_format.specs.Reading.{ReadsAs};
 
 use rpg_object_format::fault::ReadFault;
 use std::alloc::{AllocError, Global};
@@ -21,7 +21,7 @@ pub trait Row: Drop {
     ghost spell: { Seen → List ℕ };
 
     fn read_row(alloc: Global, bytes: &[u8]) -> Result<(Self, &[u8]), ReadFault>
-        ensures { Gives (λ x. (seen x.0, x.1.now)) result (read bytes.now) };
+        ensures { ReadsAs (λ x. (seen x.0, x.1.now)) result (read bytes.now) };
 
     fn put_row(&self, out: &mut Vec<u8>) -> Result<(), AllocError>
         requires { Keeps (seen self.now) }
@@ -34,7 +34,7 @@ pub fn rows_at<T: Row>(
     count: u16,
     bytes: &[u8],
 ) -> Result<(Vec<T>, &[u8]), ReadFault>
-    ensures { Gives (λ x. (map T.seen x.0.items, x.1.now)) result (read_times (λ s b. T.read b) keep count tt bytes.now) }
+    ensures { ReadsAs (λ x. (map T.seen x.0.items, x.1.now)) result (read_times (λ s b. T.read b) keep count tt bytes.now) }
 {
     let mut rows = Vec::with_capacity(alloc, count as usize)?;
     let mut rest = bytes;

@@ -2,7 +2,7 @@
 use Rattle.std.proofs.Common.{◌≡◌, ℕ, Bool, true, false, not, ◌&&◌, ◌||◌, cond, List, Option, None, Some, refl}
 use Rattle.rpg_program.specs.Ends.{Fault}
 use Rattle.rpg_program.specs.Forms.{has_field, is_array, is_index_form, is_plain, is_table, is_text_constant, is_writable, kind_of, may_write, same_kind}
-use Rattle.rpg_program.specs.LineFaults.{KeepsFieldRules, field_fault, fits_editing, fits_source, has_kinds, has_room, has_storage, has_word, is_page, may_change}
+use Rattle.rpg_program.specs.LineFaults.{KeepsFieldRules, field_fault, fits_editing, fits_source, has_kinds, has_room, has_storage, has_word, prints_page, may_change}
 use Rattle.rpg_program.specs.Rows.{all_of, all_used, fits_use, has_entry, has_form, has_kind, has_shape, is_current_table, is_good_operand, is_one, is_one_entry, is_shaped, is_stored, is_table_as, is_there, is_writable_use, is_written, lacks_storage, mixes_kinds, operand_shape}
 use Rattle.rpg_program.specs.Right.{IsRightRow, KeepsRules}
 use Rattle.rpg_program.specs.declared.form.Class.{Class}
@@ -124,7 +124,7 @@ page_written : (o : Option FieldForm) → is_index_form o ≡ true → may_write
 page_written None h = cc
 page_written (Some d) h = plain_written d.class (parts (is_plain d.class) _ (parts (same_kind d.kind _) _ h).1).0
 
-changed : (s : Source) (b : Bool) (o : Option FieldForm) → fits_source s o ≡ true → (not b || may_write o) ≡ true → (not (b || is_page s) || may_write o) ≡ true
+changed : (s : Source) (b : Bool) (o : Option FieldForm) → fits_source s o ≡ true → (not b || may_write o) ≡ true → (not (b || prints_page s) || may_write o) ≡ true
 changed sources.Value true o h g = g
 changed sources.Value false o h g = refl
 changed sources.Page true o h g = page_written o (parts (is_index_form o) _ h).0

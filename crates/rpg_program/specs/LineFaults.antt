@@ -46,9 +46,9 @@ abbrev pub fits_word : ℕ → List ℕ → Bool
 fits_word len word = (nat_le 1 (length word) && nat_le (length word) 24) && ((places (word_marks word) == len) && not (has_dollar_at_stop word))
 
 -- the field prints PAGE
-abbrev pub is_page : Source → Bool
-is_page sources.Value = false
-is_page sources.Page = true
+abbrev pub prints_page : Source → Bool
+prints_page sources.Value = false
+prints_page sources.Page = true
 
 -- PAGE is a plain number of 4 digits without decimals
 abbrev pub fits_source : Source → Option FieldForm → Bool
@@ -64,7 +64,7 @@ module _ {K : Type 0} (forms : K → Option FieldForm) where
 
   -- written to only where that is allowed
   abbrev pub may_change : LineField K → Bool
-  may_change f = not (f.is_blanked || is_page f.source) || may_write (forms f.operand.field)
+  may_change f = not (f.is_blanked || prints_page f.source) || may_write (forms f.operand.field)
 
 module _ {K : Type 0} (forms : K → Option FieldForm) (words : K → List ℕ) where
   -- codes and words edit only numbers, and fit them; a fill goes only with a code

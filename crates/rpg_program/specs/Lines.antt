@@ -155,9 +155,9 @@ module _ {K : Type 0} {R : K → K → Ordering} where
   blank_line len w = record { fields = w.data.fields; text = replicate len 32; to_blank = [] }
 
   -- PAGE is made one more before it is printed
-  abbrev pub counted : Source → K × ℕ → Fields R → Fields R
-  counted sources.Value entry fields = fields
-  counted sources.Page entry fields = with_value entry (Number (next_page (number_of (value_in fields entry)))) fields
+  abbrev pub with_page_counted : Source → K × ℕ → Fields R → Fields R
+  with_page_counted sources.Value entry fields = fields
+  with_page_counted sources.Page entry fields = with_value entry (Number (next_page (number_of (value_in fields entry)))) fields
 
   -- an entry becomes zero or blank
   abbrev pub blanked_at : K × ℕ → Fields R → Fields R
@@ -196,7 +196,7 @@ module _ {K : Type 0} {R : K → K → Ordering} (forms : K → Option FieldForm
   abbrev pub laid : Draft R → LineField K → Option ℕ → Drafted R
   laid d f None = drafted (Halt 2) d
   laid d f (Some position) =
-      let fields = counted f.source (f.operand.field, position) d.fields in
+      let fields = with_page_counted f.source (f.operand.field, position) d.fields in
       drafted GoesOn (record {
         fields = fields;
         text = laid_over d.text f.end (text_of (forms f.operand.field) (how_of words f.editing f.fill) (value_in fields (f.operand.field, position)));

@@ -2,7 +2,7 @@
 use Rattle.std.specs.Prelude.{ℕ, ◌+◌, Bool, true, false, List, [], ◌∷◌, length, Option, None, Some, if◌then◌else◌}
 use Rattle.rpg_program.specs.Forms.{entries_of}
 use Rattle.rpg_program.specs.Input.{TypeRow}
-use Rattle.rpg_program.specs.Instructions.{columns_of}
+use Rattle.rpg_program.specs.Instructions.{instruction_columns}
 use Rattle.rpg_program.specs.Lines.{Line}
 use Rattle.rpg_program.specs.declared.form.FieldForm.{FieldForm}
 use Rattle.rpg_program.specs.declared.line.Time.{Time}
@@ -99,4 +99,4 @@ module _ {K : Type 0} (forms : K → Option FieldForm) where
 
   -- an instruction weighs one; LOKUP and XFOOT add entries, EXCPT the weight of all exception lines
   unfoldable pub instruction_weight : ℕ → Instruction K → ℕ
-  instruction_weight exceptions i = row_weight (columns_of forms i) + exceptions_of exceptions i
+  instruction_weight exceptions i = row_weight (instruction_columns forms i) + exceptions_of exceptions i

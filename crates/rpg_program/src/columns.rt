@@ -162,7 +162,7 @@ pub fn row_of(rows: &Rows, action: Action<Operand<u16>>) -> Row<Operand<u16>>
 
 /// The row of an instruction: EXCPT and what only leads control have no operands.
 pub fn columns_of(rows: &Rows, instruction: Instruction<u16>) -> Row<Operand<u16>>
-    ensures { result ≡ instructions.columns_of (forms.form_at rows.now.fields.items) instruction }
+    ensures { result ≡ instructions.instruction_columns (forms.form_at rows.now.fields.items) instruction }
 {
     match instruction {
         Instruction::Act(action) => row_of(rows, action),

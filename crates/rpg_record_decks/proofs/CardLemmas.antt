@@ -5,7 +5,7 @@ use Rattle.std.proofs.lemmas.Bool.{cases_lt}
 use Rattle.std.proofs.lemmas.List.{length-take-le, take-take, take_all}
 use Rattle.rpg_sheet_specs.specs.Cards.{card_of, is_skipped}
 use Rattle.rpg_record_decks.proofs.OutcomeLemmas.{onto-onto}
-use Rattle.rpg_record_decks.specs.Cards.{card_at, cards_from, ends_cards, with_card}
+use Rattle.rpg_record_decks.specs.Cards.{card_at, cards_from, ends_cards, with_deck_card}
 use Rattle.rpg_record_decks.specs.Outcomes.{and_then, at_card, onto}
 use Rattle.rpg_record_decks.specs.declared.deck.DeckCard.{DeckCard}
 use Rattle.rpg_record_decks.specs.declared.fault.CardFault.{CardFault}
@@ -29,12 +29,12 @@ cards_end xs n = ap Ok (append-nil xs)
 
 pub cards_refused : (xs : List DeckCard) (n : ℕ) (line : List ℕ) (more : List (List ℕ)) (fault : CardFault) → card_at n line ≡ Err fault
     → onto xs (cards_from n (line ∷ more)) ≡ Err (faults.Card n fault)
-cards_refused xs n line more fault e = ap (λ (r : Result DeckCard CardFault). onto xs (and_then (at_card n r) (λ c. with_card c (cards_from (n + 1) more)))) e
+cards_refused xs n line more fault e = ap (λ (r : Result DeckCard CardFault). onto xs (and_then (at_card n r) (λ c. with_deck_card c (cards_from (n + 1) more)))) e
 
 -- what a card brings
 after : (xs : List DeckCard) (n : ℕ) (line : List ℕ) (more : List (List ℕ)) (c : DeckCard) → card_at n line ≡ Ok c
-    → onto xs (cards_from n (line ∷ more)) ≡ onto xs (with_card c (cards_from (n + 1) more))
-after xs n line more c e = ap (λ (r : Result DeckCard CardFault). onto xs (and_then (at_card n r) (λ c. with_card c (cards_from (n + 1) more)))) e
+    → onto xs (cards_from n (line ∷ more)) ≡ onto xs (with_deck_card c (cards_from (n + 1) more))
+after xs n line more c e = ap (λ (r : Result DeckCard CardFault). onto xs (and_then (at_card n r) (λ c. with_deck_card c (cards_from (n + 1) more)))) e
 
 pub cards_last : (xs : List DeckCard) (n : ℕ) (line : List ℕ) (more : List (List ℕ)) (c : DeckCard) → card_at n line ≡ Ok c → ends_cards c.card ≡ true
     → onto xs (cards_from n (line ∷ more)) ≡ Ok xs

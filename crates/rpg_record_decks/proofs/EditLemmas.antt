@@ -6,12 +6,12 @@ use Rattle.std.proofs.lemmas.Bool.{and_parts}
 use Rattle.std.proofs.lemmas.List.{drop_all, length-replicate, take_all, length-take}
 use Rattle.std.proofs.lemmas.List.Folds.{list_all-append}
 use Rattle.rpg_text.specs.Texts.{is_character}
-use Rattle.rpg_record_decks.specs.Edits.{front, with_columns}
+use Rattle.rpg_record_decks.specs.Edits.{first_columns, with_columns}
 
-pub short_front : (n : ℕ) (line : List ℕ) → length line < n → front n line ≡ line ++ replicate (n - length line) 32
+pub short_front : (n : ℕ) (line : List ℕ) → length line < n → first_columns n line ≡ line ++ replicate (n - length line) 32
 short_front n line h = ap (λ (l : List ℕ). l ++ replicate (n - length line) 32) (take_all n line (omega arith))
 
-pub long_front : (n : ℕ) (line : List ℕ) → n ≤ length line → front n line ≡ take n line
+pub long_front : (n : ℕ) (line : List ℕ) → n ≤ length line → first_columns n line ≡ take n line
 long_front n line h = let none : n - length line ≡ 0 = omega arith in rw none (append-nil (take n line))
 
 pub beyond : (line : List ℕ) (place : ℕ) → length line ≤ place → drop (length line) line ≡ drop place line
@@ -22,14 +22,14 @@ three_parts a text rest = append_assoc a text rest
 
 -- ---- whole cards
 
-length-front : (n : ℕ) (line : List ℕ) → n ≤ length line → length (front n line) ≡ n
+length-front : (n : ℕ) (line : List ℕ) → n ≤ length line → length (first_columns n line) ≡ n
 length-front n line h =
     omega (arith, length-append (take n line) (replicate (n - length line) 32), length-replicate {A = ℕ} (n - length line) 32, length-take n line)
 
 pub changed_length : (first : ℕ) (text line : List ℕ) → length line ≡ 80 → first - 1 + length text ≤ 80 → length (with_columns first text line) ≡ 80
 changed_length first text line e h =
     let a = length-front (first - 1) line (omega arith) in
-    omega (arith, a, length-append (front (first - 1) line) (text ++ drop (first - 1 + length text) line), length-append text (drop (first - 1 + length text) line), length-drop (first - 1 + length text) line)
+    omega (arith, a, length-append (first_columns (first - 1) line) (text ++ drop (first - 1 + length text) line), length-append text (drop (first - 1 + length text) line), length-drop (first - 1 + length text) line)
 
 blank_characters : (n : ℕ) → list_all is_character (replicate n 32) ≡ true
 blank_characters zero = refl
@@ -52,7 +52,7 @@ drop_characters n line h = (both_parts n line h).1
 
 pub changed_characters : (first : ℕ) (text line : List ℕ) → list_all is_character text ≡ true → list_all is_character line ≡ true → list_all is_character (with_columns first text line) ≡ true
 changed_characters first text line p q =
-    list_all-append is_character (front (first - 1) line) (text ++ drop (first - 1 + length text) line)
+    list_all-append is_character (first_columns (first - 1) line) (text ++ drop (first - 1 + length text) line)
     ∙ and-true _ _
     (list_all-append is_character (take (first - 1) line) (replicate (first - 1 - length line) 32) ∙ and-true _ _ (take_characters (first - 1) line q) (blank_characters (first - 1 - length line)))
     (list_all-append is_character text (drop (first - 1 + length text) line) ∙ and-true _ _ p (drop_characters (first - 1 + length text) line q))

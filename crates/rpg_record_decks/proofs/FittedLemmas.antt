@@ -9,7 +9,7 @@ use Rattle.std.proofs.lemmas.List.Sums.{prefix_len_passes}
 use Rattle.rpg_text.specs.Lines.{is_line_feed}
 use Rattle.rpg_records.specs.Seen.{LayoutSeen, columns_seen}
 use Rattle.rpg_record_decks.specs.Edits.{number_columns}
-use Rattle.rpg_record_decks.specs.Fitted.{Change, all_digits, change_of, changed, digits_change, fitted_from}
+use Rattle.rpg_record_decks.specs.Fitted.{Change, all_digit_columns, change_of, changed, digits_change, fitted_from}
 use Rattle.rpg_record_decks.specs.declared.fitted.DigitColumns.{DigitColumns}
 
 first_line : (text : List ℕ) (i : ℕ) → position is_line_feed text ≡ Some i → slice_split is_line_feed text ≡ take i text ∷ slice_split is_line_feed (drop (i + 1) text)
@@ -73,7 +73,7 @@ change_is_length s n text few same e = by (nat_lt 2000 n) (n == s.card) refl ref
     by false false p q = absurd (eqb-false n s.card q same)
     by false true p q = rw (p, q) (ap (change_with 24) (sym e))
 
-pub change_is_digits : (s : LayoutSeen) (n : ℕ) (d : DigitColumns) (text : List ℕ) → n ≤ 2000 → (n ≡ s.card → ⊥) → Some d ≡ find (λ (d : DigitColumns). d.card == n) (all_digits s)
+pub change_is_digits : (s : LayoutSeen) (n : ℕ) (d : DigitColumns) (text : List ℕ) → n ≤ 2000 → (n ≡ s.card → ⊥) → Some d ≡ find (λ (d : DigitColumns). d.card == n) (all_digit_columns s)
     → text ≡ 32 ∷ number_columns d.first ++ number_columns d.last → change_of s n ≡ change_with 43 text
 change_is_digits s n d text few other found e = by (nat_lt 2000 n) (n == s.card) refl refl
   where

@@ -5,9 +5,9 @@ use Rattle.rpg_sheet_specs.specs.declared.input.InputSpec.{InputSpec}
 use Rattle.rpg_records.specs.Seen.{number_seen}
 use Rattle.rpg_records.specs.declared.layout.NumberField.{NumberField}
 use Rattle.rpg_record_decks.proofs.OutcomeLemmas.{fault_onto, fault_then, onto-nil, onto-onto}
-use Rattle.rpg_record_decks.specs.Outcomes.{IsFaultOf, and_then, at_card, onto}
+use Rattle.rpg_record_decks.specs.Outcomes.{IsDeckFaultOf, and_then, at_card, onto}
 use Rattle.rpg_record_decks.specs.Reading.{type_read}
-use Rattle.rpg_record_decks.specs.Types.{TypeRead, cards_of_file, input_of, is_input_card, is_of_file, type_after, type_before, types_after}
+use Rattle.rpg_record_decks.specs.Types.{TypeRead, cards_of_file, input_spec_of, is_input_card, is_of_file, type_after, type_before, types_read_after}
 use Rattle.rpg_record_decks.specs.declared.deck.DeckCard.{DeckCard}
 use Rattle.rpg_record_decks.specs.declared.fault.CardFault.{CardFault}
 use Rattle.rpg_record_decks.specs.declared.fault.DeckFault.{DeckFault}
@@ -23,33 +23,33 @@ types_more (u ∷ us) t = ap (λ rest. type_read u ∷ rest) (types_more us t)
 
 -- ---- one more card of the file
 
-after_input : (length : ℕ) (now : Option TypeRead) (c : DeckCard) (cs : List DeckCard) (spec : InputSpec) → at_card c.number (input_of c.card) ≡ Ok spec
-    → types_after length now (c ∷ cs) ≡ and_then (at_card c.number (type_after length now c spec)) (λ t. onto (type_before now spec) (types_after length (Some t) cs))
+after_input : (length : ℕ) (now : Option TypeRead) (c : DeckCard) (cs : List DeckCard) (spec : InputSpec) → at_card c.number (input_spec_of c.card) ≡ Ok spec
+    → types_read_after length now (c ∷ cs) ≡ and_then (at_card c.number (type_after length now c spec)) (λ t. onto (type_before now spec) (types_read_after length (Some t) cs))
 after_input length now c cs spec e =
-    ap (λ (r : Result InputSpec DeckFault). and_then r (λ spec. and_then (at_card c.number (type_after length now c spec)) (λ t. onto (type_before now spec) (types_after length (Some t) cs)))) e
+    ap (λ (r : Result InputSpec DeckFault). and_then r (λ spec. and_then (at_card c.number (type_after length now c spec)) (λ t. onto (type_before now spec) (types_read_after length (Some t) cs)))) e
 
-pub card_read : (length : ℕ) (now held : Option TypeRead) (c : DeckCard) (cs : List DeckCard) (spec : InputSpec) (t : TypeRead) (done more : List TypeRead) → at_card c.number (input_of c.card) ≡ Ok spec
+pub card_read : (length : ℕ) (now held : Option TypeRead) (c : DeckCard) (cs : List DeckCard) (spec : InputSpec) (t : TypeRead) (done more : List TypeRead) → at_card c.number (input_spec_of c.card) ≡ Ok spec
     → more ≡ done ++ type_before now spec → type_after length held c spec ≡ type_after length now c spec → type_after length held c spec ≡ Ok t
-    → onto more (types_after length (Some t) cs) ≡ onto done (types_after length now (c ∷ cs))
+    → onto more (types_read_after length (Some t) cs) ≡ onto done (types_read_after length now (c ∷ cs))
 card_read length now held c cs spec t done more e f g h = sym (
     ap (onto done) (after_input length now c cs spec e)
-    ∙ ap (λ (r : Result TypeRead CardFault). onto done (and_then (at_card c.number r) (λ t. onto (type_before now spec) (types_after length (Some t) cs)))) (sym g ∙ h)
-    ∙ onto-onto done (type_before now spec) (types_after length (Some t) cs)
-    ∙ ap (λ (l : List TypeRead). onto l (types_after length (Some t) cs)) (sym f)
+    ∙ ap (λ (r : Result TypeRead CardFault). onto done (and_then (at_card c.number r) (λ t. onto (type_before now spec) (types_read_after length (Some t) cs)))) (sym g ∙ h)
+    ∙ onto-onto done (type_before now spec) (types_read_after length (Some t) cs)
+    ∙ ap (λ (l : List TypeRead). onto l (types_read_after length (Some t) cs)) (sym f)
     )
 
-pub card_refused : (length : ℕ) (now : Option TypeRead) (c : DeckCard) (cs : List DeckCard) (done : List TypeRead) (fault : DeckFault) → IsFaultOf (at_card c.number (input_of c.card)) fault
-    → IsFaultOf (onto done (types_after length now (c ∷ cs))) fault
+pub card_refused : (length : ℕ) (now : Option TypeRead) (c : DeckCard) (cs : List DeckCard) (done : List TypeRead) (fault : DeckFault) → IsDeckFaultOf (at_card c.number (input_spec_of c.card)) fault
+    → IsDeckFaultOf (onto done (types_read_after length now (c ∷ cs))) fault
 card_refused length now c cs done fault h =
-    fault_onto done (types_after length now (c ∷ cs)) fault
-    (fault_then (at_card c.number (input_of c.card)) (λ (spec : InputSpec). and_then (at_card c.number (type_after length now c spec)) (λ t. onto (type_before now spec) (types_after length (Some t) cs))) fault h)
+    fault_onto done (types_read_after length now (c ∷ cs)) fault
+    (fault_then (at_card c.number (input_spec_of c.card)) (λ (spec : InputSpec). and_then (at_card c.number (type_after length now c spec)) (λ t. onto (type_before now spec) (types_read_after length (Some t) cs))) fault h)
 
-pub type_refused : (length : ℕ) (now held : Option TypeRead) (c : DeckCard) (cs : List DeckCard) (spec : InputSpec) (done : List TypeRead) (fault : DeckFault) → at_card c.number (input_of c.card) ≡ Ok spec
-    → type_after length held c spec ≡ type_after length now c spec → IsFaultOf (at_card c.number (type_after length held c spec)) fault → IsFaultOf (onto done (types_after length now (c ∷ cs))) fault
+pub type_refused : (length : ℕ) (now held : Option TypeRead) (c : DeckCard) (cs : List DeckCard) (spec : InputSpec) (done : List TypeRead) (fault : DeckFault) → at_card c.number (input_spec_of c.card) ≡ Ok spec
+    → type_after length held c spec ≡ type_after length now c spec → IsDeckFaultOf (at_card c.number (type_after length held c spec)) fault → IsDeckFaultOf (onto done (types_read_after length now (c ∷ cs))) fault
 type_refused length now held c cs spec done fault e g h =
-    subst (λ (r : Result (List TypeRead) DeckFault). IsFaultOf (onto done r) fault) (sym (after_input length now c cs spec e))
-    (fault_onto done (and_then (at_card c.number (type_after length now c spec)) (λ (t : TypeRead). onto (type_before now spec) (types_after length (Some t) cs))) fault
-    (fault_then (at_card c.number (type_after length now c spec)) (λ (t : TypeRead). onto (type_before now spec) (types_after length (Some t) cs)) fault (subst (λ (r : Result TypeRead CardFault). IsFaultOf (at_card c.number r) fault) g h)))
+    subst (λ (r : Result (List TypeRead) DeckFault). IsDeckFaultOf (onto done r) fault) (sym (after_input length now c cs spec e))
+    (fault_onto done (and_then (at_card c.number (type_after length now c spec)) (λ (t : TypeRead). onto (type_before now spec) (types_read_after length (Some t) cs))) fault
+    (fault_then (at_card c.number (type_after length now c spec)) (λ (t : TypeRead). onto (type_before now spec) (types_read_after length (Some t) cs)) fault (subst (λ (r : Result TypeRead CardFault). IsDeckFaultOf (at_card c.number r) fault) g h)))
 
 -- ---- which cards are the file's
 

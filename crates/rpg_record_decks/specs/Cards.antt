@@ -27,13 +27,13 @@ abbrev pub ends_cards : List ℕ → Bool
 ends_cards card = ends_source card || begins_data card
 
 -- a card, if it is neither blank nor a comment, and those after it
-abbrev pub with_card : DeckCard → Result (List DeckCard) DeckFault → Result (List DeckCard) DeckFault
-with_card c rest = if ends_cards c.card then Ok [] else if is_skipped c.card then rest else onto (c ∷ []) rest
+abbrev pub with_deck_card : DeckCard → Result (List DeckCard) DeckFault → Result (List DeckCard) DeckFault
+with_deck_card c rest = if ends_cards c.card then Ok [] else if is_skipped c.card then rest else onto (c ∷ []) rest
 
 -- the cards of lines that are numbered from n on
 abbrev pub cards_from : ℕ → List (List ℕ) → Result (List DeckCard) DeckFault
 cards_from n [] = Ok []
-cards_from n (line ∷ more) = and_then (at_card n (card_at n line)) (λ c. with_card c (cards_from (n + 1) more))
+cards_from n (line ∷ more) = and_then (at_card n (card_at n line)) (λ c. with_deck_card c (cards_from (n + 1) more))
 
 -- the cards of a source
 abbrev pub cards_of : List ℕ → Result (List DeckCard) DeckFault

@@ -10,9 +10,9 @@ abbrev pub number_columns : ℕ → List ℕ
 number_columns n = digit_or_blank n 1000 ∷ digit_or_blank n 100 ∷ digit_or_blank n 10 ∷ (48 + n % 10) ∷ []
 
 -- the first n columns of a line, with blanks after its end
-abbrev pub front : ℕ → List ℕ → List ℕ
-front n line = take n line ++ replicate (n - length line) 32
+abbrev pub first_columns : ℕ → List ℕ → List ℕ
+first_columns n line = take n line ++ replicate (n - length line) 32
 
 -- a line with a text in place of its columns from the first of these on
 abbrev pub with_columns : ℕ → List ℕ → List ℕ → List ℕ
-with_columns first text line = front (first - 1) line ++ (text ++ drop (first - 1 + length text) line)
+with_columns first text line = first_columns (first - 1) line ++ (text ++ drop (first - 1 + length text) line)

@@ -11,13 +11,13 @@ use Rattle.rpg_record_decks.specs.Edits.{number_columns, with_columns}
 use Rattle.rpg_record_decks.specs.declared.fitted.DigitColumns.{DigitColumns}
 
 -- the columns of the digits of fields, which stand one after the other after this one
-abbrev pub digits_after : ℕ → List NumberSeen → List DigitColumns
-digits_after end [] = []
-digits_after end (f ∷ fs) = record { card = f.card; first = counted (end + 1); last = counted (end + digits_seen f) } ∷ digits_after (counted (end + digits_seen f)) fs
+abbrev pub digit_columns_after : ℕ → List NumberSeen → List DigitColumns
+digit_columns_after end [] = []
+digit_columns_after end (f ∷ fs) = record { card = f.card; first = counted (end + 1); last = counted (end + digits_seen f) } ∷ digit_columns_after (counted (end + digits_seen f)) fs
 
 -- those of all types
-abbrev pub all_digits : LayoutSeen → List DigitColumns
-all_digits layout = flat_map (λ t. digits_after layout.length t.numbers) layout.types
+abbrev pub all_digit_columns : LayoutSeen → List DigitColumns
+all_digit_columns layout = flat_map (λ t. digit_columns_after layout.length t.numbers) layout.types
 
 -- what takes the place of columns of a card
 pub record Change : Type 0 where
@@ -37,7 +37,7 @@ abbrev pub change_of : LayoutSeen → ℕ → Option Change
 change_of layout n =
     if nat_lt max_cards n then None
     else if n == layout.card then Some (length_change layout)
-    else option_map digits_change (find (λ d. d.card == n) (all_digits layout))
+    else option_map digits_change (find (λ d. d.card == n) (all_digit_columns layout))
 
 -- a line with a change; a carriage return at its end stays
 abbrev pub changed : Option Change → List ℕ → List ℕ

@@ -17,18 +17,18 @@ abbrev pub hides : ℕ → FieldColumns → Bool
 hides k f = is_some f.form && covers k f
 
 -- a character of a text, or a place of a number that isn't its last
-abbrev pub shows : ℕ → FieldColumns → Bool
-shows k f = covers k f && not (f.has_decimals && k == f.last)
+abbrev pub shows_character : ℕ → FieldColumns → Bool
+shows_character k f = covers k f && not (f.has_decimals && k == f.last)
 
 -- a code of any type stands there: a line is of the type that its codes say
 abbrev pub is_code : List TypeRead → ℕ → Bool
 is_code types k = list_any (λ t. list_any (λ c. c.place == k - 1) t.codes) types
 
 -- what fields have in a column, where a code stands or not
-abbrev pub kind_of : Bool → List FieldColumns → ℕ → Column
-kind_of has_code fields k =
+abbrev pub column_kind : Bool → List FieldColumns → ℕ → Column
+column_kind has_code fields k =
     if list_any (hides k) fields then columns.Number
-    else if has_code || list_any (shows k) fields then columns.Text
+    else if has_code || list_any (shows_character k) fields then columns.Text
     else if list_any (covers k) fields then columns.LastPlace
     else columns.Unnamed
 
@@ -37,7 +37,7 @@ abbrev pub type_by : (ℕ → Bool) → ℕ → TypeRead → TypeSeen
 type_by has_code length t = record {
   card = t.card;
   codes = t.codes;
-  columns = map (λ k. kind_of (has_code k) t.fields k) (range_with_len 1 length);
+  columns = map (λ k. column_kind (has_code k) t.fields k) (range_with_len 1 length);
   numbers = t.numbers;
 }
 

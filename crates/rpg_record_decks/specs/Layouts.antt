@@ -6,7 +6,7 @@ use Rattle.rpg_record_decks.specs.Cards.{cards_of}
 use Rattle.rpg_record_decks.specs.Files.{file_name, is_meant, length_by}
 use Rattle.rpg_record_decks.specs.Kinds.{type_of}
 use Rattle.rpg_record_decks.specs.Outcomes.{and_then, at_card}
-use Rattle.rpg_record_decks.specs.Types.{TypeRead, cards_of_file, types_of}
+use Rattle.rpg_record_decks.specs.Types.{TypeRead, cards_of_file, types_read}
 use Rattle.rpg_record_decks.specs.declared.deck.DeckCard.{DeckCard}
 use Rattle.rpg_record_decks.specs.declared.deck.DeckWords.{DeckWords}
 use Rattle.rpg_record_decks.specs.declared.fault.CardFault.TheVariants as card_faults
@@ -43,7 +43,7 @@ some_types card (t ∷ ts) = Ok (t ∷ ts)
 -- the layout of a file whose records have so many bytes, by all cards of the deck
 abbrev pub layout_for : Bool → DeckCard → List DeckCard → ℕ → Result LayoutSeen DeckFault
 layout_for are_lines file cards length =
-    and_then (types_of length (cards_of_file (file_name file.card) false cards)) (λ types.
+    and_then (types_read length (cards_of_file (file_name file.card) false cards)) (λ types.
     and_then (some_types file.number types) (λ types.
     and_then (framed are_lines types) (λ types. narrow (layout_with file.number length types))))
 

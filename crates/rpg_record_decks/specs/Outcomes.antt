@@ -15,9 +15,9 @@ onto xs (Ok more) = Ok (xs ++ more)
 onto xs (Err fault) = Err fault
 
 -- a value, unless there is a fault
-abbrev pub unless : {T : Type 0} → Option CardFault → T → Result T CardFault
-unless None x = Ok x
-unless (Some fault) x = Err fault
+abbrev pub unless_fault : {T : Type 0} → Option CardFault → T → Result T CardFault
+unless_fault None x = Ok x
+unless_fault (Some fault) x = Err fault
 
 -- what is wrong with the card of this number
 abbrev pub at_card : {T : Type 0} → ℕ → Result T CardFault → Result T DeckFault
@@ -25,7 +25,7 @@ at_card number (Ok x) = Ok x
 at_card number (Err fault) = Err (faults.Card number fault)
 
 -- the fault is the definition's, unless memory ran out
-abbrev pub IsFaultOf : {T : Type 0} → Result T DeckFault → DeckFault → Type 0
-IsFaultOf outcome (faults.Card number fault) = outcome ≡ Err (faults.Card number fault)
-IsFaultOf outcome faults.NoFile = outcome ≡ Err faults.NoFile
-IsFaultOf outcome faults.NoMemory = ⊤
+abbrev pub IsDeckFaultOf : {T : Type 0} → Result T DeckFault → DeckFault → Type 0
+IsDeckFaultOf outcome (faults.Card number fault) = outcome ≡ Err (faults.Card number fault)
+IsDeckFaultOf outcome faults.NoFile = outcome ≡ Err faults.NoFile
+IsDeckFaultOf outcome faults.NoMemory = ⊤

@@ -4,7 +4,7 @@ use Rattle.std.specs.Option.{option_map}
 use Rattle.rpg_records.specs.Seen.{number_seen}
 use Rattle.rpg_sheet_specs.specs.declared.input.InputSpec.{InputSpec}
 use Rattle.rpg_record_decks.specs.Outcomes.{onto}
-use Rattle.rpg_record_decks.specs.Types.{TypeRead, type_after, types_after}
+use Rattle.rpg_record_decks.specs.Types.{TypeRead, type_after, types_read_after}
 use Rattle.rpg_record_decks.specs.declared.deck.DeckCard.{DeckCard}
 use Rattle.rpg_record_decks.specs.declared.fault.DeckFault.{DeckFault}
 use Rattle.rpg_record_decks.specs.declared.types.TypeCards.{TypeCards}
@@ -28,4 +28,4 @@ GoOnAlike spec one other = (length : ℕ) (c : DeckCard) → type_after length o
 
 -- all types, where these cards follow
 abbrev pub all_types : ℕ → Types → List DeckCard → Result (List TypeRead) DeckFault
-all_types length types cs = onto (types_done types) (types_after length (type_now types) cs)
+all_types length types cs = onto (types_done types) (types_read_after length (type_now types) cs)

@@ -7,7 +7,7 @@ use Rattle.rpg_sheet_specs.specs.Columns.{cols}
 use Rattle.rpg_sheet_specs.specs.Tables.{input_card, is_and_card}
 use Rattle.rpg_sheet_specs.specs.Values.{one_of}
 use Rattle.rpg_sheet_specs.specs.declared.indicator.Three.{Three}
-use Rattle.rpg_sheet_specs.specs.declared.input.InputField.{InputField}
+use Rattle.rpg_sheet_specs.specs.declared.input.InputFieldSpec.{InputFieldSpec}
 use Rattle.rpg_sheet_specs.specs.declared.input.InputSpec.{InputSpec}
 use Rattle.rpg_sheet_specs.specs.declared.input.InputSpec.TheVariants as input
 use Rattle.rpg_sheet_specs.specs.declared.input.RecordCode.{RecordCode}
@@ -19,7 +19,7 @@ use Rattle.rpg_records.specs.declared.layout.NumberForm.{NumberForm}
 use Rattle.rpg_records.specs.declared.layout.NumberForm.TheVariants as forms
 use Rattle.rpg_record_decks.specs.Edits.{with_columns}
 use Rattle.rpg_record_decks.specs.Files.{file_name, or_columns}
-use Rattle.rpg_record_decks.specs.Outcomes.{and_then, at_card, onto, unless}
+use Rattle.rpg_record_decks.specs.Outcomes.{and_then, at_card, onto, unless_fault}
 use Rattle.rpg_record_decks.specs.declared.deck.DeckCard.{DeckCard}
 use Rattle.rpg_record_decks.specs.declared.fault.CardFault.{CardFault}
 use Rattle.rpg_record_decks.specs.declared.fault.CardFault.TheVariants as faults
@@ -47,12 +47,12 @@ cards_of_file name before (c ∷ cs) =
 -- ---- what such a card says
 
 -- P or B in 43: the bytes of the card's field are a number
-abbrev pub form_of : List ℕ → Option NumberForm
-form_of card = one_of ((codes "P", forms.Packed) ∷ (codes "B", forms.Binary) ∷ []) (cols 43 43 card)
+abbrev pub number_form_on : List ℕ → Option NumberForm
+number_form_on card = one_of ((codes "P", forms.Packed) ∷ (codes "B", forms.Binary) ∷ []) (cols 43 43 card)
 
 -- what an I card says: rpg2 reads it with a blank in place of P or B
-abbrev pub input_of : List ℕ → Result InputSpec CardFault
-input_of card = or_columns (input_card.reading (if is_some (form_of card) then with_columns 43 (32 ∷ []) card else card))
+abbrev pub input_spec_of : List ℕ → Result InputSpec CardFault
+input_spec_of card = or_columns (input_card.reading (if is_some (number_form_on card) then with_columns 43 (32 ∷ []) card else card))
 
 -- ---- a record type
 
@@ -70,13 +70,13 @@ new_type card = record { card = card; codes = []; fields = []; numbers = [] }
 -- ---- codes
 
 -- a record code with its place counted from 0
-abbrev pub code_of : RecordCode → Code
-code_of c = record { place = c.position - 1; is_negated = c.negated; character = c.character }
+abbrev pub layout_code : RecordCode → Code
+layout_code c = record { place = c.position - 1; is_negated = c.negated; character = c.character }
 
 -- codes with one more, whose position must be in the record
 abbrev pub with_code : ℕ → List Code → Option RecordCode → Result (List Code) CardFault
 with_code length cs None = Ok cs
-with_code length cs (Some c) = if is_between 1 length c.position then Ok (cs ++ code_of c ∷ []) else Err faults.Outside
+with_code length cs (Some c) = if is_between 1 length c.position then Ok (cs ++ layout_code c ∷ []) else Err faults.Outside
 
 -- codes with those of a card
 abbrev pub with_three : ℕ → List Code → Three (Option RecordCode) → Result (List Code) CardFault
@@ -89,7 +89,7 @@ with_codes length t three = and_then (with_three length t.codes three) (λ cs. O
 -- ---- fields
 
 -- the columns of a field, and what it has there
-abbrev pub field_columns : Option NumberForm → InputField → FieldColumns
+abbrev pub field_columns : Option NumberForm → InputFieldSpec → FieldColumns
 field_columns form f = record { first = f.from; last = f.to; form = form; has_decimals = is_some f.decimals }
 
 -- its columns are in a record of so many bytes
@@ -117,27 +117,27 @@ shared_fault t f = if list_any (λ g. overlaps f g && differ f g) t.fields then 
 
 -- a type with the columns of one more field
 abbrev pub with_columns_of : TypeRead → FieldColumns → Result TypeRead CardFault
-with_columns_of t f = unless (shared_fault t f) (record { card = t.card; codes = t.codes; fields = t.fields ++ f ∷ []; numbers = t.numbers })
+with_columns_of t f = unless_fault (shared_fault t f) (record { card = t.card; codes = t.codes; fields = t.fields ++ f ∷ []; numbers = t.numbers })
 
 -- a packed or binary field, by its card's number
-abbrev pub number_of : ℕ → FieldColumns → NumberForm → NumberSeen
-number_of n f form = record { card = n; first = f.first; last = f.last; form = form }
+abbrev pub number_on_card : ℕ → FieldColumns → NumberForm → NumberSeen
+number_on_card n f form = record { card = n; first = f.first; last = f.last; form = form }
 
 -- a type with a field's number, if it is packed or binary
-abbrev pub with_number : ℕ → FieldColumns → Option NumberForm → TypeRead → TypeRead
-with_number n f None t = t
-with_number n f (Some form) t = record { card = t.card; codes = t.codes; fields = t.fields; numbers = t.numbers ++ number_of n f form ∷ [] }
+abbrev pub with_field_number : ℕ → FieldColumns → Option NumberForm → TypeRead → TypeRead
+with_field_number n f None t = t
+with_field_number n f (Some form) t = record { card = t.card; codes = t.codes; fields = t.fields; numbers = t.numbers ++ number_on_card n f form ∷ [] }
 
 -- a type with one more field
-abbrev pub with_field : ℕ → TypeRead → FieldColumns → Result TypeRead CardFault
-with_field n t f = and_then (unless (option_and_then (number_fault f) f.form) t) (λ t. and_then (with_columns_of t f) (λ t. Ok (with_number n f f.form t)))
+abbrev pub with_type_field : ℕ → TypeRead → FieldColumns → Result TypeRead CardFault
+with_type_field n t f = and_then (unless_fault (option_and_then (number_fault f) f.form) t) (λ t. and_then (with_columns_of t f) (λ t. Ok (with_field_number n f f.form t)))
 
 -- ---- all cards
 
 -- the type that a field's card goes on with, if there is one
 abbrev pub field_type : ℕ → Option TypeRead → FieldColumns → Result TypeRead CardFault
 field_type n None f = Err (faults.Columns 7 16)
-field_type n (Some t) f = with_field n t f
+field_type n (Some t) f = with_type_field n t f
 
 -- the type that an AND card goes on with, if there is one
 abbrev pub and_type : ℕ → Option TypeRead → Three (Option RecordCode) → Result TypeRead CardFault
@@ -149,7 +149,7 @@ abbrev pub type_after : ℕ → Option TypeRead → DeckCard → InputSpec → R
 type_after length now c (input.Type t) = with_codes length (new_type c.number) t.codes
 type_after length now c (input.And three) = and_type length now three
 type_after length now c (input.Field f) =
-    if is_inside length (field_columns (form_of c.card) f) then field_type c.number now (field_columns (form_of c.card) f) else Err faults.Outside
+    if is_inside length (field_columns (number_form_on c.card) f) then field_type c.number now (field_columns (number_form_on c.card) f) else Err faults.Outside
 
 -- the type that a card ends
 abbrev pub type_before : Option TypeRead → InputSpec → List TypeRead
@@ -158,12 +158,12 @@ type_before now (input.And three) = []
 type_before now (input.Field f) = []
 
 -- the types of cards that follow a type, if they follow one
-abbrev pub types_after : ℕ → Option TypeRead → List DeckCard → Result (List TypeRead) DeckFault
-types_after length now [] = Ok (option_to_list now)
-types_after length now (c ∷ cs) =
-    and_then (at_card c.number (input_of c.card)) (λ spec.
-    and_then (at_card c.number (type_after length now c spec)) (λ t. onto (type_before now spec) (types_after length (Some t) cs)))
+abbrev pub types_read_after : ℕ → Option TypeRead → List DeckCard → Result (List TypeRead) DeckFault
+types_read_after length now [] = Ok (option_to_list now)
+types_read_after length now (c ∷ cs) =
+    and_then (at_card c.number (input_spec_of c.card)) (λ spec.
+    and_then (at_card c.number (type_after length now c spec)) (λ t. onto (type_before now spec) (types_read_after length (Some t) cs)))
 
 -- the types of a file's cards, whose records have so many bytes
-abbrev pub types_of : ℕ → List DeckCard → Result (List TypeRead) DeckFault
-types_of length cards = types_after length None cards
+abbrev pub types_read : ℕ → List DeckCard → Result (List TypeRead) DeckFault
+types_read length cards = types_read_after length None cards

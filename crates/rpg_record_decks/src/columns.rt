@@ -4,7 +4,7 @@ ghost use Rattle.std.specs.Prelude.{◌≡◌, ◌+◌, ◌-◌, ◌≤◌, ◌+
 ghost use Rattle.std.specs.List.{list_all};
 ghost use Rattle.rpg_sheet_specs.specs.Columns.{cols};
 ghost use Rattle.rpg_text.specs.Texts.{is_character};
-ghost use Rattle.rpg_record_decks.specs.Edits.{digit_or_blank, front, number_columns, with_columns};
+ghost use Rattle.rpg_record_decks.specs.Edits.{digit_or_blank, first_columns, number_columns, with_columns};
 ghost use Rattle.rpg_record_decks.specs.Files.{file_name};
 
 use rpg_sheet::Card;
@@ -67,7 +67,7 @@ fn pad(text: &mut Vec<u8>, columns: usize) -> Result<(), AllocError>
 /// The first columns of a line, with blanks after its end.
 #[tactic(auto, using(crate::proofs::EditLemmas::short_front, crate::proofs::EditLemmas::long_front))]
 fn front(alloc: Global, line: &[u8], columns: usize) -> Result<Vec<u8>, AllocError>
-    ensures { IfOk result (λ start. start.items ≡ front columns line.now) }
+    ensures { IfOk result (λ start. start.items ≡ first_columns columns line.now) }
 {
     let mut start = Vec::new(alloc);
     if line.len() < columns {

@@ -2,7 +2,7 @@
 
 ghost use Rattle.std.specs.Prelude.{◌≡◌, ◌≤◌, IfErr, IfOk, Ok, OnOk, length, take};
 ghost use Rattle.rpg_record_decks.specs.Cards.{card_at, cards_of, ends_cards};
-ghost use Rattle.rpg_record_decks.specs.Outcomes.{IsFaultOf};
+ghost use Rattle.rpg_record_decks.specs.Outcomes.{IsDeckFaultOf};
 
 use crate::fault::{CardFault, DeckFault};
 use rpg_sheet::Card;
@@ -76,7 +76,7 @@ fn ends_cards(card: &Card) -> bool
 #[tactic(auto, using(crate::proofs::CardLemmas::cards_end, crate::proofs::CardLemmas::cards_refused, crate::proofs::CardLemmas::cards_last, crate::proofs::CardLemmas::cards_skipped, crate::proofs::CardLemmas::cards_next))]
 pub(crate) fn deck_cards(alloc: Global, source: &[u8]) -> Result<Vec<DeckCard>, DeckFault>
     ensures cards { IfOk result (λ cards. cards_of source.now ≡ Ok cards.items) }
-    ensures fault { IfErr result (IsFaultOf (cards_of source.now)) }
+    ensures fault { IfErr result (IsDeckFaultOf (cards_of source.now)) }
 {
     let mut cards = Vec::new(alloc);
     let mut number = 1;

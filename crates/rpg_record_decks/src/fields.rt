@@ -3,11 +3,11 @@
 ghost use Rattle.std.specs.Prelude.{◌≡◌, ◌&&◌, ◌≤◌, IfErr, IfOk, None, Some};
 ghost use Rattle.std.specs.List.{list_any};
 ghost use Rattle.rpg_records.specs.Seen.{number_seen};
-ghost use Rattle.rpg_record_decks.specs.Types.{differ, field_columns, is_inside, number_fault, number_of, overlaps};
+ghost use Rattle.rpg_record_decks.specs.Types.{differ, field_columns, is_inside, number_fault, number_on_card, overlaps};
 
 use crate::fault::CardFault;
 use rpg_records::{NumberField, NumberForm};
-use rpg_sheet::InputField;
+use rpg_sheet::InputFieldSpec;
 
 /// The columns of a field, and what stands there.
 #[derive(Clone, Copy)]
@@ -21,7 +21,7 @@ pub(crate) struct FieldColumns {
 }
 
 /// The columns of a card's field.
-pub(crate) fn field_columns(form: Option<NumberForm>, field: &InputField) -> FieldColumns
+pub(crate) fn field_columns(form: Option<NumberForm>, field: &InputFieldSpec) -> FieldColumns
     ensures { result ≡ field_columns form field.now }
 {
     FieldColumns {
@@ -79,7 +79,7 @@ pub(crate) fn number_field(
 ) -> Result<NumberField, CardFault>
     requires counted { 1 ≤ field.first }
     requires ordered { field.first ≤ field.last }
-    ensures good { IfOk result (λ number. (number_fault field form ≡ None) × (number_seen number ≡ number_of card field form)) }
+    ensures good { IfOk result (λ number. (number_fault field form ≡ None) × (number_seen number ≡ number_on_card card field form)) }
     ensures bad { IfErr result (λ fault. number_fault field form ≡ Some fault) }
 {
     let (first, last) = (field.first, field.last);

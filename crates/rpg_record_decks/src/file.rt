@@ -3,7 +3,7 @@
 ghost use Rattle.std.specs.Prelude.{◌≡◌, IfErr, IfOk, Ok, find, option_copied};
 ghost use Rattle.rpg_sheet_specs.specs.Tables.{file};
 ghost use Rattle.rpg_record_decks.specs.Files.{has_name, is_meant, length_by, or_columns, record_length};
-ghost use Rattle.rpg_record_decks.specs.Outcomes.{IsFaultOf, at_card};
+ghost use Rattle.rpg_record_decks.specs.Outcomes.{IsDeckFaultOf, at_card};
 
 use crate::columns::{changed_card, columns, file_name, number_columns};
 use crate::deck::DeckCard;
@@ -69,7 +69,7 @@ pub(crate) fn file_length(
     length: Option<u16>,
 ) -> Result<u16, DeckFault>
     ensures length { IfOk result (λ n. at_card file.now.number (length_by length file.now.card) ≡ Ok n) }
-    ensures fault { IfErr result (IsFaultOf (at_card file.now.number (length_by length file.now.card))) }
+    ensures fault { IfErr result (IsDeckFaultOf (at_card file.now.number (length_by length file.now.card))) }
 {
     match length {
         None => record_length(file.number, &file.card),

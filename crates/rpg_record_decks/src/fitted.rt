@@ -5,7 +5,7 @@ ghost use Rattle.std.specs.Str.Lines.{strip_carriage_return};
 ghost use Rattle.rpg_text.specs.Lines.{is_line_feed};
 ghost use Rattle.rpg_records.specs.Seen.{layout_seen, number_seen};
 ghost use Rattle.rpg_record_decks.specs.Edits.{number_columns, with_columns};
-ghost use Rattle.rpg_record_decks.specs.Fitted.{all_digits, change_of, changed, digits_after, fitted};
+ghost use Rattle.rpg_record_decks.specs.Fitted.{all_digit_columns, change_of, changed, digit_columns_after, fitted};
 
 use crate::columns::{number_columns, with_columns};
 use crate::deck::LAST_CARD;
@@ -26,7 +26,7 @@ fn add_digits(
     length: u16,
     numbers: &[NumberField],
 ) -> Result<(), AllocError>
-    ensures { OnOk result (all.new.items ≡ all.old.items ++ digits_after length (map number_seen numbers.now)) }
+    ensures { OnOk result (all.new.items ≡ all.old.items ++ digit_columns_after length (map number_seen numbers.now)) }
 {
     let mut end = usize::from(length);
     for field in numbers {
@@ -43,7 +43,7 @@ fn add_digits(
 
 /// The columns of the digits of all packed and binary fields.
 fn all_digits(alloc: Global, layout: &Layout) -> Result<Vec<DigitColumns>, AllocError>
-    ensures { IfOk result (λ all. all.items ≡ all_digits (layout_seen layout.now)) }
+    ensures { IfOk result (λ all. all.items ≡ all_digit_columns (layout_seen layout.now)) }
 {
     let mut all = Vec::new(alloc);
     for kind in layout.types.as_slice() {
@@ -114,7 +114,7 @@ fn add_line(
     number: usize,
     line: &[u8],
 ) -> Result<(), AllocError>
-    requires { all.now ≡ all_digits (layout_seen layout.now) }
+    requires { all.now ≡ all_digit_columns (layout_seen layout.now) }
     ensures { OnOk result (deck.new.items ≡ deck.old.items ++ changed (change_of (layout_seen layout.now) number) line.now) }
 {
     if number > usize::from(LAST_CARD) {

@@ -3,7 +3,7 @@
 ghost use Rattle.std.specs.Prelude.{◌≡◌, ℕ, Bool, IfOk, length, map, vec_len, ◌+◌, ◌==◌, ◌≤◌};
 ghost use Rattle.std.specs.List.{list_any, range_with_len};
 ghost use Rattle.rpg_records.specs.Seen.{type_seen};
-ghost use Rattle.rpg_record_decks.specs.Kinds.{covers, hides, is_code, kind_of, shows, type_by};
+ghost use Rattle.rpg_record_decks.specs.Kinds.{covers, hides, is_code, column_kind, shows_character, type_by};
 ghost use Rattle.rpg_record_decks.specs.Reading.{type_read};
 
 use crate::fields::FieldColumns;
@@ -27,7 +27,7 @@ impl FieldColumns {
 
     /// Whether a character of a text stands there, or a place of a number that isn't its last.
     fn shows(&self, column: u16) -> bool
-        ensures { result ≡ shows column self.now }
+        ensures { result ≡ shows_character column self.now }
     {
         self.covers(column) && !(self.has_decimals && column == self.last)
     }
@@ -47,7 +47,7 @@ fn any_hides(fields: &[FieldColumns], column: u16) -> bool
 
 /// Whether a field has a character in a column.
 fn any_shows(fields: &[FieldColumns], column: u16) -> bool
-    ensures { result ≡ list_any (shows column) fields.now }
+    ensures { result ≡ list_any (shows_character column) fields.now }
 {
     for field in fields {
         if field.shows(column) {
@@ -71,7 +71,7 @@ fn any_covers(fields: &[FieldColumns], column: u16) -> bool
 
 /// What fields have in a column, where a code stands or not.
 fn kind_of(has_code: bool, fields: &[FieldColumns], column: u16) -> Column
-    ensures { result ≡ kind_of has_code fields.now column }
+    ensures { result ≡ column_kind has_code fields.now column }
 {
     if any_hides(fields, column) {
         Column::Number
@@ -135,7 +135,7 @@ fn kinds(
 ) -> Result<Vec<Column>, AllocError>
     requires { length are_codes.now ≤ 65535 }
     ensures { (f : ℕ → Bool) → are_codes.now ≡ map f (range_with_len 1 (length are_codes.now))
-        → IfOk result (λ all. all.items ≡ map (λ k. kind_of (f k) fields.now k) (range_with_len 1 (length are_codes.now))) }
+        → IfOk result (λ all. all.items ≡ map (λ k. column_kind (f k) fields.now k) (range_with_len 1 (length are_codes.now))) }
 {
     let mut all = Vec::new(alloc);
     for (place, is_code) in are_codes.iter().enumerate() {

@@ -4,7 +4,7 @@ ghost use Rattle.std.specs.Prelude.{◌≡◌, List, [], Err, IfErr, IfOk, Ok, O
 ghost use Rattle.std.specs.List.{flat_map};
 ghost use Rattle.rpg_records.specs.Seen.{layout_seen};
 ghost use Rattle.rpg_record_decks.specs.Layouts.{framed, layout_by, layout_by_cards, layout_for, layout_of_file, layout_with, narrow, some_types, without_numbers};
-ghost use Rattle.rpg_record_decks.specs.Outcomes.{IsFaultOf, and_then};
+ghost use Rattle.rpg_record_decks.specs.Outcomes.{IsDeckFaultOf, and_then};
 ghost use Rattle.rpg_record_decks.specs.Reading.{type_read};
 ghost use Rattle.rpg_record_decks.specs.Types.{TypeRead};
 
@@ -85,7 +85,7 @@ fn layout_for(
     length: u16,
 ) -> Result<Layout, DeckFault>
     ensures layout { IfOk result (λ layout. layout_for are_lines file.now cards.now length ≡ Ok (layout_seen layout)) }
-    ensures fault { IfErr result (IsFaultOf (layout_for are_lines file.now cards.now length)) }
+    ensures fault { IfErr result (IsDeckFaultOf (layout_for are_lines file.now cards.now length)) }
 {
     let types = read_types(alloc, length, file_name(&file.card), cards)?;
     refuse_types(are_lines, file.number, types.as_slice())?;
@@ -102,7 +102,7 @@ fn layout_of_file(
     file: &DeckCard,
 ) -> Result<Layout, DeckFault>
     ensures layout { IfOk result (λ layout. layout_of_file given are_lines cards.now (Some file.now) ≡ Ok (layout_seen layout)) }
-    ensures fault { IfErr result (IsFaultOf (layout_of_file given are_lines cards.now (Some file.now))) }
+    ensures fault { IfErr result (IsDeckFaultOf (layout_of_file given are_lines cards.now (Some file.now))) }
 {
     let length = file_length(alloc, file, given)?;
     layout_for(alloc, are_lines, file, cards, length)
@@ -112,7 +112,7 @@ fn layout_of_file(
 #[tactic(auto, using(crate::proofs::LayoutLemmas::no_file, crate::proofs::LayoutLemmas::file_found))]
 fn layout_by_cards(alloc: Global, words: DeckWords, cards: &[DeckCard]) -> Result<Layout, DeckFault>
     ensures layout { IfOk result (λ layout. layout_by_cards words.entry cards.now ≡ Ok (layout_seen layout)) }
-    ensures fault { IfErr result (IsFaultOf (layout_by_cards words.entry cards.now)) }
+    ensures fault { IfErr result (IsDeckFaultOf (layout_by_cards words.entry cards.now)) }
 {
     match find_file(cards, words.file) {
         Some(file) => layout_of_file(alloc, words.length, words.are_lines, cards, file),
@@ -129,7 +129,7 @@ fn layout_by_cards(alloc: Global, words: DeckWords, cards: &[DeckCard]) -> Resul
 /// The first card that is refused; or there is no such file, or memory ran out.
 pub fn layout_of(alloc: Global, source: &[u8], words: DeckWords) -> Result<Layout, DeckFault>
     ensures layout { IfOk result (λ layout. layout_by words.entry source.now ≡ Ok (layout_seen layout)) }
-    ensures fault { IfErr result (IsFaultOf (layout_by words.entry source.now)) }
+    ensures fault { IfErr result (IsDeckFaultOf (layout_by words.entry source.now)) }
 {
     let cards = deck_cards(alloc, source)?;
     layout_by_cards(alloc, words, cards.as_slice())

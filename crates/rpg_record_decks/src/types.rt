@@ -4,9 +4,9 @@ ghost use Rattle.std.specs.Prelude.{◌≡◌, ◌≤◌, ◌++◌, ◌∷◌, �
 ghost use Rattle.std.specs.Option.{option_to_list};
 ghost use Rattle.rpg_sheet_specs.specs.Tables.{input_card};
 ghost use Rattle.rpg_record_decks.specs.Files.{or_columns};
-ghost use Rattle.rpg_record_decks.specs.Outcomes.{IsFaultOf, at_card, onto};
+ghost use Rattle.rpg_record_decks.specs.Outcomes.{IsDeckFaultOf, at_card, onto};
 ghost use Rattle.rpg_record_decks.specs.Reading.{GoOnAlike, all_types, type_now, type_read, types_done};
-ghost use Rattle.rpg_record_decks.specs.Types.{cards_of_file, field_type, form_of, input_of, is_input_card, is_of_file, new_type, type_after, type_before, types_after, types_of, with_code, with_codes, with_columns_of, with_field, with_three};
+ghost use Rattle.rpg_record_decks.specs.Types.{cards_of_file, field_type, number_form_on, input_spec_of, is_input_card, is_of_file, new_type, type_after, type_before, types_read_after, types_read, with_code, with_codes, with_columns_of, with_type_field, with_three};
 ghost use Rattle.rpg_sheet_specs.specs.declared.input.InputSpec.TheVariants as inputs;
 ghost use Rattle.rpg_record_decks.specs.declared.deck.DeckCard.{DeckCard};
 ghost use Rattle.rpg_record_decks.specs.declared.fault.CardFault.TheVariants as card_faults;
@@ -17,7 +17,7 @@ use crate::deck::DeckCard;
 use crate::fault::{CardFault, DeckFault, bad_columns};
 use crate::fields::{FieldColumns, field_columns, number_field};
 use rpg_records::{Code, NumberField, NumberForm};
-use rpg_sheet::{Card, InputField, InputSpec, RecordCode, Three};
+use rpg_sheet::{Card, InputFieldSpec, InputSpec, RecordCode, Three};
 use rpg_text::is_blank;
 use std::alloc::{AllocError, Global};
 
@@ -45,7 +45,7 @@ fn is_of_file(card: &Card, name: &[u8], before: bool) -> bool
 
 /// How the bytes of a card's field stand; none where they are characters.
 fn form_of(card: &Card) -> Option<NumberForm>
-    ensures { result ≡ form_of card.now }
+    ensures { result ≡ number_form_on card.now }
 {
     let form = columns(card, 43, 43);
     if form == b"P".as_slice() {
@@ -69,8 +69,8 @@ fn read_input(number: u16, card: &Card) -> Result<InputSpec, DeckFault>
 
 /// What an I card says, where P or B may stand in 43.
 fn input_of(alloc: Global, card: &DeckCard) -> Result<InputSpec, DeckFault>
-    ensures input { IfOk result (λ spec. at_card card.now.number (input_of card.now.card) ≡ Ok spec) }
-    ensures fault { IfErr result (IsFaultOf (at_card card.now.number (input_of card.now.card))) }
+    ensures input { IfOk result (λ spec. at_card card.now.number (input_spec_of card.now.card) ≡ Ok spec) }
+    ensures fault { IfErr result (IsDeckFaultOf (at_card card.now.number (input_spec_of card.now.card))) }
 {
     if form_of(&card.card).is_some() {
         let plain = changed_card(alloc, &card.card, 43, b" ")?;
@@ -110,7 +110,7 @@ fn add_code(
     code: Option<RecordCode>,
 ) -> Result<(), DeckFault>
     ensures codes { OnOk result (with_code length codes.old.items code ≡ Ok codes.new.items) }
-    ensures fault { IfErr result (IsFaultOf (at_card number (with_code length codes.old.items code))) }
+    ensures fault { IfErr result (IsDeckFaultOf (at_card number (with_code length codes.old.items code))) }
 {
     let Some(code) = code else {
         return Ok(());
@@ -134,7 +134,7 @@ fn add_codes(
     three: &Three<Option<RecordCode>>,
 ) -> Result<(), DeckFault>
     ensures codes { OnOk result (with_three length codes.old.items three.now ≡ Ok codes.new.items) }
-    ensures fault { IfErr result (IsFaultOf (at_card number (with_three length codes.old.items three.now))) }
+    ensures fault { IfErr result (IsDeckFaultOf (at_card number (with_three length codes.old.items three.now))) }
 {
     add_code(number, length, codes, three.first)?;
     add_code(number, length, codes, three.second)?;
@@ -149,7 +149,7 @@ fn with_codes(
     three: &Three<Option<RecordCode>>,
 ) -> Result<TypeCards, DeckFault>
     ensures type_is { IfOk result (λ t. with_codes length (type_read kind) three.now ≡ Ok (type_read t)) }
-    ensures fault { IfErr result (IsFaultOf (at_card number (with_codes length (type_read kind) three.now))) }
+    ensures fault { IfErr result (IsDeckFaultOf (at_card number (with_codes length (type_read kind) three.now))) }
 {
     add_codes(number, length, &mut kind.codes, three)?;
     Ok(kind)
@@ -162,7 +162,7 @@ fn with_columns_of(
     field: FieldColumns,
 ) -> Result<TypeCards, DeckFault>
     ensures type_is { IfOk result (λ t. with_columns_of (type_read kind) field ≡ Ok (type_read t)) }
-    ensures fault { IfErr result (IsFaultOf (at_card number (with_columns_of (type_read kind) field))) }
+    ensures fault { IfErr result (IsDeckFaultOf (at_card number (with_columns_of (type_read kind) field))) }
 {
     if field.mixes_with_any(kind.fields.as_slice()) {
         let card = kind.card;
@@ -183,8 +183,8 @@ fn with_number(
     requires form { field.form ≡ Some form }
     requires counted { 1 ≤ field.first }
     requires ordered { field.first ≤ field.last }
-    ensures type_is { IfOk result (λ t. with_field number (type_read kind) field ≡ Ok (type_read t)) }
-    ensures fault { IfErr result (IsFaultOf (at_card number (with_field number (type_read kind) field))) }
+    ensures type_is { IfOk result (λ t. with_type_field number (type_read kind) field ≡ Ok (type_read t)) }
+    ensures fault { IfErr result (IsDeckFaultOf (at_card number (with_type_field number (type_read kind) field))) }
 {
     let packed = match number_field(number, field, form) {
         Ok(packed) => packed,
@@ -199,8 +199,8 @@ fn with_number(
 fn with_field(number: u16, kind: TypeCards, field: FieldColumns) -> Result<TypeCards, DeckFault>
     requires counted { 1 ≤ field.first }
     requires ordered { field.first ≤ field.last }
-    ensures type_is { IfOk result (λ t. with_field number (type_read kind) field ≡ Ok (type_read t)) }
-    ensures fault { IfErr result (IsFaultOf (at_card number (with_field number (type_read kind) field))) }
+    ensures type_is { IfOk result (λ t. with_type_field number (type_read kind) field ≡ Ok (type_read t)) }
+    ensures fault { IfErr result (IsDeckFaultOf (at_card number (with_type_field number (type_read kind) field))) }
 {
     match field.form {
         Some(form) => with_number(number, kind, field, form),
@@ -215,10 +215,10 @@ fn field_type(
     length: u16,
     now: Option<TypeCards>,
     card: &DeckCard,
-    field: &InputField,
+    field: &InputFieldSpec,
 ) -> Result<TypeCards, DeckFault>
     ensures type_is { IfOk result (λ t. type_after length (option_map type_read now) card.now (inputs.Field field.now) ≡ Ok (type_read t)) }
-    ensures fault { IfErr result (IsFaultOf (at_card card.now.number (type_after length (option_map type_read now) card.now (inputs.Field field.now)))) }
+    ensures fault { IfErr result (IsDeckFaultOf (at_card card.now.number (type_after length (option_map type_read now) card.now (inputs.Field field.now)))) }
 {
     let columns = field_columns(form_of(&card.card), field);
     if !columns.is_inside(length) {
@@ -246,7 +246,7 @@ fn type_after(
     spec: &InputSpec,
 ) -> Result<TypeCards, DeckFault>
     ensures type_is { IfOk result (λ t. type_after length (option_map type_read now) card.now spec.now ≡ Ok (type_read t)) }
-    ensures fault { IfErr result (IsFaultOf (at_card card.now.number (type_after length (option_map type_read now) card.now spec.now))) }
+    ensures fault { IfErr result (IsDeckFaultOf (at_card card.now.number (type_after length (option_map type_read now) card.now spec.now))) }
 {
     match spec {
         InputSpec::Type(kind) => {
@@ -293,7 +293,7 @@ impl Types {
     #[tactic(auto, using(crate::proofs::TypeLemmas::card_read, crate::proofs::TypeLemmas::card_refused, crate::proofs::TypeLemmas::type_refused))]
     fn with_card(self, alloc: Global, length: u16, card: &DeckCard) -> Result<Self, DeckFault>
         ensures types { IfOk result (λ types. (cs : List DeckCard) → all_types length types cs ≡ all_types length self (card.now ∷ cs)) }
-        ensures fault { IfErr result (λ fault. (cs : List DeckCard) → IsFaultOf (all_types length self (card.now ∷ cs)) fault) }
+        ensures fault { IfErr result (λ fault. (cs : List DeckCard) → IsDeckFaultOf (all_types length self (card.now ∷ cs)) fault) }
     {
         let spec = input_of(alloc, card)?;
         let Types { done, now } = self.ended(&spec)?;
@@ -328,8 +328,8 @@ pub(crate) fn read_types(
     name: &[u8],
     cards: &[DeckCard],
 ) -> Result<Vec<TypeCards>, DeckFault>
-    ensures types { IfOk result (λ types. types_of length (cards_of_file name.now false cards.now) ≡ Ok (map type_read types.items)) }
-    ensures fault { IfErr result (IsFaultOf (types_of length (cards_of_file name.now false cards.now))) }
+    ensures types { IfOk result (λ types. types_read length (cards_of_file name.now false cards.now) ≡ Ok (map type_read types.items)) }
+    ensures fault { IfErr result (IsDeckFaultOf (types_read length (cards_of_file name.now false cards.now))) }
 {
     let mut types = Types {
         done: Vec::new(alloc),

@@ -4,25 +4,25 @@ use Rattle.std.proofs.lemmas.Bool.{cases_lt}
 use Rattle.std.proofs.Math.ListN.{drop_of_length-le}
 use Rattle.std.proofs.Math.Seq.{drop-length}
 use Rattle.std.proofs.lemmas.List.{drop-replicate, length-replicate, take-replicate}
-use Rattle.rpg_record_lines.specs.Outcomes.{IsFaultOf, Outcome, joined}
+use Rattle.rpg_record_lines.specs.Outcomes.{IsLineFaultOf, TextOrFault, joined_texts}
 use Rattle.rpg_record_lines.specs.Numbers.{filled}
 use Rattle.rpg_record_lines.specs.declared.fault.LineFault.{LineFault}
 use Rattle.rpg_record_lines.specs.declared.fault.LineFault.TheVariants as stops
 
-pub joined_empty : (x : Outcome) → joined (Ok []) x ≡ x
+pub joined_empty : (x : TextOrFault) → joined_texts (Ok []) x ≡ x
 joined_empty (Ok text) = refl
 joined_empty (Err fault) = refl
 
-pub joined_nothing : (text : List ℕ) → joined (Ok text) (Ok []) ≡ Ok text
+pub joined_nothing : (text : List ℕ) → joined_texts (Ok text) (Ok []) ≡ Ok text
 joined_nothing text = ap Ok (append-nil text)
 
-pub joined_next : (text more : List ℕ) (digits rest : Outcome) → joined (Ok text) digits ≡ Ok more → joined (Ok text) (joined digits rest) ≡ joined (Ok more) rest
+pub joined_next : (text more : List ℕ) (digits rest : TextOrFault) → joined_texts (Ok text) digits ≡ Ok more → joined_texts (Ok text) (joined_texts digits rest) ≡ joined_texts (Ok more) rest
 joined_next text more (Err fault) rest e = cc
 joined_next text more (Ok digits) (Err fault) e = refl
 joined_next text more (Ok digits) (Ok rest) e = let same : text ++ digits ≡ more = cc in ap Ok (sym (append_assoc text digits rest) ∙ ap (λ l. l ++ rest) same)
 
-pub joined_fault : (text : List ℕ) (digits rest : Outcome) (fault : LineFault) → IsFaultOf digits fault → IsFaultOf (joined (Ok text) (joined digits rest)) fault
-joined_fault text digits rest (stops.Record fault) e = ap (λ (d : Outcome). joined (Ok text) (joined d rest)) e
+pub joined_fault : (text : List ℕ) (digits rest : TextOrFault) (fault : LineFault) → IsLineFaultOf digits fault → IsLineFaultOf (joined_texts (Ok text) (joined_texts digits rest)) fault
+joined_fault text digits rest (stops.Record fault) e = ap (λ (d : TextOrFault). joined_texts (Ok text) (joined_texts d rest)) e
 joined_fault text digits rest stops.NoMemory e = tt
 
 same_front : (text : List ℕ) (n m : ℕ) → n ≡ min (length text) m → take n text ≡ take m text

@@ -6,7 +6,7 @@ use Rattle.std.proofs.lemmas.List.{take-append-le}
 use Rattle.std.specs.Io.KnownBytes.{Appends}
 use Rattle.std.proofs.Common.{append-nil, length-append, take_all}
 use Rattle.rpg_files.specs.Sending.{AppendsPrefix}
-use Rattle.rpg_record_lines.specs.Conversions.{Made, Place, counts_after, fault_at, frame_stop, line_stop}
+use Rattle.rpg_record_lines.specs.Conversions.{Made, InputPlace, counts_after, conversion_fault, frame_stop, line_stop}
 use Rattle.rpg_record_lines.specs.Texts.{AreTexts, BeginsOne, EndsAfter, HaveBegun, HaveWritten, NoTexts, OneMore, WritesNext, WritesOne, WritesTexts, next_number, no_counts}
 use Rattle.rpg_record_lines.specs.declared.conversion.ConversionFault.{ConversionFault}
 use Rattle.rpg_record_lines.specs.declared.conversion.ConversionFault.TheVariants as stops
@@ -73,7 +73,7 @@ ended_all text_of a b counts (Err stops.NoMemory) h e = (counts, h)
 
 -- ---- faults
 
-pub frame_next : (text_of : List ℕ → Made) (a : Option (List ℕ)) (p : Place) (fault : FrameFault) (stop : ConversionFault) → stop ≡ frame_stop p fault
+pub frame_next : (text_of : List ℕ → Made) (a : Option (List ℕ)) (p : InputPlace) (fault : FrameFault) (stop : ConversionFault) → stop ≡ frame_stop p fault
     → WritesNext text_of a a p.counts (Err stop)
 frame_next text_of a p fault stop e = subst (λ (x : ConversionFault). WritesNext text_of a a p.counts (Err x)) (sym e) (at fault)
   where
@@ -82,14 +82,14 @@ frame_next text_of a p fault stop e = subst (λ (x : ConversionFault). WritesNex
     at (frames.Input inputs.Device) = Appends-nil a
     at (frames.Input inputs.NoMemory) = Appends-nil a
 
-pub line_next : (text_of : List ℕ → Made) (a : Option (List ℕ)) (p : Place) (fault : LineFault) (stop : ConversionFault) → stop ≡ line_stop p fault → WritesNext text_of a a p.counts (Err stop)
+pub line_next : (text_of : List ℕ → Made) (a : Option (List ℕ)) (p : InputPlace) (fault : LineFault) (stop : ConversionFault) → stop ≡ line_stop p fault → WritesNext text_of a a p.counts (Err stop)
 line_next text_of a p fault stop e = subst (λ (x : ConversionFault). WritesNext text_of a a p.counts (Err x)) (sym e) (at fault)
   where
     at : (fault : LineFault) → WritesNext text_of a a p.counts (Err (line_stop p fault))
     at (lines.Record fault) = (Appends-nil a, refl)
     at lines.NoMemory = Appends-nil a
 
-pub frame_end : (p : Place) (fault : FrameFault) (stop : ConversionFault) → stop ≡ frame_stop p fault → EndsAfter p.counts (Err stop)
+pub frame_end : (p : InputPlace) (fault : FrameFault) (stop : ConversionFault) → stop ≡ frame_stop p fault → EndsAfter p.counts (Err stop)
 frame_end p fault stop e = subst (λ (x : ConversionFault). EndsAfter p.counts (Err x)) (sym e) (at fault)
   where
     at : (fault : FrameFault) → EndsAfter p.counts (Err (frame_stop p fault))

@@ -62,7 +62,7 @@ next_line most input = line_cut most (take_through 10 (take (counted (most + 2))
 -- ----
 
 -- the next record of at most so many bytes
-abbrev pub next_of : Framing → ℕ → List ℕ → Cut
-next_of framings.EndToEnd most input = next_of_length most input
-next_of framings.Descriptors most input = next_described most input
-next_of framings.Lines most input = next_line most input
+abbrev pub next_cut : Framing → ℕ → List ℕ → Cut
+next_cut framings.EndToEnd most input = next_of_length most input
+next_cut framings.Descriptors most input = next_described most input
+next_cut framings.Lines most input = next_line most input

@@ -2,7 +2,7 @@
 use Rattle.std.specs.Prelude.{◌≡◌, ℕ, ◌+◌, List, drop, length, slice_range, Option, Some, IfSome, Result, Ok, Err, ⊤}
 use Rattle.std.specs.Io.KnownBytes.{Consumes, prepend_known}
 use Rattle.rpg_records.specs.Sizes.{counted}
-use Rattle.rpg_record_lines.specs.Cuts.{Finished, Refused, Whole, next_of}
+use Rattle.rpg_record_lines.specs.Cuts.{Finished, Refused, Whole, next_cut}
 use Rattle.rpg_record_lines.specs.declared.frames.FrameFault.{FrameFault}
 use Rattle.rpg_record_lines.specs.declared.frames.FrameFault.TheVariants as faults
 use Rattle.rpg_record_lines.specs.declared.frames.Frames.{Frames}
@@ -12,12 +12,12 @@ use Rattle.rpg_record_lines.specs.declared.frames.Next.TheVariants as nexts
 use Rattle.rpg_record_lines.specs.declared.input.Input.{Input}
 
 -- the bytes that were read and not yet given
-abbrev pub left_in : {R : Type 0} → Input R → List ℕ
-left_in input = slice_range input.buf.items input.start input.end
+abbrev pub not_given : {R : Type 0} → Input R → List ℕ
+not_given input = slice_range input.buf.items input.start input.end
 
 -- those, and then what the reader has left, where its bytes are known
 abbrev pub remaining_in : {R : Type 0} → (R → Option (List ℕ)) → Input R → Option (List ℕ)
-remaining_in remaining input = prepend_known (left_in input) (remaining input.reader)
+remaining_in remaining input = prepend_known (not_given input) (remaining input.reader)
 
 -- how many bytes were given
 abbrev pub given_of : {R : Type 0} → Input R → ℕ
@@ -28,8 +28,8 @@ abbrev pub GivesFront : (List ℕ → List ℕ) → Option (List ℕ) → Option
 GivesFront front old new bytes = IfSome old (λ input. (bytes ≡ front input) × (new ≡ Some (drop (length bytes) input)))
 
 -- these bytes were given
-abbrev pub Gives : {R : Type 0} → (R → Option (List ℕ)) → Input R → Input R → List ℕ → Type 0
-Gives remaining old new bytes = Consumes (remaining_in remaining old) (remaining_in remaining new) bytes × (given_of new ≡ counted (given_of old + length bytes))
+abbrev pub GivesBytes : {R : Type 0} → (R → Option (List ℕ)) → Input R → Input R → List ℕ → Type 0
+GivesBytes remaining old new bytes = Consumes (remaining_in remaining old) (remaining_in remaining new) bytes × (given_of new ≡ counted (given_of old + length bytes))
 
 -- these bytes were given, which are such a first part of the known ones
 abbrev pub GivesFirst : {R : Type 0} → (List ℕ → List ℕ) → (R → Option (List ℕ)) → Input R → Input R → List ℕ → Type 0
@@ -50,21 +50,21 @@ abbrev pub remaining_of : {R : Type 0} → (R → Option (List ℕ)) → Frames 
 remaining_of remaining frames = remaining_in remaining frames.input
 
 -- where the next record begins
-abbrev pub position_of : {R : Type 0} → Frames R → ℕ
-position_of frames = given_of frames.input
+abbrev pub offset_of : {R : Type 0} → Frames R → ℕ
+offset_of frames = given_of frames.input
 
 -- the next record of these bytes was given, and they lose what it takes
 abbrev pub GivesWhole : Framing → ℕ → Option (List ℕ) → ℕ → ℕ → List ℕ → List ℕ → Type 0
 GivesWhole framing most new before after r input =
-    (used : ℕ) × (next_of framing most input ≡ Whole used r) × (new ≡ Some (drop used input)) × (after ≡ counted (before + used))
+    (used : ℕ) × (next_cut framing most input ≡ Whole used r) × (new ≡ Some (drop used input)) × (after ≡ counted (before + used))
 
 -- Of an input whose bytes are known, the next record was given, or there is none, or it is refused; unless the reader failed or memory ran out.
-abbrev pub GivesNext : Framing → ℕ → Option (List ℕ) → Option (List ℕ) → ℕ → ℕ → List ℕ → Result Next FrameFault → Type 0
-GivesNext framing most old new before after r (Ok nexts.Record) = IfSome old (GivesWhole framing most new before after r)
-GivesNext framing most old new before after r (Ok nexts.End) = IfSome old (λ input. next_of framing most input ≡ Finished)
-GivesNext framing most old new before after r (Err (faults.Record fault)) = IfSome old (λ input. next_of framing most input ≡ Refused fault)
-GivesNext framing most old new before after r (Err (faults.Input fault)) = ⊤
+abbrev pub GivesFramed : Framing → ℕ → Option (List ℕ) → Option (List ℕ) → ℕ → ℕ → List ℕ → Result Next FrameFault → Type 0
+GivesFramed framing most old new before after r (Ok nexts.Record) = IfSome old (GivesWhole framing most new before after r)
+GivesFramed framing most old new before after r (Ok nexts.End) = IfSome old (λ input. next_cut framing most input ≡ Finished)
+GivesFramed framing most old new before after r (Err (faults.Record fault)) = IfSome old (λ input. next_cut framing most input ≡ Refused fault)
+GivesFramed framing most old new before after r (Err (faults.Input fault)) = ⊤
 
 -- what a reader of records that stand so did to its input
-abbrev pub ReadsNext : {R : Type 0} → Framing → (R → Option (List ℕ)) → Frames R → Frames R → List ℕ → Result Next FrameFault → Type 0
-ReadsNext framing remaining old new r result = GivesNext framing (most_of old) (remaining_of remaining old) (remaining_of remaining new) (position_of old) (position_of new) r result
+abbrev pub ReadsFramed : {R : Type 0} → Framing → (R → Option (List ℕ)) → Frames R → Frames R → List ℕ → Result Next FrameFault → Type 0
+ReadsFramed framing remaining old new r result = GivesFramed framing (most_of old) (remaining_of remaining old) (remaining_of remaining new) (offset_of old) (offset_of new) r result

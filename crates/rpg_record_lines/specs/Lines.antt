@@ -5,43 +5,43 @@ use Rattle.rpg_records.specs.Columns.{image}
 use Rattle.rpg_records.specs.declared.column.Column.{Column}
 use Rattle.rpg_records.specs.declared.translation.Page.{Page}
 use Rattle.rpg_records.specs.declared.translation.Page.TheVariants as pages
-use Rattle.rpg_record_lines.specs.Numbers.{digits_of}
-use Rattle.rpg_record_lines.specs.Outcomes.{Outcome, and_then, joined}
-use Rattle.rpg_record_lines.specs.Types.{card_of, first_type, is_card}
+use Rattle.rpg_record_lines.specs.Numbers.{digits_of_fields}
+use Rattle.rpg_record_lines.specs.Outcomes.{TextOrFault, text_and_then, joined_texts}
+use Rattle.rpg_record_lines.specs.Types.{card_of_type, first_type, is_card}
 use Rattle.rpg_record_lines.specs.declared.fault.RecordFault.{RecordFault}
 use Rattle.rpg_record_lines.specs.declared.fault.RecordFault.TheVariants as faults
 use Rattle.rpg_records.specs.declared.layout.RecordType.{RecordType}
 
 -- these columns, unless the byte at a place is no character
-abbrev pub unless_bad : List ℕ → List ℕ → Option ℕ → Outcome
+abbrev pub unless_bad : List ℕ → List ℕ → Option ℕ → TextOrFault
 unless_bad bytes columns None = Ok columns
 unless_bad bytes columns (Some place) = Err (faults.NoCharacter (place + 1) (slice_index bytes place))
 
 -- the characters of a record's columns: 0 is none
-abbrev pub characters_of : Page → Bool → List Column → List ℕ → Outcome
-characters_of page low_blank kinds record_bytes =
+abbrev pub record_characters : Page → Bool → List Column → List ℕ → TextOrFault
+record_characters page low_blank kinds record_bytes =
     unless_bad record_bytes (image page low_blank kinds record_bytes) (position (λ c. c == 0) (image page low_blank kinds record_bytes))
 
 -- what follows from the type of a record or of a line
-abbrev pub of_type : Option RecordType → (RecordType → Outcome) → Outcome
-of_type None next = Err faults.NoType
-of_type (Some t) next = next t
+abbrev pub type_and_then : Option RecordType → (RecordType → TextOrFault) → TextOrFault
+type_and_then None next = Err faults.NoType
+type_and_then (Some t) next = next t
 
 -- by these columns a record is of another type, or of none
 abbrev pub other_line : RecordType → Option RecordType → RecordFault
-other_line t other = faults.OtherLine t.card (option_map card_of other)
+other_line t other = faults.OtherLine t.card (option_map card_of_type other)
 
 -- columns and the digits of a record after them, if by these columns it is of its type once more
-abbrev pub line_after : List RecordType → List ℕ → RecordType → List ℕ → Outcome
+abbrev pub line_after : List RecordType → List ℕ → RecordType → List ℕ → TextOrFault
 line_after types record_bytes t columns =
-    if is_card t.card (first_type pages.Ascii false columns types) then joined (Ok columns) (digits_of record_bytes t.numbers.items)
+    if is_card t.card (first_type pages.Ascii false columns types) then joined_texts (Ok columns) (digits_of_fields record_bytes t.numbers.items)
     else Err (other_line t (first_type pages.Ascii false columns types))
 
 -- the line of a record of a type, with the blanks at its end
-abbrev pub whole_line_of : Page → Bool → List RecordType → List ℕ → RecordType → Outcome
-whole_line_of page low_blank types record_bytes t = and_then (characters_of page low_blank t.columns.items record_bytes) (line_after types record_bytes t)
+abbrev pub whole_line_of : Page → Bool → List RecordType → List ℕ → RecordType → TextOrFault
+whole_line_of page low_blank types record_bytes t = text_and_then (record_characters page low_blank t.columns.items record_bytes) (line_after types record_bytes t)
 
 -- the line of a record: without the blanks at the end
-abbrev pub line_of : Page → Bool → List RecordType → List ℕ → Outcome
-line_of page low_blank types record_bytes =
-    of_type (first_type page low_blank record_bytes types) (λ t. and_then (whole_line_of page low_blank types record_bytes t) (λ line. Ok (trimmed line)))
+abbrev pub line_of_record : Page → Bool → List RecordType → List ℕ → TextOrFault
+line_of_record page low_blank types record_bytes =
+    type_and_then (first_type page low_blank record_bytes types) (λ t. text_and_then (whole_line_of page low_blank types record_bytes t) (λ line. Ok (trimmed line)))

@@ -5,7 +5,7 @@ use Rattle.rpg_records.specs.declared.digits.NumberFault.{NumberFault}
 use Rattle.rpg_records.specs.declared.digits.NumberFault.TheVariants as numbers
 use Rattle.rpg_records.specs.Fields.{digit_count}
 use Rattle.rpg_records.specs.Sizes.{counted, field_digits, field_size}
-use Rattle.rpg_record_lines.specs.Outcomes.{Outcome, and_then, joined, some_or}
+use Rattle.rpg_record_lines.specs.Outcomes.{TextOrFault, text_and_then, joined_texts, some_or}
 use Rattle.rpg_record_lines.specs.declared.fault.FieldBytes.{FieldBytes}
 use Rattle.rpg_record_lines.specs.declared.fault.RecordFault.TheVariants as faults
 use Rattle.rpg_records.specs.declared.layout.NumberField.{NumberField}
@@ -24,30 +24,30 @@ abbrev pub field_bytes : List ℕ → FieldBytes
 field_bytes bytes = record { bytes = take 8 bytes ++ replicate (8 - length bytes) 0; len = min (length bytes) 8 }
 
 -- digits, or what is wrong with the field of these bytes
-abbrev pub field_outcome : NumberField → List ℕ → Result (List ℕ) NumberFault → Outcome
+abbrev pub field_outcome : NumberField → List ℕ → Result (List ℕ) NumberFault → TextOrFault
 field_outcome f bytes (Ok digits) = Ok digits
 field_outcome f bytes (Err fault) = Err (faults.BadNumber f.card f.first f.last (field_bytes bytes) fault)
 
 -- the bytes of a record's field
-abbrev pub bytes_at : NumberField → List ℕ → List ℕ
-bytes_at f record_bytes = slice_range record_bytes (f.first - 1) f.last
+abbrev pub bytes_of_field : NumberField → List ℕ → List ℕ
+bytes_of_field f record_bytes = slice_range record_bytes (f.first - 1) f.last
 
 -- the digits of a record's field, which the record must have
-abbrev pub field_text : List ℕ → NumberField → Outcome
+abbrev pub field_text : List ℕ → NumberField → TextOrFault
 field_text record_bytes f =
-    if nat_le f.last (length record_bytes) then field_outcome f (bytes_at f record_bytes) (digits_in f.form (bytes_at f record_bytes)) else Err faults.NoType
+    if nat_le f.last (length record_bytes) then field_outcome f (bytes_of_field f record_bytes) (digits_in f.form (bytes_of_field f record_bytes)) else Err faults.NoType
 
 -- the digits of all fields, in order
-abbrev pub digits_of : List ℕ → List NumberField → Outcome
-digits_of record_bytes [] = Ok []
-digits_of record_bytes (f ∷ fs) = joined (field_text record_bytes f) (digits_of record_bytes fs)
+abbrev pub digits_of_fields : List ℕ → List NumberField → TextOrFault
+digits_of_fields record_bytes [] = Ok []
+digits_of_fields record_bytes (f ∷ fs) = joined_texts (field_text record_bytes f) (digits_of_fields record_bytes fs)
 
 -- ---- bytes of digits
 
 -- the k bytes of digits, if they are a number
-abbrev pub number_bytes : NumberForm → ℕ → List ℕ → Option (List ℕ)
-number_bytes forms.Packed k digits = bytes_of_packed_text k digits
-number_bytes forms.Binary k digits = bytes_of_binary_text k digits
+abbrev pub bytes_of_digits : NumberForm → ℕ → List ℕ → Option (List ℕ)
+bytes_of_digits forms.Packed k digits = bytes_of_packed_text k digits
+bytes_of_digits forms.Binary k digits = bytes_of_binary_text k digits
 
 -- a text in n columns: blanks follow its end
 abbrev pub filled : ℕ → List ℕ → List ℕ
@@ -58,16 +58,16 @@ abbrev pub digits_at : List ℕ → ℕ → NumberField → List ℕ
 digits_at line place f = filled (field_digits f) (drop place line)
 
 -- a record with a field's bytes, or what is wrong with the digits at this place of the line
-abbrev pub with_bytes : NumberField → ℕ → List ℕ → Option (List ℕ) → Outcome
+abbrev pub with_bytes : NumberField → ℕ → List ℕ → Option (List ℕ) → TextOrFault
 with_bytes f place record_bytes (Some bytes) = Ok ((take (f.first - 1) record_bytes ++ bytes) ++ drop f.last record_bytes)
 with_bytes f place record_bytes None = Err (faults.BadDigits f.card (counted (place + 1)) (counted (place + field_digits f)))
 
 -- a record, which must have the field, with the bytes of a line's digits
-abbrev pub with_number : List ℕ → ℕ → List ℕ → NumberField → Outcome
+abbrev pub with_number : List ℕ → ℕ → List ℕ → NumberField → TextOrFault
 with_number line place record_bytes f =
-    if nat_le f.last (length record_bytes) then with_bytes f place record_bytes (number_bytes f.form (field_size f) (digits_at line place f)) else Err faults.NoType
+    if nat_le f.last (length record_bytes) then with_bytes f place record_bytes (bytes_of_digits f.form (field_size f) (digits_at line place f)) else Err faults.NoType
 
 -- a record with the bytes of all digits, which stand one after the other from a place of a line on, to its end
-abbrev pub with_numbers : List ℕ → List NumberField → ℕ → List ℕ → Outcome
+abbrev pub with_numbers : List ℕ → List NumberField → ℕ → List ℕ → TextOrFault
 with_numbers line [] place record_bytes = if nat_lt place (length line) then Err (faults.TooLong (length line)) else Ok record_bytes
-with_numbers line (f ∷ fs) place record_bytes = and_then (with_number line place record_bytes f) (with_numbers line fs (counted (place + field_digits f)))
+with_numbers line (f ∷ fs) place record_bytes = text_and_then (with_number line place record_bytes f) (with_numbers line fs (counted (place + field_digits f)))

@@ -13,18 +13,18 @@ character_at page low_blank record_bytes place =
     if nat_lt place (length record_bytes) then column_character page low_blank columns.Text (slice_index record_bytes place) else 0
 
 -- a code holds where its character stands there, or where it is negated another
-abbrev pub code_holds : Page → Bool → List ℕ → Code → Bool
-code_holds page low_blank record_bytes code =
+abbrev pub code_fits_record : Page → Bool → List ℕ → Code → Bool
+code_fits_record page low_blank record_bytes code =
     if code.is_negated then not (character_at page low_blank record_bytes code.place == code.character) else character_at page low_blank record_bytes code.place == code.character
 
 -- a record of a type has its length, and all its codes hold
-abbrev pub is_of : Page → Bool → List ℕ → RecordType → Bool
-is_of page low_blank record_bytes t = length t.columns.items == length record_bytes && list_all (code_holds page low_blank record_bytes) t.codes.items
+abbrev pub fits_type : Page → Bool → List ℕ → RecordType → Bool
+fits_type page low_blank record_bytes t = length t.columns.items == length record_bytes && list_all (code_fits_record page low_blank record_bytes) t.codes.items
 
 -- the first type that a record is of
 abbrev pub first_type : Page → Bool → List ℕ → List RecordType → Option RecordType
 first_type page low_blank record_bytes [] = None
-first_type page low_blank record_bytes (t ∷ ts) = if is_of page low_blank record_bytes t then Some t else first_type page low_blank record_bytes ts
+first_type page low_blank record_bytes (t ∷ ts) = if fits_type page low_blank record_bytes t then Some t else first_type page low_blank record_bytes ts
 
 -- the type begins on that card
 abbrev pub is_card : ℕ → Option RecordType → Bool
@@ -32,5 +32,5 @@ is_card card None = false
 is_card card (Some t) = t.card == card
 
 -- the card that a type begins on
-abbrev pub card_of : RecordType → ℕ
-card_of t = t.card
+abbrev pub card_of_type : RecordType → ℕ
+card_of_type t = t.card

@@ -1,10 +1,10 @@
 //! All records of an input as lines, and all lines as records.
 
 ghost use Rattle.std.specs.Prelude.{◌≡◌, ◌+◌, ◌<◌, ◌≤◌, List, IfOk, IfSome};
-ghost use Rattle.rpg_record_lines.specs.Conversions.{EndsFull, HasConverted, counts_after, fault_at, frame_stop, line_stop};
-ghost use Rattle.rpg_record_lines.specs.Inputs.{framing_of, most_of, position_of, remaining_of};
+ghost use Rattle.rpg_record_lines.specs.Conversions.{EndsFull, HasConverted, counts_after, conversion_fault, frame_stop, line_stop};
+ghost use Rattle.rpg_record_lines.specs.Inputs.{framing_of, most_of, offset_of, remaining_of};
 ghost use Rattle.rpg_record_lines.specs.Texts.{EndsAfter, WritesNext, WritesTexts};
-ghost use Rattle.rpg_record_lines.specs.Ways.{Steps, place_at, text_by, to_lines, to_records, way_by, way_of};
+ghost use Rattle.rpg_record_lines.specs.Ways.{Steps, input_place_at, text_by, to_lines, to_records, way_by, conversion_settings};
 
 use crate::fault::{LineFault, RecordFault};
 use crate::frames::{FrameFault, Frames, Framing, Next};
@@ -100,7 +100,7 @@ impl From<AllocError> for ConversionFault {
 
 fn refused(counts: Counts, offset: u64, fault: RecordFault) -> ConversionFault
     requires { counts.records + counts.dropped ≤ 10000000 }
-    ensures { result ≡ fault_at (record { counts = counts; offset = offset }) fault }
+    ensures { result ≡ conversion_fault (record { counts = counts; offset = offset }) fault }
 {
     ConversionFault::Record {
         number: counts.next_number(),
@@ -171,7 +171,7 @@ fn end_full_file<R: Read + Drop>(
     counts: Counts,
 ) -> Result<Counts, ConversionFault>
     requires { counts.records + counts.dropped ≤ 10000000 }
-    ensures known { EndsFull (framing_of frames.old) (most_of frames.old) (place_at counts frames.old) (remaining_of R.remaining frames.old) result }
+    ensures known { EndsFull (framing_of frames.old) (most_of frames.old) (input_place_at counts frames.old) (remaining_of R.remaining frames.old) result }
     ensures any { EndsAfter counts result }
 {
     let offset = frames.position();
@@ -190,8 +190,8 @@ fn convert_all<R: Read + Drop, W: Write>(
     room: &mut Room,
     writer: &mut W,
 ) -> Result<Counts, ConversionFault>
-    requires { position_of frames.old ≡ 0 }
-    ensures known { HasConverted (way_of maker.now frames.old) (remaining_of R.remaining frames.old) (W.contents writer.old) (W.contents writer.new) result }
+    requires { offset_of frames.old ≡ 0 }
+    ensures known { HasConverted (conversion_settings maker.now frames.old) (remaining_of R.remaining frames.old) (W.contents writer.old) (W.contents writer.new) result }
     ensures any { WritesTexts (text_by maker.now) (W.contents writer.old) (W.contents writer.new) result }
 {
     let mut counts = Counts {

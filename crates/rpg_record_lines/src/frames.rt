@@ -99,13 +99,13 @@ fn cut_line_end(line: &mut Vec<u8>)
 }
 
 impl<R: Read + Drop> Frames<R> {
-    ghost use Rattle.rpg_record_lines.specs.Inputs.{ReadsNext, framing_of, most_of, position_of, remaining_of};
+    ghost use Rattle.rpg_record_lines.specs.Inputs.{ReadsFramed, framing_of, most_of, offset_of, remaining_of};
 
     pub fn new(alloc: Global, reader: R, framing: Framing, most: usize) -> Result<Self, AllocError>
         ensures framing { IfOk result (λ frames. framing_of frames ≡ framing) }
         ensures most { IfOk result (λ frames. most_of frames ≡ most) }
         ensures remaining { IfOk result (λ frames. remaining_of R.remaining frames ≡ R.remaining reader) }
-        ensures position { IfOk result (λ frames. position_of frames ≡ 0) }
+        ensures position { IfOk result (λ frames. offset_of frames ≡ 0) }
     {
         Ok(Frames {
             input: Input::new(alloc, reader)?,
@@ -116,7 +116,7 @@ impl<R: Read + Drop> Frames<R> {
 
     /// Where the next record begins in the input.
     pub fn position(&self) -> u64
-        ensures { result ≡ position_of self.now }
+        ensures { result ≡ offset_of self.now }
     {
         self.input.given()
     }
@@ -125,7 +125,7 @@ impl<R: Read + Drop> Frames<R> {
     pub fn next(&mut self, room: &mut Vec<u8>) -> Result<Next, FrameFault>
         ensures framing { framing_of self.new ≡ framing_of self.old }
         ensures most { most_of self.new ≡ most_of self.old }
-        ensures next { ReadsNext (framing_of self.old) R.remaining self.old self.new room.new.items result }
+        ensures next { ReadsFramed (framing_of self.old) R.remaining self.old self.new room.new.items result }
     {
         match self.framing {
             Framing::EndToEnd => self.next_of_length(room),
@@ -139,7 +139,7 @@ impl<R: Read + Drop> Frames<R> {
     fn next_of_length(&mut self, room: &mut Vec<u8>) -> Result<Next, FrameFault>
         ensures framing { framing_of self.new ≡ framing_of self.old }
         ensures most { most_of self.new ≡ most_of self.old }
-        ensures next { ReadsNext framings.EndToEnd R.remaining self.old self.new room.new.items result }
+        ensures next { ReadsFramed framings.EndToEnd R.remaining self.old self.new room.new.items result }
     {
         self.input.read_up_to(self.most, room)?;
         let bytes = room.len();
@@ -157,7 +157,7 @@ impl<R: Read + Drop> Frames<R> {
     fn next_described(&mut self, room: &mut Vec<u8>) -> Result<Next, FrameFault>
         ensures framing { framing_of self.new ≡ framing_of self.old }
         ensures most { most_of self.new ≡ most_of self.old }
-        ensures next { ReadsNext framings.Descriptors R.remaining self.old self.new room.new.items result }
+        ensures next { ReadsFramed framings.Descriptors R.remaining self.old self.new room.new.items result }
     {
         self.input.read_up_to(4, room)?;
         let bytes = room.len();
@@ -184,7 +184,7 @@ impl<R: Read + Drop> Frames<R> {
     fn next_line(&mut self, room: &mut Vec<u8>) -> Result<Next, FrameFault>
         ensures framing { framing_of self.new ≡ framing_of self.old }
         ensures most { most_of self.new ≡ most_of self.old }
-        ensures next { ReadsNext framings.Lines R.remaining self.old self.new room.new.items result }
+        ensures next { ReadsFramed framings.Lines R.remaining self.old self.new room.new.items result }
     {
         self.input.read_line(self.most.saturating_add(2), room)?;
         if room.is_empty() {

@@ -98,7 +98,7 @@ fn first_line(bytes: &[u8]) -> FirstLine<'_>
 
 impl<R: Read> Input<R> {
     ghost use Rattle.std.specs.Io.KnownBytes.{IsAtEnd, Keeps};
-    ghost use Rattle.rpg_record_lines.specs.Inputs.{Gives, GivesFirst, given_of, left_in, remaining_in};
+    ghost use Rattle.rpg_record_lines.specs.Inputs.{GivesBytes, GivesFirst, given_of, not_given, remaining_in};
 
     #[tactic(auto, using(crate::proofs::InputLemmas::nothing_before))]
     pub fn new(alloc: Global, reader: R) -> Result<Self, AllocError>
@@ -125,7 +125,7 @@ impl<R: Read> Input<R> {
     }
 
     fn bytes(&self) -> &[u8]
-        ensures { result.now ≡ left_in self.now }
+        ensures { result.now ≡ not_given self.now }
     {
         let all = self.buf.as_slice();
         &all[self.start..self.end]
@@ -136,7 +136,7 @@ impl<R: Read> Input<R> {
     fn fill(&mut self) -> Result<bool, InputFault>
         ensures kept { OnOk result (Keeps (remaining_in R.remaining self.old) (remaining_in R.remaining self.new)) }
         ensures given { given_of self.new ≡ given_of self.old }
-        ensures some { IfOk result (λ are_any. are_any ≡ true → 0 < length (left_in self.new)) }
+        ensures some { IfOk result (λ are_any. are_any ≡ true → 0 < length (not_given self.new)) }
         ensures end { IfOk result (λ are_any. are_any ≡ false → IsAtEnd (remaining_in R.remaining self.new)) }
     {
         if self.start < self.end {
@@ -151,8 +151,8 @@ impl<R: Read> Input<R> {
     /// Takes the first bytes away.
     #[tactic(auto, using(crate::proofs::InputLemmas::given_bytes))]
     fn consume(&mut self, n: usize)
-        requires { n ≤ length (left_in self.old) }
-        ensures { Gives R.remaining self.old self.new (take n (left_in self.old)) }
+        requires { n ≤ length (not_given self.old) }
+        ensures { GivesBytes R.remaining self.old self.new (take n (not_given self.old)) }
     {
         self.start += n;
         self.given = self.given.saturating_add(n as u64);
@@ -161,8 +161,8 @@ impl<R: Read> Input<R> {
     /// Appends bytes that were read, at most so many.
     #[tactic(auto, using(crate::proofs::InputLemmas::piece_front))]
     fn append(&mut self, most: usize, bytes: &mut Vec<u8>) -> Result<(), InputFault>
-        ensures appended { OnOk result (bytes.new.items ≡ bytes.old.items ++ take most (left_in self.old)) }
-        ensures bytes { OnOk result (Gives R.remaining self.old self.new (take most (left_in self.old))) }
+        ensures appended { OnOk result (bytes.new.items ≡ bytes.old.items ++ take most (not_given self.old)) }
+        ensures bytes { OnOk result (GivesBytes R.remaining self.old self.new (take most (not_given self.old))) }
     {
         let piece = front(self.bytes(), most);
         bytes.extend_from_slice(piece)?;
@@ -174,9 +174,9 @@ impl<R: Read> Input<R> {
     /// Appends bytes that were read, at most so many, up to a line feed, and returns whether it is there.
     #[tactic(auto, using(crate::proofs::InputLemmas::line_front, crate::proofs::InputLemmas::line_shorter))]
     fn append_line(&mut self, most: usize, line: &mut Vec<u8>) -> Result<bool, InputFault>
-        ensures appended { OnOk result (line.new.items ≡ line.old.items ++ take_through 10 (take most (left_in self.old))) }
-        ensures bytes { OnOk result (Gives R.remaining self.old self.new (take_through 10 (take most (left_in self.old)))) }
-        ensures ended { IfOk result (λ is_ended. is_ended ≡ list_any (λ b. b == 10) (take most (left_in self.old))) }
+        ensures appended { OnOk result (line.new.items ≡ line.old.items ++ take_through 10 (take most (not_given self.old))) }
+        ensures bytes { OnOk result (GivesBytes R.remaining self.old self.new (take_through 10 (take most (not_given self.old)))) }
+        ensures ended { IfOk result (λ is_ended. is_ended ≡ list_any (λ b. b == 10) (take most (not_given self.old))) }
     {
         let first = first_line(front(self.bytes(), most));
         line.extend_from_slice(first.bytes)?;

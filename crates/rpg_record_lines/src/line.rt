@@ -3,8 +3,8 @@
 ghost use Rattle.std.specs.Prelude.{◌≡◌, ◌==◌, false, true, length, position, Err, IfErr, IfSome, Ok, OnOk, option_map};
 ghost use Rattle.std.specs.List.{list_all};
 ghost use Rattle.rpg_record_lines.specs.Lines.{other_line, unless_bad};
-ghost use Rattle.rpg_record_lines.specs.Outcomes.{IsFaultOf};
-ghost use Rattle.rpg_record_lines.specs.Types.{card_of, character_at, code_holds, first_type, is_card, is_of};
+ghost use Rattle.rpg_record_lines.specs.Outcomes.{IsLineFaultOf};
+ghost use Rattle.rpg_record_lines.specs.Types.{card_of_type, character_at, code_fits_record, first_type, is_card, fits_type};
 ghost use Rattle.rpg_records.specs.Translations.{is_low_blank, page_of};
 ghost use Rattle.rpg_records.specs.declared.translation.Page.TheVariants as pages;
 
@@ -25,7 +25,7 @@ fn character_at(translation: &Translation, bytes: &[u8], place: usize) -> u8
 
 /// Whether a code holds of a record.
 fn code_holds(translation: &Translation, bytes: &[u8], code: &Code) -> bool
-    ensures { result ≡ code_holds (page_of translation.now) (is_low_blank translation.now) bytes.now code.now }
+    ensures { result ≡ code_fits_record (page_of translation.now) (is_low_blank translation.now) bytes.now code.now }
 {
     let stands = character_at(translation, bytes, code.place) == code.character;
     if code.is_negated { !stands } else { stands }
@@ -33,7 +33,7 @@ fn code_holds(translation: &Translation, bytes: &[u8], code: &Code) -> bool
 
 /// Whether all codes hold of a record.
 fn codes_hold(translation: &Translation, bytes: &[u8], codes: &[Code]) -> bool
-    ensures { result ≡ list_all (code_holds (page_of translation.now) (is_low_blank translation.now) bytes.now) codes.now }
+    ensures { result ≡ list_all (code_fits_record (page_of translation.now) (is_low_blank translation.now) bytes.now) codes.now }
 {
     for code in codes {
         if !code_holds(translation, bytes, code) {
@@ -45,7 +45,7 @@ fn codes_hold(translation: &Translation, bytes: &[u8], codes: &[Code]) -> bool
 
 /// Whether a record is of a type: it has its length, and all codes hold.
 fn is_of(translation: &Translation, bytes: &[u8], kind: &RecordType) -> bool
-    ensures value { result ≡ is_of (page_of translation.now) (is_low_blank translation.now) bytes.now kind.now }
+    ensures value { result ≡ fits_type (page_of translation.now) (is_low_blank translation.now) bytes.now kind.now }
     ensures length { result ≡ true → length kind.now.columns.items ≡ length bytes.now }
 {
     kind.columns.len() == bytes.len() && codes_hold(translation, bytes, kind.codes.as_slice())
@@ -70,7 +70,7 @@ pub(crate) fn first_type<'a>(
 
 /// The card of a type.
 pub(crate) fn card_of(kind: Option<&RecordType>) -> Option<u16>
-    ensures { result ≡ option_map (λ kind. card_of kind.now) kind.entry }
+    ensures { result ≡ option_map (λ kind. card_of_type kind.now) kind.entry }
 {
     match kind {
         Some(kind) => Some(kind.card),
@@ -126,12 +126,12 @@ impl<'a> Converter<'a> {
     ghost use Rattle.std.specs.Prelude.{IsTrue};
     ghost use Rattle.rpg_text.specs.Texts.{is_character};
     ghost use Rattle.rpg_records.specs.Columns.{page_byte};
-    ghost use Rattle.rpg_record_lines.specs.Converters.{characters_by, is_low_blank_of, length_of, line_by, page_of_records, type_again, type_by, types_of, whole_line_by};
+    ghost use Rattle.rpg_record_lines.specs.Converters.{characters_by, is_low_blank_of, converter_length, line_by, page_of_records, type_again, record_type_of, converter_types, whole_line_by};
 
     /// With `low_blank` the byte 0 of a record is a blank.
     pub fn new(layout: &'a Layout, page: Page, low_blank: bool) -> Self
-        ensures types { types_of result ≡ layout.now.types.items }
-        ensures length { length_of result ≡ layout.now.length }
+        ensures types { converter_types result ≡ layout.now.types.items }
+        ensures length { converter_length result ≡ layout.now.length }
         ensures page { page_of_records result ≡ page }
         ensures low_blank { is_low_blank_of result ≡ low_blank }
     {
@@ -144,7 +144,7 @@ impl<'a> Converter<'a> {
 
     /// How many bytes a record has.
     pub(crate) fn length(&self) -> usize
-        ensures { result ≡ length_of self.now }
+        ensures { result ≡ converter_length self.now }
     {
         usize::from(self.layout.length)
     }
@@ -159,7 +159,7 @@ impl<'a> Converter<'a> {
 
     /// The type that a record is of.
     pub(crate) fn type_of_record(&self, bytes: &[u8]) -> Option<&RecordType>
-        ensures value { option_map (λ kind. kind.now) result ≡ type_by self.now bytes.now }
+        ensures value { option_map (λ kind. kind.now) result ≡ record_type_of self.now bytes.now }
         ensures length { IfSome result (λ kind. length kind.now.columns.items ≡ length bytes.now) }
     {
         first_type(&self.records, bytes, self.types())
@@ -174,7 +174,7 @@ impl<'a> Converter<'a> {
     }
 
     fn types(&self) -> &[RecordType]
-        ensures { result.now ≡ types_of self.now }
+        ensures { result.now ≡ converter_types self.now }
     {
         self.layout.types.as_slice()
     }
@@ -189,7 +189,7 @@ impl<'a> Converter<'a> {
     ) -> Result<(), LineFault>
         requires { length kind.now.columns.items ≡ length bytes.now }
         ensures characters { OnOk result (characters_by self.now kind.now bytes.now ≡ Ok line.new.items) }
-        ensures fault { IfErr result (IsFaultOf (characters_by self.now kind.now bytes.now)) }
+        ensures fault { IfErr result (IsLineFaultOf (characters_by self.now kind.now bytes.now)) }
     {
         line.resize(bytes.len(), 0)?;
         let columns = kind.columns.as_slice();
@@ -230,7 +230,7 @@ impl<'a> Converter<'a> {
     ) -> Result<(), LineFault>
         requires { length kind.now.columns.items ≡ length bytes.now }
         ensures line { OnOk result (whole_line_by self.now kind.now bytes.now ≡ Ok line.new.items) }
-        ensures fault { IfErr result (IsFaultOf (whole_line_by self.now kind.now bytes.now)) }
+        ensures fault { IfErr result (IsLineFaultOf (whole_line_by self.now kind.now bytes.now)) }
     {
         self.write_columns(kind, bytes, line)?;
         if let Err(fault) = self.check_type(kind, line.as_slice()) {
@@ -246,7 +246,7 @@ impl<'a> Converter<'a> {
     /// The record has no line, or memory ran out. The text is then unusable.
     pub fn write_line(&self, bytes: &[u8], line: &mut Vec<u8>) -> Result<(), LineFault>
         ensures line { OnOk result (line_by self.now bytes.now ≡ Ok line.new.items) }
-        ensures fault { IfErr result (IsFaultOf (line_by self.now bytes.now)) }
+        ensures fault { IfErr result (IsLineFaultOf (line_by self.now bytes.now)) }
     {
         let Some(kind) = self.type_of_record(bytes) else {
             return Err(LineFault::Record(RecordFault::NoType));

@@ -3,7 +3,7 @@
 ghost use Rattle.std.specs.Prelude.{◌≡◌, ◌-◌, ◌++◌, replicate, vec_len, Some, None, Ok, IfErr, IfOk, OnOk, if◌then◌else◌};
 ghost use Rattle.rpg_records.specs.Columns.{page_byte};
 ghost use Rattle.rpg_record_lines.specs.Frames.{frame};
-ghost use Rattle.rpg_record_lines.specs.Outcomes.{IsFaultOf};
+ghost use Rattle.rpg_record_lines.specs.Outcomes.{IsLineFaultOf};
 ghost use Rattle.rpg_record_lines.specs.Ways.{is_dropped};
 
 use crate::fault::LineFault;
@@ -84,7 +84,7 @@ impl<'a> Maker<'a> {
     /// Makes the line of a record, with its line feed.
     fn make_line(&self, room: &mut Room) -> Result<(), LineFault>
         ensures text { OnOk result (line_text_by self.now.converter room.old.given.items ≡ Ok (Some room.new.made.items)) }
-        ensures fault { IfErr result (IsFaultOf (line_text_by self.now.converter room.old.given.items)) }
+        ensures fault { IfErr result (IsLineFaultOf (line_text_by self.now.converter room.old.given.items)) }
     {
         let blank = self.converter.byte_of(b' ');
         pad(&mut room.given, self.converter.length(), blank)?;
@@ -97,7 +97,7 @@ impl<'a> Maker<'a> {
     /// Makes the record of a line, as it stands in its file.
     fn make_record(&self, framing: Framing, room: &mut Room) -> Result<(), LineFault>
         ensures text { OnOk result (record_text_by framing self.now.converter room.old.given.items ≡ Ok (Some room.new.made.items)) }
-        ensures fault { IfErr result (IsFaultOf (record_text_by framing self.now.converter room.old.given.items)) }
+        ensures fault { IfErr result (IsLineFaultOf (record_text_by framing self.now.converter room.old.given.items)) }
     {
         self.converter
             .write_record(&mut room.given, &mut room.bytes)?;
@@ -108,7 +108,7 @@ impl<'a> Maker<'a> {
     /// Makes what is to be written for what was read, and returns whether there is anything.
     pub fn make(&self, room: &mut Room) -> Result<bool, LineFault>
         ensures text { IfOk result (λ is_made. text_by self.now room.old.given.items ≡ Ok (if is_made then Some room.new.made.items else None)) }
-        ensures fault { IfErr result (IsFaultOf (text_by self.now room.old.given.items)) }
+        ensures fault { IfErr result (IsLineFaultOf (text_by self.now room.old.given.items)) }
     {
         match self.making {
             Making::Lines { dropped } => {

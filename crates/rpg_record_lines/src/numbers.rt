@@ -2,8 +2,8 @@
 
 ghost use Rattle.std.specs.Prelude.{◌≡◌, ◌++◌, length, None, Some, Ok, Err, IfErr, OnErr, OnOk, drop, replicate, take};
 ghost use Rattle.rpg_records.specs.Sizes.{field_digits, field_size};
-ghost use Rattle.rpg_record_lines.specs.Numbers.{digits_at, digits_in, digits_of, field_text, filled, number_bytes, with_number, with_numbers};
-ghost use Rattle.rpg_record_lines.specs.Outcomes.{IsFaultOf, joined};
+ghost use Rattle.rpg_record_lines.specs.Numbers.{digits_at, digits_in, digits_of_fields, field_text, filled, bytes_of_digits, with_number, with_numbers};
+ghost use Rattle.rpg_record_lines.specs.Outcomes.{IsLineFaultOf, joined_texts};
 
 use crate::fault::{FieldBytes, LineFault, NumberFault, RecordFault};
 use rpg_records::{
@@ -25,8 +25,8 @@ fn write_digits(field: &NumberField, bytes: &[u8], digits: &mut [u8]) -> Result<
 
 /// Appends the digits of a record's field to a line.
 fn append_digits(field: &NumberField, bytes: &[u8], line: &mut Vec<u8>) -> Result<(), LineFault>
-    ensures digits { OnOk result (joined (Ok line.old.items) (field_text bytes.now field.now) ≡ Ok line.new.items) }
-    ensures fault { IfErr result (IsFaultOf (field_text bytes.now field.now)) }
+    ensures digits { OnOk result (joined_texts (Ok line.old.items) (field_text bytes.now field.now) ≡ Ok line.new.items) }
+    ensures fault { IfErr result (IsLineFaultOf (field_text bytes.now field.now)) }
 {
     let (start, end) = (usize::from(field.first - 1), usize::from(field.last));
     if end > bytes.len() {
@@ -55,8 +55,8 @@ pub(crate) fn append_all_digits(
     bytes: &[u8],
     line: &mut Vec<u8>,
 ) -> Result<(), LineFault>
-    ensures digits { OnOk result (joined (Ok line.old.items) (digits_of bytes.now fields.now) ≡ Ok line.new.items) }
-    ensures fault { IfErr result (IsFaultOf (joined (Ok line.old.items) (digits_of bytes.now fields.now))) }
+    ensures digits { OnOk result (joined_texts (Ok line.old.items) (digits_of_fields bytes.now fields.now) ≡ Ok line.new.items) }
+    ensures fault { IfErr result (IsLineFaultOf (joined_texts (Ok line.old.items) (digits_of_fields bytes.now fields.now))) }
 {
     for field in fields {
         append_digits(field, bytes, line)?;
@@ -68,8 +68,8 @@ pub(crate) fn append_all_digits(
 fn write_bytes(field: &NumberField, digits: &[u8], bytes: &mut [u8]) -> Result<(), NumberFault>
     requires bytes { length bytes.old ≡ field_size field.now }
     requires digits { length digits.now ≡ field_digits field.now }
-    ensures bytes { OnOk result (number_bytes field.now.form (field_size field.now) digits.now ≡ Some bytes.new) }
-    ensures none { OnErr result (number_bytes field.now.form (field_size field.now) digits.now ≡ None) }
+    ensures bytes { OnOk result (bytes_of_digits field.now.form (field_size field.now) digits.now ≡ Some bytes.new) }
+    ensures none { OnErr result (bytes_of_digits field.now.form (field_size field.now) digits.now ≡ None) }
 {
     match field.form {
         NumberForm::Packed => zoned_to_packed(digits, bytes),

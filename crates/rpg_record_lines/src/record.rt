@@ -1,8 +1,8 @@
 //! A line as a record.
 
 ghost use Rattle.std.specs.Prelude.{◌≡◌, ◌≤◌, length, Ok, Err, IfErr, OnOk};
-ghost use Rattle.rpg_record_lines.specs.Outcomes.{IsFaultOf};
-ghost use Rattle.rpg_record_lines.specs.Records.{bytes_from, widened};
+ghost use Rattle.rpg_record_lines.specs.Outcomes.{IsLineFaultOf};
+ghost use Rattle.rpg_record_lines.specs.Records.{bytes_of_characters, widened};
 
 use crate::fault::{LineFault, RecordFault};
 use crate::line::{Converter, card_of, is_card};
@@ -18,8 +18,8 @@ impl<'a> Converter<'a> {
     #[tactic(auto, using(crate::proofs::DigitLemmas::joined_empty, crate::proofs::DigitLemmas::joined_nothing, crate::proofs::RecordLemmas::bytes_next, crate::proofs::RecordLemmas::bytes_bad))]
     fn write_characters(&self, columns: &[u8], bytes: &mut [u8]) -> Result<(), RecordFault>
         requires { length columns.now ≡ length bytes.old }
-        ensures bytes { OnOk result (bytes_from (page_of_records self.now) 0 columns.now ≡ Ok bytes.new) }
-        ensures fault { IfErr result (λ fault. bytes_from (page_of_records self.now) 0 columns.now ≡ Err fault) }
+        ensures bytes { OnOk result (bytes_of_characters (page_of_records self.now) 0 columns.now ≡ Ok bytes.new) }
+        ensures fault { IfErr result (λ fault. bytes_of_characters (page_of_records self.now) 0 columns.now ≡ Err fault) }
     {
         for (place, character) in columns.iter().enumerate() {
             if !is_character(*character) {
@@ -72,7 +72,7 @@ impl<'a> Converter<'a> {
     /// The line has no record, or memory ran out. What was written is then unusable.
     pub fn write_record(&self, line: &mut Vec<u8>, bytes: &mut Vec<u8>) -> Result<(), LineFault>
         ensures bytes { OnOk result (record_by self.now line.old.items ≡ Ok bytes.new.items) }
-        ensures fault { IfErr result (IsFaultOf (record_by self.now line.old.items)) }
+        ensures fault { IfErr result (IsLineFaultOf (record_by self.now line.old.items)) }
     {
         let length = self.length();
         bytes.resize(length, 0)?;

@@ -10,7 +10,7 @@ use Rattle.std.proofs.lemmas.List.Folds.{list_all-append, list_all_at}
 use Rattle.std.specs.List.{list_all}
 use Rattle.rpg_decimal_words.specs.Place.{place_value, lowest_digits, signed_number}
 use Rattle.rpg_decimal_words.specs.Zoned.{last_of}
-use Rattle.rpg_records.specs.Packed.{halves, is_figure, is_sign, is_minus_sign, packed_digits, packed_sign, is_packed, packed_number, packed_in, pair_byte, lowest_pairs, sign_of, packed_bytes}
+use Rattle.rpg_records.specs.Packed.{halves, is_figure, is_sign, is_minus_sign, packed_digits, packed_sign, is_packed, packed_number, packed_in, pair_byte, lowest_pairs, sign_digit, packed_bytes}
 use Rattle.rpg_decimal.proofs.PlaceLemmas.{place_value-append, place_value_push, place_value-digits}
 
 -- ---- halves
@@ -138,14 +138,14 @@ pub figures-digits : (k n : ℕ) → list_all is_figure (lowest_digits k n) ≡ 
 figures-digits zero n = refl
 figures-digits (suc k) n = let one : is_figure (n / 10 ^ k % 10) ≡ true = grind (arith, nat_tests) in and_from _ _ one (figures-digits k n)
 
-sign_pos : (a : ℕ) → sign_of (pos a) ≡ 15
+sign_pos : (a : ℕ) → sign_digit (pos a) ≡ 15
 sign_pos a = ap (λ b. cond b 13 15) (le-ltb a 0 (omega arith))
 
-sign_bound : (n : ℤ) → (sign_of n < 16) × (10 ≤ sign_of n)
+sign_bound : (n : ℤ) → (sign_digit n < 16) × (10 ≤ sign_digit n)
 sign_bound (pos a) = let e = sign_pos a in (omega (arith, e), omega (arith, e))
 sign_bound (negsuc a) = (omega arith, omega arith)
 
-sign_back : (n : ℤ) → (if is_minus_sign (sign_of n) then neg_ℤ (pos (unsigned_abs n)) else pos (unsigned_abs n)) ≡ n
+sign_back : (n : ℤ) → (if is_minus_sign (sign_digit n) then neg_ℤ (pos (unsigned_abs n)) else pos (unsigned_abs n)) ≡ n
 sign_back (pos a) = ap (λ s. if is_minus_sign s then neg_ℤ (pos a) else pos a) (sign_pos a)
 sign_back (negsuc a) = refl
 
@@ -153,10 +153,10 @@ pub packed_back : (k : ℕ) (n : ℤ) → 1 ≤ k → unsigned_abs n < 10 ^ (2 *
 packed_back k n low fits =
     let size = unsigned_abs n in
     let front = lowest_pairs (k - 1) (size / 10) in
-    let b = size % 10 * 16 + sign_of n in
+    let b = size % 10 * 16 + sign_digit n in
     let bound = sign_bound n in
     let digit : b / 16 ≡ size % 10 = omega (arith, bound.0) in
-    let sign : b % 16 ≡ sign_of n = omega (arith, bound.0) in
+    let sign : b % 16 ≡ sign_digit n = omega (arith, bound.0) in
     let front_is = halves-pairs (k - 1) (size / 10) in
     let power : 10 ^ (2 * k - 1) ≡ 10 ^ (2 * (k - 1)) * 10 =
     let e : 2 * k - 1 ≡ suc (2 * (k - 1)) = omega arith in ap (λ j. 10 ^ j) e ∙ pow-suc 10 (2 * (k - 1)) in

@@ -46,11 +46,11 @@ page_byte pages.Ascii c = c
 -- ---- a table of characters
 
 -- the number of a kind of columns
-abbrev pub row_of : Column → ℕ
-row_of columns.Text = 0
-row_of columns.LastPlace = 1
-row_of columns.Number = 2
-row_of columns.Unnamed = 3
+abbrev pub column_kind_number : Column → ℕ
+column_kind_number columns.Text = 0
+column_kind_number columns.LastPlace = 1
+column_kind_number columns.Number = 2
+column_kind_number columns.Unnamed = 3
 
 -- the kind of columns of that number
 abbrev pub column_at : ℕ → Column

@@ -27,5 +27,5 @@ most_digits [] = 0
 most_digits (t ∷ ts) = max (digits_after t) (most_digits ts)
 
 -- how many columns the longest line has
-abbrev pub columns_of : Layout → ℕ
-columns_of layout = counted (most_digits layout.types.items + layout.length)
+abbrev pub longest_line : Layout → ℕ
+longest_line layout = counted (most_digits layout.types.items + layout.length)

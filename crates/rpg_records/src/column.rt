@@ -1,7 +1,7 @@
 //! What stands in a column of a record.
 
 ghost use Rattle.std.specs.Prelude.{◌≡◌};
-ghost use Rattle.rpg_records.specs.Columns.{row_of};
+ghost use Rattle.rpg_records.specs.Columns.{column_kind_number};
 
 /// What stands in a column of a record, which settles the character of its byte.
 #[derive(Clone, Copy)]
@@ -20,7 +20,7 @@ impl Column {
     /// Its row in a translation's table.
     #[inline(always)]
     pub(crate) fn row(self) -> usize
-        ensures { result ≡ row_of self }
+        ensures { result ≡ column_kind_number self }
     {
         match self {
             Column::Text => 0,

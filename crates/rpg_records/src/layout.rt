@@ -107,11 +107,11 @@ pub struct Layout {
 }
 
 impl Layout {
-    ghost use Rattle.rpg_records.specs.Sizes.{columns_of};
+    ghost use Rattle.rpg_records.specs.Sizes.{longest_line};
 
     /// How many columns the longest line has.
     pub fn columns(&self) -> usize
-        ensures { result ≡ columns_of self.now }
+        ensures { result ≡ longest_line self.now }
     {
         let mut most = 0;
         for kind in self.types.as_slice() {

@@ -9,7 +9,7 @@ use Rattle.rpg_refusal_causes.proofs.HasLine.{line_has}
 use Rattle.rpg_refusal_causes.proofs.HasPlace.{judged, place_has, places_are}
 use Rattle.rpg_refusal_causes.proofs.HasSubroutine.{subroutine_has}
 use Rattle.rpg_refusal_causes.proofs.HasType.{type_has}
-use Rattle.rpg_refusal_causes.specs.Causes.{cause_in, cause_of, row_breaks}
+use Rattle.rpg_refusal_causes.specs.Causes.{cause_in, refusal_cause_of, row_breaks}
 use Rattle.rpg_refusal_causes.specs.LineCauses.{line_cause}
 use Rattle.rpg_refusal_causes.specs.PlaceCauses.{all_placed, place_cause, placed_at}
 use Rattle.rpg_refusal_causes.specs.TypeCauses.{type_cause}
@@ -51,19 +51,19 @@ pub breaks : (p : Object) (r : Rule) (row : ℕ) → IsBroken rule_number (broke
 breaks p r row h = ap (λ o. unwrap_or o false) h
 
 -- the cause of a row that breaks a rule
-pub cause_is : (p : Object) (r : Rule) (row : ℕ) → IsBroken rule_number (broken p) r row → cause_of p r row ≡ cause_in p r row
+pub cause_is : (p : Object) (r : Rule) (row : ℕ) → IsBroken rule_number (broken p) r row → refusal_cause_of p r row ≡ cause_in p r row
 cause_is p r row h = ap (λ b. cond b (cause_in p r row) None) (breaks p r row h)
 
 pub never_none : (p : Object) (r : Rule) (row : ℕ) → IsBroken rule_number (broken p) r row → None ≡ cause_in p r row → ⊥
 never_none p r row h none = false≢true (ap is_some none ∙ cause_has p r row (breaks p r row h))
 
-pub exact : (p : Object) (r : Rule) (row : ℕ) → IsSome (cause_of p r row) ↔ IsBroken rule_number (broken p) r row
+pub exact : (p : Object) (r : Rule) (row : ℕ) → IsSome (refusal_cause_of p r row) ↔ IsBroken rule_number (broken p) r row
 exact p r row = (there, having)
   where
-    there : IsSome (cause_of p r row) → IsBroken rule_number (broken p) r row
+    there : IsSome (refusal_cause_of p r row) → IsBroken rule_number (broken p) r row
     there h = broken_is (slice_get (broken p r) row) (guarded (row_breaks p r row) (cause_in p r row) h)
 
-    having : IsBroken rule_number (broken p) r row → IsSome (cause_of p r row)
+    having : IsBroken rule_number (broken p) r row → IsSome (refusal_cause_of p r row)
     having h = ap is_some (cause_is p r row h) ∙ cause_has p r row (breaks p r row h)
 
 -- what is found is a refusal, since a row that breaks a rule has a cause

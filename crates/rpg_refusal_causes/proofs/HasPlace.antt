@@ -19,7 +19,7 @@ use Rattle.rpg_program.specs.declared.section.Section.TheVariants.{Detail, Total
 use Rattle.rpg_program.specs.declared.spans.Span.{Span}
 use Rattle.rpg_refusal_causes.proofs.First.{one_of_two, some_front, some_if, some_later, some_unless}
 use Rattle.rpg_refusal_causes.specs.First.{cause_if}
-use Rattle.rpg_refusal_causes.specs.PlaceCauses.{all_placed, call_cause, column_cause, entries_cause, found_cause, marked_cause, marks_cause, operand_cause, place_cause, placed_after_detail, placed_in, placed_in_subroutines, search_cause, short_cause, target_cause, unordered_cause}
+use Rattle.rpg_refusal_causes.specs.PlaceCauses.{all_placed, call_cause, column_cause, entries_cause, found_cause, marked_cause, marks_cause, instruction_operand_cause, place_cause, placed_after_detail, placed_in, placed_in_subroutines, search_cause, short_cause, target_cause, unordered_cause}
 use Rattle.rpg_refusal_causes.specs.declared.cause.Column.{Column}
 use Rattle.rpg_refusal_causes.specs.declared.cause.Column.TheVariants as column_names
 use Rattle.rpg_refusal_causes.specs.declared.cause.Placed.{Placed}
@@ -43,7 +43,7 @@ module _ (test : Use (Operand ℕ) → Bool) where
   column_has c None h = absurd (false≢true (sym h))
   column_has c (Some u) h = some_unless (test u) (causes.Operand c u) h
 
-  operand_has : (r : Row (Operand ℕ)) → not (all_of test r) ≡ true → is_some (operand_cause (λ u. not (test u)) r) ≡ true
+  operand_has : (r : Row (Operand ℕ)) → not (all_of test r) ≡ true → is_some (instruction_operand_cause (λ u. not (test u)) r) ≡ true
   operand_has r h =
       one_of_three (all_used test r.factor1) (all_used test r.factor2) (all_used test r.result)
       (column_cause (λ u. not (test u)) column_names.Factor1 r.factor1) (column_cause (λ u. not (test u)) column_names.Factor2 r.factor2) (column_cause (λ u. not (test u)) column_names.Result r.result)
@@ -58,7 +58,7 @@ module _ (good known : Use (Operand ℕ) → Bool) where
       by_good true e = some_unless (known u) (causes.Operand c u) e
       by_good false e = absurd (false≢true (sym e))
 
-  kinds_have : (r : Row (Operand ℕ)) → not (all_of known (those_passing good r)) ≡ true → is_some (operand_cause (λ u. good u && not (known u)) r) ≡ true
+  kinds_have : (r : Row (Operand ℕ)) → not (all_of known (those_passing good r)) ≡ true → is_some (instruction_operand_cause (λ u. good u && not (known u)) r) ≡ true
   kinds_have r h =
       one_of_three (all_used known (passing good r.factor1)) (all_used known (passing good r.factor2)) (all_used known (passing good r.result))
       (column_cause (λ u. good u && not (known u)) column_names.Factor1 r.factor1) (column_cause (λ u. good u && not (known u)) column_names.Factor2 r.factor2) (column_cause (λ u. good u && not (known u)) column_names.Result r.result)
@@ -121,7 +121,7 @@ search_has : (p : Object) (i : Instruction ℕ) (r : Row (Operand ℕ)) → not 
 unfolding holds_positions
 search_has p i r h =
     one_of_two (all_of (is_current_table (form_at p.fields)) r) (all_used (λ u. not (is_searched (form_at p.fields) u.shape) || holds_all (form_at p.fields) r.result u) r.factor2)
-    (operand_cause (λ u. not (is_current_table (form_at p.fields) u)) r) (found_cause p r.result r.factor2)
+    (instruction_operand_cause (λ u. not (is_current_table (form_at p.fields) u)) r) (found_cause p r.result r.factor2)
     (operand_has (is_current_table (form_at p.fields)) r) (found_have p r.result r.factor2) h
 
 target_has : (p : Object) (x : Span) (s : Section) (i : Instruction ℕ) → not (stays_inside p s i) ≡ true → is_some (target_cause x i) ≡ true

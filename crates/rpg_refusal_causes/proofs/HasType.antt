@@ -12,7 +12,7 @@ use Rattle.rpg_program.specs.declared.input.ControlField.{ControlField}
 use Rattle.rpg_program.specs.Object.{Object, input_length}
 use Rattle.rpg_refusal_causes.proofs.First.{one_of_two, some_any, some_front, some_if, some_later, some_not_all, some_unless}
 use Rattle.rpg_refusal_causes.specs.First.{cause_if, first_cause}
-use Rattle.rpg_refusal_causes.specs.TypeCauses.{code_cause, control_cause, input_cause, level_cause, levels_cause, match_cause, matches_cause, shown_cause, twice_cause, type_cause, widths_cause}
+use Rattle.rpg_refusal_causes.specs.TypeCauses.{code_cause, control_cause, input_cause, level_length_cause, levels_cause, match_cause, matches_cause, shown_cause, twice_cause, type_cause, widths_cause}
 use Rattle.rpg_refusal_causes.specs.declared.cause.RefusalCause.{RefusalCause}
 use Rattle.rpg_refusal_causes.specs.declared.cause.RefusalCause.TheVariants as causes
 use Rattle.rpg_verify_rules.specs.Indicators.{if_any, is_of_type}
@@ -37,9 +37,9 @@ last_step false x h = refl
 
 levels_have : (level : ℕ) (ms : List ℕ) (cs : List ControlField) → not (all_measured level ms cs) ≡ true → is_some (levels_cause level ms cs) ≡ true
 levels_have level [] cs h = absurd (false≢true h)
-levels_have level (m ∷ []) cs h = last_step (is_measured m (joined_width level cs)) (level_cause level (joined_width level cs) m) h
+levels_have level (m ∷ []) cs h = last_step (is_measured m (joined_width level cs)) (level_length_cause level (joined_width level cs) m) h
 levels_have level (m ∷ n ∷ ms) cs h =
-    step (is_measured m (joined_width level cs)) (all_measured (level + 1) (n ∷ ms) cs) (levels_cause (level + 1) (n ∷ ms) cs) (level_cause level (joined_width level cs) m)
+    step (is_measured m (joined_width level cs)) (all_measured (level + 1) (n ∷ ms) cs) (levels_cause (level + 1) (n ∷ ms) cs) (level_length_cause level (joined_width level cs) m)
     (levels_have (level + 1) (n ∷ ms) cs) h
 
 -- the joined lengths of as many levels as there are others, from a level on

@@ -30,12 +30,12 @@ field_breaks V8 p len f = false
 field_breaks V9 p len f = false
 
 -- a field that breaks the rule
-abbrev pub field_cause : LineRule → Object → ℕ → ℕ → LineField ℕ → Option RefusalCause
-field_cause r p len n f = cause_if (field_breaks r p len f) (causes.Field n f)
+abbrev pub line_field_cause : LineRule → Object → ℕ → ℕ → LineField ℕ → Option RefusalCause
+line_field_cause r p len n f = cause_if (field_breaks r p len f) (causes.Field n f)
 
 -- the line's first field that breaks the rule
 abbrev pub fields_cause : LineRule → Object → LineRow → Option RefusalCause
-fields_cause r p l = first_cause (field_cause r p (file_length p l.file)) 0 l.fields
+fields_cause r p l = first_cause (line_field_cause r p (file_length p l.file)) 0 l.fields
 
 -- what in a line that breaks a rule breaks it
 unfoldable pub line_cause : LineRule → Object → LineRow → Option RefusalCause

@@ -70,8 +70,8 @@ column_cause breaks column None = None
 column_cause breaks column (Some u) = cause_if (breaks u) (causes.Operand column u)
 
 -- the first of an instruction's operands that breaks the rule
-abbrev pub operand_cause : (Use (Operand ℕ) → Bool) → Row (Operand ℕ) → Option RefusalCause
-operand_cause breaks r =
+abbrev pub instruction_operand_cause : (Use (Operand ℕ) → Bool) → Row (Operand ℕ) → Option RefusalCause
+instruction_operand_cause breaks r =
     option_or (option_or (column_cause breaks column_names.Factor1 r.factor1) (column_cause breaks column_names.Factor2 r.factor2))
     (column_cause breaks column_names.Result r.result)
 
@@ -121,7 +121,7 @@ found_cause p to (Some u) = if is_searched (form_at p.fields) u.shape then entri
 
 -- of operands that no smaller rule refuses: what is to become current is no table; else what is searched
 abbrev pub search_cause : Object → Instruction ℕ → Row (Operand ℕ) → Option RefusalCause
-search_cause p i r = option_or (operand_cause (operand_breaks V20 p i) r) (found_cause p r.result r.factor2)
+search_cause p i r = option_or (instruction_operand_cause (operand_breaks V20 p i) r) (found_cause p r.result r.factor2)
 
 -- ---- where control goes
 
@@ -141,8 +141,8 @@ call_cause p i = None
 
 -- what in an instruction that breaks a rule breaks it
 unfoldable pub place_cause : PlaceRule → Object → Placed → Option RefusalCause
-place_cause V16 p x = operand_cause (operand_breaks V16 p x.instruction) (columns p x.instruction)
-place_cause V17 p x = operand_cause (operand_breaks V17 p x.instruction) (columns p x.instruction)
+place_cause V16 p x = instruction_operand_cause (operand_breaks V16 p x.instruction) (columns p x.instruction)
+place_cause V17 p x = instruction_operand_cause (operand_breaks V17 p x.instruction) (columns p x.instruction)
 place_cause V18 p x = column_cause (operand_breaks V18 p x.instruction) column_names.Result (columns p x.instruction).result
 place_cause V19 p x = marks_cause p x.instruction
 place_cause V20 p x = search_cause p x.instruction (written_columns p x.instruction)

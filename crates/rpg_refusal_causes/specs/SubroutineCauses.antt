@@ -16,8 +16,8 @@ abbrev pub return_cause : ℕ → Instruction ℕ → Option RefusalCause
 return_cause place i = cause_if (is_return i) (causes.StrayReturn place)
 
 -- the first return in detail or total calculations
-abbrev pub stray_cause : Object → Option RefusalCause
-stray_cause p = option_or (first_cause return_cause 0 p.detail) (first_cause return_cause (length p.detail) p.total)
+abbrev pub stray_return_cause : Object → Option RefusalCause
+stray_return_cause p = option_or (first_cause return_cause 0 p.detail) (first_cause return_cause (length p.detail) p.total)
 
 -- a return of another subroutine
 abbrev pub foreign_cause : ℕ → ℕ → Instruction ℕ → Option RefusalCause
@@ -29,11 +29,11 @@ abbrev pub body_cause : ℕ → SubroutineRow → Option RefusalCause
 body_cause number s = option_or (first_cause (foreign_cause number) 0 s.instructions) (Some causes.Unended)
 
 -- the level of a subroutine
-abbrev pub level_cause : SubroutineRow → Option RefusalCause
-level_cause s = Some (causes.Level s.level)
+abbrev pub subroutine_level_cause : SubroutineRow → Option RefusalCause
+subroutine_level_cause s = Some (causes.Level s.level)
 
 -- what in a subroutine that breaks a rule breaks it; returns outside subroutines count for row 0
 unfoldable pub subroutine_cause : SubroutineRule → Object → ℕ → Option RefusalCause
 subroutine_cause V23 p row =
-    option_or (if row == 0 then stray_cause p else None) (cause_of_row (body_cause row) (slice_get p.subroutines row))
-subroutine_cause V24 p row = cause_of_row level_cause (slice_get p.subroutines row)
+    option_or (if row == 0 then stray_return_cause p else None) (cause_of_row (body_cause row) (slice_get p.subroutines row))
+subroutine_cause V24 p row = cause_of_row subroutine_level_cause (slice_get p.subroutines row)

@@ -42,14 +42,14 @@ match_cause len cs n c = option_or (cause_if (not (is_control_in len c)) (causes
 -- ---- joined lengths
 
 -- a level of so many columns, where the first type with it has others: too many, or other ones
-abbrev pub level_cause : ℕ → ℕ → ℕ → RefusalCause
-level_cause level n first = if nat_le n 256 then causes.OtherLevel level n first else causes.LongLevel level n
+abbrev pub level_length_cause : ℕ → ℕ → ℕ → RefusalCause
+level_length_cause level n first = if nat_le n 256 then causes.OtherLevel level n first else causes.LongLevel level n
 
 -- the first level from a number on that isn't as long as the first one of its kind
 abbrev pub levels_cause : ℕ → List ℕ → List ControlField → Option RefusalCause
 levels_cause level [] cs = None
 levels_cause level (m ∷ ms) cs =
-    if is_measured m (joined_width level cs) then levels_cause (level + 1) ms cs else Some (level_cause level (joined_width level cs) m)
+    if is_measured m (joined_width level cs) then levels_cause (level + 1) ms cs else Some (level_length_cause level (joined_width level cs) m)
 
 -- the first level from a number on whose match fields haven't that joined length
 abbrev pub widths_cause : ℕ → List ℕ → List ControlField → Option RefusalCause

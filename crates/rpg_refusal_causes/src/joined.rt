@@ -9,7 +9,7 @@ use rpg_verify_rules::matches::joined_in_all;
 use rpg_verify_rules::types::{is_measured, joined};
 
 fn level_cause(level: u8, columns: u128, first: u128) -> RefusalCause
-    ensures { result ≡ words.level_cause level columns first }
+    ensures { result ≡ words.level_length_cause level columns first }
 {
     if columns <= 256 {
         RefusalCause::OtherLevel {

@@ -63,7 +63,7 @@ fn field_cause(
     fields: &[LineField<u16>],
 ) -> Option<RefusalCause>
     requires { IsProgram (seen rows.now) }
-    ensures { result ≡ first_cause (words.field_cause rule (seen rows.now) length) 0 fields.now }
+    ensures { result ≡ first_cause (words.line_field_cause rule (seen rows.now) length) 0 fields.now }
 {
     for (at, field) in fields.iter().enumerate() {
         if breaks(rule, rows, length, field) {

@@ -146,7 +146,7 @@ fn operand_cause(
     instruction: Instruction<u16>,
     row: Row<Operand<u16>>,
 ) -> Option<RefusalCause>
-    ensures { result ≡ words.operand_cause (words.operand_breaks rule (seen rows.now) instruction) row }
+    ensures { result ≡ words.instruction_operand_cause (words.operand_breaks rule (seen rows.now) instruction) row }
 {
     column_cause(rule, rows, instruction, Column::Factor1, row.factor1)
         .or(column_cause(rule, rows, instruction, Column::Factor2, row.factor2))

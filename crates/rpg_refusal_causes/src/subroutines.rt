@@ -30,7 +30,7 @@ fn return_cause(first: usize, code: &[Instruction<u16>]) -> Option<RefusalCause>
 /// The first RET outside subroutines, which counts for row 0.
 fn stray_cause(rows: &Rows, row: usize) -> Option<RefusalCause>
     requires { IsProgram (seen rows.now) }
-    ensures { result ≡ (if row == 0 then words.stray_cause (seen rows.now) else None) }
+    ensures { result ≡ (if row == 0 then words.stray_return_cause (seen rows.now) else None) }
 {
     if row == 0 {
         return_cause(0, &rows.detail).or(return_cause(rows.detail.len(), &rows.total))
@@ -67,7 +67,7 @@ fn unended_cause(rows: &Rows, row: usize) -> Option<RefusalCause>
 
 #[tactic(auto, using(crate::proofs::AtRows::row_seen))]
 fn level_cause(rows: &Rows, row: usize) -> Option<RefusalCause>
-    ensures { result ≡ cause_of_row words.level_cause (slice_get (map subroutine_row rows.now.subroutines.items) row) }
+    ensures { result ≡ cause_of_row words.subroutine_level_cause (slice_get (map subroutine_row rows.now.subroutines.items) row) }
 {
     let subroutine = rows.subroutines.get(row)?;
     Some(RefusalCause::Level {

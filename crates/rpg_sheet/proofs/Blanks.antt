@@ -6,7 +6,7 @@ use Rattle.std.proofs.lemmas.Bool.{and_parts}
 use Rattle.std.proofs.lemmas.Grind.{common_steps}
 use Rattle.std.proofs.lemmas.List.{drop-take, drop-drop, take-take}
 use Rattle.rpg_sheet_specs.specs.Columns.{cols, is_filled, fault_if_some, values, at_with, also}
-use Rattle.rpg_sheet_specs.specs.Tables.{conditions, indicators, three}
+use Rattle.rpg_sheet_specs.specs.Tables.{conditions, three_indicators, three}
 use Rattle.rpg_sheet_specs.specs.Values.{blank_or}
 use Rattle.rpg_sheet_values.proofs.Characters.{all-take, all-drop}
 use Rattle.rpg_text.specs.Texts.{is_blank, all_blank}
@@ -44,8 +44,8 @@ no_conditions a card one blank =
       among_blank a (a + 8) (a + 6) (a + 8) card one (omega arith) (omega arith) (omega arith) blank,
     ) refl
 
-pub no_indicators : (a : ℕ) (card : List ℕ) → 1 ≤ a → all_blank (cols a (a + 5) card) ≡ true → Ok (three None None None) ≡ (indicators a (a + 1) (a + 2) (a + 3) (a + 4) (a + 5)).reading card
-unfolding indicators values at_with also blank_or
+pub no_indicators : (a : ℕ) (card : List ℕ) → 1 ≤ a → all_blank (cols a (a + 5) card) ≡ true → Ok (three None None None) ≡ (three_indicators a (a + 1) (a + 2) (a + 3) (a + 4) (a + 5)).reading card
+unfolding three_indicators values at_with also blank_or
 no_indicators a card one blank =
     rw (
       among_blank a (a + 5) a (a + 1) card one (omega arith) (omega arith) (omega arith) blank,

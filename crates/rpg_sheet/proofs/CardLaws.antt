@@ -1,7 +1,7 @@
 -- The law of each card, one line for each range of columns.
 use Rattle.std.proofs.Common.{ℕ, ◌+◌, ◌≤◌, lit≤}
 use Rattle.rpg_sheet_specs.specs.Columns.{Columns, also, past}
-use Rattle.rpg_sheet_specs.specs.Tables.{conditions, indicators, header, is_output_card, overflow, file_overflow, file, alternating_table, has_no_name, alternating, extension, record_codes, type_card, has_no_codes, and_codes, type_and_card, field_card, is_field_card, is_and_card, type_or_field_card, input_card, calculation_card, movement, record_card, line_conditions, output_field_card, line_or_field_card, is_or_card, line_or_card, output_card}
+use Rattle.rpg_sheet_specs.specs.Tables.{conditions, three_indicators, header, is_output_card, overflow, file_overflow, file, alternating_table, has_no_name, alternating, extension, record_codes, type_card, has_no_codes, and_codes, type_and_card, field_card, is_field_card, is_and_card, type_or_field_card, input_card, calculation_card, movement, record_card, line_conditions, output_field_card, line_or_field_card, is_or_card, line_or_card, output_card}
 use Rattle.rpg_sheet.proofs.Laws.{IsTable, IsTable-lower, values_law, at_law, blank_law, also_law, past_law, where_law}
 
 infixl 7 ◌⊛◌
@@ -18,8 +18,8 @@ unfolding conditions
 conditions_law {low} h1 h2 h3 h4 h5 h6 = values_law _ low ⊛ at_law _ h1 h2 ⊛ at_law _ h3 h4 ⊛ at_law _ h5 h6
 
 -- three indicators
-indicators_law : {low a b c d e f : ℕ} → low ≤ a → a ≤ b → b + 1 ≤ c → c ≤ d → d + 1 ≤ e → e ≤ f → IsTable (indicators a b c d e f) low (f + 1)
-unfolding indicators
+indicators_law : {low a b c d e f : ℕ} → low ≤ a → a ≤ b → b + 1 ≤ c → c ≤ d → d + 1 ≤ e → e ≤ f → IsTable (three_indicators a b c d e f) low (f + 1)
+unfolding three_indicators
 indicators_law {low} h1 h2 h3 h4 h5 h6 = values_law _ low ⊛ at_law _ h1 h2 ⊛ at_law _ h3 h4 ⊛ at_law _ h5 h6
 
 pub header_law : IsTable header 7 75

@@ -15,7 +15,7 @@ use Rattle.rpg_text.specs.Texts.{is_character}
 use Rattle.rpg_sheet_specs.specs.Cards.{card_of, begins_data, ends_source, is_sheet, form_type, sheet_place}
 use Rattle.rpg_sheet_specs.specs.Specs.{spec_of, specs_from}
 use Rattle.rpg_sheet.specs.Readable.{has_bad_column}
-use Rattle.rpg_sheet.specs.Sheet.{comes_after, is_data_behind, line_code, fault_columns, fault_behind, source}
+use Rattle.rpg_sheet.specs.Sheet.{comes_after, is_data_behind, line_code, sheet_fault_columns, fault_behind, source}
 use Rattle.rpg_sheet.specs.Seen.{AreLinesSeen, form_code, sheet_code, code_seen}
 use Rattle.rpg_sheet.proofs.Padding.{card_characters}
 
@@ -151,7 +151,7 @@ fault_behind-good earlier more count latest behind line seen good = rw (sym (cod
 -- a line with one
 pub fault_behind-bad : (earlier : List (List ℕ)) (text rest : List ℕ) (count latest : ℕ) (behind : Bool) (line : List ℕ) (code : SheetCode) → lines text ≡ line ∷ lines rest
     → AreLinesSeen earlier count latest behind → code_seen count latest behind line ≡ Some code
-    → fault_behind earlier (source text) ≡ Some (At (count + 1) code (fault_columns behind (card_of line) code))
+    → fault_behind earlier (source text) ≡ Some (At (count + 1) code (sheet_fault_columns behind (card_of line) code))
 fault_behind-bad earlier text rest count latest behind line code cut seen bad =
     let first = source_begins text line rest cut in
     rw (first.1, sym (code_is_seen earlier count latest behind line seen) ∙ bad, seen.count_is, seen.behind_is) refl

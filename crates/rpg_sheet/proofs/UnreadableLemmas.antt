@@ -7,8 +7,8 @@ use Rattle.rpg_sheet.specs.declared.sheet.SheetCode.{SheetCode}
 use Rattle.rpg_sheet.specs.declared.unreadable.UnreadableCard.{UnreadableCard}
 use Rattle.rpg_sheet_specs.specs.Cards.{card_of}
 use Rattle.rpg_sheet.specs.Seen.{AreLinesSeen, code_seen}
-use Rattle.rpg_sheet.specs.Sheet.{fault_behind, fault_columns, line_code}
-use Rattle.rpg_sheet.specs.Unreadable.{refusal_of, unreadable_at, unreadable_behind}
+use Rattle.rpg_sheet.specs.Sheet.{fault_behind, sheet_fault_columns, line_code}
+use Rattle.rpg_sheet.specs.Unreadable.{reported_fault, unreadable_at, unreadable_behind}
 use Rattle.rpg_sheet.proofs.SheetLemmas.{code_is_seen, first_code}
 
 few_lines : (n : ℕ) → n ≤ 2000 → nat_lt 2000 n ≡ false
@@ -35,7 +35,7 @@ pub at_good : (earlier : List (List ℕ)) (count latest : ℕ) (behind : Bool) (
 at_good earlier count latest behind line seen good = rw (sym (code_is_seen earlier count latest behind line seen) ∙ good) refl
 
 pub at_bad : (earlier : List (List ℕ)) (count latest : ℕ) (behind : Bool) (line : List ℕ) (code : SheetCode) → AreLinesSeen earlier count latest behind → code_seen count latest behind line ≡ Some code
-    → unreadable_at earlier line ≡ record { card = count + 1; code = code; columns = fault_columns behind (card_of line) code } ∷ []
+    → unreadable_at earlier line ≡ record { card = count + 1; code = code; columns = sheet_fault_columns behind (card_of line) code } ∷ []
 at_bad earlier count latest behind line code seen bad = rw (sym (code_is_seen earlier count latest behind line seen) ∙ bad, seen.count_is, seen.behind_is) refl
 
 pub cut_short : (found all : List UnreadableCard) (earlier more : List (List ℕ)) (count : ℕ) → found ++ unreadable_behind earlier more ≡ all → count ≡ length earlier → 2000 < count → found ≡ all
@@ -59,12 +59,12 @@ few_if_good earlier line h = by (nat_le 2000 (length earlier)) refl
     by true e = absurd (never_good _ _ _ _ _ (rw e at h))
     by false e = grind (arith, common_steps)
 
-pub first_is : (earlier more : List (List ℕ)) → length earlier ≤ 2000 → fault_behind earlier more ≡ option_map refusal_of (slice_get (unreadable_behind earlier more) 0)
+pub first_is : (earlier more : List (List ℕ)) → length earlier ≤ 2000 → fault_behind earlier more ≡ option_map reported_fault (slice_get (unreadable_behind earlier more) 0)
 first_is earlier [] few = refl
 first_is earlier (line ∷ more) few = rw (few_lines (length earlier) few) (by (line_code earlier line) refl (λ fewer. first_is (earlier ++ line ∷ []) more fewer))
   where
     by : (code : Option SheetCode) → line_code earlier line ≡ code
-        → (length (earlier ++ line ∷ []) ≤ 2000 → fault_behind (earlier ++ line ∷ []) more ≡ option_map refusal_of (slice_get (unreadable_behind (earlier ++ line ∷ []) more) 0))
-        → fault_behind earlier (line ∷ more) ≡ option_map refusal_of (slice_get (unreadable_at earlier line ++ unreadable_behind (earlier ++ line ∷ []) more) 0)
+        → (length (earlier ++ line ∷ []) ≤ 2000 → fault_behind (earlier ++ line ∷ []) more ≡ option_map reported_fault (slice_get (unreadable_behind (earlier ++ line ∷ []) more) 0))
+        → fault_behind earlier (line ∷ more) ≡ option_map reported_fault (slice_get (unreadable_at earlier line ++ unreadable_behind (earlier ++ line ∷ []) more) 0)
     by (Some code) e later = rw e refl
     by None e later = rw e (later (let f = few_if_good earlier line e in omega (arith, length-append earlier (line ∷ []))))

@@ -37,30 +37,30 @@ abbrev pub sheet_behind : List (List ℕ) → List ℕ → Option FormType
 sheet_behind earlier line = sheet_of (is_data_behind earlier) (card_of line)
 
 -- the line has that fault
-abbrev pub has : List (List ℕ) → List ℕ → SheetCode → Bool
-has earlier line S1 = nat_lt 80 (length line)
-has earlier line S2 = not (list_all is_character line)
-has earlier line S3 = is_sheet (is_data_behind earlier) (card_of line) && is_none (form_type (card_of line))
-has earlier line S4 = option_map_or (λ f. list_any (λ e. comes_after (sheet_place f) (card_of e)) earlier) (sheet_behind earlier line) false
-has earlier line S5 = option_map_or (λ f. has_bad_column f (card_of line)) (sheet_behind earlier line) false
-has earlier line S6 = nat_le 2000 (length earlier)
+abbrev pub has_sheet_fault : List (List ℕ) → List ℕ → SheetCode → Bool
+has_sheet_fault earlier line S1 = nat_lt 80 (length line)
+has_sheet_fault earlier line S2 = not (list_all is_character line)
+has_sheet_fault earlier line S3 = is_sheet (is_data_behind earlier) (card_of line) && is_none (form_type (card_of line))
+has_sheet_fault earlier line S4 = option_map_or (λ f. list_any (λ e. comes_after (sheet_place f) (card_of e)) earlier) (sheet_behind earlier line) false
+has_sheet_fault earlier line S5 = option_map_or (λ f. has_bad_column f (card_of line)) (sheet_behind earlier line) false
+has_sheet_fault earlier line S6 = nat_le 2000 (length earlier)
 
 -- the least code of a line
 abbrev pub line_code : List (List ℕ) → List ℕ → Option SheetCode
-line_code earlier line = find (has earlier line) (S1 ∷ S2 ∷ S3 ∷ S4 ∷ S5 ∷ S6 ∷ [])
+line_code earlier line = find (has_sheet_fault earlier line) (S1 ∷ S2 ∷ S3 ∷ S4 ∷ S5 ∷ S6 ∷ [])
 
 -- with S5 the columns of a card's least bad value
-abbrev pub fault_columns : Bool → List ℕ → SheetCode → Option ColumnFault
-fault_columns behind card S1 = None
-fault_columns behind card S2 = None
-fault_columns behind card S3 = None
-fault_columns behind card S4 = None
-fault_columns behind card S5 = option_and_then (λ f. bad_value_columns f card) (sheet_of behind card)
-fault_columns behind card S6 = None
+abbrev pub sheet_fault_columns : Bool → List ℕ → SheetCode → Option ColumnFault
+sheet_fault_columns behind card S1 = None
+sheet_fault_columns behind card S2 = None
+sheet_fault_columns behind card S3 = None
+sheet_fault_columns behind card S4 = None
+sheet_fault_columns behind card S5 = option_and_then (λ f. bad_value_columns f card) (sheet_of behind card)
+sheet_fault_columns behind card S6 = None
 
 -- a fault with its card and its columns
 abbrev pub fault_under : List (List ℕ) → List ℕ → SheetCode → SheetFault
-fault_under earlier line code = At (length earlier + 1) code (fault_columns (is_data_behind earlier) (card_of line) code)
+fault_under earlier line code = At (length earlier + 1) code (sheet_fault_columns (is_data_behind earlier) (card_of line) code)
 
 -- the first line with a fault, of lines that follow others
 abbrev pub fault_behind : List (List ℕ) → List (List ℕ) → Option SheetFault

@@ -5,12 +5,12 @@ use Rattle.rpg_sheet.specs.declared.sheet.SheetCode.{SheetCode}
 use Rattle.rpg_sheet.specs.declared.sheet.SheetFault.{SheetFault}
 use Rattle.rpg_sheet.specs.declared.sheet.SheetFault.TheVariants.{At}
 use Rattle.rpg_sheet.specs.declared.unreadable.UnreadableCard.{UnreadableCard}
-use Rattle.rpg_sheet.specs.Sheet.{fault_columns, is_data_behind, line_code}
+use Rattle.rpg_sheet.specs.Sheet.{sheet_fault_columns, is_data_behind, line_code}
 use Rattle.rpg_sheet_specs.specs.Cards.{card_of}
 
 -- a card that can't be read, with its lowest code
 abbrev pub unreadable_by : List (List ℕ) → List ℕ → SheetCode → UnreadableCard
-unreadable_by earlier line code = record { card = length earlier + 1; code = code; columns = fault_columns (is_data_behind earlier) (card_of line) code }
+unreadable_by earlier line code = record { card = length earlier + 1; code = code; columns = sheet_fault_columns (is_data_behind earlier) (card_of line) code }
 
 -- a line that follows others, where it has a fault: with its least code
 abbrev pub unreadable_at : List (List ℕ) → List ℕ → List UnreadableCard
@@ -26,5 +26,5 @@ abbrev pub unreadable_cards : List (List ℕ) → List UnreadableCard
 unreadable_cards all = unreadable_behind [] all
 
 -- as a refusal of its source reports it
-abbrev pub refusal_of : UnreadableCard → SheetFault
-refusal_of u = At u.card u.code u.columns
+abbrev pub reported_fault : UnreadableCard → SheetFault
+reported_fault u = At u.card u.code u.columns

@@ -10,7 +10,7 @@ ghost use Rattle.rpg_sheet_specs.specs.Values as values;
 use crate::card::Card;
 use crate::columns::{at, conditions, indicators};
 use rpg_sheet_specs::{
-    CalculationSpec, ColumnFault, Condition, ControlLevel, Factor, Operation, Three,
+    CalculationSpec, ColumnFault, ConditionSpec, ControlLevel, Factor, Operation, Three,
 };
 
 pub(crate) fn calculation_card(card: &Card) -> Result<CalculationSpec, ColumnFault>
@@ -35,7 +35,7 @@ pub(crate) fn calculation_card(card: &Card) -> Result<CalculationSpec, ColumnFau
 fn calculation_with(
     card: &Card,
     control_level: ControlLevel,
-    conditions: Three<Option<Condition>>,
+    conditions: Three<Option<ConditionSpec>>,
     factor_1: Option<Factor>,
     operation: Option<Operation>,
     factor_2: Option<Factor>,
@@ -45,7 +45,7 @@ fn calculation_with(
         ⊛ columns.at 49 51 (values.blank_or values.number)
         ⊛ columns.at 52 52 (values.blank_or values.digits)
         ⊛ columns.at 53 53 (values.marked (codes "H"))
-        ⊛ tables.indicators 54 55 56 57 58 59).reading card.now }
+        ⊛ tables.three_indicators 54 55 56 57 58 59).reading card.now }
 {
     let result_field = card.optional_entry(43, 48)?;
     let length = card.optional_number(49, 51)?;

@@ -1,5 +1,5 @@
 //! What ranges of columns hold, each range read by one call. An error names the range's first column.
-#![tactic(auto, unfolding(rpg_sheet_specs::specs::Columns::values, rpg_sheet_specs::specs::Columns::at_with, rpg_sheet_specs::specs::Columns::also, rpg_sheet_specs::specs::Values::blank_or, rpg_sheet_specs::specs::Tables::conditions, rpg_sheet_specs::specs::Tables::indicators))]
+#![tactic(auto, unfolding(rpg_sheet_specs::specs::Columns::values, rpg_sheet_specs::specs::Columns::at_with, rpg_sheet_specs::specs::Columns::also, rpg_sheet_specs::specs::Values::blank_or, rpg_sheet_specs::specs::Tables::conditions, rpg_sheet_specs::specs::Tables::three_indicators))]
 
 ghost use Rattle.std.specs.Prelude.{◌≡◌, ◌+◌, ◌≤◌, None, Some, ok_or, option_map, if◌then◌else◌};
 ghost use Rattle.rpg_sheet.specs.Ranges.{AreColumns};
@@ -10,8 +10,8 @@ ghost use Rattle.rpg_text.specs.Texts.{all_blank};
 
 use crate::card::{Card, has_only_blanks};
 use rpg_sheet_specs::{
-    ColumnFault, Condition, Entry, Factor, Indicator, Operation, RecordCode, TextLiteral, Three,
-    Within, Word,
+    ColumnFault, ConditionSpec, Entry, Factor, Indicator, Operation, RecordCode, TextLiteral,
+    Three, Within, Word,
 };
 use rpg_text::is_blank;
 
@@ -116,7 +116,7 @@ impl Card {
     }
 
     /// Blank or a condition.
-    pub(crate) fn optional_condition(&self, first: u8, last: u8) -> Read<Option<Condition>>
+    pub(crate) fn optional_condition(&self, first: u8, last: u8) -> Read<Option<ConditionSpec>>
         requires columns { AreColumns first last }
         requires three { last ≡ first + 2 }
         ensures { result ≡ ok_or (values.blank_or values.condition (cols first last self.now)) (column_fault first last) }
@@ -208,7 +208,7 @@ impl Card {
 }
 
 /// Three conditions.
-pub(crate) fn conditions(card: &Card, first: u8) -> Read<Three<Option<Condition>>>
+pub(crate) fn conditions(card: &Card, first: u8) -> Read<Three<Option<ConditionSpec>>>
     requires counted { 1 ≤ first }
     requires within { first ≤ 72 }
     ensures { result ≡ (tables.conditions first (first + 2) (first + 3) (first + 5) (first + 6) (first + 8)).reading card.now }
@@ -234,7 +234,7 @@ pub(crate) fn conditions(card: &Card, first: u8) -> Read<Three<Option<Condition>
 pub(crate) fn indicators(card: &Card, first: u8) -> Read<Three<Option<Indicator>>>
     requires counted { 1 ≤ first }
     requires within { first ≤ 75 }
-    ensures { result ≡ (tables.indicators first (first + 1) (first + 2) (first + 3) (first + 4) (first + 5)).reading card.now }
+    ensures { result ≡ (tables.three_indicators first (first + 1) (first + 2) (first + 3) (first + 4) (first + 5)).reading card.now }
 {
     if has_only_blanks(card.columns(first, first + 5)) {
         return Ok(Three {

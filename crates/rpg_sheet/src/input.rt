@@ -9,7 +9,9 @@ ghost use Rattle.rpg_sheet_specs.specs.Values as values;
 
 use crate::card::{Card, has_only_blanks};
 use crate::columns::{at, indicators};
-use rpg_sheet_specs::{ColumnFault, InputField, InputSpec, RecordCode, RecordType, Three, Word};
+use rpg_sheet_specs::{
+    ColumnFault, InputFieldSpec, InputSpec, RecordCode, RecordType, Three, Word,
+};
 
 pub(crate) fn input_card(card: &Card) -> Result<InputSpec, ColumnFault>
     ensures { result ≡ tables.input_card.reading card.now }
@@ -105,7 +107,7 @@ fn record_codes(card: &Card) -> Result<Three<Option<RecordCode>>, ColumnFault>
     })
 }
 
-fn field_card(card: &Card) -> Result<InputField, ColumnFault>
+fn field_card(card: &Card) -> Result<InputFieldSpec, ColumnFault>
     ensures { result ≡ tables.field_card.reading card.now }
 {
     card.blank(17, 43)?;
@@ -123,12 +125,12 @@ fn field_with(
     to: u16,
     decimals: Option<u8>,
     name: Word<6>,
-) -> Result<InputField, ColumnFault>
+) -> Result<InputFieldSpec, ColumnFault>
     ensures { result ≡ (columns.values (tables.input_field from to decimals name)
         ⊛ columns.at 59 60 (values.blank_or tables.control_field_level)
         ⊛ columns.at 61 62 (values.blank_or tables.match_field_level)
         ⊘ columns.blank 63 64
-        ⊛ tables.indicators 65 66 67 68 69 70
+        ⊛ tables.three_indicators 65 66 67 68 69 70
         ⊘ columns.blank 71 74).reading card.now }
 {
     let level = card.optional_level(b'L', 59, 60)?;
@@ -136,7 +138,7 @@ fn field_with(
     card.blank(63, 64)?;
     let indicators = indicators(card, 65)?;
     card.blank(71, 74)?;
-    Ok(InputField {
+    Ok(InputFieldSpec {
         from,
         to,
         decimals,

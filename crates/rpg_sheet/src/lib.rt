@@ -20,11 +20,11 @@ mod unreadable;
 pub use card::Card;
 pub use first::refusal_tells_the_first;
 pub use rpg_sheet_specs::{
-    CalculationSpec, ColumnFault, ColumnRange, Condition, ControlLevel, DataCard, DataSpec, Device,
-    EditCode, Entry, EntryIndex, ExtensionSpec, Factor, FileRole, FileSpec, FormType, HeaderSpec,
-    Indicator, InputField, InputSpec, LineTime, Literal, Movement, NumericLiteral, Operation,
-    OutputField, OutputRecord, OutputSpec, RecordCode, RecordType, Spec, TableSpec, TextLiteral,
-    Three, Within, Word,
+    CalculationSpec, ColumnFault, ColumnRange, ConditionSpec, ControlLevel, DataCard, DataSpec,
+    Device, EditCode, Entry, EntryIndex, ExtensionSpec, Factor, FileRole, FileSpec, FormType,
+    HeaderSpec, Indicator, InputFieldSpec, InputSpec, LineTime, Literal, Movement, NumericLiteral,
+    Operation, OutputField, OutputRecord, OutputSpec, RecordCode, RecordType, Spec, TableSpec,
+    TextLiteral, Three, Within, Word,
 };
 pub use sheet::{Cards, SheetCode, SheetFault, sheet_place};
 pub use source::cards;

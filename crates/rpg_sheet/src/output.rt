@@ -9,7 +9,7 @@ use crate::card::{Card, has_only_blanks};
 use crate::columns::{at, conditions, optional};
 use crate::input::{is_and_card, is_field_card};
 use rpg_sheet_specs::{
-    ColumnFault, Condition, Movement, OutputField, OutputRecord, OutputSpec, Three,
+    ColumnFault, ConditionSpec, Movement, OutputField, OutputRecord, OutputSpec, Three,
 };
 
 pub(crate) fn output_card(card: &Card) -> Result<OutputSpec, ColumnFault>
@@ -94,7 +94,7 @@ fn movement(card: &Card) -> Result<Movement, ColumnFault>
 }
 
 /// Further conditions of a line.
-fn line_conditions(card: &Card) -> Result<Three<Option<Condition>>, ColumnFault>
+fn line_conditions(card: &Card) -> Result<Three<Option<ConditionSpec>>, ColumnFault>
     ensures { result ≡ tables.line_conditions.reading card.now }
 {
     card.blank(17, 22)?;

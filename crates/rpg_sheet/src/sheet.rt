@@ -5,7 +5,7 @@ ghost use Rattle.rpg_sheet_specs.specs.Cards as cards;
 ghost use Rattle.rpg_sheet_specs.specs.Specs.{data_spec_of, spec_of};
 ghost use Rattle.rpg_sheet.specs.Codes as codes;
 ghost use Rattle.rpg_sheet.specs.Seen.{sheet_code};
-ghost use Rattle.rpg_sheet.specs.Sheet.{fault_columns};
+ghost use Rattle.rpg_sheet.specs.Sheet.{sheet_fault_columns};
 ghost use Rattle.rpg_sheet.specs.declared.sheet.SheetFault.TheVariants.{NoMemory};
 
 use crate::Card;
@@ -154,7 +154,7 @@ impl Cards {
 /// What a card means after a sheet at place `latest`, or what is wrong with its form type and its columns. `behind` says whether data has begun.
 pub(crate) fn read(card: &Card, latest: u8, behind: bool) -> Result<Option<Spec>, CardFault>
     ensures ok { IfOk result (λ spec. (spec ≡ spec_of behind card.now) × (sheet_code latest behind card.now ≡ None)) }
-    ensures err { IfErr result (λ fault. (sheet_code latest behind card.now ≡ Some fault.code) × (fault.columns ≡ fault_columns behind card.now fault.code)) }
+    ensures err { IfErr result (λ fault. (sheet_code latest behind card.now ≡ Some fault.code) × (fault.columns ≡ sheet_fault_columns behind card.now fault.code)) }
 {
     if !card.is_sheet(behind) {
         return Ok(data(card, behind).map(Spec::Data));

@@ -107,7 +107,7 @@ pub(crate) fn checked(
     ensures spec { IfOk result (λ spec. spec ≡ spec_of earlier.behind columns.now) }
     ensures good { OnOk result (code_seen earlier.count earlier.latest earlier.behind line.now ≡ None) }
     ensures code { IfErr result (λ fault. code_seen earlier.count earlier.latest earlier.behind line.now ≡ Some fault.code) }
-    ensures columns { IfErr result (λ fault. fault.columns ≡ sheets.fault_columns earlier.behind columns.now fault.code) }
+    ensures columns { IfErr result (λ fault. fault.columns ≡ sheets.sheet_fault_columns earlier.behind columns.now fault.code) }
 {
     if line.len() > 80 {
         return Err(SheetCode::S1.into());
@@ -125,7 +125,7 @@ pub(crate) fn checked(
 /// What is wrong with card 2,001: that it is that card, unless it can't be read.
 fn past_last(card: &Card, latest: u8, behind: bool) -> CardFault
     ensures code { Some result.code ≡ option_or (sheet_code latest behind card.now) (Some S6) }
-    ensures columns { result.columns ≡ sheets.fault_columns behind card.now result.code }
+    ensures columns { result.columns ≡ sheets.sheet_fault_columns behind card.now result.code }
 {
     match read(card, latest, behind) {
         Ok(_) => SheetCode::S6.into(),

@@ -5,7 +5,7 @@ use Rattle.std.specs.Str.{bytes_eq}
 use Rattle.std.specs.Option.{option_map, option_or}
 use Rattle.rpg_edit_marks.specs.declared.code.EditCode.{EditCode}
 use Rattle.rpg_sheet_specs.specs.declared.indicator.Three.{Three}
-use Rattle.rpg_sheet_specs.specs.declared.indicator.Condition.{Condition}
+use Rattle.rpg_sheet_specs.specs.declared.indicator.ConditionSpec.{ConditionSpec}
 use Rattle.rpg_sheet_specs.specs.declared.header.HeaderSpec.{HeaderSpec}
 use Rattle.rpg_sheet_specs.specs.declared.file.FileSpec.{FileSpec}
 use Rattle.rpg_sheet_specs.specs.declared.file.FileRole.{FileRole}
@@ -16,7 +16,7 @@ use Rattle.rpg_sheet_specs.specs.declared.extension.TableSpec.{TableSpec}
 use Rattle.rpg_sheet_specs.specs.declared.extension.ExtensionSpec.{ExtensionSpec}
 use Rattle.rpg_sheet_specs.specs.declared.input.RecordCode.{RecordCode}
 use Rattle.rpg_sheet_specs.specs.declared.input.RecordType.{RecordType}
-use Rattle.rpg_sheet_specs.specs.declared.input.InputField.{InputField}
+use Rattle.rpg_sheet_specs.specs.declared.input.InputFieldSpec.{InputFieldSpec}
 use Rattle.rpg_sheet_specs.specs.declared.input.InputSpec.{InputSpec}
 use Rattle.rpg_sheet_specs.specs.declared.input.InputSpec.TheVariants as input
 use Rattle.rpg_sheet_specs.specs.declared.entry.Entry.{Entry}
@@ -42,12 +42,12 @@ abbrev pub three : {X : Type 0} → X → X → X → Three X
 three a b c = record { first = a; second = b; third = c }
 
 -- three conditions, each of three columns
-unfoldable pub conditions : ℕ → ℕ → ℕ → ℕ → ℕ → ℕ → Columns (Three (Option Condition))
+unfoldable pub conditions : ℕ → ℕ → ℕ → ℕ → ℕ → ℕ → Columns (Three (Option ConditionSpec))
 conditions a b c d e f = values three ⊛ at a b (blank_or condition) ⊛ at c d (blank_or condition) ⊛ at e f (blank_or condition)
 
 -- three indicators, each of two columns
-unfoldable pub indicators : ℕ → ℕ → ℕ → ℕ → ℕ → ℕ → Columns (Three (Option ℕ))
-indicators a b c d e f = values three ⊛ at a b (blank_or indicator) ⊛ at c d (blank_or indicator) ⊛ at e f (blank_or indicator)
+unfoldable pub three_indicators : ℕ → ℕ → ℕ → ℕ → ℕ → ℕ → Columns (Three (Option ℕ))
+three_indicators a b c d e f = values three ⊛ at a b (blank_or indicator) ⊛ at c d (blank_or indicator) ⊛ at e f (blank_or indicator)
 
 -- ---- H; free: 7-14
 
@@ -183,7 +183,7 @@ type_and_card = values (λ c. c)
     ⊘ blank 42 74
 
 -- the columns of an input field, in their order
-abbrev pub input_field : ℕ → ℕ → Option ℕ → List ℕ → Option ℕ → Option ℕ → Three (Option ℕ) → InputField
+abbrev pub input_field : ℕ → ℕ → Option ℕ → List ℕ → Option ℕ → Option ℕ → Three (Option ℕ) → InputFieldSpec
 input_field f t d n l m i = record { from = f; to = t; decimals = d; name = n; level = l; match_level = m; indicators = i }
 
 -- L1 to L9
@@ -195,7 +195,7 @@ abbrev pub match_field_level : List ℕ → Option ℕ
 match_field_level = level 77
 
 -- an I card of a field
-unfoldable pub field_card : Columns InputField
+unfoldable pub field_card : Columns InputFieldSpec
 field_card = values input_field
     ⊘ blank 17 43
     ⊛ at 44 47 number
@@ -205,7 +205,7 @@ field_card = values input_field
     ⊛ at 59 60 (blank_or control_field_level)
     ⊛ at 61 62 (blank_or match_field_level)
     ⊘ blank 63 64
-    ⊛ indicators 65 66 67 68 69 70
+    ⊛ three_indicators 65 66 67 68 69 70
     ⊘ blank 71 74
 
 -- AND in 14-16, and nothing before it
@@ -227,8 +227,8 @@ input_card = where_card is_and_card (values input.And ⊛ type_and_card) type_or
 -- ---- C; free: 60-74
 
 -- L0 to L9 and LR are total time
-unfoldable pub control_level : List ℕ → Option ControlLevel
-control_level text = option_or (one_of ((codes "  ", control.Detail) ∷ (codes "SR", control.Subroutine) ∷ (codes "AN", control.And) ∷ (codes "OR", control.Or) ∷ []) text) (option_map control.Total (indicator_within 100 110 text))
+unfoldable pub control_level_in : List ℕ → Option ControlLevel
+control_level_in text = option_or (one_of ((codes "  ", control.Detail) ∷ (codes "SR", control.Subroutine) ∷ (codes "AN", control.And) ∷ (codes "OR", control.Or) ∷ []) text) (option_map control.Total (indicator_within 100 110 text))
 
 -- an operation by its letters
 unfoldable pub operation : List ℕ → Option Operation
@@ -240,13 +240,13 @@ operation = one_of (
     ∷ (codes "BEGSR", op.BeginSubroutine) ∷ (codes "ENDSR", op.EndSubroutine) ∷ (codes "EXCPT", op.Except) ∷ [])
 
 -- the columns of a C card, in their order
-abbrev pub calculation_spec : ControlLevel → Three (Option Condition) → Option Factor → Option Operation → Option Factor → Option Entry → Option ℕ → Option ℕ → Bool → Three (Option ℕ) → CalculationSpec
+abbrev pub calculation_spec : ControlLevel → Three (Option ConditionSpec) → Option Factor → Option Operation → Option Factor → Option Entry → Option ℕ → Option ℕ → Bool → Three (Option ℕ) → CalculationSpec
 calculation_spec t c f o g r l d h i = record { control_level = t; conditions = c; factor_1 = f; operation = o; factor_2 = g; result_field = r; length = l; decimals = d; half_adjust = h; resulting_indicators = i }
 
 -- 54-55 plus or high, 56-57 minus or low, 58-59 zero or equal
 unfoldable pub calculation_card : Columns CalculationSpec
 calculation_card = values calculation_spec
-    ⊛ at 7 8 control_level
+    ⊛ at 7 8 control_level_in
     ⊛ conditions 9 11 12 14 15 17
     ⊛ at 18 27 (blank_or factor)
     ⊛ at 28 32 (blank_or operation)
@@ -255,7 +255,7 @@ calculation_card = values calculation_spec
     ⊛ at 49 51 (blank_or number)
     ⊛ at 52 52 (blank_or digits)
     ⊛ at 53 53 (marked (codes "H"))
-    ⊛ indicators 54 55 56 57 58 59
+    ⊛ three_indicators 54 55 56 57 58 59
 
 -- ---- O; free: 71-74
 
@@ -289,7 +289,7 @@ movement = values movement_of
     ⊛ at 21 22 (blank_or skip)
 
 -- the columns of a line, in their order
-abbrev pub output_record : Option (List ℕ) → LineTime → Movement → Three (Option Condition) → OutputRecord
+abbrev pub output_record : Option (List ℕ) → LineTime → Movement → Three (Option ConditionSpec) → OutputRecord
 output_record f t m c = record { file = f; time = t; movement = m; conditions = c }
 
 -- an O card that begins a line
@@ -303,14 +303,14 @@ record_card = values output_record
     ⊘ blank 32 70
 
 -- further conditions of a line
-unfoldable pub line_conditions : Columns (Three (Option Condition))
+unfoldable pub line_conditions : Columns (Three (Option ConditionSpec))
 line_conditions = values (λ c. c)
     ⊘ blank 17 22
     ⊛ conditions 23 25 26 28 29 31
     ⊘ blank 32 70
 
 -- the columns of an output field, in their order
-abbrev pub output_field : Three (Option Condition) → Option Entry → Option EditCode → Bool → ℕ → Option (List ℕ) → OutputField
+abbrev pub output_field : Three (Option ConditionSpec) → Option Entry → Option EditCode → Bool → ℕ → Option (List ℕ) → OutputField
 output_field c f e b n t = record { conditions = c; operand = f; code = e; blank_after = b; end = n; text = t }
 
 -- an O card of a field

@@ -10,7 +10,7 @@ use Rattle.rpg_edit_marks.specs.Code.{code_of}
 use Rattle.rpg_sheet_specs.specs.declared.entry.Entry.{Entry}
 use Rattle.rpg_sheet_specs.specs.declared.entry.EntryIndex.{EntryIndex}
 use Rattle.rpg_sheet_specs.specs.declared.entry.EntryIndex.TheVariants as indexes
-use Rattle.rpg_sheet_specs.specs.declared.indicator.Condition.{Condition}
+use Rattle.rpg_sheet_specs.specs.declared.indicator.ConditionSpec.{ConditionSpec}
 use Rattle.rpg_sheet_specs.specs.declared.input.RecordCode.{RecordCode}
 use Rattle.rpg_sheet_specs.specs.declared.literal.Literal.{Literal}
 use Rattle.rpg_sheet_specs.specs.declared.literal.Literal.TheVariants as literals
@@ -222,7 +222,7 @@ level letter (a ∷ b ∷ []) = when ((a == letter) && is_between 49 57 b) (digi
 level letter _ = None
 
 -- blank or N, and an indicator
-unfoldable pub condition : List ℕ → Option Condition
+unfoldable pub condition : List ℕ → Option ConditionSpec
 condition text =
     option_and_then (λ n. option_map (λ i. record { negated = n; indicator = i }) (indicator (drop 1 text))) (marked (codes "N") (take 1 text))
 

@@ -44,7 +44,7 @@ impl Indicator {
 
 /// An indicator that must be on, or off where it is negated.
 #[derive(Clone, Copy)]
-pub struct Condition {
+pub struct ConditionSpec {
     pub negated: bool,
     pub indicator: Indicator,
 }

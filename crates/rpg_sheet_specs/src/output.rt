@@ -1,7 +1,7 @@
 //! The output sheet (O).
 
 use crate::entry::Entry;
-use crate::indicator::{Condition, Three};
+use crate::indicator::{ConditionSpec, Three};
 use crate::literal::TextLiteral;
 use crate::within::Within;
 use crate::word::Word;
@@ -35,13 +35,13 @@ pub struct OutputRecord {
     pub file: Option<Word<8>>,
     pub time: LineTime,
     pub movement: Movement,
-    pub conditions: Three<Option<Condition>>,
+    pub conditions: Three<Option<ConditionSpec>>,
 }
 
 /// A field of the line above it.
 #[derive(Drop)]
 pub struct OutputField {
-    pub conditions: Three<Option<Condition>>,
+    pub conditions: Three<Option<ConditionSpec>>,
     pub operand: Option<Entry>,
     pub code: Option<EditCode>,
     pub blank_after: bool,
@@ -56,8 +56,8 @@ pub struct OutputField {
 pub enum OutputSpec {
     Record(OutputRecord),
     /// Further conditions of the line above it, which must hold too.
-    And(Three<Option<Condition>>),
+    And(Three<Option<ConditionSpec>>),
     /// Other conditions of the line above it.
-    Or(Three<Option<Condition>>),
+    Or(Three<Option<ConditionSpec>>),
     Field(OutputField),
 }

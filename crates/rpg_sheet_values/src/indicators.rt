@@ -4,7 +4,7 @@ ghost use Rattle.std.specs.Prelude.{◌≡◌, length};
 ghost use Rattle.rpg_sheet_specs.specs.Values as values;
 
 use crate::marks::marked;
-use rpg_sheet_specs::{Condition, Indicator, Within};
+use rpg_sheet_specs::{ConditionSpec, Indicator, Within};
 
 /// Two characters.
 #[tactic(auto, unfolding(rpg_sheet_specs::specs::Values::indicator))]
@@ -37,13 +37,13 @@ fn spelled(first: u8, second: u8) -> Option<Indicator>
 
 /// Blank or N, and an indicator.
 #[tactic(auto, unfolding(rpg_sheet_specs::specs::Values::condition))]
-pub fn condition(text: &[u8]) -> Option<Condition>
+pub fn condition(text: &[u8]) -> Option<ConditionSpec>
     requires { length text.now ≡ 3 }
     ensures { result ≡ values.condition text.now }
 {
     let negated = marked(b"N", &text[..1])?;
     let indicator = indicator(&text[1..])?;
-    Some(Condition { negated, indicator })
+    Some(ConditionSpec { negated, indicator })
 }
 
 /// An indicator whose number is in these bounds.

@@ -134,9 +134,9 @@ fn operation_of_control(text: &[u8]) -> Option<Operation>
 }
 
 /// When a calculation is done.
-#[tactic(auto, unfolding(rpg_sheet_specs::specs::Tables::control_level))]
+#[tactic(auto, unfolding(rpg_sheet_specs::specs::Tables::control_level_in))]
 pub fn control_level(text: &[u8]) -> Option<ControlLevel>
-    ensures { result ≡ tables.control_level text.now }
+    ensures { result ≡ tables.control_level_in text.now }
 {
     if is(text, b"  ") {
         Some(ControlLevel::Detail)

@@ -8,7 +8,7 @@ use Rattle.rpg_program.specs.Values.{Value}
 use Rattle.rpg_program.specs.declared.form.FieldForm.{FieldForm}
 use Rattle.rpg_program.specs.Kept.{AreValuesOf}
 use Rattle.rpg_store.specs.Contents.{by_entry, entries_from, positions_from}
-use Rattle.rpg_store.specs.Filling.{with_fields, with_positions}
+use Rattle.rpg_store.specs.Filling.{with_field_values, with_positions}
 use Rattle.rpg_store.specs.First.{joined_values}
 use Rattle.rpg_store.specs.Store.{Values}
 use Rattle.rpg_store.proofs.ByEntry.{at_only, by_entry-set, entries_total, length-positions_from, tied, ties}
@@ -43,11 +43,11 @@ pub position_stays : (m new : Values) (q i n : ℕ) (v : Value) → new ≡ maps
 position_stays m new q i n v h l = ap (λ x. maps.get x (q, n + 1)) h ∙ insert_other m (q, n + 1) (q, i + 1) v (λ e. let f : n + 1 ≡ i + 1 = ap (λ p. p.1) e in absurd (omega arith))
 
 pub next_field : (m new : Values) (k : ℕ) (vs : List Value) (vss : List (List Value)) → new ≡ with_positions m (k + 1) 1 vs → slice_get vss k ≡ Some vs →
-    with_fields new (k + 1 + 1) (drop (k + 1) vss) ≡ with_fields m (k + 1) (drop k vss)
-next_field m new k vs vss h g = ap (λ x. with_fields x (k + 1 + 1) (drop (k + 1) vss)) h ∙ ap (λ us. with_fields m (k + 1) us) (sym (drop_there vss k vs g))
+    with_field_values new (k + 1 + 1) (drop (k + 1) vss) ≡ with_field_values m (k + 1) (drop k vss)
+next_field m new k vs vss h g = ap (λ x. with_field_values x (k + 1 + 1) (drop (k + 1) vss)) h ∙ ap (λ us. with_field_values m (k + 1) us) (sym (drop_there vss k vs g))
 
-pub all_fields : (m : Values) (k : ℕ) (vss : List (List Value)) → length vss ≤ k → with_fields m (k + 1) (drop k vss) ≡ m
-all_fields m k vss h = ap (λ us. with_fields m (k + 1) us) (drop_none vss k h)
+pub all_fields : (m : Values) (k : ℕ) (vss : List (List Value)) → length vss ≤ k → with_field_values m (k + 1) (drop k vss) ≡ m
+all_fields m k vss h = ap (λ us. with_field_values m (k + 1) us) (drop_none vss k h)
 
 other_field : (vs : List Value) (m : Values) (q e : ℕ) (p : ℕ × ℕ) → (p.0 ≡ q → ⊥) → maps.get (with_positions m q e vs) p ≡ maps.get m p
 other_field [] m q e p ne = refl
@@ -89,7 +89,7 @@ empty [] h = refl
 empty (w ∷ ws) h = absurd (omega arith)
 
 fields_filled : (gs fs : List FieldForm) (ks : List (ℕ × ℕ)) (k : ℕ) (xs ws : List Value) (vss : List (List Value)) → entries_from 1 gs ≡ ks ++ entries_from k fs → length ks ≡ length xs → AreValuesOf fs vss → length ws ≡ length (entries_from k fs) →
-    with_fields (by_entry gs (xs ++ ws)) k vss ≡ by_entry gs (xs ++ joined_values vss)
+    with_field_values (by_entry gs (xs ++ ws)) k vss ≡ by_entry gs (xs ++ joined_values vss)
 fields_filled gs [] ks k xs ws [] is l h n = ap (λ ys. by_entry gs (xs ++ ys)) (empty ws n)
 fields_filled gs [] ks k xs ws (vs ∷ vss) is l h n = absurd h
 fields_filled gs (f ∷ fs) ks k xs ws [] is l h n = absurd h
@@ -102,7 +102,7 @@ fields_filled gs (f ∷ fs) ks k xs ws (vs ∷ vss) is l h n =
     let ld = length-drop (length vs) ws in
     let lk = length-append ks mine in
     let lx = length-append xs vs in
-    ap (λ m. with_fields m (k + 1) vss) (
+    ap (λ m. with_field_values m (k + 1) vss) (
     positions_filled gs xs ws vs k 1 (λ j m.
     ap (λ es. slice_get es (length xs + j)) is ∙ in_second ks (mine ++ rest) (length xs + j) j (k, 1 + j) (omega arith) (in_first mine rest j (k, 1 + j) (entry_here k 1 f.entries j (omega arith)))) (omega arith)
     ∙ ap (by_entry gs) (sym (append_assoc xs vs (drop (length vs) ws))))
@@ -110,7 +110,7 @@ fields_filled gs (f ∷ fs) ks k xs ws (vs ∷ vss) is l h n =
     ∙ ap (by_entry gs) (append_assoc xs vs (joined_values vss))
 
 -- where there is a value for each entry, all are new
-pub all_filled : (fs : List FieldForm) (ws : List Value) (vss : List (List Value)) → AreValuesOf fs vss → length ws ≡ length (entries_from 1 fs) → with_fields (by_entry fs ws) 1 vss ≡ by_entry fs (joined_values vss)
+pub all_filled : (fs : List FieldForm) (ws : List Value) (vss : List (List Value)) → AreValuesOf fs vss → length ws ≡ length (entries_from 1 fs) → with_field_values (by_entry fs ws) 1 vss ≡ by_entry fs (joined_values vss)
 all_filled fs ws vss h n = fields_filled fs fs [] 1 [] ws vss refl refl h n
 
 -- an item of a list, as it is seen

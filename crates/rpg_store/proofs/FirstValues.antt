@@ -14,7 +14,7 @@ use Rattle.rpg_program.specs.Kept.{AreEntriesOf, AreValuesOf, IsFieldRow, IsValu
 use Rattle.rpg_program.specs.Object.{Object}
 use Rattle.rpg_store.specs.Area.{AreaPart, all_number_bytes, area_slots, by_kind, bytes_in, text_bytes, number_bytes, field_parts, parts, text_value, part_value, zeros, IsArea}
 use Rattle.rpg_store.specs.Contents.{by_entry, entries_from, positions_from}
-use Rattle.rpg_store.specs.Filling.{with_fields, IsLike, MayTakeFields}
+use Rattle.rpg_store.specs.Filling.{with_field_values, IsLike, MayTakeFields}
 use Rattle.rpg_store.specs.First.{first_currents, joined_values, tables_from}
 use Rattle.rpg_store.specs.Flat.{Flat, flat_contents}
 use Rattle.rpg_store.specs.Slots.{currents, currents_from, entries_count, forms_of, slot_at}
@@ -132,7 +132,7 @@ may_take_first fs vss good h =
     let forms = forms_area 0 (all_number_bytes fs) fs in
     may_take (area_slots 0 (all_number_bytes fs) fs) (zeros (storage_of fs)) vss (zeros_area fs good) (subst (λ ds. All IsFieldRow ds) (sym forms) good) (subst (λ (ds : List FieldForm). AreValuesOf ds vss) (sym forms) h)
 
-pub first_filled : (fs : List FieldForm) (vss : List (List Value)) → AreValuesOf fs vss → with_fields (flat_contents (first_flat fs)) 1 vss ≡ by_entry fs (joined_values vss)
+pub first_filled : (fs : List FieldForm) (vss : List (List Value)) → AreValuesOf fs vss → with_field_values (flat_contents (first_flat fs)) 1 vss ≡ by_entry fs (joined_values vss)
 first_filled fs vss h =
     let ws = map (part_value (zeros (storage_of fs))) (parts (area_slots 0 (all_number_bytes fs) fs)) in
-    ap (λ (ds : List FieldForm). with_fields (by_entry ds ws) 1 vss) (forms_area 0 (all_number_bytes fs) fs) ∙ all_filled fs ws vss h (values_area fs (zeros (storage_of fs)))
+    ap (λ (ds : List FieldForm). with_field_values (by_entry ds ws) 1 vss) (forms_area 0 (all_number_bytes fs) fs) ∙ all_filled fs ws vss h (values_area fs (zeros (storage_of fs)))

@@ -17,7 +17,7 @@ use Rattle.rpg_program.specs.Kept.{AreValuesOf, IsFieldRow, IsValueOf}
 use Rattle.rpg_store.specs.Contents.{IsEntry, IsEntryAt, by_entry, entries_from}
 use Rattle.rpg_store.specs.First.{joined_values}
 use Rattle.rpg_store.specs.Store.{IsNumber, IsText}
-use Rattle.rpg_store.specs.Listed.{Listed, joined, laid_at_front, listed_contents, listed_with_text, number_part, one_value, text_part}
+use Rattle.rpg_store.specs.Listed.{Listed, paired_values, laid_at_front, listed_contents, listed_with_text, number_part, one_value, text_part}
 use Rattle.rpg_store.specs.Slots.{forms_of, spot, AreInOrder}
 use Rattle.rpg_store.specs.declared.slot.Slot.{Slot}
 use Rattle.rpg_store.proofs.ByEntry.{cut, there, by_entry-set}
@@ -45,23 +45,23 @@ one_text [] u n h = cc
 one_text (c ∷ t) u n h = cc
 
 -- a number of the list is the number there, and a text is the text there
-number_of_joined : (ts : List (List ℕ)) (ns : List ℤ) (k : ℕ) (n : ℤ) → slice_get (joined ts ns) k ≡ Some (Number n) → slice_get ns k ≡ Some n
+number_of_joined : (ts : List (List ℕ)) (ns : List ℤ) (k : ℕ) (n : ℤ) → slice_get (paired_values ts ns) k ≡ Some (Number n) → slice_get ns k ≡ Some n
 number_of_joined [] ns k n h = cc
 number_of_joined (t ∷ ts) [] k n h = cc
 number_of_joined (t ∷ ts) (m ∷ ns) zero n h = ap Some (one_number t m n (same_Some _ _ h)).1
 number_of_joined (t ∷ ts) (m ∷ ns) (suc k) n h = number_of_joined ts ns k n h
 
-text_of_joined : (ts : List (List ℕ)) (ns : List ℤ) (k : ℕ) (u : List ℕ) → slice_get (joined ts ns) k ≡ Some (Text u) → slice_get ts k ≡ Some u
+text_of_joined : (ts : List (List ℕ)) (ns : List ℤ) (k : ℕ) (u : List ℕ) → slice_get (paired_values ts ns) k ≡ Some (Text u) → slice_get ts k ≡ Some u
 text_of_joined [] ns k u h = cc
 text_of_joined (t ∷ ts) [] k u h = cc
 text_of_joined (t ∷ ts) (m ∷ ns) zero u h = ap Some (one_text t u m (same_Some _ _ h))
 text_of_joined (t ∷ ts) (m ∷ ns) (suc k) u h = text_of_joined ts ns k u h
 
 -- another number where one stands, and another text as long where one stands
-joined-set_number : (ts : List (List ℕ)) (ns : List ℤ) (k : ℕ) (n m : ℤ) → slice_get (joined ts ns) k ≡ Some (Number n) → joined ts (set ns k m) ≡ set (joined ts ns) k (Number m)
+joined-set_number : (ts : List (List ℕ)) (ns : List ℤ) (k : ℕ) (n m : ℤ) → slice_get (paired_values ts ns) k ≡ Some (Number n) → paired_values ts (set ns k m) ≡ set (paired_values ts ns) k (Number m)
 joined-set_number [] ns k n m h = cc
 joined-set_number (t ∷ ts) [] k n m h = cc
-joined-set_number (t ∷ ts) (x ∷ ns) zero n m h = ap (λ u. one_value u m ∷ joined ts ns) (one_number t x n (same_Some _ _ h)).0
+joined-set_number (t ∷ ts) (x ∷ ns) zero n m h = ap (λ u. one_value u m ∷ paired_values ts ns) (one_number t x n (same_Some _ _ h)).0
 joined-set_number (t ∷ ts) (x ∷ ns) (suc k) n m h = ap (λ vs. one_value t x ∷ vs) (joined-set_number ts ns k n m h)
 
 as_text : (t u w : List ℕ) (n : ℤ) → one_value t n ≡ Text u → length w ≡ length u → one_value w n ≡ Text w
@@ -70,10 +70,10 @@ as_text [] u [] n h l = cc
 as_text (c ∷ t) [] [] n h l = cc
 as_text (c ∷ t) (d ∷ u) [] n h l = absurd (omega arith)
 
-joined-set_text : (ts : List (List ℕ)) (ns : List ℤ) (k : ℕ) (u w : List ℕ) → slice_get (joined ts ns) k ≡ Some (Text u) → length w ≡ length u → joined (set ts k w) ns ≡ set (joined ts ns) k (Text w)
+joined-set_text : (ts : List (List ℕ)) (ns : List ℤ) (k : ℕ) (u w : List ℕ) → slice_get (paired_values ts ns) k ≡ Some (Text u) → length w ≡ length u → paired_values (set ts k w) ns ≡ set (paired_values ts ns) k (Text w)
 joined-set_text [] ns k u w h l = cc
 joined-set_text (t ∷ ts) [] k u w h l = cc
-joined-set_text (t ∷ ts) (x ∷ ns) zero u w h l = ap (λ v. v ∷ joined ts ns) (as_text t u w x (same_Some _ _ h) l)
+joined-set_text (t ∷ ts) (x ∷ ns) zero u w h l = ap (λ v. v ∷ paired_values ts ns) (as_text t u w x (same_Some _ _ h) l)
 joined-set_text (t ∷ ts) (x ∷ ns) (suc k) u w h l = ap (λ vs. one_value t x ∷ vs) (joined-set_text ts ns k u w h l)
 
 -- ---- first values
@@ -89,9 +89,9 @@ both_parts kinds.Text len (Number n) low h = absurd h
 both_parts kinds.Text len (Text []) low h = let l = h.0 in absurd (omega arith)
 both_parts kinds.Text len (Text (c ∷ t)) low h = refl
 
-joined-parts : (vs : List Value) → ((k : ℕ) (v : Value) → slice_get vs k ≡ Some v → IsBoth v) → joined (map text_part vs) (map number_part vs) ≡ vs
+joined-parts : (vs : List Value) → ((k : ℕ) (v : Value) → slice_get vs k ≡ Some v → IsBoth v) → paired_values (map text_part vs) (map number_part vs) ≡ vs
 joined-parts [] h = refl
-joined-parts (v ∷ vs) h = ap (λ x. x ∷ joined (map text_part vs) (map number_part vs)) (h 0 v refl) ∙ ap (λ xs. v ∷ xs) (joined-parts vs (λ k x is. h (suc k) x is))
+joined-parts (v ∷ vs) h = ap (λ x. x ∷ paired_values (map text_part vs) (map number_part vs)) (h 0 v refl) ∙ ap (λ xs. v ∷ xs) (joined-parts vs (λ k x is. h (suc k) x is))
 
 -- what is taken of each value, field by field
 pub flat_map_joined : {U X : Type 0} (g : Value → X) (values : U → List Value) (us : List U) → flat_map (λ u. map g (values u)) us ≡ map g (joined_values (map values us))
@@ -108,13 +108,13 @@ both_first (f ∷ fs) (vs ∷ vss) k v rows h is = elim (cut vs (joined_values v
 ]
 
 -- the first values by their texts and their numbers
-pub joined_first : (fs : List FieldForm) (vss : List (List Value)) → All IsFieldRow fs → AreValuesOf fs vss → joined (map text_part (joined_values vss)) (map number_part (joined_values vss)) ≡ joined_values vss
+pub joined_first : (fs : List FieldForm) (vss : List (List Value)) → All IsFieldRow fs → AreValuesOf fs vss → paired_values (map text_part (joined_values vss)) (map number_part (joined_values vss)) ≡ joined_values vss
 joined_first fs vss rows h = joined-parts (joined_values vss) (λ k v is. both_first fs vss k v rows h is)
 
 -- ---- an entry and its place
 
 abbrev pub listed : List Slot → List (List ℕ) → List ℤ → Listed
-listed slots ts ns = record { slots = slots; list = joined ts ns }
+listed slots ts ns = record { slots = slots; list = paired_values ts ns }
 
 -- an entry with this value, and its place in the list
 pub record At (s : Listed) (q e : ℕ) (v : Value) : Type 0 where
@@ -148,7 +148,7 @@ known_place slots ts ns s n q e is o h =
 -- ---- a number
 
 pub number_at : (slots : List Slot) (ts : List (List ℕ)) (ns : List ℤ) (q e : ℕ) (m : ℤ) (n : ℕ) → At (listed slots ts ns) q e (Number m) → n ≡ spot slots (q, e) → slice_get ns n ≡ Some m
-number_at slots ts ns q e m n a p = number_of_joined ts ns n m (ap (slice_get (joined ts ns)) p ∙ a.is)
+number_at slots ts ns q e m n a p = number_of_joined ts ns n m (ap (slice_get (paired_values ts ns)) p ∙ a.is)
 
 pub put_number : (slots : List Slot) (ts : List (List ℕ)) (ns : List ℤ) (q e : ℕ) (m : ℤ) (n : ℕ) (x : ℤ) → AreInOrder 0 slots → At (listed slots ts ns) q e (Number m) → n ≡ spot slots (q, e) →
     listed_contents (listed slots ts (set ns n x)) ≡ maps.insert (listed_contents (listed slots ts ns)) (q, e) (Number x)
@@ -160,7 +160,7 @@ put_number slots ts ns q e m n x o a p =
 -- ---- a text
 
 pub text_at : (slots : List Slot) (ts : List (List ℕ)) (ns : List ℤ) (q e : ℕ) (t : List ℕ) (n : ℕ) → At (listed slots ts ns) q e (Text t) → n ≡ spot slots (q, e) → slice_get ts n ≡ Some t
-text_at slots ts ns q e t n a p = text_of_joined ts ns n t (ap (slice_get (joined ts ns)) p ∙ a.is)
+text_at slots ts ns q e t n a p = text_of_joined ts ns n t (ap (slice_get (paired_values ts ns)) p ∙ a.is)
 
 -- what is read there is that text
 pub text_read : (vs : List (Vec ℕ Global)) (n : ℕ) (t : List ℕ) (x : Vec ℕ Global) → slice_get (map (λ v. v.items) vs) n ≡ Some t → x ≡ get_or vs n x → x.items ≡ t
@@ -188,7 +188,7 @@ lent_there slots vs ns q e t n x w a p r =
     ap (λ (us : List (List ℕ)). listed slots us ns) (map-set (λ (v : Vec ℕ Global). v.items) vs n (with_items x w) ∙ ap (λ k. set ts k (with_items x w).items) p ∙ ap (λ u. set ts (spot slots (q, e)) u) (over_items x t w r))
     ∙ ap (λ (l : List Value). record { slots = slots; list = l }) (
     joined-set_text ts ns (spot slots (q, e)) t (laid_at_front t w) a.is (long_front t w)
-    ∙ ap (λ o. set (joined ts ns) (spot slots (q, e)) (Text (laid_at_front (characters_of o) w))) (sym a.is))
+    ∙ ap (λ o. set (paired_values ts ns) (spot slots (q, e)) (Text (laid_at_front (characters_of o) w))) (sym a.is))
 
 pub wrote_there : (s : Listed) (q e : ℕ) (t w : List ℕ) → AreInOrder 0 s.slots → At s q e (Text t) → length w ≡ length t →
     listed_contents (listed_with_text s q e w) ≡ maps.insert (listed_contents s) (q, e) (Text w)

@@ -12,9 +12,9 @@ with_positions m field position [] = m
 with_positions m field position (v ∷ vs) = with_positions (map.insert m (field, position) v) field (position + 1) vs
 
 -- all positions of the fields take values, from that field on
-abbrev pub with_fields : Values → ℕ → List (List Value) → Values
-with_fields m field [] = m
-with_fields m field (vs ∷ values) = with_fields (with_positions m field 1 vs) (field + 1) values
+abbrev pub with_field_values : Values → ℕ → List (List Value) → Values
+with_field_values m field [] = m
+with_field_values m field (vs ∷ values) = with_field_values (with_positions m field 1 vs) (field + 1) values
 
 -- there is a value which may become that one: a number of so many digits, or a text as long
 abbrev pub IsLike : Option Value → ℕ → Value → Type 0

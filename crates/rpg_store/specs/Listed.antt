@@ -17,10 +17,10 @@ one_value [] n = Number n
 one_value (c ∷ t) n = Text (c ∷ t)
 
 -- the values of entries by their texts and their numbers
-abbrev pub joined : List (List ℕ) → List ℤ → List Value
-joined [] ns = []
-joined (t ∷ ts) [] = []
-joined (t ∷ ts) (n ∷ ns) = one_value t n ∷ joined ts ns
+abbrev pub paired_values : List (List ℕ) → List ℤ → List Value
+paired_values [] ns = []
+paired_values (t ∷ ts) [] = []
+paired_values (t ∷ ts) (n ∷ ns) = one_value t n ∷ paired_values ts ns
 
 -- the number of an entry, 0 where it is a text
 abbrev pub number_part : Value → ℤ

@@ -5,7 +5,7 @@ ghost use Rattle.rpg_program.specs.Values.{held};
 ghost use Rattle.rpg_program.specs.Kept.{IsFieldRow, storage_of};
 ghost use Rattle.rpg_store.specs.Area.{all_number_bytes, area_slots, length_in, start, zeros};
 ghost use Rattle.rpg_store.specs.Contents.{IsEntry};
-ghost use Rattle.rpg_store.specs.Filling.{with_fields, with_positions, MayTake, MayTakeAll, MayTakeFields};
+ghost use Rattle.rpg_store.specs.Filling.{with_field_values, with_positions, MayTake, MayTakeAll, MayTakeFields};
 ghost use Rattle.rpg_store.specs.First.{first_contents, first_currents};
 ghost use Rattle.rpg_store.specs.Flat.{flat_contents, flat_with_text};
 ghost use Rattle.rpg_store.specs.Slots.{currents, forms_of, slot_at};
@@ -152,7 +152,7 @@ fn put_field(store: &mut FlatStore, field: u16, values: &[Value])
 fn put_all(store: &mut FlatStore, values: &[Vec<Value>])
     requires few { length values.now ≤ 4000 }
     requires like { MayTakeFields (forms_of store.old.slots) (flat_contents store.old) (along (λ vs. along held vs.items) values.now) }
-    ensures contents { flat_contents store.new ≡ with_fields (flat_contents store.old) 1 (along (λ vs. along held vs.items) values.now) }
+    ensures contents { flat_contents store.new ≡ with_field_values (flat_contents store.old) 1 (along (λ vs. along held vs.items) values.now) }
     ensures currents { currents store.new.slots ≡ currents store.old.slots }
     ensures forms { forms_of store.new.slots ≡ forms_of store.old.slots }
 {

@@ -24,12 +24,12 @@ pub struct ListedStore {
 
 impl Model for ListedStore {
     ghost use Rattle.std.specs.Prelude.{map as along};
-    ghost use Rattle.rpg_store.specs.Listed.{Listed, joined};
+    ghost use Rattle.rpg_store.specs.Listed.{Listed, paired_values};
     ghost use Rattle.rpg_store.specs.Slots.{AreInOrder};
 
     ghost Value = { Listed };
 
-    ghost view = { λ s. record { slots = s.slots.items; list = joined (along (λ t. t.items) s.texts.items) s.numbers.items } };
+    ghost view = { λ s. record { slots = s.slots.items; list = paired_values (along (λ t. t.items) s.texts.items) s.numbers.items } };
 
     ghost invariant = { λ s. AreInOrder 0 s.slots.items };
 }

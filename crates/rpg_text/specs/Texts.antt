@@ -11,8 +11,8 @@ abbrev pub is_character : ℕ → Bool
 is_character c = is_between 32 126 c
 
 -- a question mark replaces what is no character, so that no control code reaches a terminal
-abbrev pub shown : ℕ → ℕ
-shown c = if is_character c then c else 63
+abbrev pub printable : ℕ → ℕ
+printable c = if is_character c then c else 63
 
 -- a blank
 abbrev pub is_blank : ℕ → Bool

@@ -2,7 +2,7 @@
 
 ghost use Rattle.std.specs.Prelude.{◌≡◌};
 ghost use Rattle.std.specs.List.{list_all};
-ghost use Rattle.rpg_text.specs.Texts.{is_character, shown};
+ghost use Rattle.rpg_text.specs.Texts.{is_character, printable};
 
 /// Whether a byte is a character: 0x20 to 0x7E.
 #[inline(always)]
@@ -14,7 +14,7 @@ pub fn is_character(byte: u8) -> bool
 
 /// How a byte of foreign text is shown: a character as it is, all else as a question mark.
 pub fn shown(byte: u8) -> u8
-    ensures { result ≡ shown byte }
+    ensures { result ≡ printable byte }
 {
     if is_character(byte) { byte } else { b'?' }
 }

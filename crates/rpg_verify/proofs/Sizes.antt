@@ -5,7 +5,7 @@ use Rattle.std.proofs.lemmas.Nat.{mul-le}
 use Rattle.rpg_program.specs.Control.{always_goes}
 use Rattle.rpg_program.specs.Forms.{entries_of, form_at}
 use Rattle.rpg_program.specs.Input.{TypeRow}
-use Rattle.rpg_program.specs.Instructions.{columns_of}
+use Rattle.rpg_program.specs.Instructions.{instruction_columns}
 use Rattle.rpg_program.specs.Weights.{exceptions_of, exceptions_weight, goes_through, instruction_weight, is_exception, is_in_cycle, lines_weight, overflow_weight, row_weight, types_weight, use_weight}
 use Rattle.rpg_program.specs.declared.form.FieldForm.{FieldForm}
 use Rattle.rpg_program.specs.declared.line.Time.{Time}
@@ -81,7 +81,7 @@ exceptions_light exceptions (Return n) = omega arith
 pub weight_light : (fields : List FieldForm) → All IsFieldRow fields → (exceptions : ℕ) → exceptions ≤ 201000 → (i : Instruction ℕ) → instruction_weight (form_at fields) exceptions i ≤ heaviest
 unfolding instruction_weight row_weight
 weight_light fields h exceptions e i =
-    let u = use_light fields h (columns_of (form_at fields) i).factor2 in
+    let u = use_light fields h (instruction_columns (form_at fields) i).factor2 in
     let x = exceptions_light exceptions i in
     omega (arith, u, x, e)
 

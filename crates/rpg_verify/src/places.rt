@@ -6,7 +6,7 @@ ghost use Rattle.rpg_program.specs.Kept.{IsProgram};
 ghost use Rattle.rpg_program.specs.Object.{seen, subroutine_row};
 ghost use Rattle.rpg_program.specs.Spans.{IsSpan};
 ghost use Rattle.rpg_program.specs.declared.section.Section.TheVariants as section_names;
-ghost use Rattle.rpg_verify.specs.Spans.{span_of};
+ghost use Rattle.rpg_verify.specs.Spans.{span_of_subroutine};
 ghost use Rattle.rpg_verify_rules.specs.Least.{first_true};
 ghost use Rattle.rpg_verify_rules.specs.PlaceRules as words;
 ghost use Rattle.rpg_verify_rules.specs.Rules.{broken};
@@ -77,7 +77,7 @@ fn first_in_subroutine(
     subroutine: &Subroutine,
 ) -> Option<usize>
     requires few { first + length subroutine.now.instructions.items ≤ 8192 }
-    requires span { IsSpan (seen rows.now) (span_of number first subroutine.now) }
+    requires span { IsSpan (seen rows.now) (span_of_subroutine number first subroutine.now) }
     ensures place { result ≡ position (words.place_breaks rule (seen rows.now) (section_names.Subroutine number)) subroutine.now.instructions.items }
     ensures within { IfSome result (λ k. k < length subroutine.now.instructions.items) }
 {

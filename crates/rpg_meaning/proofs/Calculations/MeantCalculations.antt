@@ -21,11 +21,11 @@ use Rattle.rpg_sheet_specs.specs.declared.calculation.Operation.TheVariants as o
 use Rattle.rpg_sheet_specs.specs.declared.entry.Entry.{Entry}
 use Rattle.rpg_sheet_specs.specs.declared.entry.EntryIndex.{EntryIndex}
 use Rattle.rpg_sheet_specs.specs.declared.entry.EntryIndex.TheVariants as entry
-use Rattle.rpg_sheet_specs.specs.declared.indicator.Condition as written
+use Rattle.rpg_sheet_specs.specs.declared.indicator.ConditionSpec as written
 use Rattle.rpg_sheet_specs.specs.declared.literal.Factor.{Factor}
 use Rattle.rpg_sheet_specs.specs.declared.literal.Factor.TheVariants as factor
 use Rattle.rpg_sheet_specs.specs.declared.literal.Literal.TheVariants as literal
-use Rattle.rpg_job.specs.Calculations.{asked_else, asked_further, asked_on, meant_calculation, meant_calculations, done_by, entry_named, meant_factor, first_or, is_and_or, is_or_card, joined_after, meant_level, meant_name, meant_result, meant_from}
+use Rattle.rpg_job.specs.Calculations.{asked_else, asked_further, filled_conditions_on, meant_calculation, meant_calculations, done_by, entry_named, meant_factor, first_or, is_continuation, is_or_calculation, joined_after, meant_level, meant_name, meant_result, meant_from}
 
 append_none : {X : Type 0} (xs : List X) → xs ++ [] ≡ xs
 append_none [] = refl
@@ -104,8 +104,8 @@ level_same control.Subroutine = refl
 level_same control.And = refl
 level_same control.Or = refl
 
-tests_by : (cl : ControlLevel) (a b c : Option written.Condition) (k : CalculationSpec)
-    → tests_on (record k { conditions = record { first = a; second = b; third = c } }) ≡ asked_on (record k { conditions = record { first = a; second = b; third = c } })
+tests_by : (cl : ControlLevel) (a b c : Option written.ConditionSpec) (k : CalculationSpec)
+    → tests_on (record k { conditions = record { first = a; second = b; third = c } }) ≡ filled_conditions_on (record k { conditions = record { first = a; second = b; third = c } })
 tests_by cl None None None k = refl
 tests_by cl None None (Some z) k = refl
 tests_by cl None (Some y) None k = refl
@@ -115,13 +115,13 @@ tests_by cl (Some x) None (Some z) k = refl
 tests_by cl (Some x) (Some y) None k = refl
 tests_by cl (Some x) (Some y) (Some z) k = refl
 
-tests_same : (k : CalculationSpec) → tests_on k ≡ asked_on k
+tests_same : (k : CalculationSpec) → tests_on k ≡ filled_conditions_on k
 tests_same k = tests_by k.control_level k.conditions.first k.conditions.second k.conditions.third k
 
-or_same : (k : CalculationSpec) → is_or k.control_level ≡ is_or_card k
+or_same : (k : CalculationSpec) → is_or k.control_level ≡ is_or_calculation k
 or_same k = by k.control_level
   where
-    by : (c : ControlLevel) → is_or c ≡ is_or_card (record k { control_level = c })
+    by : (c : ControlLevel) → is_or c ≡ is_or_calculation (record k { control_level = c })
     by control.Detail = refl
     by (control.Total n) = refl
     by control.Subroutine = refl
@@ -131,13 +131,13 @@ or_same k = by k.control_level
 alternatives_same : (so_far : List Conditions) (ks : List CalculationSpec) → alternatives so_far ks ≡ (so_far ++ asked_further ks) ∷ asked_else ks
 alternatives_same so_far [] = λ i. sym (append_none so_far) i ∷ []
 alternatives_same so_far (k ∷ ks) =
-    (λ i. cond (or_same k i) (so_far ∷ alternatives (tests_same k i) ks) (alternatives (so_far ++ tests_same k i) ks)) ∙ by (is_or_card k) (λ s. alternatives_same s ks)
+    (λ i. cond (or_same k i) (so_far ∷ alternatives (tests_same k i) ks) (alternatives (so_far ++ tests_same k i) ks)) ∙ by (is_or_calculation k) (λ s. alternatives_same s ks)
   where
     by : (b : Bool) → ((s : List Conditions) → alternatives s ks ≡ (s ++ asked_further ks) ∷ asked_else ks)
-        → cond b (so_far ∷ alternatives (asked_on k) ks) (alternatives (so_far ++ asked_on k) ks)
-        ≡ (so_far ++ cond b [] (asked_on k ++ asked_further ks)) ∷ cond b ((asked_on k ++ asked_further ks) ∷ asked_else ks) (asked_else ks)
-    by true rest = λ i. sym (append_none so_far) i ∷ rest (asked_on k) i
-    by false rest = rest (so_far ++ asked_on k) ∙ (λ i. append_twice so_far (asked_on k) (asked_further ks) i ∷ asked_else ks)
+        → cond b (so_far ∷ alternatives (filled_conditions_on k) ks) (alternatives (so_far ++ filled_conditions_on k) ks)
+        ≡ (so_far ++ cond b [] (filled_conditions_on k ++ asked_further ks)) ∷ cond b ((filled_conditions_on k ++ asked_further ks) ∷ asked_else ks) (asked_else ks)
+    by true rest = λ i. sym (append_none so_far) i ∷ rest (filled_conditions_on k) i
+    by false rest = rest (so_far ++ filled_conditions_on k) ∙ (λ i. append_twice so_far (filled_conditions_on k) (asked_further ks) i ∷ asked_else ks)
 
 calculation_same : (k : CalculationSpec) (ks : List CalculationSpec) → calculation_of (record { first = k; followers = ks }) ≡ meant_calculation k ks
 calculation_same k ks = λ i. record {
@@ -149,7 +149,7 @@ calculation_same k ks = λ i. record {
 
 -- ---- groups
 
-joins_same : (c : ControlLevel) → joins c ≡ is_and_or c
+joins_same : (c : ControlLevel) → joins c ≡ is_continuation c
 joins_same control.Detail = refl
 joins_same (control.Total n) = refl
 joins_same control.Subroutine = refl
@@ -167,9 +167,9 @@ completed_same k ks (c ∷ cs) = by (calculation_on c.spec) (λ ls. completed_sa
 
     by : (o : Option CalculationSpec) → ((ls : List CalculationSpec) → completed (record { first = k; followers = ls }) cs ≡ record { first = k; followers = ls ++ joined_after cs })
         → option_map_or (λ j. cond (joins j.control_level) (completed (record { first = k; followers = ks ++ j ∷ [] }) cs) (record { first = k; followers = ks })) o (record { first = k; followers = ks })
-        ≡ record { first = k; followers = ks ++ option_map_or (λ j. cond (is_and_or j.control_level) (j ∷ joined_after cs) []) o [] }
+        ≡ record { first = k; followers = ks ++ option_map_or (λ j. cond (is_continuation j.control_level) (j ∷ joined_after cs) []) o [] }
     by None rest = λ i. record { first = k; followers = sym (append_none ks) i }
-    by (Some j) rest = (λ i. cond (joins_same j.control_level i) (completed (record { first = k; followers = ks ++ j ∷ [] }) cs) (record { first = k; followers = ks })) ∙ by_join j (is_and_or j.control_level) rest
+    by (Some j) rest = (λ i. cond (joins_same j.control_level i) (completed (record { first = k; followers = ks ++ j ∷ [] }) cs) (record { first = k; followers = ks })) ∙ by_join j (is_continuation j.control_level) rest
 
 -- after the last card read of an open group
 tail_of : CalculationGroup → List SpecCard → List (Calculation Key)
@@ -205,10 +205,10 @@ module _ (cs : List SpecCard) where
       → xs ≡ option_to_list (option_map calculation_of (cond (goes_on cs) None (option_map (group_with (Some g)) o))) ++ calculations_from (option_map (group_with (Some g)) o) cs []
       → option_to_list (option_map calculation_of (cond (option_map_or (λ k. joins k.control_level) o false) None (Some g))) ++ xs
       ≡ calculation_of (option_map_or (λ k. cond (joins k.control_level) (completed (joined_group g k) cs) g) o g)
-      ∷ (option_map_or (λ k. cond (is_and_or k.control_level) [] (meant_calculation k (joined_after cs) ∷ [])) o [] ++ meant_from (is_some o) cs)
+      ∷ (option_map_or (λ k. cond (is_continuation k.control_level) [] (meant_calculation k (joined_after cs) ∷ [])) o [] ++ meant_from (is_some o) cs)
   unfolding Grows tail_of
   behind_group go none g None xs e = λ i. calculation_of g ∷ (e ∙ no_group none) i
-  behind_group go none g (Some k) xs e = subst (λ b. Grows g k xs b (is_and_or k.control_level)) (sym (joins_same k.control_level)) (grown go g k xs (is_and_or k.control_level)) e
+  behind_group go none g (Some k) xs e = subst (λ b. Grows g k xs b (is_continuation k.control_level)) (sym (joins_same k.control_level)) (grown go g k xs (is_continuation k.control_level)) e
 
   behind_none : ((g : CalculationGroup) → tail_of g cs ≡ calculation_of (completed g cs) ∷ meant_from true cs) → calculations_from None cs [] ≡ meant_from false cs → (o : Option CalculationSpec)
       → option_to_list (option_map calculation_of (cond (goes_on cs) None (option_map (group_with None) o))) ++ calculations_from (option_map (group_with None) o) cs []

@@ -14,7 +14,7 @@ use Rattle.rpg_sheet_specs.specs.declared.literal.Literal.TheVariants as literal
 use Rattle.rpg_sheet_specs.specs.declared.output.OutputSpec.TheVariants as output
 use Rattle.rpg_sheet_specs.specs.declared.spec.Spec.{Spec}
 use Rattle.rpg_sheet_specs.specs.declared.spec.Spec.TheVariants as spec
-use Rattle.rpg_job.specs.Forms.{is_in_factor, is_in_field, is_literal, is_on_card, is_text, stands_on}
+use Rattle.rpg_job.specs.Forms.{is_in_factor, is_in_field, is_literal, is_on_card, is_constant_of_text, stands_on}
 
 or_none : (b : Bool) → (b || false) ≡ b
 or_none true = refl
@@ -26,7 +26,7 @@ literal_same (constant.Number m) (literal.Text t) = refl
 literal_same (constant.Text s) (literal.Number n) = refl
 literal_same (constant.Text s) (literal.Text t) = refl
 
-text_same : (c : Constant) (text : List ℕ) → is_same c (constant.Text text) ≡ is_text c text
+text_same : (c : Constant) (text : List ℕ) → is_same c (constant.Text text) ≡ is_constant_of_text c text
 text_same (constant.Number m) text = refl
 text_same (constant.Text s) text = refl
 

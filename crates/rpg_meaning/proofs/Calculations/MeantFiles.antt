@@ -15,7 +15,7 @@ use Rattle.rpg_sheet_specs.specs.declared.file.FileRole.TheVariants as role
 use Rattle.rpg_sheet_specs.specs.declared.file.FileSpec.{FileSpec}
 use Rattle.rpg_compile_program.specs.Lines.{file_put, output_file, put_length}
 use Rattle.rpg_compile_program.specs.Types.{file_read, input_file}
-use Rattle.rpg_job.specs.Files.{is_disk, is_disk_by, is_primary, is_primary_by, is_printer, is_printer_by, is_secondary, is_secondary_by, length_of, the_file, the_file_named}
+use Rattle.rpg_job.specs.Files.{is_disk, is_disk_by, is_primary, is_primary_by, is_printer, is_printer_by, is_secondary, is_secondary_by, file_record_length, the_file, the_file_named}
 use Rattle.rpg_job.specs.Lines.{is_on_disk, length_on}
 use Rattle.rpg_job.specs.RecordTypes.{is_from_secondary}
 
@@ -57,8 +57,8 @@ module _ (cards : List SpecCard) where
   disk_is_meant = ap (λ (test : FileSpec → Bool). find test (files cards)) (λ i f. disk_by f.role f.device i)
 
   pub length_is_meant : (file : File) → put_length cards file ≡ length_on cards file
-  length_is_meant output.Printer = ap length_of printer_is_meant
-  length_is_meant output.Disk = ap length_of disk_is_meant
+  length_is_meant output.Printer = ap file_record_length printer_is_meant
+  length_is_meant output.Disk = ap file_record_length disk_is_meant
 
   pub read_from_is_meant : (name : Option (List ℕ)) → input_file (file_by name cards) ≡ (if is_from_secondary name cards then input.Secondary else input.Primary)
   read_from_is_meant name = of (the_file_named name cards)

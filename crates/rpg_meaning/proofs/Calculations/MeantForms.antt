@@ -20,7 +20,7 @@ use Rattle.rpg_program.specs.declared.form.Class.TheVariants as class
 use Rattle.rpg_program.specs.declared.form.FieldForm.{FieldForm}
 use Rattle.rpg_sheet_specs.specs.declared.entry.Entry.{Entry}
 use Rattle.rpg_sheet_specs.specs.declared.extension.TableSpec.{TableSpec}
-use Rattle.rpg_sheet_specs.specs.declared.input.InputField.{InputField}
+use Rattle.rpg_sheet_specs.specs.declared.input.InputFieldSpec.{InputFieldSpec}
 use Rattle.rpg_sheet_specs.specs.declared.input.InputSpec.TheVariants as input
 use Rattle.rpg_sheet_specs.specs.declared.spec.Spec.{Spec}
 use Rattle.rpg_sheet_specs.specs.declared.spec.Spec.TheVariants as spec
@@ -36,7 +36,7 @@ sized_same : (c : Class) (ascending : Bool) (entries len : ℕ) (decimals : Opti
 sized_same c ascending entries len None = refl
 sized_same c ascending entries len (Some d) = refl
 
-field_same : (f : InputField) → field_form f ≡ meant_field_form f
+field_same : (f : InputFieldSpec) → field_form f ≡ meant_field_form f
 field_same f = ap (λ o. cond (nat_le f.from f.to) o None) (sized_same class.Plain false 1 (f.to + 1 - f.from) f.decimals)
 
 table_same : (entries : ℕ) (t : TableSpec) → (let d : Definition = record { name = t.name; form = table_form entries t } in d) ≡ given_by_table entries t

@@ -16,7 +16,7 @@ use Rattle.rpg_edit_marks.specs.declared.code.EditCode.{EditCode}
 use Rattle.rpg_sheet_specs.specs.declared.entry.Entry.{Entry}
 use Rattle.rpg_sheet_specs.specs.declared.entry.EntryIndex.{EntryIndex}
 use Rattle.rpg_sheet_specs.specs.declared.entry.EntryIndex.TheVariants as entry
-use Rattle.rpg_sheet_specs.specs.declared.indicator.Condition as written
+use Rattle.rpg_sheet_specs.specs.declared.indicator.ConditionSpec as written
 use Rattle.rpg_sheet_specs.specs.declared.indicator.Three.{Three}
 use Rattle.rpg_sheet_specs.specs.declared.output.LineTime.{LineTime}
 use Rattle.rpg_sheet_specs.specs.declared.output.LineTime.TheVariants as time
@@ -26,8 +26,8 @@ use Rattle.rpg_sheet_specs.specs.declared.output.OutputSpec.TheVariants as outpu
 use Rattle.rpg_sheet_specs.specs.declared.spec.Spec.{Spec}
 use Rattle.rpg_sheet_specs.specs.declared.spec.Spec.TheVariants as spec
 use Rattle.rpg_compile_program.specs.Lines.{card_line, line_alternatives, line_field_of, lines_on, output_file, spacing_of}
-use Rattle.rpg_job.specs.Lines.{begins_line, meant_condition, meant_conditions, meant_field, meant_file, further, meant_index, length_on, line_with, lines_after, meant_lines, moves_by, meant_moves, others, meant_places, meant_time}
-use Rattle.rpg_job.specs.Cards.{up_to}
+use Rattle.rpg_job.specs.Lines.{begins_line, meant_condition, meant_conditions, meant_field, meant_line_file, further, meant_index, length_on, line_with, lines_after, meant_lines, moves_by, meant_moves, others, meant_places, meant_time}
+use Rattle.rpg_job.specs.Cards.{cards_before}
 use Rattle.rpg_meaning.proofs.Calculations.MeantFiles.{length_is_meant, put_on_is_meant}
 use Rattle.rpg_meaning.proofs.Calculations.MeantLists.{filled_is_meant}
 
@@ -53,7 +53,7 @@ moves_same files.Printer None (Some b) c d = refl
 moves_same files.Printer None None (Some c) d = refl
 moves_same files.Printer None None None (Some d) = refl
 
-standing_same : (t : Three (Option written.Condition)) → standing t ≡ meant_conditions t
+standing_same : (t : Three (Option written.ConditionSpec)) → standing t ≡ meant_conditions t
 standing_same t = ap (map meant_condition) (filled_is_meant t.first t.second t.third)
 
 index_same : (o : Option EntryIndex) → key_index o ≡ meant_index o
@@ -61,15 +61,15 @@ index_same None = refl
 index_same (Some (entry.Literal n)) = refl
 index_same (Some (entry.Name x)) = refl
 
-alternatives_same : (so_far : List Condition) (cs : List SpecCard) → line_alternatives so_far (followers output_role cs) ≡ (so_far ++ further (up_to begins_line cs)) ∷ others (up_to begins_line cs)
+alternatives_same : (so_far : List Condition) (cs : List SpecCard) → line_alternatives so_far (followers output_role cs) ≡ (so_far ++ further (cards_before begins_line cs)) ∷ others (cards_before begins_line cs)
 alternatives_same so_far [] = λ i. sym (append_none so_far) i ∷ []
 alternatives_same so_far (c ∷ cs) = by c.spec (λ so_far. alternatives_same so_far cs)
   where
     own : List SpecCard
-    own = up_to begins_line cs
+    own = cards_before begins_line cs
 
-    by : (s : Spec) → ((so_far : List Condition) → line_alternatives so_far (followers output_role cs) ≡ (so_far ++ further (up_to begins_line cs)) ∷ others (up_to begins_line cs)) → line_alternatives so_far (following (output_role s) (followers output_role cs))
-        ≡ (so_far ++ further (up_to begins_line (record { number = c.number; spec = s } ∷ cs))) ∷ others (up_to begins_line (record { number = c.number; spec = s } ∷ cs))
+    by : (s : Spec) → ((so_far : List Condition) → line_alternatives so_far (followers output_role cs) ≡ (so_far ++ further (cards_before begins_line cs)) ∷ others (cards_before begins_line cs)) → line_alternatives so_far (following (output_role s) (followers output_role cs))
+        ≡ (so_far ++ further (cards_before begins_line (record { number = c.number; spec = s } ∷ cs))) ∷ others (cards_before begins_line (record { number = c.number; spec = s } ∷ cs))
     by (spec.Header x) rest = rest so_far
     by (spec.File x) rest = rest so_far
     by (spec.Extension x) rest = rest so_far
@@ -81,11 +81,11 @@ alternatives_same so_far (c ∷ cs) = by c.spec (λ so_far. alternatives_same so
     by (spec.Output (output.Field f)) rest = rest so_far
     by (spec.Data x) rest = rest so_far
 
-fields_same : (cs : List SpecCard) → filter_map output_field_in (followers output_role cs) ≡ filter_map (λ c. output_field_on c.spec) (up_to begins_line cs)
+fields_same : (cs : List SpecCard) → filter_map output_field_in (followers output_role cs) ≡ filter_map (λ c. output_field_on c.spec) (cards_before begins_line cs)
 fields_same [] = refl
 fields_same (c ∷ cs) = by c.spec (fields_same cs)
   where
-    by : (s : Spec) → (filter_map output_field_in (followers output_role cs) ≡ filter_map (λ c. output_field_on c.spec) (up_to begins_line cs)) → filter_map output_field_in (following (output_role s) (followers output_role cs)) ≡ filter_map (λ c. output_field_on c.spec) (up_to begins_line (record { number = c.number; spec = s } ∷ cs))
+    by : (s : Spec) → (filter_map output_field_in (followers output_role cs) ≡ filter_map (λ c. output_field_on c.spec) (cards_before begins_line cs)) → filter_map output_field_in (following (output_role s) (followers output_role cs)) ≡ filter_map (λ c. output_field_on c.spec) (cards_before begins_line (record { number = c.number; spec = s } ∷ cs))
     by (spec.Header x) rest = rest
     by (spec.File x) rest = rest
     by (spec.Extension x) rest = rest
@@ -97,7 +97,7 @@ fields_same (c ∷ cs) = by c.spec (fields_same cs)
     by (spec.Output (output.Field f)) rest = λ i. f ∷ rest i
     by (spec.Data x) rest = rest
 
-field_by : (t : Three (Option written.Condition)) (o : Option Entry) (code : Option EditCode) (blanked : Bool) (end : ℕ) (text : Option (List ℕ))
+field_by : (t : Three (Option written.ConditionSpec)) (o : Option Entry) (code : Option EditCode) (blanked : Bool) (end : ℕ) (text : Option (List ℕ))
     → line_field_of (record { conditions = t; operand = o; code = code; blank_after = blanked; end = end; text = text }) ≡ meant_field (record { conditions = t; operand = o; code = code; blank_after = blanked; end = end; text = text })
 field_by t (Some e) (Some code) blanked end None = λ i. record (meant_field (record { conditions = t; operand = Some e; code = Some code; blank_after = blanked; end = end; text = None })) { operand = record { field = Named e.name; index = index_same e.index i }; conditions = meant_places (standing_same t i) }
 field_by t (Some e) (Some code) blanked end (Some text) = λ i. record (meant_field (record { conditions = t; operand = Some e; code = Some code; blank_after = blanked; end = end; text = Some text })) { operand = record { field = Named e.name; index = index_same e.index i }; conditions = meant_places (standing_same t i) }
@@ -114,13 +114,13 @@ each_field (f ∷ fs) = λ i. field_by f.conditions f.operand f.code f.blank_aft
 
 module _ (deck : List SpecCard) where
   line_same : (name : Option (List ℕ)) (r : OutputRecord) (cs : List SpecCard)
-      → card_line deck (record { heading = r; followers = followers output_role cs; file = name }) ≡ line_with deck name (up_to begins_line cs) r
+      → card_line deck (record { heading = r; followers = followers output_role cs; file = name }) ≡ line_with deck name (cards_before begins_line cs) r
   line_same name r cs = λ i. record {
     file = put_on_is_meant deck name i;
     time = times_same r.time i;
     len = (length_is_meant deck (output_file (file_by name deck)) ∙ ap (length_on deck) (put_on_is_meant deck name)) i;
     spacing = (moves_same (output_file (file_by name deck)) r.movement.space_before r.movement.space_after r.movement.skip_before r.movement.skip_after ∙ ap (λ file. meant_moves file r.movement) (put_on_is_meant deck name)) i;
-    alternatives = (alternatives_same (standing r.conditions) cs ∙ (λ j. (standing_same r.conditions j ++ further (up_to begins_line cs)) ∷ others (up_to begins_line cs))) i;
+    alternatives = (alternatives_same (standing r.conditions) cs ∙ (λ j. (standing_same r.conditions j ++ further (cards_before begins_line cs)) ∷ others (cards_before begins_line cs))) i;
     fields = (each_field (filter_map output_field_in (followers output_role cs)) ∙ ap (map meant_field) (fields_same cs)) i;
   }
 
@@ -129,7 +129,7 @@ module _ (deck : List SpecCard) where
   lines_same name (c ∷ cs) = by c.spec (λ name. lines_same name cs)
     where
       by : (s : Spec) → ((name : Option (List ℕ)) → map (card_line deck) (groups_from output_role name cs) ≡ lines_after deck name cs) → map (card_line deck) (opening (output_role s) name (followers output_role cs) (λ own. groups_from output_role own cs))
-          ≡ option_to_list (option_map (line_with deck (meant_file name (output_record_on s)) (up_to begins_line cs)) (output_record_on s)) ++ lines_after deck (meant_file name (output_record_on s)) cs
+          ≡ option_to_list (option_map (line_with deck (meant_line_file name (output_record_on s)) (cards_before begins_line cs)) (output_record_on s)) ++ lines_after deck (meant_line_file name (output_record_on s)) cs
       by (spec.Header x) rest = rest name
       by (spec.File x) rest = rest name
       by (spec.Extension x) rest = rest name

@@ -5,7 +5,7 @@ use Rattle.rpg_cards.specs.Keys.{Key}
 use Rattle.rpg_cards.specs.Sections.{Subroutine, begun_by, is_detail, is_subroutine, is_total, of_control, sections_of, subroutines_of, unless_begun, up_to_begin, with_begun}
 use Rattle.rpg_sheet_specs.specs.declared.calculation.ControlLevel.{ControlLevel}
 use Rattle.rpg_sheet_specs.specs.declared.calculation.ControlLevel.TheVariants as control
-use Rattle.rpg_job.specs.Sections.{begun_before, is_at_detail_time, is_at_total_time, is_begin, is_in_subroutine, meant_body, meant_sections, meant_subroutines}
+use Rattle.rpg_job.specs.Sections.{begun_before, is_at_detail_time, is_at_total_time, is_begin, has_sr, meant_body, meant_sections, meant_subroutines}
 
 -- ---- times
 
@@ -23,7 +23,7 @@ total_same control.Subroutine = refl
 total_same control.And = refl
 total_same control.Or = refl
 
-subroutine_same : (c : ControlLevel) → is_subroutine c ≡ is_in_subroutine c
+subroutine_same : (c : ControlLevel) → is_subroutine c ≡ has_sr c
 subroutine_same control.Detail = refl
 subroutine_same (control.Total n) = refl
 subroutine_same control.Subroutine = refl
@@ -70,5 +70,5 @@ pub sections_are_meant : (gs : List (Calculation Key)) → sections_of gs ≡ me
 sections_are_meant gs = λ i. record {
   detail = those_same is_detail is_at_detail_time detail_same gs i;
   total = those_same is_total is_at_total_time total_same gs i;
-  subroutines = (ap subroutines_of (those_same is_subroutine is_in_subroutine subroutine_same gs) ∙ subroutines_same (filter (λ (g : Calculation Key). is_in_subroutine g.control) gs)) i;
+  subroutines = (ap subroutines_of (those_same is_subroutine has_sr subroutine_same gs) ∙ subroutines_same (filter (λ (g : Calculation Key). has_sr g.control) gs)) i;
 }

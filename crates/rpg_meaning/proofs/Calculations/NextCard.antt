@@ -14,7 +14,7 @@ use Rattle.rpg_cards.specs.Groups.{joins}
 use Rattle.rpg_cards.specs.declared.spec_card.SpecCard.{SpecCard}
 use Rattle.rpg_faults_flow.proofs.Walk.{open_behind-push}
 use Rattle.rpg_meaning.proofs.Calculations.Named.{all_at}
-use Rattle.rpg_meaning.specs.Calculations.NextCard.{BeginsOn, NumbersAreTheirs, NumbersGoUp, behind_begin, numbered_calculation, numbered_from, numbered_group, open_at, those_in, up_to_next}
+use Rattle.rpg_meaning.specs.Calculations.NextCard.{BeginsOn, NumbersAreTheirs, NumbersGoUp, after_begsr, numbered_calculation, numbered_from, numbered_group, open_at, those_in, up_to_next}
 use Rattle.rpg_meaning.specs.Calculations.Parts.{InDetail, InSubroutine, InTotal, Part, body_named, calculations_in}
 use Rattle.rpg_sheet_specs.specs.declared.calculation.CalculationSpec.{CalculationSpec}
 use Rattle.rpg_sheet_specs.specs.declared.calculation.ControlLevel.{ControlLevel}
@@ -78,17 +78,17 @@ next_same (e ∷ es) = by (begun_by e.1.deed) (next_same es)
     by None r = ap (λ gs. e.1 ∷ gs) r
     by (Some n) r = refl
 
-behind_same : (name : Option Name) (es : List Entry) → map calculation (behind_begin name es) ≡ body_named name (subroutines_of (map calculation es))
+behind_same : (name : Option Name) (es : List Entry) → map calculation (after_begsr name es) ≡ body_named name (subroutines_of (map calculation es))
 behind_same name [] = refl
 behind_same name (e ∷ es) = by (begun_by e.1.deed) (behind_same name es)
   where
-    named : (b : Bool) → map calculation (behind_begin name es) ≡ body_named name (subroutines_of (map calculation es))
-        → map calculation (cond b (up_to_next es) (behind_begin name es)) ≡ cond b (up_to_begin (map calculation es)) (body_named name (subroutines_of (map calculation es)))
+    named : (b : Bool) → map calculation (after_begsr name es) ≡ body_named name (subroutines_of (map calculation es))
+        → map calculation (cond b (up_to_next es) (after_begsr name es)) ≡ cond b (up_to_begin (map calculation es)) (body_named name (subroutines_of (map calculation es)))
     named true r = next_same es
     named false r = r
 
-    by : (o : Option (Option Name)) → map calculation (behind_begin name es) ≡ body_named name (subroutines_of (map calculation es))
-        → map calculation (cond (option_map_or (is_same_name name) o false) (up_to_next es) (behind_begin name es)) ≡ body_named name (with_begun o (up_to_begin (map calculation es)) (subroutines_of (map calculation es)))
+    by : (o : Option (Option Name)) → map calculation (after_begsr name es) ≡ body_named name (subroutines_of (map calculation es))
+        → map calculation (cond (option_map_or (is_same_name name) o false) (up_to_next es) (after_begsr name es)) ≡ body_named name (with_begun o (up_to_begin (map calculation es)) (subroutines_of (map calculation es)))
     by None r = r
     by (Some n) r = named (is_same_name name n) r
 
@@ -116,11 +116,11 @@ module _ (P : Entry → Type 0) where
       by true r = All-nil P
       by false r = All-cons P e (up_to_next es) (All-head P e es h) r
 
-  behind_all : (name : Option Name) (es : List Entry) → All P es → All P (behind_begin name es)
+  behind_all : (name : Option Name) (es : List Entry) → All P es → All P (after_begsr name es)
   behind_all name [] h = h
   behind_all name (e ∷ es) h = by (option_map_or (is_same_name name) (begun_by e.1.deed) false) (next_all es (All-tail P e es h)) (behind_all name es (All-tail P e es h))
     where
-      by : (b : Bool) → All P (up_to_next es) → All P (behind_begin name es) → All P (cond b (up_to_next es) (behind_begin name es))
+      by : (b : Bool) → All P (up_to_next es) → All P (after_begsr name es) → All P (cond b (up_to_next es) (after_begsr name es))
       by true r s = r
       by false r s = s
 
@@ -273,13 +273,13 @@ next_up low (e ∷ es) h = by (is_some (begun_by e.1.deed)) (next_up (e.0 + 1) e
     by true r = tt
     by false r = (h.0, r)
 
-behind_up : (name : Option Name) (low : ℕ) (es : List Entry) → GoUp low es → GoUp low (behind_begin name es)
+behind_up : (name : Option Name) (low : ℕ) (es : List Entry) → GoUp low es → GoUp low (after_begsr name es)
 behind_up name low [] h = tt
 behind_up name low (e ∷ es) h =
     let a = h.0 in
-    by (option_map_or (is_same_name name) (begun_by e.1.deed) false) (go_lower low (e.0 + 1) (up_to_next es) (omega arith) (next_up (e.0 + 1) es h.1)) (go_lower low (e.0 + 1) (behind_begin name es) (omega arith) (behind_up name (e.0 + 1) es h.1))
+    by (option_map_or (is_same_name name) (begun_by e.1.deed) false) (go_lower low (e.0 + 1) (up_to_next es) (omega arith) (next_up (e.0 + 1) es h.1)) (go_lower low (e.0 + 1) (after_begsr name es) (omega arith) (behind_up name (e.0 + 1) es h.1))
   where
-    by : (b : Bool) → GoUp low (up_to_next es) → GoUp low (behind_begin name es) → GoUp low (cond b (up_to_next es) (behind_begin name es))
+    by : (b : Bool) → GoUp low (up_to_next es) → GoUp low (after_begsr name es) → GoUp low (cond b (up_to_next es) (after_begsr name es))
     by true r s = r
     by false r s = s
 

@@ -21,7 +21,7 @@ use Rattle.rpg_meaning.specs.Jobs.Cycle as cards
 use Rattle.rpg_meaning.proofs.Jobs.ProgramOf.{IsProgramOf}
 use Rattle.rpg_meaning.specs.Jobs.Job.{Job, JobState}
 use Rattle.rpg_meaning.specs.Jobs.Phases.{MeantPhase, any_on_in, by_effect, calculated, ◌andthen◌}
-use Rattle.rpg_meaning.specs.Jobs.Runs.{AtEndOfJob, AtHalt, MeantCourse, MeantRuns, Then, last_cycle, meant_begun, meant_left, meant_needs, meant_next, with_cycle}
+use Rattle.rpg_meaning.specs.Jobs.Runs.{AtEndOfJob, AtHalt, MeantCourse, MeantRuns, Then, meant_last_cycle, meant_begun, meant_left, meant_needs, meant_next, with_meant_cycle}
 use Rattle.rpg_program.specs.Lines.{total_output}
 use Rattle.rpg_machine.specs.Accepted.{IsOrderly}
 use Rattle.rpg_machine.specs.Config.{Config, Output, with_more}
@@ -102,7 +102,7 @@ module _ {p : Object} {job : Job} {number : Key → ℕ} (orderly : IsOrderly p)
         (subst (λ y. Followed p job number (cards.MeantCycle job earlier (runs.next_of (machine.needs_record p c i Primary) rs.primary) y) IsAny (meant_begun job v i) e d out) (next_same Secondary rs.secondary)
         (cycle_follows earlier _ _ (machine.begun p c i) (meant_begun job v i) (record { values = holds; no_cell = none; waiting = waiting; selected = refl }) begun_same e d out cycle))
 
-  ended : (course : runs.Course) (e : PhaseEnd) (d : UnderWay) (out : Output) → course ≡ runs.last_cycle e d out → SameCourse (last_cycle e out) course
+  ended : (course : runs.Course) (e : PhaseEnd) (d : UnderWay) (out : Output) → course ≡ runs.last_cycle e d out → SameCourse (meant_last_cycle e out) course
   ended course e d out is = record { ending = ap (λ (x : runs.Course). x.ending) is; cycles = ap (λ (x : runs.Course). x.cycles) is; output = ap (λ (x : runs.Course). x.output) is }
 
   pub runs_follow : (n : ℕ) (rs : runs.Records) (earlier : List Selected) (v : World key_cmp) (c : Config) (i : Inputs) → Agree job.source.forms number v c.world → Holds p c.world.data → c.cells ≡ map.empty → AreWaiting p i
@@ -120,7 +120,7 @@ module _ {p : Object} {job : Job} {number : Key → ℕ} (orderly : IsOrderly p)
           let settled = f.settled refl in
           let k = later (runs.left_behind p c i rs) (with_record d.selected earlier) f.state.world d.config d.inputs f.same.world settled.values settled.no_cell settled.waiting rest ran in
           record {
-            meant = with_cycle out k.meant;
+            meant = with_meant_cycle out k.meant;
             runs = Then earlier rs v i f.state out k.meant f.meets
                 (subst (λ o. MeantRuns job (with_record o earlier) (meant_left job (meant_begun job v i) rs) f.state.world f.state.inputs k.meant) f.same.selected
                 (subst (λ j. MeantRuns job (with_record d.selected earlier) (meant_left job (meant_begun job v i) rs) f.state.world j k.meant) f.same.inputs
@@ -131,6 +131,6 @@ module _ {p : Object} {job : Job} {number : Key → ℕ} (orderly : IsOrderly p)
               output = ap (λ (x : runs.Course). x.output) is ∙ ap (with_more out) k.same.output;
             };
           }
-      by EndOfJob d out f is later = record { meant = last_cycle EndOfJob out; runs = AtEndOfJob earlier rs v i f.state out f.meets; same = ended course EndOfJob d out is }
-      by (Halt k) d out f is later = record { meant = last_cycle (Halt k) out; runs = AtHalt earlier rs v i k f.state out f.meets; same = ended course (Halt k) d out is }
+      by EndOfJob d out f is later = record { meant = meant_last_cycle EndOfJob out; runs = AtEndOfJob earlier rs v i f.state out f.meets; same = ended course EndOfJob d out is }
+      by (Halt k) d out f is later = record { meant = meant_last_cycle (Halt k) out; runs = AtHalt earlier rs v i k f.state out f.meets; same = ended course (Halt k) d out is }
       by (Wrong x) d out f is later = absurd f.fine

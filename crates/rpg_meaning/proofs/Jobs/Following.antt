@@ -93,7 +93,7 @@ module _ (p : Object) (job : Job) (number : Key → ℕ) where
     pub fine : IsFine m.end
     pub settled : m.end ≡ GoesOn → IsSettled R m.leads
 
-  pub follows_does : (P R : Selection) (f : UnderWay → Done) (g : JobState → PhaseEnd × JobState) → ((c : UnderWay) (s : JobState) → IsSettled P c → Same s c → Alike R (f c) (g s)) → Follows P (machine.does f) (meant_does g) R
+  pub follows_does : (P R : Selection) (f : UnderWay → Done) (g : JobState → PhaseEnd × JobState) → ((c : UnderWay) (s : JobState) → IsSettled P c → Same s c → Alike R (f c) (g s)) → Follows P (machine.without_output f) (meant_does g) R
   follows_does P R f g alike c s settled same e d out (ends, leads, put) =
       let a = alike c s settled same in
       record {
@@ -104,10 +104,10 @@ module _ (p : Object) (job : Job) (number : Key → ℕ) where
         settled = λ on. subst (IsSettled R) (sym leads) (a.settled (sym ends ∙ on));
       }
 
-  pub follows_pass : (P : Selection) → Follows P machine.passes meant_passes P
+  pub follows_pass : (P : Selection) → Follows P machine.nothing_done meant_passes P
   follows_pass P = follows_does P P (machine.done GoesOn) (λ s. (GoesOn, s)) (λ c s settled same. record { ends = refl; same = same; fine = tt; settled = λ on. settled })
 
-  follows_either : (P : Selection) (M : machine.Phase) (Q : MeantPhase) → Follows P M Q P → (b : Bool) → Follows P (machine.either b machine.passes M) (meant_either b meant_passes Q) P
+  follows_either : (P : Selection) (M : machine.Phase) (Q : MeantPhase) → Follows P M Q P → (b : Bool) → Follows P (machine.either b machine.nothing_done M) (meant_either b meant_passes Q) P
   follows_either P M Q h true = follows_pass P
   follows_either P M Q h false = h
 

@@ -15,7 +15,7 @@ use Rattle.rpg_cycle_safety.proofs.Starting.{first_holds}
 use Rattle.rpg_cycle_records.specs.Waiting.{unread}
 use Rattle.rpg_cycle_safety.specs.Holding.{Holds}
 use Rattle.rpg_meaning.proofs.Jobs.Cycling.{runs_follow}
-use Rattle.rpg_job.specs.Files.{length_of}
+use Rattle.rpg_job.specs.Files.{file_record_length}
 use Rattle.rpg_meaning.proofs.Jobs.MeantStart.{agrees_start, start_agrees}
 use Rattle.rpg_meaning.proofs.Jobs.MeantTypes.{types_are_meant}
 use Rattle.rpg_meaning.proofs.Jobs.ProgramOf.{IsProgramOf}
@@ -33,8 +33,8 @@ unfolding program_of
 job_is cards allowance kept = record {
   calculations = translates cards allowance kept;
   same_types = ap (map (renamed_type (key_numbers cards))) (types_are_meant cards);
-  same_length = ap length_of (primary_is_meant cards);
-  same_secondary = ap length_of (secondary_is_meant cards);
+  same_length = ap file_record_length (primary_is_meant cards);
+  same_secondary = ap file_record_length (secondary_is_meant cards);
   same_allowance = refl;
 }
 

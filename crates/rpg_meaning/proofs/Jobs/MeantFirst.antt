@@ -27,7 +27,7 @@ use Rattle.rpg_sheet_specs.specs.declared.spec.Spec.TheVariants as spec
 use Rattle.rpg_compile_program.specs.Data.{Loaded, all_loaded, constant_value, decks, entry_value, extensions, field_values, first_of_kind, loaded, tables_loaded, with_deck}
 use Rattle.rpg_faults_data.specs.Data.{data_entries, entries_on, entry_on}
 use Rattle.rpg_job.specs.FirstValues.{Stored, all_stored, begins_deck, meant_blank, meant_constant, data_cards, meant_decks, entry_by, meant_entry, entry_text, meant_named_value, stored_on, wanting}
-use Rattle.rpg_job.specs.Cards.{up_to}
+use Rattle.rpg_job.specs.Cards.{cards_before}
 use Rattle.rpg_meaning.proofs.Calculations.MeantLists.{map_append}
 
 -- ---- lists
@@ -78,11 +78,11 @@ get_copy m x i = by (nat_lt i m) refl
 
 -- ---- decks
 
-followers_are_meant : (cs : List SpecCard) → followers data_role cs ≡ data_cards (up_to begins_deck cs)
+followers_are_meant : (cs : List SpecCard) → followers data_role cs ≡ data_cards (cards_before begins_deck cs)
 followers_are_meant [] = refl
 followers_are_meant (c ∷ cs) = by c.spec (followers_are_meant cs)
   where
-    by : (s : Spec) → followers data_role cs ≡ data_cards (up_to begins_deck cs) → following (data_role s) (followers data_role cs) ≡ data_cards (up_to begins_deck (record { number = c.number; spec = s } ∷ cs))
+    by : (s : Spec) → followers data_role cs ≡ data_cards (cards_before begins_deck cs) → following (data_role s) (followers data_role cs) ≡ data_cards (cards_before begins_deck (record { number = c.number; spec = s } ∷ cs))
     by (spec.Header x) rest = rest
     by (spec.File x) rest = rest
     by (spec.Extension x) rest = rest

@@ -12,19 +12,19 @@ use Rattle.rpg_sheet_specs.specs.declared.input.RecordType.{RecordType}
 use Rattle.rpg_sheet_specs.specs.declared.spec.Spec.{Spec}
 use Rattle.rpg_sheet_specs.specs.declared.spec.Spec.TheVariants as spec
 use Rattle.rpg_compile_program.specs.Types.{and_card_codes, card_type, codes_of, control_field_of, input_row, match_field_of, types_on}
-use Rattle.rpg_job.specs.Cards.{filled, up_to}
-use Rattle.rpg_job.specs.RecordTypes.{asked_for, begins_type, codes_on, meant_file, types_after, type_with, meant_types}
+use Rattle.rpg_job.specs.Cards.{filled_values, cards_before}
+use Rattle.rpg_job.specs.RecordTypes.{asked_for, begins_type, codes_on, meant_type_file, types_after, type_with, meant_types}
 use Rattle.rpg_meaning.proofs.Calculations.MeantFiles.{read_from_is_meant}
 use Rattle.rpg_meaning.proofs.Calculations.MeantLists.{filled_is_meant, map_append}
 
-codes_three : (t : Three (Option RecordCode)) → codes_of t ≡ map asked_for (filled t)
+codes_three : (t : Three (Option RecordCode)) → codes_of t ≡ map asked_for (filled_values t)
 codes_three t = ap (map asked_for) (filled_is_meant t.first t.second t.third)
 
-fields_are_meant : (cs : List SpecCard) → filter_map input_field_in (followers input_role cs) ≡ filter_map (λ c. input_field_on c.spec) (up_to begins_type cs)
+fields_are_meant : (cs : List SpecCard) → filter_map input_field_in (followers input_role cs) ≡ filter_map (λ c. input_field_on c.spec) (cards_before begins_type cs)
 fields_are_meant [] = refl
 fields_are_meant (c ∷ cs) = by c.spec (fields_are_meant cs)
   where
-    by : (s : Spec) → (filter_map input_field_in (followers input_role cs) ≡ filter_map (λ c. input_field_on c.spec) (up_to begins_type cs)) → filter_map input_field_in (following (input_role s) (followers input_role cs)) ≡ filter_map (λ c. input_field_on c.spec) (up_to begins_type (record { number = c.number; spec = s } ∷ cs))
+    by : (s : Spec) → (filter_map input_field_in (followers input_role cs) ≡ filter_map (λ c. input_field_on c.spec) (cards_before begins_type cs)) → filter_map input_field_in (following (input_role s) (followers input_role cs)) ≡ filter_map (λ c. input_field_on c.spec) (cards_before begins_type (record { number = c.number; spec = s } ∷ cs))
     by (spec.Header x) rest = rest
     by (spec.File x) rest = rest
     by (spec.Extension x) rest = rest
@@ -35,16 +35,16 @@ fields_are_meant (c ∷ cs) = by c.spec (fields_are_meant cs)
     by (spec.Output x) rest = rest
     by (spec.Data x) rest = rest
 
-codes_are_meant : (cs : List SpecCard) → flat_map and_card_codes (followers input_role cs) ≡ map asked_for (flat_map codes_on (up_to begins_type cs))
+codes_are_meant : (cs : List SpecCard) → flat_map and_card_codes (followers input_role cs) ≡ map asked_for (flat_map codes_on (cards_before begins_type cs))
 codes_are_meant [] = refl
 codes_are_meant (c ∷ cs) = by c.spec (codes_are_meant cs)
   where
-    by : (s : Spec) → (flat_map and_card_codes (followers input_role cs) ≡ map asked_for (flat_map codes_on (up_to begins_type cs))) → flat_map and_card_codes (following (input_role s) (followers input_role cs)) ≡ map asked_for (flat_map codes_on (up_to begins_type (record { number = c.number; spec = s } ∷ cs)))
+    by : (s : Spec) → (flat_map and_card_codes (followers input_role cs) ≡ map asked_for (flat_map codes_on (cards_before begins_type cs))) → flat_map and_card_codes (following (input_role s) (followers input_role cs)) ≡ map asked_for (flat_map codes_on (cards_before begins_type (record { number = c.number; spec = s } ∷ cs)))
     by (spec.Header x) rest = rest
     by (spec.File x) rest = rest
     by (spec.Extension x) rest = rest
     by (spec.Input (input.Type t)) rest = refl
-    by (spec.Input (input.And t)) rest = (λ i. codes_three t i ++ rest i) ∙ sym (map_append asked_for (filled t) (flat_map codes_on (up_to begins_type cs)))
+    by (spec.Input (input.And t)) rest = (λ i. codes_three t i ++ rest i) ∙ sym (map_append asked_for (filled_values t) (flat_map codes_on (cards_before begins_type cs)))
     by (spec.Input (input.Field f)) rest = rest
     by (spec.Calculation x) rest = rest
     by (spec.Output x) rest = rest
@@ -52,11 +52,11 @@ codes_are_meant (c ∷ cs) = by c.spec (codes_are_meant cs)
 
 module _ (deck : List SpecCard) where
   type_same : (name : Option (List ℕ)) (t : RecordType) (cs : List SpecCard)
-      → card_type deck (record { heading = t; followers = followers input_role cs; file = name }) ≡ type_with deck name (up_to begins_type cs) t
+      → card_type deck (record { heading = t; followers = followers input_role cs; file = name }) ≡ type_with deck name (cards_before begins_type cs) t
   type_same name t cs = λ i. record {
     file = read_from_is_meant deck name i;
     indicator = t.indicator;
-    codes = ((λ j. codes_three t.codes j ++ codes_are_meant cs j) ∙ sym (map_append asked_for (filled t.codes) (flat_map codes_on (up_to begins_type cs)))) i;
+    codes = ((λ j. codes_three t.codes j ++ codes_are_meant cs j) ∙ sym (map_append asked_for (filled_values t.codes) (flat_map codes_on (cards_before begins_type cs)))) i;
     levels = filter_map control_field_of (fields_are_meant cs i);
     inputs = map input_row (fields_are_meant cs i);
     matches = filter_map match_field_of (fields_are_meant cs i);
@@ -67,7 +67,7 @@ module _ (deck : List SpecCard) where
   types_same name (c ∷ cs) = by c.spec (λ name. types_same name cs)
     where
       by : (s : Spec) → ((name : Option (List ℕ)) → map (card_type deck) (groups_from input_role name cs) ≡ types_after deck name cs) → map (card_type deck) (opening (input_role s) name (followers input_role cs) (λ own. groups_from input_role own cs))
-          ≡ option_to_list (option_map (type_with deck (meant_file name (type_on s)) (up_to begins_type cs)) (type_on s)) ++ types_after deck (meant_file name (type_on s)) cs
+          ≡ option_to_list (option_map (type_with deck (meant_type_file name (type_on s)) (cards_before begins_type cs)) (type_on s)) ++ types_after deck (meant_type_file name (type_on s)) cs
       by (spec.Header x) rest = rest name
       by (spec.File x) rest = rest name
       by (spec.Extension x) rest = rest name

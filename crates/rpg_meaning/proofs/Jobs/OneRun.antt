@@ -14,7 +14,7 @@ use Rattle.rpg_program.specs.declared.input.InputFile.TheVariants.{Primary, Seco
 use Rattle.rpg_meaning.specs.Jobs.Cycle as cards
 use Rattle.rpg_meaning.specs.Jobs.Job.{Job, JobState}
 use Rattle.rpg_meaning.specs.Jobs.Phases.{Came, MeantPhase, by_effect, calculated, meant_does, meant_either, meant_from_there, meant_passes, meant_unless, is_on_in, with_turned, ◌andthen◌}
-use Rattle.rpg_meaning.specs.Jobs.Runs.{AtEndOfJob, AtHalt, IsMeantRun, MeantCourse, MeantRuns, NextCycle, Then, last_cycle, meant_begun, meant_left, meant_next, with_cycle}
+use Rattle.rpg_meaning.specs.Jobs.Runs.{AtEndOfJob, AtHalt, IsMeantRun, MeantCourse, MeantRuns, NextCycle, Then, meant_last_cycle, meant_begun, meant_left, meant_next, with_meant_cycle}
 use Rattle.rpg_machine.specs.Config.{Output, no_output, with_more}
 use Rattle.rpg_meaning.specs.Calculations.Laws as calculations
 use Rattle.rpg_meaning.specs.Calculations.Meaning as steps
@@ -138,28 +138,28 @@ module _ (job : Job) where
       cycle_fixed earlier (meant_next job (meant_begun job w i) Primary rs.primary) (meant_next job (meant_begun job w i) Secondary rs.secondary) (meant_begun job w i) e f t u o q h k
 
   ends_job : (earlier : List Selected) (rs : Records) (w : World key_cmp) (i : Inputs) (l : MeantCourse) → MeantRuns job earlier rs w i l
-      → (t : JobState) (out : Output) → NextCycle job earlier rs w i EndOfJob t out → last_cycle EndOfJob out ≡ l
-  ends_job _ _ _ _ _ (AtEndOfJob earlier rs w i u put other) t out cycle = ap (last_cycle EndOfJob) (next_fixed earlier rs w i EndOfJob EndOfJob t u out put cycle other).2
+      → (t : JobState) (out : Output) → NextCycle job earlier rs w i EndOfJob t out → meant_last_cycle EndOfJob out ≡ l
+  ends_job _ _ _ _ _ (AtEndOfJob earlier rs w i u put other) t out cycle = ap (meant_last_cycle EndOfJob) (next_fixed earlier rs w i EndOfJob EndOfJob t u out put cycle other).2
   ends_job _ _ _ _ _ (AtHalt earlier rs w i k u put other) t out cycle = absurd (let never = (next_fixed earlier rs w i EndOfJob (Halt k) t u out put cycle other).0 in cc)
   ends_job _ _ _ _ _ (Then earlier rs w i u put rest other later) t out cycle = absurd (let never = (next_fixed earlier rs w i EndOfJob GoesOn t u out put cycle other).0 in cc)
 
   halts : (earlier : List Selected) (rs : Records) (w : World key_cmp) (i : Inputs) (l : MeantCourse) → MeantRuns job earlier rs w i l
-      → (n : ℕ) (t : JobState) (out : Output) → NextCycle job earlier rs w i (Halt n) t out → last_cycle (Halt n) out ≡ l
+      → (n : ℕ) (t : JobState) (out : Output) → NextCycle job earlier rs w i (Halt n) t out → meant_last_cycle (Halt n) out ≡ l
   halts _ _ _ _ _ (AtEndOfJob earlier rs w i u put other) n t out cycle = absurd (let never = (next_fixed earlier rs w i (Halt n) EndOfJob t u out put cycle other).0 in cc)
   halts _ _ _ _ _ (AtHalt earlier rs w i k u put other) n t out cycle =
       let same = next_fixed earlier rs w i (Halt n) (Halt k) t u out put cycle other in
-      ap (λ e. last_cycle e out) same.0 ∙ ap (last_cycle (Halt k)) same.2
+      ap (λ e. meant_last_cycle e out) same.0 ∙ ap (meant_last_cycle (Halt k)) same.2
   halts _ _ _ _ _ (Then earlier rs w i u put rest other later) n t out cycle = absurd (let never = (next_fixed earlier rs w i (Halt n) GoesOn t u out put cycle other).0 in cc)
 
   goes_on_to : (earlier : List Selected) (rs : Records) (w : World key_cmp) (i : Inputs) (l : MeantCourse) → MeantRuns job earlier rs w i l
       → (t : JobState) (out : Output) (k : MeantCourse) → NextCycle job earlier rs w i GoesOn t out
-      → ((m : MeantCourse) → MeantRuns job (with_record t.selected earlier) (meant_left job (meant_begun job w i) rs) t.world t.inputs m → k ≡ m) → with_cycle out k ≡ l
+      → ((m : MeantCourse) → MeantRuns job (with_record t.selected earlier) (meant_left job (meant_begun job w i) rs) t.world t.inputs m → k ≡ m) → with_meant_cycle out k ≡ l
   goes_on_to _ _ _ _ _ (AtEndOfJob earlier rs w i u put other) t out k cycle one = absurd (let never = (next_fixed earlier rs w i GoesOn EndOfJob t u out put cycle other).0 in cc)
   goes_on_to _ _ _ _ _ (AtHalt earlier rs w i n u put other) t out k cycle one = absurd (let never = (next_fixed earlier rs w i GoesOn (Halt n) t u out put cycle other).0 in cc)
   goes_on_to _ _ _ _ _ (Then earlier rs w i u put rest other later) t out k cycle one =
       let same = next_fixed earlier rs w i GoesOn GoesOn t u out put cycle other in
       let rests = one rest (subst (λ (v : JobState). MeantRuns job (with_record v.selected earlier) (meant_left job (meant_begun job w i) rs) v.world v.inputs rest) (sym same.1) later) in
-      ap (with_cycle out) rests ∙ ap (λ o. with_cycle o rest) same.2
+      ap (with_meant_cycle out) rests ∙ ap (λ o. with_meant_cycle o rest) same.2
 
   pub runs_one : (earlier : List Selected) (rs : Records) (w : World key_cmp) (i : Inputs) (k l : MeantCourse) → MeantRuns job earlier rs w i k → MeantRuns job earlier rs w i l → k ≡ l
   runs_one _ _ _ _ _ l (AtEndOfJob earlier rs w i t out cycle) other = ends_job earlier rs w i l other t out cycle

@@ -26,10 +26,10 @@ use Rattle.rpg_machine.specs.Accepted.{IsOrderly}
 use Rattle.rpg_machine.specs.Config.{Config, charged}
 use Rattle.rpg_program.specs.Object.{Object, input_length}
 use Rattle.rpg_cycle_records.specs.Earlier as records
-use Rattle.rpg_cycle_records.specs.Earlier.{Selected, any_agrees, control_fields, file_of, is_any, last_of_file, last_value, left_by, levels_of, match_fields, match_value, matches_of, or_before, value_from, with_record}
+use Rattle.rpg_cycle_records.specs.Earlier.{Selected, any_agrees, control_fields, file_of, is_any, last_of_file, last_value, left_by, levels_of, match_fields, match_value, row_match_fields, or_before, value_from, with_record}
 use Rattle.rpg_cycle_records.specs.Identifying.{IsOf, IsOfNone, Misplaced, Trial, code_holds, has_position, identified, is_good_record, padded, same_file, trial_weight}
 use Rattle.rpg_cycle_records.specs.Levels.{differs, highest_broken, is_in_record, level_bytes}
-use Rattle.rpg_cycle_records.specs.Matching.{agrees, exceeds, value_in}
+use Rattle.rpg_cycle_records.specs.Matching.{agrees, exceeds, match_value_in}
 use Rattle.rpg_cycle_records.specs.Waiting.{Inputs, chosen, first_of, has_match, input_at, other_file, with_file_over, takes_in, waiting_in, with_waiting}
 use Rattle.rpg_effect_renaming.specs.Naming.{Agree, renamed_type}
 use Rattle.rpg_cycle_safety.proofs.Selecting.{Picks, levels_alone, selects, takes}
@@ -108,9 +108,9 @@ module _ {p : Object} {job : Job} {number : Key → ℕ} (orderly : IsOrderly p)
   -- ---- match values and files
 
   matches_same : (type : ℕ) → match_fields p type ≡ cards.matches_at job type
-  matches_same type = ap (λ ts. matches_of (slice_get ts type)) is.same_types ∙ ap matches_of (slice_get-map (renamed_type number) job.types type) ∙ by (slice_get job.types type)
+  matches_same type = ap (λ ts. row_match_fields (slice_get ts type)) is.same_types ∙ ap row_match_fields (slice_get-map (renamed_type number) job.types type) ∙ by (slice_get job.types type)
     where
-      by : (o : Option (TypeRow Key)) → matches_of (option_map (renamed_type number) o) ≡ option_map_or (λ t. t.matches) o []
+      by : (o : Option (TypeRow Key)) → row_match_fields (option_map (renamed_type number) o) ≡ option_map_or (λ t. t.matches) o []
       by None = refl
       by (Some t) = refl
 
@@ -122,7 +122,7 @@ module _ {p : Object} {job : Job} {number : Key → ℕ} (orderly : IsOrderly p)
       by (Some t) = refl
 
   value_same : (r : Selected) → match_value p r ≡ cards.meant_match_value job r
-  value_same r = ap (λ fs. value_in fs r.text) (matches_same r.type)
+  value_same r = ap (λ fs. match_value_in fs r.text) (matches_same r.type)
 
   from_same : (f : InputFile) (r : Selected) → value_from p f r ≡ cards.meant_value_from job f r
   from_same f r = λ i. cond (same_file (file_same r.type i) f) (value_same r i) None
@@ -144,7 +144,7 @@ module _ {p : Object} {job : Job} {number : Key → ℕ} (orderly : IsOrderly p)
       (λ k. any_agrees p (other_file (file_same r.type k)) (value_same r k) (with_record (waiting_in i (other_file (file_same r.type k))) earlier))
       ∙ any_agrees_same (other_file (cards.meant_file_at job r.type)) (cards.meant_match_value job r) (with_record (waiting_in i (other_file (cards.meant_file_at job r.type))) earlier)
 
-  length_same : (f : InputFile) → input_length p f ≡ cards.length_in job f
+  length_same : (f : InputFile) → input_length p f ≡ cards.record_length_in job f
   length_same Primary = is.same_length
   length_same Secondary = is.same_secondary
 
@@ -381,7 +381,7 @@ module _ {p : Object} {job : Job} {number : Key → ℕ} (orderly : IsOrderly p)
           let picks = selects p orderly (left_by p earlier) c settled.waiting (none_taken c settled) (chosen p (waiting_in c.inputs Primary) (waiting_in c.inputs Secondary)) in
           from_picks _ (IsTaken p) c _ _ settled picks (select_one_same earlier c s same picks.named) picks.taken
 
-  last_follows : (earlier : List Selected) → Follows p job number IsNone (machine.does (λ c. done GoesOn (with_config (with_all level_indicators true) c))) (meant_does (λ s. (GoesOn, with_turned level_indicators true s))) (IsTaken p)
+  last_follows : (earlier : List Selected) → Follows p job number IsNone (machine.without_output (λ c. done GoesOn (with_config (with_all level_indicators true) c))) (meant_does (λ s. (GoesOn, with_turned level_indicators true s))) (IsTaken p)
   last_follows earlier = follows_does p job number IsNone (IsTaken p) _ _ (λ c s settled same.
       let picks = levels_alone p 0 c settled.waiting (none_taken c settled) in
       from_picks 0 (IsTaken p) c _ _ settled picks (record { ends = refl; same = turned_only earlier c s same level_indicators }) picks.taken)
@@ -389,7 +389,7 @@ module _ {p : Object} {job : Job} {number : Key → ℕ} (orderly : IsOrderly p)
   pub selection_follows : (earlier : List Selected) (a b : Option (List ℕ)) → Follows p job number IsNone (machine.select_record p (left_by p earlier) a b) (cards.meant_select_record job earlier a b) (IsTaken p)
   selection_follows earlier a b c s settled same e d out met =
       let left = left_by p earlier in
-      let one = follows_both p job number IsNone (IsTaken p) (machine.does (λ c. done GoesOn (with_config (with_all level_indicators true) c)))
+      let one = follows_both p job number IsNone (IsTaken p) (machine.without_output (λ c. done GoesOn (with_config (with_all level_indicators true) c)))
       (machine.take_in p left Primary a before machine.take_in p left Secondary b before machine.select_one p left) (meant_does (λ s. (GoesOn, with_turned level_indicators true s)))
       (cards.meant_take_in job earlier Primary a andthen cards.meant_take_in job earlier Secondary b andthen cards.meant_select_one job earlier) (last_follows earlier)
       (follows_then p job number IsNone IsNone (IsTaken p) (machine.take_in p left Primary a) _ (cards.meant_take_in job earlier Primary a) _ (taking_follows earlier Primary a)

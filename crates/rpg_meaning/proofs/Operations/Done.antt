@@ -26,7 +26,7 @@ use Rattle.rpg_program.specs.declared.operation.Side.TheVariants.{Left, Right}
 use Rattle.rpg_machine.specs.Config.{no_output}
 use Rattle.rpg_meaning.specs.Calculations.Meaning.{MeantOutcome, On, Source, State, Stops, affected, at_next, come_back}
 use Rattle.rpg_meaning.specs.Operations as is
-use Rattle.rpg_meaning.specs.Operations.{Compares, Computes, Divides, Leads, LooksUp, Moves, Sets}
+use Rattle.rpg_meaning.specs.Operations.{Compares, Computes, Divides, TransfersControl, LooksUp, Moves, Sets}
 use Rattle.rpg_sheet_specs.specs.declared.calculation.CalculationSpec.{CalculationSpec}
 use Rattle.rpg_sheet_specs.specs.declared.calculation.Operation.TheVariants as op
 use Rattle.rpg_sheet_specs.specs.declared.entry.Entry as card
@@ -83,9 +83,9 @@ module _ (source : Source) (s : State) (k : CalculationSpec) where
   divided_by : Bool → Bool → MeantOutcome
   unfolding entry_of
   divided_by zero half =
-      comes (or_halt (if zero then None else Some (over (is.number source s k (is.factor_1_or_result source s k)) (is.number source s k (is.factor_2 source s k)))) 1 s.world.data
-      (λ n. Gives (store (record s.world.data { remainder = remainder_after source.forms half s.world.data (is.entry source s k (is.factor_1_or_result source s k)) (is.entry source s k (is.factor_2 source s k)) (is.entry source s k (is.result source s k)) })
-      (is.entry source s k (is.result source s k)) (is.indicators source s k) (stored_value half (is.form source s k (is.result source s k)) n))))
+      comes (or_halt (if zero then None else Some (over (is.operand_number source s k (is.factor_1_or_result source s k)) (is.operand_number source s k (is.factor_2 source s k)))) 1 s.world.data
+      (λ n. Gives (store (record s.world.data { remainder = remainder_after source.forms half s.world.data (is.operand_entry source s k (is.factor_1_or_result source s k)) (is.operand_entry source s k (is.factor_2 source s k)) (is.operand_entry source s k (is.result source s k)) })
+      (is.operand_entry source s k (is.result source s k)) (is.indicators source s k) (stored_value half (is.form source s k (is.result source s k)) n))))
 
   pub divides : Divides source s k
   unfolding operate resolved has_entries row_of position_of entry_of act divided_by
@@ -97,13 +97,13 @@ module _ (source : Source) (s : State) (k : CalculationSpec) where
 
   -- ---- MOVE
 
-  spelled : (o : Option ℤ) → comes (or_halt o 4 s.world.data (λ n. Gives (set_value s.world.data (is.result source s k).field (is.entry source s k (is.result source s k)).position (Number n)))) ≡ is.takes_number source s k o
+  spelled : (o : Option ℤ) → comes (or_halt o 4 s.world.data (λ n. Gives (set_value s.world.data (is.result source s k).field (is.operand_entry source s k (is.result source s k)).position (Number n)))) ≡ is.takes_number source s k o
   unfolding entry_of
   spelled None = refl
   spelled (Some n) = refl
 
   move_by : Side → Kind → Kind → MeantOutcome
-  move_by side from to = comes (moved source.forms from to side s.world.data (is.entry source s k (is.factor_2 source s k)) (is.entry source s k (is.result source s k)))
+  move_by side from to = comes (moved source.forms from to side s.world.data (is.operand_entry source s k (is.factor_2 source s k)) (is.operand_entry source s k (is.result source s k)))
 
   pub moves : Moves source s k op.Move overlay_right number_moved_right
   unfolding operate resolved has_entries row_of position_of entry_of act moved move_by
@@ -129,7 +129,7 @@ module _ (source : Source) (s : State) (k : CalculationSpec) where
   two a b = refl
 
   compare_by : Kind → MeantOutcome
-  compare_by f = is.goes_on source s k (is.turned source s k (shown (is.indicators source s k) (order_by source.forms f s.world.data (is.entry source s k (is.factor_1 source s k)) (is.entry source s k (is.factor_2 source s k)))) s.world.data)
+  compare_by f = is.continues source s k (is.turned source s k (shown (is.indicators source s k) (order_by source.forms f s.world.data (is.operand_entry source s k (is.factor_1 source s k)) (is.operand_entry source s k (is.factor_2 source s k)))) s.world.data)
 
   pub compares : Compares source s k
   unfolding operate resolved has_entries row_of position_of entry_of act compare_by
@@ -152,23 +152,23 @@ module _ (source : Source) (s : State) (k : CalculationSpec) where
   sought None = refl
   sought (Some r) = three (names (is.factor_1 source s k)) (names (is.factor_2 source s k)) (names r)
 
-  table_is : (r : Option card.Entry) → option_map field_of_entry (option_map (is.entry source s k) (option_map entry_named r)) ≡ option_map (λ e. Named e.name) r
+  table_is : (r : Option card.Entry) → option_map field_of_entry (option_map (is.operand_entry source s k) (option_map entry_named r)) ≡ option_map (λ e. Named e.name) r
   unfolding entry_of
   table_is None = refl
   table_is (Some e) = refl
 
   look : Option Key → Option Found → MeantOutcome
-  look table f = comes (looked_up source.forms s.world.data (is.entry source s k (is.factor_2 source s k)) table (is.indicators source s k) f)
+  look table f = comes (looked_up source.forms s.world.data (is.operand_entry source s k (is.factor_2 source s k)) table (is.indicators source s k) f)
 
   look_with : Found → Bool → MeantOutcome
   look_with f fits = comes (if_right (if fits then None else Some Storage) s.world.data
-      (Gives (found_shown source.forms (is.indicators source s k) (Some f) (with_found source.forms (is.entry source s k (is.factor_2 source s k)) (is.table_field source s k) (Some f) s.world.data))))
+      (Gives (found_shown source.forms (is.indicators source s k) (Some f) (with_found source.forms (is.operand_entry source s k (is.factor_2 source s k)) (is.table_field source s k) (Some f) s.world.data))))
 
   pub looks_up : LooksUp source s k
   unfolding operate resolved has_entries row_of entry_of position_of act looked_up position_fault with_found shown_if_any look look_with
   looks_up = record {
-    nothing = λ e. acted _ _ ∙ both _ _ _ _ _ (sought (is.table source s k)) (ap (λ t. look t (is.found source s k)) (table_is k.result_field) ∙ ap (look (is.table_field source s k)) e);
-    something = λ f e h. acted _ _ ∙ both _ _ _ _ _ (sought (is.table source s k)) (ap (λ t. look t (is.found source s k)) (table_is k.result_field) ∙ ap (look (is.table_field source s k)) e ∙ ap (look_with f) h);
+    nothing = λ e. acted _ _ ∙ both _ _ _ _ _ (sought (is.table_operand source s k)) (ap (λ t. look t (is.found source s k)) (table_is k.result_field) ∙ ap (look (is.table_field source s k)) e);
+    something = λ f e h. acted _ _ ∙ both _ _ _ _ _ (sought (is.table_operand source s k)) (ap (λ t. look t (is.found source s k)) (table_is k.result_field) ∙ ap (look (is.table_field source s k)) e ∙ ap (look_with f) h);
   }
 
   -- ---- GOTO, EXSR, ENDSR
@@ -176,7 +176,7 @@ module _ (source : Source) (s : State) (k : CalculationSpec) where
   gone : Bool → MeantOutcome
   gone earlier = if earlier then is.spends_one source s k (at_next s (is.target source s k)) else On (at_next s (is.target source s k)) no_output
 
-  pub leads : Leads source s k
+  pub leads : TransfersControl source s k
   unfolding gone
   leads = record {
     go_to_later = ap gone;

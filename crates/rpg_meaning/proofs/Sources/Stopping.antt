@@ -11,18 +11,18 @@ use Rattle.rpg_engine.specs.Reporting.{Reports, SendsFirstParts, SendsParts}
 use Rattle.rpg_engine.specs.declared.fault.RunFault.{RunFault}
 use Rattle.rpg_engine.specs.declared.report.Report.{Report}
 use Rattle.rpg_faults.specs.Source.{cards_in}
-use Rattle.rpg_job.specs.Files.{length_of}
+use Rattle.rpg_job.specs.Files.{file_record_length}
 use Rattle.rpg_meaning.proofs.Calculations.MeantFiles.{secondary_is_meant}
 use Rattle.rpg_program.specs.Object.{Object}
 use Rattle.rpg_meaning.specs.Sources.Printing.{PrintsAsMeant, SendsPartsAsMeant}
-use Rattle.rpg_meaning.specs.Sources.Running.{HasNoSecondary, IsFaultless}
+use Rattle.rpg_meaning.specs.Sources.Running.{HasNoSecondary, IsFaultlessSource}
 
-pub faultless_of : (text : List ℕ) (allowance : ℕ) (p : Object) → Compiles text allowance p → IsFaultless text
+pub faultless_of : (text : List ℕ) (allowance : ℕ) (p : Object) → Compiles text allowance p → IsFaultlessSource text
 faultless_of text allowance p compiled = record { readable = compiled.readable; faultless = compiled.faultless }
 
 no_length : (cards : List SpecCard) (allowance : ℕ) → HasNoSecondary cards → (program_of cards allowance).secondary_length ≡ 0
 unfolding program_of
-no_length cards allowance none = ap length_of (secondary_is_meant cards) ∙ none
+no_length cards allowance none = ap file_record_length (secondary_is_meant cards) ∙ none
 
 -- its program has no secondary file
 pub reads_none : (text : List ℕ) (allowance : ℕ) (p : Object) → Compiles text allowance p → HasNoSecondary (cards_in text) → p.secondary_length ≡ 0

@@ -42,15 +42,15 @@ up_to_next [] = []
 up_to_next (e ∷ es) = if is_some (begun_by e.1.deed) then [] else e ∷ up_to_next es
 
 -- after the BEGSR of a name
-abbrev pub behind_begin : Option Name → List (ℕ × Calculation Key) → List (ℕ × Calculation Key)
-behind_begin name [] = []
-behind_begin name (e ∷ es) = if option_map_or (is_same_name name) (begun_by e.1.deed) false then up_to_next es else behind_begin name es
+abbrev pub after_begsr : Option Name → List (ℕ × Calculation Key) → List (ℕ × Calculation Key)
+after_begsr name [] = []
+after_begsr name (e ∷ es) = if option_map_or (is_same_name name) (begun_by e.1.deed) false then up_to_next es else after_begsr name es
 
 -- the calculations of a section
 abbrev pub those_in : Part → List (ℕ × Calculation Key) → List (ℕ × Calculation Key)
 those_in InDetail es = filter (λ e. is_detail e.1.control) es
 those_in InTotal es = filter (λ e. is_total e.1.control) es
-those_in (InSubroutine name) es = behind_begin name (filter (λ e. is_subroutine e.1.control) es)
+those_in (InSubroutine name) es = after_begsr name (filter (λ e. is_subroutine e.1.control) es)
 
 -- ---- the number
 

@@ -2,7 +2,7 @@
 use Rattle.std.specs.Prelude.{List}
 use Rattle.rpg_cards.specs.declared.spec_card.SpecCard.{SpecCard}
 use Rattle.rpg_job.specs.Calculations.{meant_calculations}
-use Rattle.rpg_job.specs.Files.{overflow_of}
+use Rattle.rpg_job.specs.Files.{overflow_indicator}
 use Rattle.rpg_job.specs.Forms.{meant_forms, meant_words}
 use Rattle.rpg_job.specs.Lines.{meant_lines}
 use Rattle.rpg_job.specs.Sections.{meant_sections}
@@ -14,6 +14,6 @@ source_of cards = record {
   sections = meant_sections (meant_calculations cards);
   forms = meant_forms cards;
   words = meant_words cards;
-  overflow = overflow_of cards;
+  overflow = overflow_indicator cards;
   lines = meant_lines cards;
 }

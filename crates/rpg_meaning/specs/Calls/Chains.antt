@@ -54,13 +54,13 @@ pub record AreOfChains (ps : List Pair) : Type 0 where
   pub computed : (n s : ℕ) → IsLongestWithin n ps s (level_within ps n s)
 
 -- the subroutines of a source
-abbrev pub subroutines : List SpecCard → List (Subroutine Key)
-subroutines cards = (sections cards).subroutines
+abbrev pub subroutines_of_source : List SpecCard → List (Subroutine Key)
+subroutines_of_source cards = (sections cards).subroutines
 
 -- the statement for the cards of a source
 pub record HasChains (cards : List SpecCard) : Type 0 where
   -- the rule on calls and the compiler find the same calls
-  pub same_calls : calls (calculations cards) ≡ calls_of (subroutines cards)
-  pub forward : NoCallLeadsBack (calls_of (subroutines cards))
+  pub same_calls : calls (calculations cards) ≡ calls_of (subroutines_of_source cards)
+  pub forward : NoCallLeadsBack (calls_of (subroutines_of_source cards))
   -- the level of a subroutine is that of the longest chain of calls that ends in it
-  pub levels : (s : ℕ) → s < length (subroutines cards) → IsLongest (calls_of (subroutines cards)) s (subroutine_level (subroutines cards) s)
+  pub levels : (s : ℕ) → s < length (subroutines_of_source cards) → IsLongest (calls_of (subroutines_of_source cards)) s (subroutine_level (subroutines_of_source cards) s)

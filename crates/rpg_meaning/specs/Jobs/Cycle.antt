@@ -20,7 +20,7 @@ use Rattle.rpg_meaning.specs.Calculations.Parts.{InDetail, InTotal}
 use Rattle.rpg_cycle_records.specs.Earlier.{Selected, is_any, or_before, with_record}
 use Rattle.rpg_cycle_records.specs.Identifying.{code_holds, same_file}
 use Rattle.rpg_cycle_records.specs.Levels.{differs, highest_broken, level_bytes}
-use Rattle.rpg_cycle_records.specs.Matching.{agrees, exceeds, value_in}
+use Rattle.rpg_cycle_records.specs.Matching.{agrees, exceeds, match_value_in}
 use Rattle.rpg_cycle_records.specs.Waiting.{Inputs, first_of, input_at, other_file, with_file_over, waiting_in, with_waiting}
 
 module _ (job : Job) where
@@ -57,7 +57,7 @@ module _ (job : Job) where
 
   -- the bytes of a record's match fields, from M9 down to M1, if its type has some
   abbrev pub meant_match_value : Selected → Option (List ℕ)
-  meant_match_value r = value_in (matches_at r.type) r.text
+  meant_match_value r = match_value_in (matches_at r.type) r.text
 
   -- a record of this file has its match value
   abbrev pub meant_value_from : InputFile → Selected → Option (List ℕ)
@@ -103,17 +103,17 @@ module _ (job : Job) where
   -- ---- 4 records are taken in, and one is selected
 
   -- the length of a file's records, 0 where there is no such file
-  abbrev pub length_in : InputFile → ℕ
-  length_in Primary = job.record_length
-  length_in Secondary = job.secondary_length
+  abbrev pub record_length_in : InputFile → ℕ
+  record_length_in Primary = job.record_length
+  record_length_in Secondary = job.secondary_length
 
   -- characters, and no more than a record of the file has
   abbrev pub is_good_text : InputFile → List ℕ → Bool
-  is_good_text f text = nat_le (length text) (length_in f) && list_all is_character text
+  is_good_text f text = nat_le (length text) (record_length_in f) && list_all is_character text
 
   -- a record's text, with blanks up to the length of its file
   abbrev pub meant_padded : InputFile → List ℕ → List ℕ
-  meant_padded f text = text ++ replicate (length_in f - length text) 32
+  meant_padded f text = text ++ replicate (record_length_in f - length text) 32
 
   -- the first type of that file all of whose codes hold; the first of these has that number
   abbrev pub type_of_text : InputFile → List ℕ → ℕ → List (TypeRow Key) → Option ℕ
@@ -139,7 +139,7 @@ module _ (job : Job) where
 
   -- a file that is there, not at its end and without a waiting record takes one in
   abbrev pub meant_takes_in : Inputs → InputFile → Bool
-  meant_takes_in i f = not (length_in f == 0) && (not (input_at i f).is_over && is_none (waiting_in i f))
+  meant_takes_in i f = not (record_length_in f == 0) && (not (input_at i f).is_over && is_none (waiting_in i f))
 
   -- the next record of a file, where one is to be taken in
   abbrev pub meant_take_in : List Selected → InputFile → Option (List ℕ) → MeantPhase

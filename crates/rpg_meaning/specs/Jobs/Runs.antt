@@ -43,25 +43,25 @@ NextCycle job earlier rs w i =
     MeantCycle job earlier (meant_next job (meant_begun job w i) Primary rs.primary) (meant_next job (meant_begun job w i) Secondary rs.secondary) (meant_begun job w i)
 
 -- the course of a run whose last cycle ends so
-abbrev pub last_cycle : PhaseEnd → Output → MeantCourse
-last_cycle e out = record { ending = e; cycles = 1; output = out }
+abbrev pub meant_last_cycle : PhaseEnd → Output → MeantCourse
+meant_last_cycle e out = record { ending = e; cycles = 1; output = out }
 
 -- the course of the rest with a cycle before it
-abbrev pub with_cycle : Output → MeantCourse → MeantCourse
-with_cycle out rest = record { ending = rest.ending; cycles = 1 + rest.cycles; output = with_more out rest.output }
+abbrev pub with_meant_cycle : Output → MeantCourse → MeantCourse
+with_meant_cycle out rest = record { ending = rest.ending; cycles = 1 + rest.cycles; output = with_more out rest.output }
 
 -- a run after earlier records (the last first), over the records that are left: one cycle after another
 pub data MeantRuns (job : Job) : List Selected → Records → World key_cmp → Inputs → MeantCourse → Type 0 where
   -- a cycle comes to the end of the job
   AtEndOfJob : (earlier : List Selected) (rs : Records) (w : World key_cmp) (i : Inputs) (t : JobState) (out : Output)
-      → NextCycle job earlier rs w i EndOfJob t out → MeantRuns job earlier rs w i (last_cycle EndOfJob out)
+      → NextCycle job earlier rs w i EndOfJob t out → MeantRuns job earlier rs w i (meant_last_cycle EndOfJob out)
   -- a cycle halts
   AtHalt : (earlier : List Selected) (rs : Records) (w : World key_cmp) (i : Inputs) (k : ℕ) (t : JobState) (out : Output)
-      → NextCycle job earlier rs w i (Halt k) t out → MeantRuns job earlier rs w i (last_cycle (Halt k) out)
+      → NextCycle job earlier rs w i (Halt k) t out → MeantRuns job earlier rs w i (meant_last_cycle (Halt k) out)
   -- a cycle goes on, and the rest follows
   Then : (earlier : List Selected) (rs : Records) (w : World key_cmp) (i : Inputs) (t : JobState) (out : Output) (rest : MeantCourse)
       → NextCycle job earlier rs w i GoesOn t out → MeantRuns job (with_record t.selected earlier) (meant_left job (meant_begun job w i) rs) t.world t.inputs rest
-      → MeantRuns job earlier rs w i (with_cycle out rest)
+      → MeantRuns job earlier rs w i (with_meant_cycle out rest)
 
 -- the whole run over records from a world, with the bytes that are printed and stored
 pub record IsMeantRun (job : Job) (w : World key_cmp) (records : Records) (course : MeantCourse) (bytes : Bytes) : Type 0 where

@@ -6,7 +6,7 @@ use Rattle.rpg_cycle.specs.Job.{first_fields}
 use Rattle.rpg_cycle.specs.Runs as machine
 use Rattle.rpg_program.specs.Put.{Bytes}
 use Rattle.rpg_program.specs.World.{World}
-use Rattle.rpg_job.specs.Files.{is_primary, is_secondary, length_of, the_file}
+use Rattle.rpg_job.specs.Files.{is_primary, is_secondary, file_record_length, the_file}
 use Rattle.rpg_job.specs.RecordTypes.{meant_types}
 use Rattle.rpg_meaning.specs.Jobs.Job.{Job}
 use Rattle.rpg_meaning.specs.Jobs.Runs.{IsMeantRun, MeantCourse}
@@ -19,8 +19,8 @@ abbrev pub job_of : List SpecCard → ℕ → Job
 job_of cards allowance = record {
   source = source_of cards;
   types = meant_types cards;
-  record_length = length_of (the_file is_primary cards);
-  secondary_length = length_of (the_file is_secondary cards);
+  record_length = file_record_length (the_file is_primary cards);
+  secondary_length = file_record_length (the_file is_secondary cards);
   allowance = allowance;
 }
 

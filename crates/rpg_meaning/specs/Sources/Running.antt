@@ -8,19 +8,19 @@ use Rattle.rpg_engine.specs.declared.report.Report.{Report}
 use Rattle.rpg_faults.specs.Faults.{Faultless}
 use Rattle.rpg_faults.specs.Source.{cards_in}
 use Rattle.rpg_files.specs.Counting.{device_of}
-use Rattle.rpg_job.specs.Files.{is_secondary, length_of, the_file}
+use Rattle.rpg_job.specs.Files.{is_secondary, file_record_length, the_file}
 use Rattle.rpg_sheet.specs.Sheet.{first_sheet_fault, source}
 use Rattle.rpg_meaning.specs.Sources.Printing.{PrintsAsMeant, SendsPartsAsMeant}
 use Rattle.rpg_meaning.specs.declared.source.CompiledSource.{CompiledSource}
 
 -- no card breaks a rule
-pub record IsFaultless (text : List ℕ) : Type 0 where
+pub record IsFaultlessSource (text : List ℕ) : Type 0 where
   pub readable : first_sheet_fault (source text) ≡ None
   pub faultless : Faultless (cards_in text)
 
 -- no F card has records of a secondary file
 abbrev pub HasNoSecondary : List SpecCard → Type 0
-HasNoSecondary cards = length_of (the_file is_secondary cards) ≡ 0
+HasNoSecondary cards = file_record_length (the_file is_secondary cards) ≡ 0
 
 module _ {R S P D : Type 0} (remaining : R → Option (List ℕ)) (others : S → Option (List ℕ)) (contents : P → Option (List ℕ)) (stored : D → Option (List ℕ)) where
   -- on the day that the date spells, the report and all output are those of the cards' run over the inputs' records

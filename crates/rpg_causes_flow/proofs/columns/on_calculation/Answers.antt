@@ -3,7 +3,7 @@ use Rattle.std.specs.Option.{option_map_or}
 use Rattle.std.specs.Prelude.{false, option_and_then, option_copied}
 use Rattle.rpg_cards.specs.Calculations.{open_calculation_group}
 use Rattle.rpg_causes_flow.proofs.Tests.{bad_is}
-use Rattle.rpg_causes_flow.specs.Columns.{of_calculation}
+use Rattle.rpg_causes_flow.specs.Columns.{calculation_column_cause}
 use Rattle.rpg_faults_flow.specs.Columns.{bad_calculation}
 use Rattle.rpg_causes_flow.proofs.columns.on_calculation.Goals as goal
 
@@ -11,7 +11,7 @@ pub returns-in-Some-clause-cause : goal.returns-in-Some-clause-cause
 returns-in-Some-clause-cause c =
     let group = open_calculation_group c.args.before.now in
     c.of_calculation.ensures.cause group c.is_in_group.ensures
-    ∙ ap (option_and_then (λ k. of_calculation group k c.args.after.now)) (sym (ap option_copied c.in-Some.is) ∙ c.calculation.ensures)
+    ∙ ap (option_and_then (λ k. calculation_column_cause group k c.args.after.now)) (sym (ap option_copied c.in-Some.is) ∙ c.calculation.ensures)
 
 pub returns-in-Some-clause-rule : goal.returns-in-Some-clause-rule
 returns-in-Some-clause-rule c =

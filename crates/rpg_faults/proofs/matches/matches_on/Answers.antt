@@ -4,7 +4,7 @@ use Rattle.rpg_cards.specs.Groups.{input_card_role, role_on}
 use Rattle.rpg_faults.proofs.MatchLemmas.{matched, matched_field}
 use Rattle.rpg_faults.specs.Matches.{AreGood, AreWith}
 use Rattle.rpg_faults.specs.Places.{good_matches, input_columns}
-use Rattle.rpg_sheet_specs.specs.declared.input.InputField.{InputField}
+use Rattle.rpg_sheet_specs.specs.declared.input.InputFieldSpec.{InputFieldSpec}
 use Rattle.rpg_sheet_specs.specs.declared.input.InputSpec.{InputSpec}
 use Rattle.rpg_sheet_specs.specs.declared.input.InputSpec.TheVariants as input
 use Rattle.rpg_faults.proofs.matches.matches_on.Goals as goal
@@ -12,10 +12,10 @@ use Rattle.rpg_faults.proofs.matches.matches_on.Goals as goal
 pub returns-in-Some-lengths_with : goal.returns-in-Some-lengths_with
 returns-in-Some-lengths_with c = λ fs good.
     let card = c.args.card.now in
-    let f : InputField = c.in-Some-Field.field in
+    let f : InputFieldSpec = c.in-Some-Field.field in
     let on : input_on card.spec ≡ Some (input.Field f) = cc in
     let at : f.match_level ≡ Some c.number.result = cc (c.number.ensures.value, c.in-Some.is) in
-    let columns : c.columns_of.result ≡ input_columns f = subst (λ (g : InputField). c.columns_of.result ≡ input_columns g) c.in-Some-Field.field-is c.columns_of.ensures in
+    let columns : c.columns_of.result ≡ input_columns f = subst (λ (g : InputFieldSpec). c.columns_of.result ≡ input_columns g) c.in-Some-Field.field-is c.columns_of.ensures in
     let with : AreWith fs f c.lengths_with.result = c.lengths_with.ensures fs f good at columns in
     let more : AreGood (fs ++ f ∷ []) (Some c.in-Some-lengths_with.lengths) = subst (λ o. AreWith fs f o) c.in-Some-lengths_with.is with in (
       fs ++ f ∷ [],

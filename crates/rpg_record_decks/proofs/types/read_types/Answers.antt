@@ -2,7 +2,7 @@ use Rattle.std.proofs.Common.{◌≡◌, ◌<◌, ◌+◌, ◌∷◌, List, ap, 
 use Rattle.std.proofs.lemmas.Grind.{common_steps}
 use Rattle.std.proofs.lemmas.Result.{err_from_is_err_and}
 use Rattle.rpg_record_decks.proofs.TypeLemmas.{card_next}
-use Rattle.rpg_record_decks.specs.Outcomes.{IsFaultOf}
+use Rattle.rpg_record_decks.specs.Outcomes.{IsDeckFaultOf}
 use Rattle.rpg_record_decks.specs.Reading.{all_types}
 use Rattle.rpg_record_decks.specs.Types.{TypeRead, cards_of_file, is_input_card, is_of_file}
 use Rattle.rpg_record_decks.specs.declared.deck.DeckCard.{DeckCard}
@@ -21,4 +21,4 @@ returns-in_err-types-clause-fault c =
     let next = card_next c.args.name.now c.loop-card.is_meant cards i card within c.card-item.is input own in
     let all = ap (λ (cs : List DeckCard). all_types c.args.length c.loop-card.types cs) (sym next) ∙ c.loop-card.invariant in
     rw (p.1, p.2)
-    (subst (λ (r : Result (List TypeRead) DeckFault). IsFaultOf r c.in_err-types.field-0.0) all (c.in_err-types.ensures.fault (cards_of_file c.args.name.now true (drop (i + 1) cards))))
+    (subst (λ (r : Result (List TypeRead) DeckFault). IsDeckFaultOf r c.in_err-types.field-0.0) all (c.in_err-types.ensures.fault (cards_of_file c.args.name.now true (drop (i + 1) cards))))

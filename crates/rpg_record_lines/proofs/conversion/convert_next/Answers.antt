@@ -3,31 +3,31 @@ use Rattle.rpg_record_lines.proofs.StepLemmas.{dropped_taken, fault_taken, refus
 use Rattle.std.proofs.Common.{refl}
 use Rattle.std.proofs.KnownBytes.{Appends-nil}
 use Rattle.rpg_record_lines.proofs.TextLemmas.{frame_next, line_next}
-use Rattle.rpg_record_lines.specs.Inputs.{position_of, remaining_of}
-use Rattle.rpg_record_lines.specs.Ways.{place_at, text_by, way_of}
+use Rattle.rpg_record_lines.specs.Inputs.{offset_of, remaining_of}
+use Rattle.rpg_record_lines.specs.Ways.{input_place_at, text_by, conversion_settings}
 use Rattle.rpg_record_lines.specs.declared.conversion.Counts.{Counts}
 use Rattle.rpg_record_lines.proofs.conversion.convert_next.Goals as goal
 
 pub returns-in-Ok-End-clause-step : goal.returns-in-Ok-End-clause-step
-returns-in-Ok-End-clause-step g c = taken_end (way_of c.args.maker.now c.args.frames.now) (place_at c.args.counts c.args.frames.now) (remaining_of g.R.Read.remaining c.args.frames.now) (remaining_of g.R.Read.remaining c.next.new.self) (position_of c.next.new.self) (position_of c.next.new.self) c.next.new.room.items (g.W.Write.contents c.args.writer.now) (rw c.in-Ok-End.field-0-is at c.in-Ok-End.ensures.next)
+returns-in-Ok-End-clause-step g c = taken_end (conversion_settings c.args.maker.now c.args.frames.now) (input_place_at c.args.counts c.args.frames.now) (remaining_of g.R.Read.remaining c.args.frames.now) (remaining_of g.R.Read.remaining c.next.new.self) (offset_of c.next.new.self) (offset_of c.next.new.self) c.next.new.room.items (g.W.Write.contents c.args.writer.now) (rw c.in-Ok-End.field-0-is at c.in-Ok-End.ensures.next)
 
 pub returns-in-Err-clause-step : goal.returns-in-Err-clause-step
-returns-in-Err-clause-step g c = fault_taken (way_of c.args.maker.now c.args.frames.now) (place_at c.args.counts c.args.frames.now) (remaining_of g.R.Read.remaining c.args.frames.now) (remaining_of g.R.Read.remaining c.next.new.self) (position_of c.next.new.self) (position_of c.next.new.self) c.position-offset.result c.next.new.room.items (g.W.Write.contents c.args.writer.now) c.in-Err.fault c.frame_fault.result c.position-offset.ensures c.frame_fault.ensures c.in-Err.ensures.next
+returns-in-Err-clause-step g c = fault_taken (conversion_settings c.args.maker.now c.args.frames.now) (input_place_at c.args.counts c.args.frames.now) (remaining_of g.R.Read.remaining c.args.frames.now) (remaining_of g.R.Read.remaining c.next.new.self) (offset_of c.next.new.self) (offset_of c.next.new.self) c.position-offset.result c.next.new.room.items (g.W.Write.contents c.args.writer.now) c.in-Err.fault c.frame_fault.result c.position-offset.ensures c.frame_fault.ensures c.in-Err.ensures.next
 
 pub returns-in-Ok-false-clause-step : goal.returns-in-Ok-false-clause-step
-returns-in-Ok-false-clause-step g c = dropped_taken (way_of c.args.maker.now c.args.frames.now) (place_at c.args.counts c.args.frames.now) (remaining_of g.R.Read.remaining c.args.frames.now) (remaining_of g.R.Read.remaining c.next.new.self) (position_of c.next.new.self) c.next.new.room.items (g.W.Write.contents c.args.writer.now) c.with_dropped.result c.with_dropped.ensures (rw c.in-Ok-Record.field-0-is at c.in-Ok-Record.ensures.next) (rw c.in-Ok-false.field-0-test at c.in-Ok-false.ensures.text)
+returns-in-Ok-false-clause-step g c = dropped_taken (conversion_settings c.args.maker.now c.args.frames.now) (input_place_at c.args.counts c.args.frames.now) (remaining_of g.R.Read.remaining c.args.frames.now) (remaining_of g.R.Read.remaining c.next.new.self) (offset_of c.next.new.self) c.next.new.room.items (g.W.Write.contents c.args.writer.now) c.with_dropped.result c.with_dropped.ensures (rw c.in-Ok-Record.field-0-is at c.in-Ok-Record.ensures.next) (rw c.in-Ok-false.field-0-test at c.in-Ok-false.ensures.text)
 
 pub returns-in-Err-make-clause-step : goal.returns-in-Err-make-clause-step
-returns-in-Err-make-clause-step g c = refused_taken (way_of c.args.maker.now c.args.frames.now) (place_at c.args.counts c.args.frames.now) (remaining_of g.R.Read.remaining c.args.frames.now) (remaining_of g.R.Read.remaining c.next.new.self) (position_of c.next.new.self) (position_of c.next.new.self) c.position-offset.result c.next.new.room.items (g.W.Write.contents c.args.writer.now) c.in-Err-make.fault c.line_fault.result c.position-offset.ensures c.line_fault.ensures (rw c.in-Ok-Record.field-0-is at c.in-Ok-Record.ensures.next) c.in-Err-make.ensures.fault
+returns-in-Err-make-clause-step g c = refused_taken (conversion_settings c.args.maker.now c.args.frames.now) (input_place_at c.args.counts c.args.frames.now) (remaining_of g.R.Read.remaining c.args.frames.now) (remaining_of g.R.Read.remaining c.next.new.self) (offset_of c.next.new.self) (offset_of c.next.new.self) c.position-offset.result c.next.new.room.items (g.W.Write.contents c.args.writer.now) c.in-Err-make.fault c.line_fault.result c.position-offset.ensures c.line_fault.ensures (rw c.in-Ok-Record.field-0-is at c.in-Ok-Record.ensures.next) c.in-Err-make.ensures.fault
 
 pub returns-in-Ok-clause-counts : goal.returns-in-Ok-clause-counts
 returns-in-Ok-clause-counts g c = let e = c.with_written.ensures [] in let f = ap (λ (x : Counts). x.records + x.dropped) e in omega (arith, f)
 
 pub returns-in-Ok-clause-step : goal.returns-in-Ok-clause-step
-returns-in-Ok-clause-step g c = text_taken (way_of c.args.maker.now c.args.frames.now) (place_at c.args.counts c.args.frames.now) (remaining_of g.R.Read.remaining c.args.frames.now) (remaining_of g.R.Read.remaining c.next.new.self) (position_of c.next.new.self) c.next.new.room.items c.make.new.room.made.items (g.W.Write.contents c.args.writer.now) (g.W.Write.contents c.send.new.writer) c.with_written.result (c.with_written.ensures c.make.new.room.made.items) (rw c.in-Ok-Record.field-0-is at c.in-Ok-Record.ensures.next) (rw c.in-Ok-true.field-0-test at c.in-Ok-true.ensures.text) (rw c.as_slice.ensures.value at c.in-Ok.ensures.all)
+returns-in-Ok-clause-step g c = text_taken (conversion_settings c.args.maker.now c.args.frames.now) (input_place_at c.args.counts c.args.frames.now) (remaining_of g.R.Read.remaining c.args.frames.now) (remaining_of g.R.Read.remaining c.next.new.self) (offset_of c.next.new.self) c.next.new.room.items c.make.new.room.made.items (g.W.Write.contents c.args.writer.now) (g.W.Write.contents c.send.new.writer) c.with_written.result (c.with_written.ensures c.make.new.room.made.items) (rw c.in-Ok-Record.field-0-is at c.in-Ok-Record.ensures.next) (rw c.in-Ok-true.field-0-test at c.in-Ok-true.ensures.text) (rw c.as_slice.ensures.value at c.in-Ok.ensures.all)
 
 pub returns-in-Err-send-clause-step : goal.returns-in-Err-send-clause-step
-returns-in-Err-send-clause-step g c = taken_part (way_of c.args.maker.now c.args.frames.now) (place_at c.args.counts c.args.frames.now) (remaining_of g.R.Read.remaining c.args.frames.now) (remaining_of g.R.Read.remaining c.next.new.self) (position_of c.next.new.self) (position_of c.next.new.self) c.next.new.room.items c.make.new.room.made.items (g.W.Write.contents c.args.writer.now) (g.W.Write.contents c.send.new.writer) (rw c.in-Ok-Record.field-0-is at c.in-Ok-Record.ensures.next) (rw c.in-Ok-true.field-0-test at c.in-Ok-true.ensures.text) (rw c.as_slice.ensures.value at c.in-Err-send.ensures.part)
+returns-in-Err-send-clause-step g c = taken_part (conversion_settings c.args.maker.now c.args.frames.now) (input_place_at c.args.counts c.args.frames.now) (remaining_of g.R.Read.remaining c.args.frames.now) (remaining_of g.R.Read.remaining c.next.new.self) (offset_of c.next.new.self) (offset_of c.next.new.self) c.next.new.room.items c.make.new.room.made.items (g.W.Write.contents c.args.writer.now) (g.W.Write.contents c.send.new.writer) (rw c.in-Ok-Record.field-0-is at c.in-Ok-Record.ensures.next) (rw c.in-Ok-true.field-0-test at c.in-Ok-true.ensures.text) (rw c.as_slice.ensures.value at c.in-Err-send.ensures.part)
 
 pub returns-in-Ok-End-clause-text : goal.returns-in-Ok-End-clause-text
 returns-in-Ok-End-clause-text g c = Appends-nil (g.W.Write.contents c.args.writer.now)

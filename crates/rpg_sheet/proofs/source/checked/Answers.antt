@@ -1,7 +1,7 @@
 use Rattle.std.proofs.Common.{◌≡◌, ◌∙◌, sym, ap, arith, Some}
 use Rattle.rpg_sheet.specs.declared.sheet.SheetCode.{SheetCode}
 use Rattle.rpg_sheet.proofs.SheetLemmas.{code_if_bad, code_if_read, code_past, code_unfit}
-use Rattle.rpg_sheet.specs.Sheet.{fault_columns}
+use Rattle.rpg_sheet.specs.Sheet.{sheet_fault_columns}
 use Rattle.rpg_sheet_specs.specs.Specs.{spec_of}
 use Rattle.rpg_sheet.proofs.source.checked.Goals as goal
 
@@ -26,5 +26,5 @@ returns-clause-good c =
 pub returns-clause-code : goal.returns-clause-code
 returns-clause-code c =
     let e = c.args.earlier in
-    code_if_bad e.count e.latest e.behind c.args.line.now c.args.columns.now (λ fault. fault.columns ≡ fault_columns e.behind c.args.columns.now fault.code) c.read.result (omega arith) c.requires
+    code_if_bad e.count e.latest e.behind c.args.line.now c.args.columns.now (λ fault. fault.columns ≡ sheet_fault_columns e.behind c.args.columns.now fault.code) c.read.result (omega arith) c.requires
     (sym c.has_only_characters.ensures ∙ c.if-not-has_only_characters.false) (rw c.of-card.ensures at c.read.ensures.err)

@@ -4,7 +4,7 @@ use Rattle.rpg_cards.specs.Groups.{input_card_role, role_on}
 use Rattle.std.specs.Option.{option_map, option_or}
 use Rattle.rpg_faults.specs.Matches.{matches_of}
 use Rattle.rpg_faults.proofs.MatchLemmas.{all_with_apart, all_with_codes, all_with_field, all_with_type}
-use Rattle.rpg_sheet_specs.specs.declared.input.InputField.{InputField}
+use Rattle.rpg_sheet_specs.specs.declared.input.InputFieldSpec.{InputFieldSpec}
 use Rattle.rpg_sheet_specs.specs.declared.input.InputSpec.{InputSpec}
 use Rattle.rpg_sheet_specs.specs.declared.input.InputSpec.TheVariants as input
 use Rattle.rpg_sheet_specs.specs.declared.indicator.Three.{Three}
@@ -21,10 +21,10 @@ returns-in-Some-Type c = λ before was.
 
 pub returns-in-Some-Field : goal.returns-in-Some-Field
 returns-in-Some-Field c = λ before was.
-    let f : InputField = c.in-Some-Field.field in
+    let f : InputFieldSpec = c.in-Some-Field.field in
     let on : input_on c.args.card.now.spec ≡ Some (input.Field f) = cc in
     all_with_field before c.args.card.now c.args.after.now c.args.self was f c.with_field.result (ap (λ (o : Option InputSpec). role_on input_card_role o) on)
-    (subst (λ (g : InputField). (specs : Option (List InputSpec)) → c.args.self.open_type ≡ option_map matches_of specs → c.with_field.result ≡ option_map (λ fs. matches_of (fs ++ input.Field g ∷ [])) specs) c.in-Some-Field.field-is c.with_field.ensures)
+    (subst (λ (g : InputFieldSpec). (specs : Option (List InputSpec)) → c.args.self.open_type ≡ option_map matches_of specs → c.with_field.result ≡ option_map (λ fs. matches_of (fs ++ input.Field g ∷ [])) specs) c.in-Some-Field.field-is c.with_field.ensures)
 
 pub returns-in-Some-And : goal.returns-in-Some-And
 returns-in-Some-And c = λ before was.

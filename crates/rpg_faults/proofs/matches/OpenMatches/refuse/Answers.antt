@@ -1,11 +1,11 @@
 use Rattle.std.proofs.Common.{Some, ap, refl, sym, ◌∙◌, ◌||◌}
 use Rattle.std.specs.Prelude.{nat_le, nat_lt, ◌&&◌, ◌+◌}
 use Rattle.rpg_faults.proofs.MatchLemmas.{not_refused, refused}
-use Rattle.rpg_faults.specs.Places.{input_columns, match_fields}
+use Rattle.rpg_faults.specs.Places.{input_columns, matched_fields}
 use Rattle.rpg_faults.proofs.matches.OpenMatches.refuse.Goals as goal
 
 pub returns-in-None : goal.returns-in-None
-returns-in-None c = λ specs is. not_refused (match_fields specs) c.args.field.now c.in-None.is
+returns-in-None c = λ specs is. not_refused (matched_fields specs) c.args.field.now c.in-None.is
 
 pub returns-then-has : goal.returns-then-has
 returns-then-has c = λ specs is.

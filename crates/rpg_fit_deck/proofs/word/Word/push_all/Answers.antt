@@ -1,11 +1,11 @@
 use Rattle.std.proofs.Common.{◌++◌, ap, append_assoc, refl, arith}
-use Rattle.rpg_fit_deck.specs.Words.{room_of, text_of}
+use Rattle.rpg_fit_deck.specs.Words.{room_of, word_text}
 use Rattle.rpg_fit_deck.proofs.Texts.{room_step}
 use Rattle.rpg_fit_deck.proofs.word.Word.push_all.Goals as goal
 
 pub loop-character-preserved : goal.loop-character-preserved
 loop-character-preserved c =
-    let first = text_of c.args.self.now in
+    let first = word_text c.args.self.now in
     let room = room_of c.args.self.now in
     let k = c.loop-character.character-index in
     let step = room_step room k _ c.args.text.now (omega arith) refl in

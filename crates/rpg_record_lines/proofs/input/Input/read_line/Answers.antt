@@ -1,13 +1,13 @@
 use Rattle.std.proofs.Common.{◌≡◌, ◌+◌, ◌-◌, ◌<◌, ◌≤◌, length, arith, rules, sym, ◌∙◌}
 use Rattle.rpg_record_lines.proofs.InputLemmas.{first_line, found_by, given_more, grows_by, more_by, within_by}
 use Rattle.rpg_records.specs.Sizes.{counted}
-use Rattle.rpg_record_lines.specs.Inputs.{given_of, left_in, remaining_in}
+use Rattle.rpg_record_lines.specs.Inputs.{given_of, not_given, remaining_in}
 use Rattle.rpg_record_lines.proofs.input.Input.read_line.Goals as goal
 
 pub returns-then-branch-clause-front : goal.returns-then-branch-clause-front
 returns-then-branch-clause-front g c =
     let k = c.args.n - c.len-in-loop-self.result in
-    let left = left_in c.fill.new.self in
+    let left = not_given c.fill.new.self in
     let got = c.loop-self.line.items in
     let new = c.append_line.new.line.items in
     let e : k ≡ c.args.n - length got = omega (arith, c.len-in-loop-self.ensures) in
@@ -22,7 +22,7 @@ returns-then-branch-clause-front g c =
 pub loop-self-smaller : goal.loop-self-smaller
 loop-self-smaller g c =
     let k = c.args.n - c.len-in-loop-self.result in
-    let left = left_in c.fill.new.self in
+    let left = not_given c.fill.new.self in
     let got = c.loop-self.line.items in
     let e : k ≡ c.args.n - length got = omega (arith, c.len-in-loop-self.ensures) in
     let few : length got < c.args.n = omega (arith, c.loop-self-test.true, c.len.ensures) in
@@ -33,7 +33,7 @@ loop-self-smaller g c =
 pub loop-self-preserved : goal.loop-self-preserved
 loop-self-preserved g c =
     let k = c.args.n - c.len-in-loop-self.result in
-    let left = left_in c.fill.new.self in
+    let left = not_given c.fill.new.self in
     let got = c.loop-self.line.items in
     let new = c.append_line.new.line.items in
     let e : k ≡ c.args.n - length got = omega (arith, c.len-in-loop-self.ensures) in

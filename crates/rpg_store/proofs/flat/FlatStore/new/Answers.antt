@@ -4,7 +4,7 @@ use Rattle.rpg_program.specs.Values.{Value, held}
 use Rattle.rpg_program.specs.Kept.{storage_of}
 use Rattle.rpg_program.specs.Object.{Object}
 use Rattle.rpg_store.specs.Area.{all_number_bytes, area_slots, zeros}
-use Rattle.rpg_store.specs.Filling.{with_fields, MayTakeFields}
+use Rattle.rpg_store.specs.Filling.{with_field_values, MayTakeFields}
 use Rattle.rpg_store.specs.Flat.{Flat, flat_contents}
 use Rattle.rpg_store.specs.Slots.{currents, forms_of}
 use Rattle.rpg_store.proofs.FirstValues.{currents_area, few_values, first_filled, first_flat, forms_area, may_take_first}
@@ -42,8 +42,8 @@ returns-clause-contents c =
     let v : map (λ vs. map held vs.items) c.deref-2.result.now ≡ c.args.program.now.values = ap (map (λ vs. map held vs.items)) c.deref-2.ensures.value ∙ ap (λ (o : Object). o.values) c.rows-tables.ensures.same in
     let s : c.in_ok-store.store ≡ first_flat g = ap (λ xs. flat xs c.in_ok-store.store.area) (c.in_ok-store.ensures.slots ∙ ap (λ fs. area_slots 0 (all_number_bytes fs) fs) f) ∙ ap (flat (area_slots 0 (all_number_bytes g) g)) (c.in_ok-store.ensures.area ∙ ap (λ fs. zeros (storage_of fs)) f) in
     c.put_all.ensures.contents
-    ∙ ap (λ (x : Flat). with_fields (flat_contents x) 1 (map (λ vs. map held vs.items) c.deref-2.result.now)) s
-    ∙ ap (with_fields (flat_contents (first_flat g)) 1) v
+    ∙ ap (λ (x : Flat). with_field_values (flat_contents x) 1 (map (λ vs. map held vs.items) c.deref-2.result.now)) s
+    ∙ ap (with_field_values (flat_contents (first_flat g)) 1) v
     ∙ first_filled g c.args.program.now.values p.values
 
 pub returns-clause-currents : goal.returns-clause-currents

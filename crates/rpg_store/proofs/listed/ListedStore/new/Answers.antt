@@ -5,7 +5,7 @@ use Rattle.rpg_program.specs.declared.form.FieldForm.{FieldForm}
 use Rattle.rpg_program.specs.Object.{Object}
 use Rattle.rpg_store.specs.Contents.{by_entry}
 use Rattle.rpg_store.specs.First.{joined_values}
-use Rattle.rpg_store.specs.Listed.{joined, number_part, text_part}
+use Rattle.rpg_store.specs.Listed.{paired_values, number_part, text_part}
 use Rattle.rpg_store.specs.Slots.{currents, entries_count, forms_of, AreInOrder}
 use Rattle.rpg_store.specs.declared.slot.Slot.{Slot}
 use Rattle.rpg_store.proofs.FirstSlots.{currents_first, entries_few, forms_from, order_from}
@@ -42,8 +42,8 @@ returns-clause-contents c =
     let numbers : c.in_ok-numbers.numbers.items ≡ map number_part values =
     c.in_ok-numbers.ensures ∙ flat_map_joined number_part (λ (us : Vec entry.Value Global). map held us.items) c.deref-3.result.now
     ∙ ap (λ us. map number_part (joined_values (map (λ vs. map held vs.items) us))) c.deref-3.ensures.value ∙ ap (λ (o : Object). map number_part (joined_values o.values)) c.rows-tables.ensures.same in
-    ap (λ fs. by_entry fs (joined (map (λ t. t.items) c.in_ok-texts.texts.items) c.in_ok-numbers.numbers.items)) (ap forms_of c.in_ok-slots.ensures ∙ forms_from 0 c.deref.result.now ∙ same)
-    ∙ ap (by_entry c.args.program.now.fields) (ap (λ ts. joined ts c.in_ok-numbers.numbers.items) texts ∙ ap (λ ns. joined (map text_part values) ns) numbers ∙ joined_first c.args.program.now.fields c.args.program.now.values p.fields p.values)
+    ap (λ fs. by_entry fs (paired_values (map (λ t. t.items) c.in_ok-texts.texts.items) c.in_ok-numbers.numbers.items)) (ap forms_of c.in_ok-slots.ensures ∙ forms_from 0 c.deref.result.now ∙ same)
+    ∙ ap (by_entry c.args.program.now.fields) (ap (λ ts. paired_values ts c.in_ok-numbers.numbers.items) texts ∙ ap (λ ns. paired_values (map text_part values) ns) numbers ∙ joined_first c.args.program.now.fields c.args.program.now.values p.fields p.values)
 
 pub returns-clause-currents : goal.returns-clause-currents
 returns-clause-currents c =

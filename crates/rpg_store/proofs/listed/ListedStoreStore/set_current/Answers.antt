@@ -4,7 +4,7 @@ use Rattle.std.specs.FinMap as maps
 use Rattle.rpg_program.specs.declared.form.FieldForm.{FieldForm}
 use Rattle.rpg_program.specs.Forms.{is_table}
 use Rattle.rpg_store.specs.Contents.{by_entry}
-use Rattle.rpg_store.specs.Listed.{Listed, joined, listed_contents}
+use Rattle.rpg_store.specs.Listed.{Listed, paired_values, listed_contents}
 use Rattle.rpg_store.specs.Slots.{currents, forms_of}
 use Rattle.rpg_store.specs.declared.slot.Slot.{Slot}
 use Rattle.rpg_store.proofs.BySlot.{forms-set, order-set}
@@ -47,7 +47,7 @@ returns-clause-contents c =
     let s : c.self.inside.slots.items ≡ c.args.self.now.slots = ap (λ (x : Listed). x.slots) c.self.view_is in
     let h : slice_get c.self.inside.slots.items (c.args.table - 1) ≡ Some t.1.0 = ap (λ slots. slice_get slots (c.args.table - 1)) s ∙ t.1.1.0 in
     let r : c.index_mut.result.now ≡ t.1.0 = c.index_mut.ensures.value ∙ get_or_from_slice_get c.self.inside.slots.items (c.args.table - 1) t.1.0 _ h in
-    ap (λ (fs : List FieldForm). by_entry fs (joined (map (λ t'. t'.items) c.self.inside.texts.items) c.self.inside.numbers.items)) (forms-set c.self.inside.slots.items (c.args.table - 1) t.1.0 _ h (ap (λ (x : Slot). x.form) r))
+    ap (λ (fs : List FieldForm). by_entry fs (paired_values (map (λ t'. t'.items) c.self.inside.texts.items) c.self.inside.numbers.items)) (forms-set c.self.inside.slots.items (c.args.table - 1) t.1.0 _ h (ap (λ (x : Slot). x.form) r))
     ∙ ap (λ (x : Listed). listed_contents x) c.self.view_is
 
 pub returns-clause-forms : goal.returns-clause-forms
