@@ -38,7 +38,7 @@ pub fn write_code(out: &mut TextWriter, code: EditCode, fill: Fill) {
         Fill::Dollar => " with $ before it",
     };
     let letter = char::from(code_letter(code));
-    out.fill(" by code {}{}", &[letter.into(), filled.into()]);
+    out.fill_two(" by code {}{}", letter, filled);
 }
 
 pub fn time_word(time: Time) -> &'static str {
@@ -59,7 +59,7 @@ pub fn write_spacing(out: &mut TextWriter, spacing: Spacing) {
         (", space {} after", spacing.space_after),
     ] {
         if lines > 0 {
-            out.fill(sentence, &[lines.into()]);
+            out.fill_one(sentence, lines);
         }
     }
 }

@@ -24,7 +24,7 @@ pub fn constant_of(rows: &Rows, field: u16) -> Option<(&Value, u8)> {
 fn write_name(out: &mut TextWriter, source: &SourceRows, field: u16) {
     match source.field_name(field) {
         Some(name) => out.write_str(name_text(name)),
-        None => out.fill("#{}", &[field.into()]),
+        None => out.fill_one("#{}", field),
     }
 }
 
@@ -41,7 +41,7 @@ pub fn write_card_operand(
     }
     match operand.index {
         Index::Blank => {}
-        Index::Literal(entry) => out.fill(",{}", &[entry.into()]),
+        Index::Literal(entry) => out.fill_one(",{}", entry),
         Index::Field(field) => {
             out.write_char(',');
             write_name(out, source, field);

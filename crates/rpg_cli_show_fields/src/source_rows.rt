@@ -27,6 +27,8 @@ pub struct SourceRows {
     types: Vec<RowCard>,
     lines: Vec<RowCard>,
     places: Vec<u16>,
+    /// Whether memory ran out for one of them.
+    ran_out: bool,
 }
 
 /// How many instructions a card becomes: one for the indicator that its calculation waits for, one for its conditions, one for its operation.
@@ -36,13 +38,13 @@ fn instruction_count(calculation: &CalculationSpec) -> usize {
     level + test + usize::from(has_instruction(calculation))
 }
 
-/// Notes the card of a further row, or of a field of the last one.
-fn note(cards: &mut Vec<RowCard>, card: u16, is_first: bool) -> Result<(), AllocError> {
+/// Notes the card of a further row, or of a field of the last one, and returns whether memory ran out.
+fn note(cards: &mut Vec<RowCard>, card: u16, is_first: bool) -> bool {
     let row = match cards.last() {
         Some(last) => last.row.saturating_add(usize::from(is_first)),
         None => 0,
     };
-    Ok(cards.push(RowCard { row, card })?)
+    cards.push(RowCard { row, card }).is_err()
 }
 
 /// The card of a row, whose place is 0, or of one of its fields.
@@ -67,6 +69,7 @@ impl SourceRows {
             types: Vec::new(alloc),
             lines: Vec::new(alloc),
             places: Vec::new(alloc),
+            ran_out: false,
         }
     }
 
@@ -74,51 +77,49 @@ impl SourceRows {
     pub fn of_cards(alloc: Global, cards: &[SpecCard]) -> Result<Self, AllocError> {
         let source = IndexedCards::new(alloc, cards)?;
         let mut rows = SourceRows::none(alloc);
-        rows.note_cards(&source)?;
+        rows.note_cards(&source);
+        if rows.ran_out {
+            return Err(AllocError);
+        }
         Ok(rows)
     }
 
-    fn note_cards(&mut self, source: &IndexedCards) -> Result<(), AllocError> {
+    fn note_cards(&mut self, source: &IndexedCards) {
         let mut definitions = 0;
         let mut places = 0;
-        self.note_name(b"UDATE", None)?;
-        self.note_name(b"PAGE", None)?;
+        self.note_name(b"UDATE", None);
+        self.note_name(b"PAGE", None);
         for card in source.as_slice() {
-            definitions = self.note_names(source, card, definitions)?;
-            places = self.note_row(card, places)?;
+            definitions = self.note_names(source, card, definitions);
+            places = self.note_row(card, places);
         }
         self.places.truncate(places);
-        Ok(())
     }
 
-    fn note_name(&mut self, name: &[u8], card: Option<u16>) -> Result<(), AllocError>
+    fn note_name(&mut self, name: &[u8], card: Option<u16>)
         requires { length name.now ≤ 6 }
     {
         let name = Word::new(name);
-        Ok(self.fields.push(NamedField { name, card })?)
+        self.ran_out |= self.fields.push(NamedField { name, card }).is_err();
     }
 
     /// Notes the names that a card defines first, and returns how many definitions there are up to it.
-    fn note_names(
-        &mut self,
-        source: &IndexedCards,
-        card: &SpecCard,
-        before: usize,
-    ) -> Result<usize, AllocError> {
+    fn note_names(&mut self, source: &IndexedCards, card: &SpecCard, before: usize) -> usize {
         let mut place = before;
-        for definition in card.definitions() {
+        let definitions = card.definitions();
+        for definition in definitions.as_slice() {
             if source.is_new_name(place, &definition.name) {
-                self.note_name(definition.name.as_slice(), Some(card.number))?;
+                self.note_name(definition.name.as_slice(), Some(card.number));
             }
             place = place.saturating_add(1);
         }
-        Ok(place)
+        place
     }
 
     /// Notes the row or the instructions of a card. So many places are those of calculations that are done with.
-    fn note_row(&mut self, card: &SpecCard, places: usize) -> Result<usize, AllocError> {
+    fn note_row(&mut self, card: &SpecCard, places: usize) -> usize {
         let number = card.number;
-        let noted = match &card.spec {
+        let ran_out = match &card.spec {
             Spec::Input(InputSpec::Type(_)) => note(&mut self.types, number, true),
             Spec::Input(InputSpec::Field(_)) => note(&mut self.types, number, false),
             Spec::Output(OutputSpec::Record(_)) => note(&mut self.lines, number, true),
@@ -126,32 +127,25 @@ impl SourceRows {
             Spec::Calculation(calculation) => {
                 return self.note_places(number, calculation, places);
             }
-            _ => Ok(()),
+            _ => false,
         };
-        match noted {
-            Ok(()) => Ok(places),
-            Err(error) => Err(error),
-        }
+        self.ran_out |= ran_out;
+        places
     }
 
     /// Notes the instructions of a card. A calculation whose operation becomes none has none for its indicator and its conditions either.
-    fn note_places(
-        &mut self,
-        card: u16,
-        calculation: &CalculationSpec,
-        places: usize,
-    ) -> Result<usize, AllocError> {
+    fn note_places(&mut self, card: u16, calculation: &CalculationSpec, places: usize) -> usize {
         if !joins(calculation) {
             self.places.truncate(places);
         }
         for _ in 0..instruction_count(calculation) {
-            self.places.push(card)?;
+            self.ran_out |= self.places.push(card).is_err();
         }
-        Ok(if has_instruction(calculation) {
+        if has_instruction(calculation) {
             self.places.len()
         } else {
             places
-        })
+        }
     }
 
     fn field(&self, number: u16) -> Option<&NamedField> {

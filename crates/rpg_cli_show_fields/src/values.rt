@@ -22,13 +22,13 @@ fn write_number(out: &mut TextWriter, number: i64, decimals: u8) {
     let digits = number.unsigned_abs();
     let mut unit = 10u64.saturating_pow(u32::from(decimals)).max(1);
     let sentence = if number < 0 { "-{}" } else { "{}" };
-    out.fill(sentence, &[(digits / unit).into()]);
+    out.fill_one(sentence, digits / unit);
     if decimals > 0 {
         out.write_char('.');
     }
     for _ in 0..decimals {
         unit = (unit / 10).max(1);
-        out.fill("{}", &[(digits / unit % 10).into()]);
+        out.fill_one("{}", digits / unit % 10);
     }
 }
 
@@ -61,8 +61,8 @@ pub fn write_form(out: &mut TextWriter, form: FieldForm) {
         Kind::Number => "number {}.{}",
         Kind::Text => "text {}",
     };
-    out.fill(class, &[form.entries.into()]);
-    out.fill(kind, &[form.length.into(), form.decimals.into()]);
+    out.fill_one(class, form.entries);
+    out.fill_two(kind, form.length, form.decimals);
     if form.is_ascending {
         out.write_str(", ascending");
     }

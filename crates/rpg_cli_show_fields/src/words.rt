@@ -41,7 +41,7 @@ pub fn write_when(out: &mut TextWriter, word: &str, conditions: Conditions) {
 /// Writes a sentence with an indicator, if there is one.
 pub fn write_named(out: &mut TextWriter, sentence: &str, indicator: Option<u8>) {
     if let Some(number) = indicator {
-        out.fill(sentence, &[Indicator(number).name().into()]);
+        out.fill_one(sentence, Indicator(number).name());
     }
 }
 
@@ -56,6 +56,6 @@ pub fn write_shows(out: &mut TextWriter, sentences: [&str; 3], shows: Shows) {
 /// Writes the card of a row after it, where it is known.
 pub fn write_card(out: &mut TextWriter, card: Option<u16>) {
     if let Some(card) = card {
-        out.fill(" (card {})", &[card.into()]);
+        out.fill_one(" (card {})", card);
     }
 }

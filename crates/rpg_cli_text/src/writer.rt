@@ -68,6 +68,32 @@ impl TextWriter {
         self.write_str(rest);
     }
 
+    /// Appends a sentence that has one place.
+    pub fn fill_one<'a>(&mut self, sentence: &str, piece: impl Into<Piece<'a>>) {
+        self.fill(sentence, &[piece.into()]);
+    }
+
+    /// Appends a sentence that has two places.
+    pub fn fill_two<'a>(
+        &mut self,
+        sentence: &str,
+        first: impl Into<Piece<'a>>,
+        second: impl Into<Piece<'a>>,
+    ) {
+        self.fill(sentence, &[first.into(), second.into()]);
+    }
+
+    /// Appends a sentence that has three places.
+    pub fn fill_three<'a>(
+        &mut self,
+        sentence: &str,
+        first: impl Into<Piece<'a>>,
+        second: impl Into<Piece<'a>>,
+        third: impl Into<Piece<'a>>,
+    ) {
+        self.fill(sentence, &[first.into(), second.into(), third.into()]);
+    }
+
     /// Appends a piece in a column as `layout` has it.
     fn write_laid_out(&mut self, layout: &str, piece: Piece<'_>) {
         if let Some(width) = layout.strip_prefix(":<") {
