@@ -27,7 +27,7 @@ fn write_need(out: &mut TextWriter, need: Need) {
 fn write_other_cards(out: &mut TextWriter, need: Need, there: usize) {
     write_need(out, need);
     let verb = noun(there, "stands", "stand");
-    out.fill("{} {} there", &[there.into(), verb.into()]);
+    out.fill_two("{} {} there", there, verb);
 }
 
 const TOO_WIDE: &str = ": {} entries a card of {} columns take {}, and a card has 80";
@@ -52,7 +52,7 @@ fn write_entry(out: &mut TextWriter, spot: Spot<'_>, cause: &EntryCause) {
         EntryFault::NoNumber => out.write_str("isn't a number"),
         EntryFault::Lower => {
             let before = cause.number.saturating_sub(1);
-            out.fill("is lower than entry {}", &[before.into()]);
+            out.fill_one("is lower than entry {}", before);
         }
     }
 }
@@ -73,16 +73,13 @@ pub(crate) fn write_data(out: &mut TextWriter, spot: Spot<'_>, cause: &DataCause
         DataCause::TooWide { per_card, width } => {
             let width = u64::from(*width);
             let columns = u64::from(*per_card).saturating_mul(width);
-            out.fill(
-                TOO_WIDE,
-                &[(*per_card).into(), width.into(), columns.into()],
-            );
+            out.fill_three(TOO_WIDE, *per_card, width, columns);
         }
         DataCause::OtherCards { need, there } => write_other_cards(out, *need, *there),
         DataCause::Entry(entry) => write_entry(out, spot, entry),
         DataCause::Spare { deck, wanted } => {
             let of_cards = noun(*wanted, "E card needs data", "E cards need data");
-            out.fill(SPARE, &[(*deck).into(), (*wanted).into(), of_cards.into()]);
+            out.fill_three(SPARE, *deck, *wanted, of_cards);
         }
     }
 }

@@ -8,9 +8,9 @@ use rpg_faults::FaultCode;
 /// How many digits a number has.
 fn write_digits(out: &mut TextWriter, name: &[u8], length: u16, decimals: u8) {
     let digits = noun(usize::from(length), "digit", "digits");
-    out.fill("{} has {} {}", &[name.into(), length.into(), digits.into()]);
+    out.fill_three("{} has {} {}", name, length, digits);
     if decimals != 0 {
-        out.fill(", {} of them decimals", &[decimals.into()]);
+        out.fill_one(", {} of them decimals", decimals);
     }
 }
 
@@ -22,10 +22,7 @@ pub(crate) fn write_editing(out: &mut TextWriter, cause: &EditingCause) {
         Misfit::Fill => {}
         Misfit::Text { length } => {
             let characters = noun(usize::from(length), "character", "characters");
-            out.fill(
-                ": {} is a text of {} {}",
-                &[name.into(), length.into(), characters.into()],
-            );
+            out.fill_three(": {} is a text of {} {}", name, length, characters);
         }
         Misfit::Date { length, decimals } => {
             out.write_str(": code Y edits 6 digits without decimals, and ");
@@ -40,10 +37,7 @@ pub(crate) fn write_editing(out: &mut TextWriter, cause: &EditingCause) {
             decimals,
         } => {
             let digits = noun(usize::from(places), "digit", "digits");
-            out.fill(
-                ": the word has places for {} {}, and ",
-                &[places.into(), digits.into()],
-            );
+            out.fill_two(": the word has places for {} {}, and ", places, digits);
             write_digits(out, name, length, decimals);
         }
     }

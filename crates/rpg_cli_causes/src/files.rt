@@ -38,13 +38,10 @@ fn write_second(out: &mut TextWriter, spot: Spot<'_>, name: &[u8], first: &FileO
     let own_device = text_at(spot.line, 40, 46);
     match first.serves_as {
         FileUse::Disk if is_near(first_device, b"PRINTER") => {
-            out.fill(
-                ", since its device is {} and not PRINTER",
-                &[first_device.into()],
-            );
+            out.fill_one(", since its device is {} and not PRINTER", first_device);
         }
         FileUse::Disk if is_near(own_device, b"PRINTER") => {
-            out.fill("; {} isn't PRINTER", &[own_device.into()]);
+            out.fill_one("; {} isn't PRINTER", own_device);
         }
         FileUse::Primary | FileUse::Secondary => out.write_str(THIRD_INPUT),
         FileUse::Printer | FileUse::Disk => out.write_str(MORE_OUTPUT),
@@ -63,7 +60,7 @@ fn write_near_file(out: &mut TextWriter, cards: &[SpecCard], name: &[u8]) {
         if let Some(file) = card.file() {
             let other = file.name.as_slice();
             if is_near(name, other) {
-                out.fill(" ({} is on card {})", &[other.into(), card.number.into()]);
+                out.fill_two(" ({} is on card {})", other, card.number);
                 return;
             }
         }
@@ -81,9 +78,10 @@ const fn user_names(user: FileUser) -> (&'static str, &'static str) {
 /// F7: which file it is, and what is wrong with it.
 pub(crate) fn write_file(out: &mut TextWriter, spot: Spot<'_>, cause: &FileCause) {
     match cause {
-        FileCause::Twice(file) => out.fill(
+        FileCause::Twice(file) => out.fill_two(
             "{} is on card {} already: each file has one F card",
-            &[file.name.as_slice().into(), file.card.into()],
+            file.name.as_slice(),
+            file.card,
         ),
         FileCause::Second { name, first } => write_second(out, spot, name.as_slice(), first),
         FileCause::EndsApart => {
@@ -94,17 +92,14 @@ pub(crate) fn write_file(out: &mut TextWriter, spot: Spot<'_>, cause: &FileCause
                 FileUse::Printer => LINE_LENGTH,
                 _ => RECORD_LENGTH,
             };
-            out.fill(sentence, &[(*length).into()]);
+            out.fill_one(sentence, *length);
         }
         FileCause::Unnamed(user) => {
             let (of_whom, _) = user_names(*user);
-            out.fill(
-                "the first {} has to name its file in 7-14",
-                &[of_whom.into()],
-            );
+            out.fill_one("the first {} has to name its file in 7-14", of_whom);
         }
         FileCause::Unknown { name, .. } => {
-            out.fill("no F card has {}", &[name.as_slice().into()]);
+            out.fill_one("no F card has {}", name.as_slice());
             write_near_file(out, spot.source.cards.as_slice(), name.as_slice());
         }
         FileCause::WrongUse { user, file } => {
@@ -123,12 +118,13 @@ pub(crate) fn write_file(out: &mut TextWriter, spot: Spot<'_>, cause: &FileCause
 pub(crate) fn write_movement(out: &mut TextWriter, spot: Spot<'_>, file: &FileOnCard) {
     let device = spot.text_of_card(file.card, 40, 46);
     let name = file.name.as_slice();
-    out.fill(
+    out.fill_two(
         "spaces and skips are for a printer, and {} (card {}",
-        &[name.into(), file.card.into()],
+        name,
+        file.card,
     );
     if !device.is_empty() {
-        out.fill(", device {}", &[device.into()]);
+        out.fill_one(", device {}", device);
     }
     out.write_str(") is the disk file");
 }

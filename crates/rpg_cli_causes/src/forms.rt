@@ -11,23 +11,23 @@ pub(crate) fn noun(count: usize, one: &'static str, more: &'static str) -> &'sta
 /// The card that is meant, in brackets; nothing where there is none.
 pub(crate) fn write_card(out: &mut TextWriter, card: Option<u16>) {
     if let Some(card) = card {
-        out.fill(" (card {})", &[card.into()]);
+        out.fill_one(" (card {})", card);
     }
 }
 
 /// What a field is: `a number 6.2` has 6 digits, of which 2 are decimals.
 pub(crate) fn write_form(out: &mut TextWriter, form: FieldForm) {
     match form.class {
-        Class::Array => out.fill("an array of {}, each ", &[form.entries.into()]),
-        Class::Table => out.fill("a table of {}, each ", &[form.entries.into()]),
+        Class::Array => out.fill_one("an array of {}, each ", form.entries),
+        Class::Table => out.fill_one("a table of {}, each ", form.entries),
         Class::Plain | Class::Constant | Class::Date => {}
     }
     let length = form.length;
     match form.kind {
         Kind::Text => {
             let characters = noun(usize::from(length), "character", "characters");
-            out.fill("a text of {} {}", &[length.into(), characters.into()]);
+            out.fill_two("a text of {} {}", length, characters);
         }
-        Kind::Number => out.fill("a number {}.{}", &[length.into(), form.decimals.into()]),
+        Kind::Number => out.fill_two("a number {}.{}", length, form.decimals),
     }
 }

@@ -19,13 +19,13 @@ fn name_of(indicator: &Indicator) -> &'static str {
 pub(crate) fn write_bad_indicator(out: &mut TextWriter, cause: &IndicatorCause) {
     match cause {
         IndicatorCause::NotOfType(indicator) => {
-            out.fill(NOT_OF_TYPE, &[name_of(indicator).into()]);
+            out.fill_one(NOT_OF_TYPE, name_of(indicator));
         }
-        IndicatorCause::NeverSet(indicator) => out.fill(
+        IndicatorCause::NeverSet(indicator) => out.fill_one(
             "{} can't be set: results and fields set all but L0, 1P and MR",
-            &[name_of(indicator).into()],
+            name_of(indicator),
         ),
-        IndicatorCause::TextField(name) => out.fill(TEXT_FIELD, &[name.as_slice().into()]),
+        IndicatorCause::TextField(name) => out.fill_one(TEXT_FIELD, name.as_slice()),
         IndicatorCause::FirstPage => out.write_str(
             "calculations can't test 1P: it is on only before the first record",
         ),

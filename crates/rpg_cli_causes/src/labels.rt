@@ -17,7 +17,7 @@ fn write_near_label(out: &mut TextWriter, cards: &[SpecCard], name: &[u8], is_su
         if let Some(named) = given_on(card) {
             let other = named.name.as_slice();
             if named.is_subroutine == is_subroutine && is_near(name, other) {
-                out.fill(" ({} is on card {})", &[other.into(), card.number.into()]);
+                out.fill_two(" ({} is on card {})", other, card.number);
                 return;
             }
         }
@@ -34,7 +34,7 @@ pub(crate) fn write_nowhere(out: &mut TextWriter, spot: Spot<'_>, cause: &Nowher
         NowhereCause::Absent(wanted) => {
             let name = wanted.name.as_slice();
             let operation = if wanted.is_subroutine { "BEGSR" } else { "TAG" };
-            out.fill("no {} defines {}", &[operation.into(), name.into()]);
+            out.fill_two("no {} defines {}", operation, name);
             let cards = spot.source.cards.as_slice();
             write_near_label(out, cards, name, wanted.is_subroutine);
         }
@@ -44,7 +44,7 @@ pub(crate) fn write_nowhere(out: &mut TextWriter, spot: Spot<'_>, cause: &Nowher
             } else {
                 IS_LABEL
             };
-            out.fill(sentence, &[name.as_slice().into(), giver.card.into()]);
+            out.fill_two(sentence, name.as_slice(), giver.card);
         }
     }
 }
@@ -58,17 +58,20 @@ pub(crate) fn write_twice(out: &mut TextWriter, cause: &TwiceCause) {
             } else {
                 "label"
             };
-            out.fill(
+            out.fill_three(
                 "{} is a {} on card {} already",
-                &[name.as_slice().into(), kind.into(), giver.card.into()],
+                name.as_slice(),
+                kind,
+                giver.card,
             );
         }
-        TwiceCause::Field { name, card } => out.fill(
+        TwiceCause::Field { name, card } => out.fill_two(
             "{} is a field of card {} already",
-            &[name.as_slice().into(), (*card).into()],
+            name.as_slice(),
+            *card,
         ),
         TwiceCause::EveryProgram(name) => {
-            out.fill("{} is predefined as a field", &[name.as_slice().into()]);
+            out.fill_one("{} is predefined as a field", name.as_slice());
         }
     }
 }
@@ -83,8 +86,5 @@ const RECURSION: &str = "{} (card {}) is the subroutine that this card is in, or
 /// F13, and F14: the label, or the subroutine, that the card names.
 pub(crate) fn write_target(out: &mut TextWriter, target: &Target, is_recursion: bool) {
     let sentence = if is_recursion { RECURSION } else { APART };
-    out.fill(
-        sentence,
-        &[target.name.as_slice().into(), target.card.into()],
-    );
+    out.fill_two(sentence, target.name.as_slice(), target.card);
 }

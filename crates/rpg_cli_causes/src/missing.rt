@@ -52,16 +52,10 @@ const LAST_CARD_ALONE: &str =
 pub(crate) fn write_field(out: &mut TextWriter, spot: Spot<'_>, cause: &FieldCause) {
     match cause {
         FieldCause::Unordered { name, definer } => {
-            out.fill(
-                "{} for high or low needs a sequence",
-                &[spot.operation().into()],
-            );
+            out.fill_one("{} for high or low needs a sequence", spot.operation());
             if let (Some(name), Some(card)) = (name, *definer) {
                 let name = name.as_slice();
-                out.fill(
-                    ": A in 45 or 57 for {} (card {})",
-                    &[name.into(), card.into()],
-                );
+                out.fill_two(": A in 45 or 57 for {} (card {})", name, card);
             }
         }
         FieldCause::CodeAlone => out.write_str("an edit code (38) without a field (32-37)"),
@@ -76,8 +70,8 @@ pub(crate) fn write_field(out: &mut TextWriter, spot: Spot<'_>, cause: &FieldCau
 pub(crate) fn write_column(out: &mut TextWriter, spot: Spot<'_>, cause: &ColumnCause) {
     let (sentence, columns) = sentence(cause);
     if matches!(cause, ColumnCause::LastCardAlone(_)) {
-        out.fill(sentence, &[columns.into()]);
+        out.fill_one(sentence, columns);
     } else {
-        out.fill(sentence, &[spot.operation().into(), columns.into()]);
+        out.fill_two(sentence, spot.operation(), columns);
     }
 }

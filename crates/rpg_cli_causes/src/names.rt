@@ -24,7 +24,7 @@ fn unread(name: &[u8]) -> Option<&'static str> {
 
 /// F1: which name no card defines, and which are close to it.
 pub(crate) fn write_undefined(out: &mut TextWriter, spot: Spot<'_>, name: &[u8]) {
-    out.fill("{} is used, and no card defines it", &[name.into()]);
+    out.fill_one("{} is used, and no card defines it", name);
     match unread(name) {
         Some(sentence) => out.write_str(sentence),
         None => write_near_names(out, spot, name),
@@ -41,7 +41,7 @@ pub(crate) fn write_redefined(out: &mut TextWriter, spot: Spot<'_>, cause: &Rede
         out.write_str("UDATE is the date, and no card can define it");
         return;
     }
-    out.fill("{} is ", &[name.into()]);
+    out.fill_one("{} is ", name);
     write_form(out, cause.here);
     out.write_str(" here, and ");
     if cause.definer.is_none() {
@@ -49,7 +49,7 @@ pub(crate) fn write_redefined(out: &mut TextWriter, spot: Spot<'_>, cause: &Rede
     }
     write_form(out, cause.first);
     if let Some(card) = cause.definer {
-        out.fill(" on card {}", &[card.into()]);
+        out.fill_one(" on card {}", card);
     }
     let class = cause.first.class;
     if spot.card.input_field().is_some() && (is_array(class) || is_table(class)) {

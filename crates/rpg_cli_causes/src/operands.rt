@@ -22,16 +22,13 @@ fn write_remedy(out: &mut TextWriter, spot: Spot<'_>, text: &TextField) {
         } else {
             "a digit in column 52"
         };
-        out.fill(
-            ": {} of card {} makes it one",
-            &[remedy.into(), card.into()],
-        );
+        out.fill_two(": {} of card {} makes it one", remedy, card);
     }
 }
 
 /// A text, with the card that defines it.
 fn write_text(out: &mut TextWriter, name: &[u8], text: &TextField) {
-    out.fill("{} is a text", &[name.into()]);
+    out.fill_one("{} is a text", name);
     write_card(out, text.definer);
 }
 
@@ -45,11 +42,11 @@ pub(crate) fn write_operand(out: &mut TextWriter, spot: Spot<'_>, cause: &Operan
                 Content::Searched => "{} is neither a table nor an array, and {} searches one",
                 _ => "{} isn't a table, and what is found by {} becomes current in one",
             };
-            out.fill(sentence, &[spot.text_in(*at).into(), operation.into()]);
+            out.fill_two(sentence, spot.text_in(*at), operation);
         }
         OperandCause::TextOperand { at, text } => {
             write_text(out, spot.text_in(*at), text);
-            out.fill(", and {} takes numbers", &[operation.into()]);
+            out.fill_one(", and {} takes numbers", operation);
             write_remedy(out, spot, text);
         }
         OperandCause::Unlike { first, second } => write_unlike(out, operation, *first, *second),
@@ -58,9 +55,9 @@ pub(crate) fn write_operand(out: &mut TextWriter, spot: Spot<'_>, cause: &Operan
         }
         OperandCause::TooFew { found, searched } => write_too_few(out, spot, *found, *searched),
         OperandCause::EditedText(text) => write_edited(out, spot, text),
-        OperandCause::BlankedDate(name) => out.fill(
+        OperandCause::BlankedDate(name) => out.fill_one(
             "{} is the date, and can't be blanked: take B out of column 39",
-            &[name.as_slice().into()],
+            name.as_slice(),
         ),
     }
 }
@@ -70,7 +67,7 @@ fn write_unlike(out: &mut TextWriter, operation: &[u8], first: FieldForm, second
     write_form(out, first);
     out.write_str(" and factor 2 ");
     write_form(out, second);
-    out.fill(": {} takes two numbers, or two texts", &[operation.into()]);
+    out.fill_one(": {} takes two numbers, or two texts", operation);
 }
 
 const TOO_FEW: &str = "{} has {} {}, and what is searched has {}: the result needs as many";
@@ -96,7 +93,7 @@ fn write_edited(out: &mut TextWriter, spot: Spot<'_>, text: &TextField) {
 
 /// What a field is that can be no index.
 fn write_no_index(out: &mut TextWriter, name: &Word<6>, form: FieldForm, definer: Option<u16>) {
-    out.fill("{} is ", &[name.as_slice().into()]);
+    out.fill_one("{} is ", name.as_slice());
     match form.class {
         Class::Date => out.write_str("the date"),
         _ => write_form(out, form),
@@ -108,10 +105,7 @@ fn write_no_index(out: &mut TextWriter, name: &Word<6>, form: FieldForm, definer
 /// Writes of an array how many entries it has.
 fn write_entries(out: &mut TextWriter, name: &Word<6>, entries: u16) {
     let counted = noun(usize::from(entries), "entry", "entries");
-    out.fill(
-        "{} has {} {}, and ",
-        &[name.as_slice().into(), entries.into(), counted.into()],
-    );
+    out.fill_three("{} has {} {}, and ", name.as_slice(), entries, counted);
 }
 
 const NO_INDEX_GIVEN: &str =
@@ -128,18 +122,16 @@ pub(crate) fn write_index(out: &mut TextWriter, spot: Spot<'_>, cause: &IndexCau
             definer,
         } => write_no_index(out, name, *form, *definer),
         IndexCause::NoArray(name) => {
-            out.fill(
-                "{} isn't an array, and takes no index",
-                &[name.as_slice().into()],
-            );
+            out.fill_one("{} isn't an array, and takes no index", name.as_slice());
         }
-        IndexCause::Whole(name) => out.fill(
+        IndexCause::Whole(name) => out.fill_two(
             "{} takes the whole array {}, without an index",
-            &[spot.operation().into(), name.as_slice().into()],
+            spot.operation(),
+            name.as_slice(),
         ),
         IndexCause::Missing { name, entries } => {
             write_entries(out, name, *entries);
-            out.fill(NO_INDEX_GIVEN, &[name.as_slice().into()]);
+            out.fill_one(NO_INDEX_GIVEN, name.as_slice());
         }
         IndexCause::OutOfRange {
             name,
@@ -147,7 +139,7 @@ pub(crate) fn write_index(out: &mut TextWriter, spot: Spot<'_>, cause: &IndexCau
             index,
         } => {
             write_entries(out, name, *entries);
-            out.fill("{} is none of them", &[(*index).into()]);
+            out.fill_one("{} is none of them", *index);
         }
         IndexCause::TooShort {
             name,
@@ -155,7 +147,7 @@ pub(crate) fn write_index(out: &mut TextWriter, spot: Spot<'_>, cause: &IndexCau
             index,
         } => {
             write_entries(out, name, *entries);
-            out.fill(TOO_SHORT, &[index.as_slice().into()]);
+            out.fill_one(TOO_SHORT, index.as_slice());
         }
     }
 }

@@ -17,11 +17,11 @@ const fn time_of(control_level: ControlLevel) -> &'static str {
 /// BEGSR, by its name, and ENDSR.
 fn write_unended(out: &mut TextWriter, name: &Option<Word<6>>, next: Option<u16>) {
     match name {
-        Some(name) => out.fill("BEGSR of {} has no ENDSR", &[name.as_slice().into()]),
+        Some(name) => out.fill_one("BEGSR of {} has no ENDSR", name.as_slice()),
         None => out.write_str("this BEGSR has no ENDSR"),
     }
     if let Some(card) = next {
-        out.fill(": the next BEGSR is on card {}", &[card.into()]);
+        out.fill_one(": the next BEGSR is on card {}", card);
     }
 }
 
@@ -37,19 +37,19 @@ pub(crate) fn write_order(out: &mut TextWriter, spot: Spot<'_>, cause: &OrderCau
         OrderCause::Unjoined => out.write_str(UNJOINED),
         OrderCause::Early { own, later, card } => {
             let times = (time_of(*own), time_of(*later));
-            out.fill(EARLY, &[times.0.into(), times.1.into(), (*card).into()]);
+            out.fill_three(EARLY, times.0, times.1, *card);
         }
         OrderCause::Outside(None) => out.write_str("an SR card before the first BEGSR"),
-        OrderCause::Outside(Some(card)) => out.fill(
+        OrderCause::Outside(Some(card)) => out.fill_one(
             "an SR card after the ENDSR of card {}, in no subroutine",
-            &[(*card).into()],
+            *card,
         ),
-        OrderCause::OutsideSection { .. } => out.fill(
+        OrderCause::OutsideSection { .. } => out.fill_one(
             "{} stands on a card without SR in 7-8",
-            &[spot.operation().into()],
+            spot.operation(),
         ),
         OrderCause::NoBegsr(None) => out.write_str("this ENDSR has no BEGSR"),
-        OrderCause::NoBegsr(Some(card)) => out.fill(NO_BEGSR, &[(*card).into()]),
+        OrderCause::NoBegsr(Some(card)) => out.fill_one(NO_BEGSR, *card),
         OrderCause::NoEndsr { name, next } => write_unended(out, name, *next),
     }
 }
@@ -58,7 +58,7 @@ pub(crate) fn write_order(out: &mut TextWriter, spot: Spot<'_>, cause: &OrderCau
 fn write_joined(out: &mut TextWriter, sentence: &'static str, card: Option<u16>) {
     out.write_str(sentence);
     match card {
-        Some(card) => out.fill(", and card {} isn't one", &[card.into()]),
+        Some(card) => out.fill_one(", and card {} isn't one", card),
         None => out.write_str(", and there is none"),
     }
 }

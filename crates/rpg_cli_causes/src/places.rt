@@ -33,22 +33,22 @@ const TURNED_ROUND: &str = "the last column, {}, comes before the first, {}";
 /// F16 of a card's own columns: what is outside the record or the line.
 pub(crate) fn write_outside(out: &mut TextWriter, spot: Spot<'_>, cause: &PlaceCause) {
     match cause {
-        PlaceCause::NoPosition(at) => out.fill(NO_POSITION, &[position(spot, *at)]),
+        PlaceCause::NoPosition(at) => out.fill_one(NO_POSITION, position(spot, *at)),
         PlaceCause::PositionPast { at, file, .. } => {
-            out.fill("position {}", &[position(spot, *at)]);
+            out.fill_one("position {}", position(spot, *at));
             write_length(out, "records", file);
         }
         PlaceCause::NoColumn => out.write_str("columns of a record are counted from 1"),
         PlaceCause::TurnedRound { from, to } => {
-            out.fill(TURNED_ROUND, &[(*to).into(), (*from).into()]);
+            out.fill_two(TURNED_ROUND, *to, *from);
         }
         PlaceCause::PastRecord { from, to, file } => {
-            out.fill("columns {}-{}", &[(*from).into(), (*to).into()]);
+            out.fill_two("columns {}-{}", *from, *to);
             write_length(out, "records", file);
         }
         PlaceCause::NoEnd => out.write_str("places of a line are counted from 1"),
         PlaceCause::PastLine { end, file } => {
-            out.fill("the end is place {}", &[(*end).into()]);
+            out.fill_one("the end is place {}", *end);
             write_length(out, "lines", file);
         }
         PlaceCause::Wider { places, end } => write_width(out, spot, *places, *end),
@@ -101,12 +101,13 @@ fn write_other_length(
 pub(crate) fn write_join(out: &mut TextWriter, cause: JoinCause) {
     match cause {
         JoinCause::LongLevel { level, columns } => {
-            out.fill(LONG_LEVEL, &[level.into(), u64::from(columns).into()]);
+            out.fill_two(LONG_LEVEL, level, u64::from(columns));
         }
-        JoinCause::LongMatches { columns } => out.fill(LONG_MATCHES, &[u64::from(columns).into()]),
-        JoinCause::MatchedTwice { level, card } => out.fill(
+        JoinCause::LongMatches { columns } => out.fill_one(LONG_MATCHES, u64::from(columns)),
+        JoinCause::MatchedTwice { level, card } => out.fill_two(
             "M{} stands on card {} of this type already",
-            &[level.into(), card.into()],
+            level,
+            card,
         ),
         JoinCause::OtherLength {
             level,
@@ -119,18 +120,20 @@ pub(crate) fn write_join(out: &mut TextWriter, cause: JoinCause) {
             length: 0,
             card,
             ..
-        } => out.fill(
+        } => out.fill_two(
             "this type has no M{}, and the one of card {} has it",
-            &[level.into(), card.into()],
+            level,
+            card,
         ),
         JoinCause::OtherMatches {
             level,
             first: 0,
             card,
             ..
-        } => out.fill(
+        } => out.fill_two(
             "this type has M{}, and the one of card {} doesn't",
-            &[level.into(), card.into()],
+            level,
+            card,
         ),
         JoinCause::OtherMatches {
             level,

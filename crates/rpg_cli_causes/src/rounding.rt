@@ -14,5 +14,5 @@ pub(crate) fn write_rounding(out: &mut TextWriter, spot: Spot<'_>, cause: Roundi
         RoundingCause::SeveralCards => "MVR has no AN or OR cards",
         RoundingCause::NoDivision => "MVR follows a DIV without H on the card right before it",
     };
-    out.fill(sentence, &[spot.operation().into()]);
+    out.fill_one(sentence, spot.operation());
 }

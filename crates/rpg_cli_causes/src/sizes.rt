@@ -13,8 +13,8 @@ const DECIMALS: &str = "{} {} of {} {}: there are at most 9, and no more than di
 /// F3: the length, or the decimals.
 pub(crate) fn write_size(out: &mut TextWriter, cause: SizeCause) {
     match cause {
-        SizeCause::Length(length) => out.fill(LENGTH, &[u64::from(length).into()]),
-        SizeCause::Digits(length) => out.fill(DIGITS, &[u64::from(length).into()]),
+        SizeCause::Length(length) => out.fill_one(LENGTH, u64::from(length)),
+        SizeCause::Digits(length) => out.fill_one(DIGITS, u64::from(length)),
         SizeCause::Decimals { decimals, length } => write_decimals(out, decimals, length),
         SizeCause::NoLength => out.write_str("decimals (52) without a length (49-51)"),
     }
@@ -63,10 +63,10 @@ const fn limit_sentence(limit: Limit) -> &'static str {
 /// F6: which limit is passed, and how many there are.
 pub(crate) fn write_limit(out: &mut TextWriter, cause: LimitCause) {
     match cause {
-        LimitCause::Entries(entries) => out.fill(
+        LimitCause::Entries(entries) => out.fill_one(
             "{} entries: a table or an array has 1 to 9,999",
-            &[entries.into()],
+            entries,
         ),
-        LimitCause::Passed { limit, count } => out.fill(limit_sentence(limit), &[count.into()]),
+        LimitCause::Passed { limit, count } => out.fill_one(limit_sentence(limit), count),
     }
 }
