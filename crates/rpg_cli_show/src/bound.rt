@@ -102,7 +102,7 @@ const BOUND: &str = "  accepted, bound {}: a cycle takes at most so many steps, 
 
 fn write_part(out: &mut TextWriter, steps: u64, words: &str) {
     if steps > 0 {
-        out.fill("    {:>14} {}\n", &[steps.into(), words.into()]);
+        out.fill_two("    {:>14} {}\n", steps, words);
     }
 }
 
@@ -119,7 +119,7 @@ pub(crate) fn write_bound(out: &mut TextWriter, rows: &Rows, bound: u64, costs: 
         }
     };
     let records = types_weight(rows);
-    out.fill(BOUND, &[bound.into()]);
+    out.fill_one(BOUND, bound);
     write_part(out, records, types);
     write_part(
         out,

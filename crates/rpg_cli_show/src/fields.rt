@@ -45,12 +45,12 @@ fn write_row(
     form: FieldForm,
     values: &[Value],
 ) {
-    out.fill("  #{:<5}", &[number.into()]);
+    out.fill_one("  #{:<5}", number);
     if shown.is_named {
         let name = shown.source.field_name(number).unwrap_or(&[]);
-        out.fill("{:<6}  ", &[name_text(name).into()]);
+        out.fill_one("{:<6}  ", name_text(name));
         match shown.source.field_card(number) {
-            Some(card) => out.fill("{:>4}  ", &[card.into()]),
+            Some(card) => out.fill_one("{:>4}  ", card),
             None => out.write_str("      "),
         }
     }
@@ -85,7 +85,7 @@ fn write_entries(out: &mut TextWriter, begin: usize, form: FieldForm, values: &[
     let mut at = begin;
     for (i, value) in values.iter().enumerate() {
         write_offset(out, &mut at, usize::from(form.length));
-        out.fill("    {:>4}  ", &[i.saturating_add(1).into()]);
+        out.fill_one("    {:>4}  ", i.saturating_add(1));
         write_value(out, value, form.decimals);
         out.write_char('\n');
     }
@@ -97,7 +97,7 @@ pub(crate) fn write_first_values(out: &mut TextWriter, at: &mut usize, shown: Sh
     for (form, values) in shown.rows.fields.iter().zip(&shown.rows.values) {
         number = number.saturating_add(1);
         if are_listed(values) {
-            out.fill("\n    at  FIRST VALUES OF #{}", &[number.into()]);
+            out.fill_one("\n    at  FIRST VALUES OF #{}", number);
             shown.write_name(out, number);
             out.write_char('\n');
             write_entries(out, *at, *form, values);

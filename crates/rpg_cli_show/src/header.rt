@@ -13,7 +13,7 @@ const ALLOWANCE: &str = "  spends   a cycle may take {} branches back and calls\
 /// Writes a sentence about a file whose records have so many columns or places, or the words if there is no such file.
 pub(crate) fn write_length(out: &mut TextWriter, sentence: &str, length: u16, none: &str) {
     if length > 0 {
-        out.fill(sentence, &[length.into()]);
+        out.fill_one(sentence, length);
     } else {
         out.write_str(none);
     }
@@ -22,10 +22,7 @@ pub(crate) fn write_length(out: &mut TextWriter, sentence: &str, length: u16, no
 /// Writes the version of a program, and how many bytes it takes.
 pub(crate) fn write_version(out: &mut TextWriter, rows: &Rows, bytes: usize) {
     let version = rows.version.number();
-    out.fill(
-        "object program, version {}, {} bytes\n",
-        &[version.into(), bytes.into()],
-    );
+    out.fill_two("object program, version {}, {} bytes\n", version, bytes);
 }
 
 /// Writes the header after the version.
@@ -65,5 +62,5 @@ pub(crate) fn write_header(out: &mut TextWriter, shown: Shown<'_>) {
             rows.total.len().into(),
         ],
     );
-    out.fill(ALLOWANCE, &[rows.allowance.into()]);
+    out.fill_one(ALLOWANCE, rows.allowance);
 }

@@ -51,7 +51,7 @@ fn write_action(out: &mut TextWriter, shown: Shown<'_>, action: Action<Operand<u
     let row = row_of(shown.rows, action);
     let result_width = if shown.is_named { 14 } else { 8 };
     write_column(out, shown, row.factor1, 14);
-    out.fill("{:<6} ", &[action.name().into()]);
+    out.fill_one("{:<6} ", action.name());
     write_column(out, shown, row.factor2, 14);
     write_column(out, shown, row.result, result_width);
     out.write_char(if is_half_adjusted(action) { 'H' } else { ' ' });
@@ -65,7 +65,7 @@ fn write_action(out: &mut TextWriter, shown: Shown<'_>, action: Action<Operand<u
 
 fn write_instruction(out: &mut TextWriter, shown: Shown<'_>, instruction: Instruction<u16>) {
     if !matches!(&instruction, Instruction::Act(_)) {
-        out.fill("               {:<6} ", &[instruction.name().into()]);
+        out.fill_one("               {:<6} ", instruction.name());
     }
     match instruction {
         Instruction::Act(action) => write_action(out, shown, action),
@@ -76,11 +76,11 @@ fn write_instruction(out: &mut TextWriter, shown: Shown<'_>, instruction: Instru
             target,
         } => {
             let when = if is_taken_where { ", when" } else { ", unless" };
-            out.fill("to {}", &[target.into()]);
+            out.fill_one("to {}", target);
             write_when(out, when, conditions);
         }
         Instruction::Call { subroutine } | Instruction::Return { subroutine } => {
-            out.fill("subroutine {}", &[subroutine.into()]);
+            out.fill_one("subroutine {}", subroutine);
         }
     }
 }
@@ -96,14 +96,14 @@ fn write_section(
     let mut place = first;
     for instruction in code {
         write_offset(out, at, INSTRUCTION);
-        out.fill(" {:>5} ", &[place.into()]);
+        out.fill_one(" {:>5} ", place);
         match shown.costs.get(place) {
-            Some(cost) => out.fill("{:>6}", &[(*cost).into()]),
+            Some(cost) => out.fill_one("{:>6}", *cost),
             None => out.write_str("      "),
         }
         if shown.is_named {
             match shown.source.place_card(place) {
-                Some(card) => out.fill("  {:>5}", &[card.into()]),
+                Some(card) => out.fill_one("  {:>5}", card),
                 None => out.write_str("       "),
             }
         }
@@ -123,7 +123,7 @@ fn write_heading(out: &mut TextWriter, shown: Shown<'_>, name: &str, count: usiz
     } else {
         "\n    at place   path  {}\n"
     };
-    out.fill(heading, &[name.into()]);
+    out.fill_one(heading, name);
 }
 
 const SUBROUTINE_ROW: &str = "               subroutine {}, level {}\n";
@@ -133,7 +133,7 @@ fn write_subroutines(out: &mut TextWriter, at: &mut usize, shown: Shown<'_>, fir
     let mut place = first;
     for (number, subroutine) in shown.rows.subroutines.iter().enumerate() {
         write_offset(out, at, SUBROUTINE);
-        out.fill(SUBROUTINE_ROW, &[number.into(), subroutine.level.into()]);
+        out.fill_two(SUBROUTINE_ROW, number, subroutine.level);
         shown.write_broken(out, Table::Subroutines, number);
         write_section(out, at, shown, place, &subroutine.instructions);
         place = place.saturating_add(subroutine.instructions.len());

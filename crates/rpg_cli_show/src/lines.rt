@@ -31,7 +31,7 @@ fn write_alternatives(out: &mut TextWriter, at: &mut usize, alternatives: &[Vec<
 
 fn write_field(out: &mut TextWriter, at: &mut usize, shown: Shown<'_>, field: LineField<u16>) {
     write_offset(out, at, 16);
-    out.fill("    to place {:<4} ", &[field.end.into()]);
+    out.fill_one("    to place {:<4} ", field.end);
     if let Source::Page = field.source {
         out.write_str("PAGE, one more in ");
     }
@@ -75,10 +75,7 @@ pub(crate) fn write_lines(out: &mut TextWriter, at: &mut usize, shown: Shown<'_>
         };
         let time = time_word(line.time);
         write_offset(out, at, 12);
-        out.fill(
-            "  line {}: {}, {}",
-            &[number.into(), file.into(), time.into()],
-        );
+        out.fill_three("  line {}: {}, {}", number, file, time);
         write_spacing(out, line.spacing);
         write_alternatives(out, at, &line.alternatives);
         write_card(out, shown.source.line_card(number));

@@ -41,7 +41,7 @@ fn write_levels(out: &mut TextWriter, rows: &Rows) {
     let mut end = " none\n";
     for level in 1..=9u8 {
         if has_level(rows, level) {
-            out.fill(" L{}", &[level.into()]);
+            out.fill_one(" L{}", level);
             end = "\n";
         }
     }
@@ -76,7 +76,7 @@ fn write_run(out: &mut TextWriter, verified: &Verified) {
     let rows = verified.program().rows();
     let steps = verified.bound();
     let bytes = steps.saturating_mul(BYTES_OF_STEP);
-    out.fill(STEPS, &[steps.into(), bytes.into()]);
+    out.fill_two(STEPS, steps, bytes);
     out.write_str("  run      rpg2 run OBJ INPUT PRINT");
     if uses_date(verified.program()) {
         out.write_str(" --date today");

@@ -45,10 +45,7 @@ const REFUSED: &str = "  refused  row {} by V{}: {}\n";
 /// Writes the row of a rule that is broken, the rule, and what is wrong.
 pub(crate) fn write_refusal(out: &mut TextWriter, broken: BrokenRule) {
     let (number, sentence) = (broken.rule.number(), broken.rule.sentence());
-    out.fill(
-        REFUSED,
-        &[broken.row.into(), number.into(), sentence.into()],
-    );
+    out.fill_three(REFUSED, broken.row, number, sentence);
 }
 
 /// The rule that a program breaks which isn't accepted.
@@ -61,7 +58,7 @@ pub(crate) fn broken_by(fault: VerifyFault) -> Result<BrokenRule, AllocError> {
 
 /// Writes the offset of a row of so many bytes, and goes on after it.
 pub(crate) fn write_offset(out: &mut TextWriter, at: &mut usize, bytes: usize) {
-    out.fill("{:>6}", &[(*at).into()]);
+    out.fill_one("{:>6}", *at);
     *at = (*at).saturating_add(bytes);
 }
 
@@ -71,7 +68,7 @@ impl Shown<'_> {
         match self.broken {
             Some(broken) if broken.row == row && table_of(broken.rule) == table => {
                 let (number, sentence) = (broken.rule.number(), broken.rule.sentence());
-                out.fill("        ^ V{}: {}\n", &[number.into(), sentence.into()]);
+                out.fill_two("        ^ V{}: {}\n", number, sentence);
             }
             _ => {}
         }
@@ -80,22 +77,22 @@ impl Shown<'_> {
     /// Writes the name of a field with a blank before it; nothing where it has none or the source isn't known.
     pub fn write_name(self, out: &mut TextWriter, field: u16) {
         if let Some(name) = self.source.field_name(field) {
-            out.fill(" {}", &[name_text(name).into()]);
+            out.fill_one(" {}", name_text(name));
         }
     }
 
     /// Writes a field with its index, if it has one, and a constant with its value. Where the source is known, what its cards have comes after it.
     pub fn write_operand(self, out: &mut TextWriter, operand: Operand<u16>) {
         let constant = constant_of(self.rows, operand.field);
-        out.fill("#{}", &[operand.field.into()]);
+        out.fill_one("#{}", operand.field);
         if let Some((value, decimals)) = constant {
             out.write_char('=');
             write_value(out, value, decimals);
         }
         match operand.index {
             Index::Blank => {}
-            Index::Literal(entry) => out.fill(",{}", &[entry.into()]),
-            Index::Field(field) => out.fill(",#{}", &[field.into()]),
+            Index::Literal(entry) => out.fill_one(",{}", entry),
+            Index::Field(field) => out.fill_one(",#{}", field),
         }
         if self.is_named && constant.is_none() {
             out.write_char(' ');

@@ -17,7 +17,7 @@ fn write_head(out: &mut TextWriter, number: usize, record_type: &RecordType) {
     } else {
         "  type {}: records{} with these codes"
     };
-    out.fill(sentence, &[number.into(), of_file.into()]);
+    out.fill_two(sentence, number, of_file);
     write_named(out, ", turns on {}", record_type.indicator);
 }
 
@@ -25,7 +25,7 @@ fn write_codes(out: &mut TextWriter, at: &mut usize, codes: &[RecordCode]) {
     for code in codes {
         let is = if code.is_negated { "isn't" } else { "is" };
         write_offset(out, at, 4);
-        out.fill("    column {} {} ", &[code.position.into(), is.into()]);
+        out.fill_two("    column {} {} ", code.position, is);
         write_quoted(out, &[code.character]);
         out.write_char('\n');
     }
@@ -40,7 +40,7 @@ fn write_levels(out: &mut TextWriter, at: &mut usize, sentence: &str, fields: &[
             to,
         } = *field;
         write_offset(out, at, 6);
-        out.fill(sentence, &[from.into(), to.into(), level.into()]);
+        out.fill_three(sentence, from, to, level);
         if is_numeric {
             out.write_str(", by its digits alone");
         }
@@ -63,10 +63,7 @@ fn write_inputs(
             shows,
         } = *input;
         write_offset(out, at, 10);
-        out.fill(
-            "    columns {}-{} to #{}",
-            &[from.into(), to.into(), field.into()],
-        );
+        out.fill_three("    columns {}-{} to #{}", from, to, field);
         shown.write_name(out, field);
         write_shows(
             out,

@@ -33,6 +33,8 @@ struct RowUse {
 #[derive(Drop)]
 pub(crate) struct Uses {
     fields: Vec<Vec<RowUse>>,
+    /// Whether memory ran out for one of them.
+    ran_out: bool,
 }
 
 /// Writes the rows that use a field in one way after the words for it, if there are some.
@@ -44,125 +46,108 @@ fn write_rows(out: &mut TextWriter, words: &str, uses: &[RowUse], by: By) {
                 out.write_str(words);
             }
             if count < MOST_TOLD {
-                out.fill(" {}", &[used.row.into()]);
+                out.fill_one(" {}", used.row);
             }
             count = count.saturating_add(1);
         }
     }
     if count > MOST_TOLD {
-        out.fill(" and {} more", &[(count - MOST_TOLD).into()]);
+        out.fill_one(" and {} more", count - MOST_TOLD);
     }
 }
 
 impl Uses {
     /// Notes a use of a field, if there is one of that number and the use isn't noted as its last one already.
-    fn note(&mut self, field: u16, by: By, row: usize) -> Result<(), AllocError> {
+    fn note(&mut self, field: u16, by: By, row: usize) {
         let Some(uses) = self.fields.get_mut(usize::from(field)) else {
-            return Ok(());
+            return;
         };
         match uses.last() {
-            Some(last) if last.by == by && last.row == row => Ok(()),
-            _ => Ok(uses.push(RowUse { by, row })?),
+            Some(last) if last.by == by && last.row == row => {}
+            _ => self.ran_out |= uses.push(RowUse { by, row }).is_err(),
         }
     }
 
     /// Notes an operand. It uses its index, however it uses the field.
-    fn note_operand(
-        &mut self,
-        operand: Operand<u16>,
-        by: By,
-        row: usize,
-    ) -> Result<(), AllocError> {
+    fn note_operand(&mut self, operand: Operand<u16>, by: By, row: usize) {
         if let Index::Field(index) = operand.index {
             let index_by = if by == By::Setting { By::Using } else { by };
-            self.note(index, index_by, row)?;
+            self.note(index, index_by, row);
         }
-        self.note(operand.field, by, row)
+        self.note(operand.field, by, row);
     }
 
-    fn note_inputs(&mut self, row: usize, record_type: &RecordType) -> Result<(), AllocError> {
+    fn note_inputs(&mut self, row: usize, record_type: &RecordType) {
         for input in &record_type.inputs {
-            self.note(input.field, By::Type, row)?;
+            self.note(input.field, By::Type, row);
         }
-        Ok(())
     }
 
-    fn note_line(&mut self, row: usize, line: &Line) -> Result<(), AllocError> {
+    fn note_line(&mut self, row: usize, line: &Line) {
         for field in &line.fields {
-            self.note_operand(field.operand, By::Line, row)?;
+            self.note_operand(field.operand, By::Line, row);
             if let Editing::Word(word) = field.editing {
-                self.note(word, By::Line, row)?;
+                self.note(word, By::Line, row);
             }
         }
-        Ok(())
     }
 
     /// Notes an operand, if there is one.
-    fn note_used(
-        &mut self,
-        used: Option<Use<Operand<u16>>>,
-        by: By,
-        row: usize,
-    ) -> Result<(), AllocError> {
-        match used {
-            Some(used) => self.note_operand(used.operand, by, row),
-            None => Ok(()),
+    fn note_used(&mut self, used: Option<Use<Operand<u16>>>, by: By, row: usize) {
+        if let Some(used) = used {
+            self.note_operand(used.operand, by, row);
         }
     }
 
-    fn note_instruction(
-        &mut self,
-        rows: &Rows,
-        place: usize,
-        instruction: Instruction<u16>,
-    ) -> Result<(), AllocError> {
+    fn note_instruction(&mut self, rows: &Rows, place: usize, instruction: Instruction<u16>) {
         let row = columns_of(rows, instruction);
-        self.note_used(row.factor1, By::Using, place)?;
-        self.note_used(row.factor2, By::Using, place)?;
-        self.note_used(row.result, By::Setting, place)
+        self.note_used(row.factor1, By::Using, place);
+        self.note_used(row.factor2, By::Using, place);
+        self.note_used(row.result, By::Setting, place);
     }
 
-    fn note_places(&mut self, program: &Program) -> Result<(), AllocError> {
+    fn note_places(&mut self, program: &Program) {
         for place in 0..usize::from(u16::MAX) {
             let Some(placed) = placed_at(program, place) else {
                 break;
             };
-            self.note_instruction(program.rows(), place, placed.instruction)?;
+            self.note_instruction(program.rows(), place, placed.instruction);
         }
-        Ok(())
     }
 
-    fn note_types(&mut self, types: &[RecordType]) -> Result<(), AllocError> {
+    fn note_types(&mut self, types: &[RecordType]) {
         for (row, record_type) in types.iter().enumerate() {
-            self.note_inputs(row, record_type)?;
+            self.note_inputs(row, record_type);
         }
-        Ok(())
     }
 
-    fn note_lines(&mut self, lines: &[Line]) -> Result<(), AllocError> {
+    fn note_lines(&mut self, lines: &[Line]) {
         for (row, line) in lines.iter().enumerate() {
-            self.note_line(row, line)?;
+            self.note_line(row, line);
         }
-        Ok(())
     }
 
     /// What uses each field of a program.
     pub fn of(alloc: Global, program: &Program) -> Result<Self, AllocError> {
         let mut uses = Uses {
             fields: Vec::new(alloc),
+            ran_out: false,
         };
-        uses.note_program(alloc, program)?;
+        uses.note_program(alloc, program);
+        if uses.ran_out {
+            return Err(AllocError);
+        }
         Ok(uses)
     }
 
-    fn note_program(&mut self, alloc: Global, program: &Program) -> Result<(), AllocError> {
+    fn note_program(&mut self, alloc: Global, program: &Program) {
         let rows = program.rows();
         for _ in 0..=rows.fields.len() {
-            self.fields.push(Vec::new(alloc))?;
+            self.ran_out |= self.fields.push(Vec::new(alloc)).is_err();
         }
-        self.note_types(&rows.types)?;
-        self.note_lines(&rows.lines)?;
-        self.note_places(program)
+        self.note_types(&rows.types);
+        self.note_lines(&rows.lines);
+        self.note_places(program);
     }
 
     /// Writes what uses a field.
