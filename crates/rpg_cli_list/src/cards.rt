@@ -10,7 +10,7 @@ use rpg_text::trimmed;
 const MARGIN: usize = 6;
 
 fn write_card(out: &mut TextWriter, number: usize, line: &[u8]) {
-    out.fill("{:>5}", &[number.into()]);
+    out.fill_one("{:>5}", number);
     let text = trimmed(line);
     if !text.is_empty() {
         out.write_char(' ');

@@ -1,12 +1,11 @@
 //! The files of a source.
 
 use rpg_cards::{FileUse, use_of};
-use rpg_cli_list_names::{By, Mentions, overflow_of};
+use rpg_cli_list_names::{CardNumbers, overflow_of};
 use rpg_cli_show_fields::{name_text, write_named};
 use rpg_cli_text::TextWriter;
 use rpg_deck::{Card, Tree};
 use rpg_sheet_specs::{FileSpec, InputSpec, OutputSpec, Word};
-use std::alloc::{AllocError, Global};
 
 /// How many columns stand before the further cards that name a file.
 const NAMED: usize = 23;
@@ -27,12 +26,12 @@ pub(crate) fn write_heading(
     file: Option<&FileSpec>,
     counted: &str,
 ) {
-    out.fill("\n{}", &[rows.into()]);
+    out.fill_one("\n{}", rows);
     if let Some(name) = name {
-        out.fill(" OF {}", &[name_text(name.as_slice()).into()]);
+        out.fill_one(" OF {}", name_text(name.as_slice()));
     }
     if let Some(file) = file {
-        out.fill(", {} {}", &[file.record_length.into(), counted.into()]);
+        out.fill_two(", {} {}", file.record_length, counted);
     }
     out.write_char('\n');
 }
@@ -45,30 +44,37 @@ fn is_named(file: &Option<Word<8>>, name: &Word<8>) -> bool {
     }
 }
 
-/// Notes the cards of record types that name a file.
-fn note_types(mentions: &mut Mentions, tree: &Tree, name: &Word<8>) -> Result<(), AllocError> {
+/// Writes the numbers of the cards of record types that name a file.
+fn write_types(out: &mut TextWriter, numbers: &mut CardNumbers, tree: &Tree, name: &Word<8>) {
     for group in &tree.types.groups {
         match group.first.spec {
             InputSpec::Type(record_type) if is_named(&record_type.file, name) => {
-                mentions.note(By::Using, group.first.number)?;
+                numbers.write(out, group.first.number);
             }
             _ => {}
         }
     }
-    Ok(())
 }
 
-/// Notes the cards of lines that name a file.
-fn note_lines(mentions: &mut Mentions, tree: &Tree, name: &Word<8>) -> Result<(), AllocError> {
+/// Writes the numbers of the cards of lines that name a file.
+fn write_lines(out: &mut TextWriter, numbers: &mut CardNumbers, tree: &Tree, name: &Word<8>) {
     for group in &tree.lines.groups {
         match group.first.spec {
             OutputSpec::Record(record) if is_named(&record.file, name) => {
-                mentions.note(By::Using, group.first.number)?;
+                numbers.write(out, group.first.number);
             }
             _ => {}
         }
     }
-    Ok(())
+}
+
+/// Writes the numbers of the cards that name a file.
+fn write_named_on(out: &mut TextWriter, tree: &Tree, name: &Word<8>) {
+    let mut numbers = CardNumbers::new(NAMED);
+    write_types(out, &mut numbers, tree, name);
+    write_lines(out, &mut numbers, tree, name);
+    numbers.finish(out);
+    out.write_char('\n');
 }
 
 fn write_file(out: &mut TextWriter, card: u16, file: &FileSpec) {
@@ -80,11 +86,11 @@ fn write_file(out: &mut TextWriter, card: u16, file: &FileSpec) {
     };
     let name = name_text(file.name.as_slice());
     let words = length_words(file);
-    out.fill("  {:<8}  ", &[name.into()]);
-    out.fill("{:<9}  ", &[serves.into()]);
-    out.fill("{:>4} ", &[file.record_length.into()]);
-    out.fill("{}  ", &[words.into()]);
-    out.fill("card {}", &[card.into()]);
+    out.fill_one("  {:<8}  ", name);
+    out.fill_one("{:<9}  ", serves);
+    out.fill_one("{:>4} ", file.record_length);
+    out.fill_one("{}  ", words);
+    out.fill_one("card {}", card);
     write_named(out, ", turns on {} where a page is full", overflow_of(file));
     out.write_str(", named on ");
 }
@@ -100,11 +106,7 @@ fn is_among(cards: &[Card<&FileSpec>], name: &Word<8>) -> bool {
 }
 
 /// Writes a row for each file, by the first card that describes it, with the cards of record types and lines that name it.
-pub(crate) fn write_files(
-    alloc: Global,
-    out: &mut TextWriter,
-    tree: &Tree,
-) -> Result<(), AllocError> {
+pub(crate) fn write_files(out: &mut TextWriter, tree: &Tree) {
     if !tree.files.is_empty() {
         out.write_str("\nFILES\n");
     }
@@ -113,12 +115,7 @@ pub(crate) fn write_files(
         let name = &card.spec.name;
         if !is_among(before, name) {
             write_file(out, card.number, card.spec);
-            let mut mentions = Mentions::new(alloc);
-            note_types(&mut mentions, tree, name)?;
-            note_lines(&mut mentions, tree, name)?;
-            mentions.write_lines(out, By::Using, NAMED);
-            out.write_char('\n');
+            write_named_on(out, tree, name);
         }
     }
-    Ok(())
 }

@@ -52,7 +52,7 @@ fn write_head(
     followers: &[Card<&OutputSpec>],
 ) {
     let time = time_word(time_of(record.time));
-    out.fill("  line, card {}: {}", &[card.into(), time.into()]);
+    out.fill_two("  line, card {}: {}", card, time);
     match file {
         Some(file) if use_of(file) == FileUse::Printer => {
             write_spacing(out, spacing_of(record.movement));
@@ -103,8 +103,8 @@ fn write_places(out: &mut TextWriter, source: &IndexedCards, field: &OutputField
         None => None,
     };
     match first {
-        Some(first) => out.fill("{:>4}-{:<4}", &[first.into(), end.into()]),
-        None => out.fill("    -{:<4}", &[end.into()]),
+        Some(first) => out.fill_two("{:>4}-{:<4}", first, end),
+        None => out.fill_one("    -{:<4}", end),
     }
 }
 
@@ -112,8 +112,8 @@ fn write_entry(out: &mut TextWriter, entry: &Entry) {
     out.write_str(name_text(entry.name.as_slice()));
     match &entry.index {
         None => {}
-        Some(EntryIndex::Literal(index)) => out.fill(",{}", &[(*index).into()]),
-        Some(EntryIndex::Name(index)) => out.fill(",{}", &[name_text(index.as_slice()).into()]),
+        Some(EntryIndex::Literal(index)) => out.fill_one(",{}", *index),
+        Some(EntryIndex::Name(index)) => out.fill_one(",{}", name_text(index.as_slice())),
     }
 }
 
@@ -133,7 +133,7 @@ fn write_printed(out: &mut TextWriter, field: &OutputField) {
 }
 
 fn write_field(out: &mut TextWriter, source: &IndexedCards, card: u16, field: &OutputField) {
-    out.fill("  {:>6}  ", &[card.into()]);
+    out.fill_one("  {:>6}  ", card);
     write_places(out, source, field);
     out.write_str("  ");
     write_printed(out, field);

@@ -7,7 +7,7 @@ use crate::lines::write_lines;
 use crate::records::write_records;
 use crate::tables::write_tables;
 use rpg_cards::IndexedCards;
-use rpg_cli_list_names::{Indicators, Labels, Names, write_constants};
+use rpg_cli_list_names::{Indicators, Names, write_constants, write_labels};
 use rpg_cli_messages::{SourceCards, labels_of};
 use rpg_cli_text::TextWriter;
 use rpg_deck::{Deck, Tree};
@@ -31,8 +31,8 @@ fn write_head(out: &mut TextWriter, path: &str, cards: usize, faults: &[CardFaul
     };
     let count = faults.len();
     out.write_shown(path.as_bytes());
-    out.fill(": {} card{}, ", &[cards.into(), counted(cards).into()]);
-    out.fill(sentence, &[count.into(), counted(count).into()]);
+    out.fill_two(": {} card{}, ", cards, counted(cards));
+    out.fill_two(sentence, count, counted(count));
 }
 
 /// Writes the fields: names, and constants after them.
@@ -41,7 +41,7 @@ fn write_fields(
     out: &mut TextWriter,
     source: &IndexedCards,
 ) -> Result<(), AllocError> {
-    let mut names = Names::of(alloc, source.as_slice())?;
+    let mut names = Names::of(alloc, source)?;
     names.write(out, source)?;
     write_constants(alloc, out, source.as_slice(), names.count())
 }
@@ -55,11 +55,11 @@ fn write_contents(
     let cards = source.as_slice();
     let deck = Deck::new(alloc, cards)?;
     let tree = Tree::of(alloc, &deck)?;
-    write_files(alloc, out, &tree)?;
+    write_files(out, &tree);
     write_tables(out, &tree);
     write_records(out, source, &tree);
     write_fields(alloc, out, source)?;
-    Labels::of(alloc, cards)?.write(out);
+    write_labels(alloc, out, cards)?;
     Indicators::of(alloc, cards)?.write(out);
     write_lines(out, source, &tree);
     Ok(())

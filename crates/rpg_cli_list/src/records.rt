@@ -12,7 +12,7 @@ use rpg_sheet_specs::{FileSpec, InputFieldSpec, InputSpec, RecordCode, RecordTyp
 /// Which type it is, and what it turns on.
 fn write_head(out: &mut TextWriter, card: u16, record_type: &RecordType) {
     let sequence = name_text(record_type.sequence.as_slice());
-    out.fill("  type {}, card {}", &[sequence.into(), card.into()]);
+    out.fill_two("  type {}, card {}", sequence, card);
     write_named(out, ", turns on {}", number_of(record_type.indicator));
     out.write_char('\n');
 }
@@ -22,10 +22,7 @@ fn write_codes(out: &mut TextWriter, card: u16, codes: &Three<Option<RecordCode>
     for code in [codes.first, codes.second, codes.third] {
         if let Some(code) = code {
             let is = if code.negated { "isn't" } else { "is" };
-            out.fill(
-                "  {:>6}  column {} {} ",
-                &[card.into(), code.position.into(), is.into()],
-            );
+            out.fill_three("  {:>6}  column {} {} ", card, code.position, is);
             write_quoted(out, &[code.character.number()]);
             out.write_char('\n');
         }
@@ -63,15 +60,15 @@ fn write_field(out: &mut TextWriter, card: u16, field: &InputFieldSpec) {
     if from > to {
         out.write_str("     -");
     } else {
-        out.fill("{:>6}", &[(usize::from(to - from) + 1).into()]);
+        out.fill_one("{:>6}", usize::from(to - from) + 1);
     }
     out.write_str("  ");
     write_decimals(out, field.decimals);
     if let Some(level) = field.level {
-        out.fill("  L{}", &[level.number().into()]);
+        out.fill_one("  L{}", level.number());
     }
     if let Some(level) = field.match_level {
-        out.fill("  M{}", &[level.number().into()]);
+        out.fill_one("  M{}", level.number());
     }
     write_shows(
         out,

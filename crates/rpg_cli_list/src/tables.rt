@@ -23,21 +23,18 @@ fn write_table(
     } else {
         "array"
     };
-    out.fill("  {:>4}  {:<6}  {}", &[card.into(), name.into(), is.into()]);
-    out.fill(
-        "  {:>7}  {:>6}  ",
-        &[extension.entries.into(), table.length.into()],
-    );
+    out.fill_three("  {:>4}  {:<6}  {}", card, name, is);
+    out.fill_two("  {:>7}  {:>6}  ", extension.entries, table.length);
     write_decimals(out, table.decimals);
     let order = if table.ascending { "ascending" } else { "" };
-    out.fill("  {:<9}  ", &[order.into()]);
+    out.fill_one("  {:<9}  ", order);
     match (extension.entries_per_card, &extension.alternating) {
         (None, _) => out.write_str("no data"),
-        (Some(count), None) => out.fill("{} on a card", &[count.into()]),
-        (Some(count), Some(_)) => out.fill("{} pairs on a card", &[count.into()]),
+        (Some(count), None) => out.fill_one("{} on a card", count),
+        (Some(count), Some(_)) => out.fill_one("{} pairs on a card", count),
     }
     if let Some(beginning) = beginning {
-        out.fill(", after card {}", &[beginning.into()]);
+        out.fill_one(", after card {}", beginning);
     }
     out.end_line();
 }
@@ -45,7 +42,7 @@ fn write_table(
 /// Writes decimals into their column, which tables and fields have.
 pub(crate) fn write_decimals(out: &mut TextWriter, decimals: Option<u8>) {
     match decimals {
-        Some(decimals) => out.fill("{:>8}", &[decimals.into()]),
+        Some(decimals) => out.fill_one("{:>8}", decimals),
         None => out.write_str("        "),
     }
 }

@@ -1,7 +1,7 @@
 //! The constants and edit words of a source.
 
-use crate::mentions::{By, Mentions};
-use indexmap::IndexMap;
+use crate::card_numbers::CardNumbers;
+use crate::list::List;
 use rpg_cards::{Constant, SpecCard};
 use rpg_cli_show_fields::{write_form, write_quoted, write_value};
 use rpg_cli_text::TextWriter;
@@ -20,34 +20,54 @@ const CARDS: usize = 58;
 const HEADING: &str =
     "\nCONSTANTS AND EDIT WORDS\n  field  form                 value                       used on\n";
 
-fn note_constants(
-    alloc: Global,
-    constants: &mut IndexMap<Constant, Mentions>,
-    card: &SpecCard,
-) -> Result<(), AllocError> {
-    for constant in card.constants() {
-        constants
-            .entry(constant)?
-            .or_insert(Mentions::new(alloc))
-            .note(By::Using, card.number)?;
-    }
-    Ok(())
+/// A card that has a constant.
+#[derive(Drop)]
+struct ConstantUse {
+    constant: Constant,
+    card: u16,
 }
 
-/// The constants in the order of the cards, equal ones once.
-fn constants_of(
-    alloc: Global,
-    cards: &[SpecCard],
-) -> Result<IndexMap<Constant, Mentions>, AllocError> {
-    let mut constants = IndexMap::new(alloc);
-    for card in cards {
-        note_constants(alloc, &mut constants, card)?;
+fn note_constants(uses: &mut List<ConstantUse>, card: &SpecCard) {
+    for constant in card.constants() {
+        uses.push(ConstantUse {
+            constant,
+            card: card.number,
+        });
     }
-    Ok(constants)
+}
+
+/// The constants of all cards, as often as they have them.
+fn uses_of(alloc: Global, cards: &[SpecCard]) -> Result<Vec<ConstantUse>, AllocError> {
+    let mut uses = List::new(alloc);
+    for card in cards {
+        note_constants(&mut uses, card);
+    }
+    uses.finish()
+}
+
+/// Whether a constant is among those of some cards.
+fn is_among(uses: &[ConstantUse], constant: &Constant) -> bool {
+    for used in uses {
+        if used.constant == *constant {
+            return true;
+        }
+    }
+    false
+}
+
+/// Writes the numbers of the cards that have a constant.
+fn write_cards(out: &mut TextWriter, uses: &[ConstantUse], constant: &Constant) {
+    let mut numbers = CardNumbers::new(CARDS);
+    for used in uses {
+        if used.constant == *constant {
+            numbers.write(out, used.card);
+        }
+    }
+    numbers.finish(out);
 }
 
 fn write_constant(out: &mut TextWriter, field: usize, constant: &Constant) {
-    out.fill("  #{:<4}  ", &[field.into()]);
+    out.fill_one("  #{:<4}  ", field);
     let end = out.len().saturating_add(FORM);
     write_form(out, constant.form());
     out.pad_to(end);
@@ -63,23 +83,26 @@ fn write_constant(out: &mut TextWriter, field: usize, constant: &Constant) {
     out.write_str("  ");
 }
 
-/// Writes a row for each constant; so many fields come before them.
+/// Writes a row for each constant, in the order of the cards, equal ones once; so many fields come before them.
 pub fn write_constants(
     alloc: Global,
     out: &mut TextWriter,
     cards: &[SpecCard],
     fields: usize,
 ) -> Result<(), AllocError> {
-    let constants = constants_of(alloc, cards)?;
+    let uses = uses_of(alloc, cards)?;
     let mut field = fields;
-    for (constant, cards) in &constants {
-        if field == fields {
-            out.write_str(HEADING);
+    for (place, used) in uses.iter().enumerate() {
+        let before = uses.get(..place).unwrap_or(&[]);
+        if !is_among(before, &used.constant) {
+            if field == fields {
+                out.write_str(HEADING);
+            }
+            field = field.saturating_add(1);
+            write_constant(out, field, &used.constant);
+            write_cards(out, &uses, &used.constant);
+            out.write_char('\n');
         }
-        field = field.saturating_add(1);
-        write_constant(out, field, constant);
-        cards.write_lines(out, By::Using, CARDS);
-        out.write_char('\n');
     }
     Ok(())
 }

@@ -50,13 +50,14 @@ struct IndicatorUses {
     asked: Vec<Asking>,
 }
 
-/// All indicators by their numbers.
+/// All indicators by their numbers, and whether memory ran out for one of their cards.
 #[derive(Drop)]
 pub struct Indicators {
     uses: Vec<IndicatorUses>,
+    ran_out: bool,
 }
 
-fn unused(alloc: Global) -> Result<Indicators, AllocError> {
+fn unused(alloc: Global) -> Result<Vec<IndicatorUses>, AllocError> {
     let mut uses = Vec::with_capacity(alloc, BEHIND)?;
     for _ in 0..BEHIND {
         uses.push(IndicatorUses {
@@ -64,137 +65,118 @@ fn unused(alloc: Global) -> Result<Indicators, AllocError> {
             asked: Vec::new(alloc),
         })?;
     }
-    Ok(Indicators { uses })
+    Ok(uses)
 }
 
 impl Indicators {
     pub fn of(alloc: Global, cards: &[SpecCard]) -> Result<Self, AllocError> {
-        let mut indicators = unused(alloc)?;
+        let mut indicators = Indicators {
+            uses: unused(alloc)?,
+            ran_out: false,
+        };
         for card in cards {
-            indicators.note_card(card)?;
+            indicators.note_card(card);
+        }
+        if indicators.ran_out {
+            return Err(AllocError);
         }
         Ok(indicators)
     }
 
     /// Notes what turns an indicator on or off, if there is one.
-    fn turned(&mut self, indicator: Option<u8>, turning: Turning) -> Result<(), AllocError> {
+    fn turned(&mut self, indicator: Option<u8>, turning: Turning) {
         let Some(number) = indicator else {
-            return Ok(());
+            return;
         };
-        match self.uses.get_mut(usize::from(number)) {
-            Some(uses) => Ok(uses.turned.push(turning)?),
-            None => Ok(()),
+        if let Some(uses) = self.uses.get_mut(usize::from(number)) {
+            self.ran_out |= uses.turned.push(turning).is_err();
         }
     }
 
-    fn asked(&mut self, number: u8, asking: Asking) -> Result<(), AllocError> {
+    fn asked(&mut self, number: u8, asking: Asking) {
         let Some(uses) = self.uses.get_mut(usize::from(number)) else {
-            return Ok(());
+            return;
         };
         let Asking { card, is_negated } = asking;
         match uses.asked.last() {
-            Some(last) if last.card == card && last.is_negated == is_negated => Ok(()),
-            _ => Ok(uses.asked.push(asking)?),
+            Some(last) if last.card == card && last.is_negated == is_negated => {}
+            _ => self.ran_out |= uses.asked.push(asking).is_err(),
         }
     }
 
-    fn note_card(&mut self, card: &SpecCard) -> Result<(), AllocError> {
+    fn note_card(&mut self, card: &SpecCard) {
         let number = card.number;
         match &card.spec {
             Spec::File(file) => {
-                self.turned(overflow_of(file), Turning::of("a full page", number))
+                self.turned(overflow_of(file), Turning::of("a full page", number));
             }
             Spec::Input(InputSpec::Type(record_type)) => {
                 let indicator = number_of(record_type.indicator);
-                self.turned(indicator, Turning::of("record type", number))
+                self.turned(indicator, Turning::of("record type", number));
             }
             Spec::Input(InputSpec::Field(field)) => self.note_field(number, field),
             Spec::Calculation(calculation) => self.note_calculation(number, calculation),
             Spec::Output(output) => self.note_conditions(number, line_conditions_on(output)),
-            _ => Ok(()),
+            _ => {}
         }
     }
 
+    /// Notes a card with three indicators, each with its sentence.
     fn note_three(
         &mut self,
         indicators: Three<Option<rpg_sheet_specs::Indicator>>,
         sentences: [&'static str; 3],
         piece: Piece<'static>,
         card: u16,
-    ) -> Result<(), AllocError> {
+    ) {
         let [first, second, third] = sentences;
         let turning = Turning {
             sentence: first,
             piece,
             card,
         };
-        self.turned(number_of(indicators.first), turning)?;
-        let turning = Turning {
-            sentence: second,
-            ..turning
-        };
-        self.turned(number_of(indicators.second), turning)?;
-        let turning = Turning {
-            sentence: third,
-            ..turning
-        };
-        self.turned(number_of(indicators.third), turning)
+        self.turned(number_of(indicators.first), turning);
+        self.turned(number_of(indicators.second), turning.with(second));
+        self.turned(number_of(indicators.third), turning.with(third));
     }
 
-    fn note_field(&mut self, card: u16, field: &InputFieldSpec) -> Result<(), AllocError> {
+    fn note_field(&mut self, card: u16, field: &InputFieldSpec) {
         if let Some(level) = field.level {
             let number = level.number().saturating_add(100);
-            self.turned(Some(number), Turning::of("control field", card))?;
+            self.turned(Some(number), Turning::of("control field", card));
         }
         if let Some(level) = field.match_level {
-            let sentence = "match field M{}";
-            let piece = Piece::from(level.number());
-            self.turned(
-                Some(MATCHING),
-                Turning {
-                    sentence,
-                    piece,
-                    card,
-                },
-            )?;
+            let turning = Turning {
+                sentence: "match field M{}",
+                piece: level.number().into(),
+                card,
+            };
+            self.turned(Some(MATCHING), turning);
         }
-        self.note_three(field.indicators, SHOWN, Piece::Word(""), card)
+        self.note_three(field.indicators, SHOWN, Piece::Word(""), card);
     }
 
-    fn note_calculation(
-        &mut self,
-        card: u16,
-        calculation: &CalculationSpec,
-    ) -> Result<(), AllocError> {
+    fn note_calculation(&mut self, card: u16, calculation: &CalculationSpec) {
         if let Some(number) = level(calculation.control_level) {
             let is_negated = false;
-            self.asked(number, Asking { card, is_negated })?;
+            self.asked(number, Asking { card, is_negated });
         }
-        self.note_conditions(card, calculation.conditions)?;
+        self.note_conditions(card, calculation.conditions);
         let (sentences, piece) = results_of(calculation.operation);
-        self.note_three(calculation.resulting_indicators, sentences, piece, card)
+        self.note_three(calculation.resulting_indicators, sentences, piece, card);
     }
 
-    fn note_conditions(
-        &mut self,
-        card: u16,
-        conditions: Three<Option<ConditionSpec>>,
-    ) -> Result<(), AllocError> {
-        self.note_condition(card, conditions.first)?;
-        self.note_condition(card, conditions.second)?;
-        self.note_condition(card, conditions.third)
+    fn note_conditions(&mut self, card: u16, conditions: Three<Option<ConditionSpec>>) {
+        self.note_condition(card, conditions.first);
+        self.note_condition(card, conditions.second);
+        self.note_condition(card, conditions.third);
     }
 
-    fn note_condition(
-        &mut self,
-        card: u16,
-        condition: Option<ConditionSpec>,
-    ) -> Result<(), AllocError> {
-        let Some(condition) = condition else {
-            return Ok(());
-        };
-        let is_negated = condition.negated;
-        self.asked(condition.indicator.number(), Asking { card, is_negated })
+    fn note_condition(&mut self, card: u16, condition: Option<ConditionSpec>) {
+        if let Some(condition) = condition {
+            let is_negated = condition.negated;
+            self.asked(condition.indicator.number(), Asking { card, is_negated });
+        }
     }
 
     /// Writes rows for each indicator that a card names.
@@ -248,7 +230,7 @@ impl IndicatorUses {
 fn write_name(out: &mut TextWriter, number: usize, line: usize) {
     match u8::try_from(number) {
         Ok(number) if line == 0 => {
-            out.fill("  {}  ", &[Indicator(number).name().into()]);
+            out.fill_one("  {}  ", Indicator(number).name());
         }
         _ => out.write_str("      "),
     }
@@ -262,6 +244,6 @@ fn write_asked(out: &mut TextWriter, line: usize, asked: &[Asking]) {
     let before = line.saturating_mul(ON_A_LINE);
     for asking in asked.iter().skip(before).take(ON_A_LINE) {
         let Asking { card, is_negated } = *asking;
-        out.fill(if is_negated { "{}N " } else { "{} " }, &[card.into()]);
+        out.fill_one(if is_negated { "{}N " } else { "{} " }, card);
     }
 }

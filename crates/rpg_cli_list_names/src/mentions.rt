@@ -1,82 +1,44 @@
 //! The cards that name something.
 
+use crate::card_numbers::CardNumbers;
 use rpg_cli_text::TextWriter;
-use std::alloc::{AllocError, Global};
-
-/// How many numbers stand on a line of the listing.
-const ON_A_LINE: usize = 12;
+use rpg_sheet_specs::Word;
 
 /// How wide a column of numbers is.
 const COLUMN: usize = 10;
 
-/// What a card does with what it names.
+/// What a card does with a name, or that the name is the field with a number.
 #[derive(Clone, Copy, PartialEq, Eq)]
-pub enum By {
+pub(crate) enum By {
+    Field(usize),
     Giving,
     Setting,
     Using,
 }
 
-#[derive(Clone, Copy)]
-struct Mention {
-    by: By,
-    card: u16,
-}
-
-/// The cards that name something, in their order, and what each does with it.
+/// A card that has a name; card 0 where the name is a field.
 #[derive(Drop)]
-pub struct Mentions {
-    list: Vec<Mention>,
+pub(crate) struct Mention {
+    pub name: Word<6>,
+    pub by: By,
+    pub card: u16,
 }
 
-impl Mentions {
-    pub fn new(alloc: Global) -> Self {
-        Mentions {
-            list: Vec::new(alloc),
-        }
-    }
-
-    /// Notes a card, whose number isn't less than those before it.
-    pub fn note(&mut self, by: By, card: u16) -> Result<(), AllocError> {
-        Ok(self.list.push(Mention { by, card })?)
-    }
-
-    /// Writes the numbers of the cards that do so into a column, or a dash where there is none.
-    pub fn write_column(&self, out: &mut TextWriter, by: By) {
-        let end = out.len().saturating_add(COLUMN);
-        self.write_lines(out, by, 0);
-        out.pad_to(end);
-        out.write_str("  ");
-    }
-
-    /// Writes the numbers of the cards that do so, each once, or a dash where there is none. Where there is a margin, twelve are on a line, and
-    /// further lines begin after so many blanks.
-    pub fn write_lines(&self, out: &mut TextWriter, by: By, margin: usize) {
-        let mut last: u16 = 0;
-        let mut count: usize = 0;
-        for mention in &self.list {
-            if mention.by == by && mention.card != last {
-                write_gap(out, count, margin);
-                out.fill("{}", &[mention.card.into()]);
-                last = mention.card;
-                count = count.saturating_add(1);
-            }
-        }
-        if count == 0 {
-            out.write_char('-');
-        }
-    }
+/// Writes the numbers of the cards that do so with a name into a column, or a dash where there is none.
+pub(crate) fn write_column(out: &mut TextWriter, mentions: &[Mention], by: By) {
+    let end = out.len().saturating_add(COLUMN);
+    write_lines(out, mentions, by, 0);
+    out.pad_to(end);
+    out.write_str("  ");
 }
 
-/// Writes what stands after so many numbers and before the next one.
-fn write_gap(out: &mut TextWriter, count: usize, margin: usize) {
-    if count == 0 {
-        return;
+/// Writes the numbers of the cards that do so with a name, on lines with a margin.
+pub(crate) fn write_lines(out: &mut TextWriter, mentions: &[Mention], by: By, margin: usize) {
+    let mut numbers = CardNumbers::new(margin);
+    for mention in mentions {
+        if mention.by == by {
+            numbers.write(out, mention.card);
+        }
     }
-    if margin > 0 && count % ON_A_LINE == 0 {
-        out.write_char('\n');
-        out.pad_to(out.len().saturating_add(margin));
-    } else {
-        out.write_char(' ');
-    }
+    numbers.finish(out);
 }

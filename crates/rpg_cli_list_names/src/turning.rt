@@ -23,9 +23,14 @@ impl Turning {
         }
     }
 
+    /// The same with another sentence.
+    pub fn with(self, sentence: &'static str) -> Self {
+        Turning { sentence, ..self }
+    }
+
     pub fn write(self, out: &mut TextWriter) {
-        out.fill(self.sentence, &[self.piece]);
-        out.fill(", card {}", &[self.card.into()]);
+        out.fill_one(self.sentence, self.piece);
+        out.fill_one(", card {}", self.card);
     }
 }
 
