@@ -63,10 +63,10 @@ impl<'a> Marked<'a> {
 fn write_columns(out: &mut TextWriter, column: Option<&str>, marked: Marked<'_>) {
     write_number_member(out, "column", column);
     if let (None, Some(first)) = (column, marked.first) {
-        out.fill(",\"column\":{}", &[first.into()]);
+        out.fill_one(",\"column\":{}", first);
     }
     if let Some(last) = marked.last {
-        out.fill(",\"end\":{}", &[last.into()]);
+        out.fill_one(",\"end\":{}", last);
     }
 }
 
@@ -171,7 +171,7 @@ pub fn source_object(
     out.write_str("{\"file\":");
     write_string(&mut out, path);
     write_member(&mut out, "answer", answer);
-    out.fill(",\"status\":{}", &[status.into()]);
+    out.fill_one(",\"status\":{}", status);
     out.write_str("}\n");
     out.finish()
 }

@@ -62,9 +62,6 @@ pub fn line_message(
 ) -> Result<String, AllocError> {
     let mut out = TextWriter::new(alloc);
     let sentence = fault.sentence();
-    out.fill(
-        "{}:{}: {}\n",
-        &[path.as_bytes().into(), line.into(), sentence.into()],
-    );
+    out.fill_three("{}:{}: {}\n", path.as_bytes(), line, sentence);
     out.finish()
 }

@@ -18,7 +18,7 @@ const CAPITALS: &str = ", and letters are capitals";
 pub fn write_form_type(out: &mut TextWriter, line: &[u8]) {
     let form = character_at(line, 6);
     let found = [form];
-    out.fill("column 6 has \"{}\": ", &[found.as_slice().into()]);
+    out.fill_one("column 6 has \"{}\": ", found.as_slice());
     if let Some(feature) = feature_at(line, FORM_TYPE) {
         out.write_shown(feature.sentence);
         return;
@@ -70,7 +70,7 @@ fn write_columns_found(
     range: Option<Range>,
 ) {
     match range {
-        Some(range) => out.fill("{} (", &[range.name.into()]),
+        Some(range) => out.fill_one("{} (", range.name),
         None => out.write_str("column "),
     }
     write_column_numbers(out, columns);
@@ -86,7 +86,7 @@ fn write_columns_found(
 fn write_column_numbers(out: &mut TextWriter, columns: ColumnFault) {
     let ColumnFault { column, last } = columns;
     let sentence = if column < last { "{}-{}" } else { "{}" };
-    out.fill(sentence, &[column.into(), last.into()]);
+    out.fill_two(sentence, column, last);
 }
 
 /// Whether a small letter stands in columns, all of which are on the line.

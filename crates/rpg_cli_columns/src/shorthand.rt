@@ -38,7 +38,7 @@ fn is_between(text: &[u8], place: usize, character: u8, item: Item) -> bool {
 fn write_character(out: &mut TextWriter, text: &[u8], place: usize, character: u8, item: Item) {
     let column = place.saturating_add(1);
     if !item.is_open || (!item.has_blanks && begins_range(text, column)) {
-        out.fill(" {}=", &[column.into()]);
+        out.fill_one(" {}=", column);
     }
     out.write_char(char::from(character));
 }

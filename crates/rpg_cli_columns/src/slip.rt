@@ -185,14 +185,11 @@ fn write_run_slip(out: &mut TextWriter, line: &[u8], run: Run, by: usize, is_car
         Move::left(by)
     };
     if is_card {
-        out.fill(
-            "; moved {} the whole card can be read",
-            &[only.words().into()],
-        );
+        out.fill_one("; moved {} the whole card can be read", only.words());
     } else {
         out.write_str("; \"");
         write_columns(out, line, run.first, run.last);
-        out.fill("\" moved {} can be read", &[only.words().into()]);
+        out.fill_one("\" moved {} can be read", only.words());
     }
     true
 }
@@ -239,9 +236,11 @@ fn write_form_type_from(out: &mut TextWriter, line: &[u8], by: Move) -> bool {
         return false;
     }
     let form = char::from(character_at(line, column));
-    out.fill(
+    out.fill_three(
         "; {} stands in column {}: moved {} the card can be read",
-        &[form.into(), column.into(), by.words().into()],
+        form,
+        column,
+        by.words(),
     );
     true
 }

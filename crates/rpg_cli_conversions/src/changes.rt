@@ -2,7 +2,7 @@
 
 use crate::sentence::{write_card, write_sentence};
 use rpg_cli_messages::{CardLines, write_picture};
-use rpg_cli_text::{Piece, TextWriter};
+use rpg_cli_text::TextWriter;
 use rpg_fit::{Card, Fitted, FittedDeck, Note, Refusal, Rule, Told, What};
 use std::alloc::{AllocError, Global};
 
@@ -33,7 +33,7 @@ pub(crate) fn change_messages(
 
 /// The code of a rule: `A6: `.
 fn write_rule(out: &mut TextWriter, rule: Rule) {
-    out.fill("A{}: ", &[Piece::from(rule.number())]);
+    out.fill_one("A{}: ", rule.number());
 }
 
 /// Writes the changes of a card, and returns whether there are some.
@@ -93,7 +93,7 @@ fn write_marks(out: &mut TextWriter, fitted: &Fitted, card: usize, line: &[u8]) 
 fn write_notes(out: &mut TextWriter, path: &str, source: &[u8], notes: &[Note]) {
     for note in notes {
         write_card(out, path, note.card);
-        out.fill("note: {}\n", &[Piece::Word(note.text)]);
+        out.fill_one("note: {}\n", note.text);
         write_source_card(out, source, note.card);
     }
 }

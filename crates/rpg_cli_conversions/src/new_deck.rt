@@ -2,7 +2,7 @@
 
 use crate::sentence::write_card;
 use rpg_cli_messages::source_messages;
-use rpg_cli_text::{Piece, TextWriter};
+use rpg_cli_text::TextWriter;
 use rpg_fit::FittedDeck;
 use std::alloc::{AllocError, Global};
 
@@ -41,7 +41,7 @@ fn write_origins(out: &mut TextWriter, new_path: &str, path: &str, fit: &FittedD
             write_card(out, new_path, card);
             out.write_str("note: it comes from ");
             out.write_shown(path.as_bytes());
-            out.fill(":{}\n", &[Piece::from(source)]);
+            out.fill_one(":{}\n", source);
         }
     }
 }

@@ -17,7 +17,7 @@ fn write_bytes(out: &mut TextWriter, bytes: &[u8]) {
 
 /// Writes a sentence with a number in it.
 fn write_count(out: &mut TextWriter, sentence: &str, count: usize) {
-    out.fill(sentence, &[count.into()]);
+    out.fill_one(sentence, count);
 }
 
 fn write_card_fault(out: &mut TextWriter, fault: CardFault) {
@@ -25,9 +25,10 @@ fn write_card_fault(out: &mut TextWriter, fault: CardFault) {
         CardFault::TooLong => out.write_str("the card has more than 80 characters"),
         CardFault::NoCharacter => out.write_str("the card has a byte that is no character"),
         CardFault::TooMany => out.write_str("it is card 2,001"),
-        CardFault::Columns { first, last } => out.fill(
+        CardFault::Columns { first, last } => out.fill_two(
             "columns {} to {} have a value that isn't allowed, or a column is filled that must be blank",
-            &[first.into(), last.into()],
+            first,
+            last,
         ),
         CardFault::Length => out.write_str("a record has 1 to 9,999 bytes: give --length"),
         CardFault::Outside => out.write_str("the columns aren't in the record"),
@@ -37,9 +38,9 @@ fn write_card_fault(out: &mut TextWriter, fault: CardFault) {
         CardFault::NoDecimals => {
             out.write_str("a packed or binary field is a number: it has its decimals in 52")
         }
-        CardFault::Shared { card } => out.fill(
+        CardFault::Shared { card } => out.fill_one(
             "of the type of card {}, a column is one of characters and of a packed or binary field",
-            &[card.into()],
+            card,
         ),
         CardFault::Wide { columns } => {
             let sentence = "lines would have {} columns, and 9,999 are the most";
@@ -62,7 +63,7 @@ pub(crate) fn deck_message(
     out.write_shown(path.as_bytes());
     match fault {
         DeckFault::Card { number, fault } => {
-            out.fill(":{}: ", &[number.into()]);
+            out.fill_one(":{}: ", number);
             write_card_fault(&mut out, fault);
         }
         DeckFault::NoFile => out.write_str(": no card describes such an input file"),
@@ -82,22 +83,21 @@ fn write_number_fault(out: &mut TextWriter, fault: NumberFault) {
 
 /// By one side it is of the type of a card, by the other side of that of another one.
 fn write_types(out: &mut TextWriter, one: &str, card: u16, side: &str, other: Option<u16>) {
-    out.fill(
+    out.fill_three(
         "by its {} it is of the type of card {}, by its {} ",
-        &[one.into(), card.into(), side.into()],
+        one,
+        card,
+        side,
     );
     match other {
-        Some(other) => out.fill("of that of card {}", &[other.into()]),
+        Some(other) => out.fill_one("of that of card {}", other),
         None => out.write_str("of none"),
     }
 }
 
 /// Writes the columns of a field, and its card.
 fn write_columns(out: &mut TextWriter, first: usize, last: usize, card: u16) {
-    out.fill(
-        "columns {} to {} (card {}): ",
-        &[first.into(), last.into(), card.into()],
-    );
+    out.fill_three("columns {} to {} (card {}): ", first, last, card);
 }
 
 fn write_no_character(out: &mut TextWriter, column: usize, byte: u8) {
@@ -155,7 +155,7 @@ pub(crate) fn record_message(
 ) -> Result<String, AllocError> {
     let mut out = TextWriter::new(alloc);
     out.write_shown(path.as_bytes());
-    out.fill(": record {} at byte {}: ", &[number.into(), offset.into()]);
+    out.fill_two(": record {} at byte {}: ", number, offset);
     write_record_fault(&mut out, fault);
     out.write_char('\n');
     out.finish()

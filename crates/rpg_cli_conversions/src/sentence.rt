@@ -1,6 +1,6 @@
 //! Sentences about cards.
 
-use rpg_cli_text::{Piece, TextWriter};
+use rpg_cli_text::TextWriter;
 use rpg_fit::Sentence;
 
 /// Writes a sentence, with a word of it for each `%`.
@@ -18,5 +18,5 @@ pub(crate) fn write_sentence(out: &mut TextWriter, sentence: &Sentence) {
 /// Writes a card's place: `PATH:CARD: `.
 pub(crate) fn write_card(out: &mut TextWriter, path: &str, card: usize) {
     out.write_shown(path.as_bytes());
-    out.fill(":{}: ", &[Piece::from(card)]);
+    out.fill_one(":{}: ", card);
 }

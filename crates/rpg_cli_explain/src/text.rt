@@ -50,18 +50,19 @@ fn write_examples(out: &mut TextWriter, text: &str) {
 
 fn write_page(out: &mut TextWriter, topic: Topic) {
     let page = topic.page();
-    out.fill("## {}: {}\n", &[page.code.into(), page.sentence.into()]);
+    out.fill_two("## {}: {}\n", page.code, page.sentence);
     if !page.given.is_empty() {
-        out.fill("\n{}\n", &[page.given.into()]);
+        out.fill_one("\n{}\n", page.given);
     }
     let (bad, good) = headings(topic);
     out.write_str(bad);
     write_examples(out, page.breaks);
     out.write_str(good);
     write_examples(out, page.keeps);
-    out.fill(
+    out.fill_two(
         "\nWhat to do: {}.\n\nThen: {}.\n",
-        &[page.advice.into(), topic.behind().into()],
+        page.advice,
+        topic.behind(),
     );
 }
 
@@ -91,7 +92,7 @@ fn write_family(out: &mut TextWriter, family: Topic, has_pages: bool) {
             write_page(out, topic);
         } else {
             let Page { code, sentence, .. } = topic.page();
-            out.fill("{:<8}{}\n", &[code.into(), sentence.into()]);
+            out.fill_two("{:<8}{}\n", code, sentence);
         }
     }
 }

@@ -168,9 +168,10 @@ impl Told<'_> {
         let InputNames { primary, secondary } = self.names;
         match (self.record, secondary) {
             (Some((file, _)), _) => out.write_shown(self.names.of(file).as_bytes()),
-            (None, Some(secondary)) if has_two_files(self.program) => out.fill(
+            (None, Some(secondary)) if has_two_files(self.program) => out.fill_two(
                 "{} and {}",
-                &[primary.as_bytes().into(), secondary.as_bytes().into()],
+                primary.as_bytes(),
+                secondary.as_bytes(),
             ),
             (None, _) => out.write_shown(primary.as_bytes()),
         }
@@ -181,23 +182,16 @@ impl Told<'_> {
         let halt = self.halted.halt;
         self.write_names(out);
         if let Some((_, record)) = self.record {
-            out.fill(":{}", &[record.into()]);
+            out.fill_one(":{}", record);
         }
         if let Some(column) = self.found.column() {
-            out.fill(":{}", &[column.into()]);
+            out.fill_one(":{}", column);
         }
-        out.fill(": halt {}: ", &[halt.number().into()]);
+        out.fill_one(": halt {}: ", halt.number());
         match self.found {
             Found::Byte(place, text) => write_byte_cause(out, text, place),
             Found::TooLong(length, text) => write_too_long(out, text, length),
-            Found::Lower(lower) => out.fill(
-                LOWER,
-                &[
-                    lower.value.into(),
-                    lower.before.into(),
-                    lower.follows.into(),
-                ],
-            ),
+            Found::Lower(lower) => out.fill_three(LOWER, lower.value, lower.before, lower.follows),
             Found::Input(_, _) | Found::Nothing => out.write_str(halt.sentence()),
         }
     }
@@ -232,8 +226,8 @@ impl Told<'_> {
             1 => "; 1 cycle was done before, and what was put out stays\n",
             _ => "; {} cycles were done before, and what was put out stays\n",
         };
-        out.fill(sentence, &[first.into(), before.into(), cycle.into()]);
-        out.fill(end, &[before.into()]);
+        out.fill_three(sentence, first, before, cycle);
+        out.fill_one(end, before);
     }
 }
 

@@ -28,7 +28,7 @@ pub(crate) fn bad_byte(text: &[u8]) -> Option<usize> {
 pub(crate) fn write_too_long(out: &mut TextWriter, text: &[u8], length: usize) {
     let count = text.len();
     if count > MOST_COLUMNS {
-        out.fill(UNENDED, &[length.into()]);
+        out.fill_one(UNENDED, length);
     } else if is_blank(text.get(length..).unwrap_or(&[])) {
         let first = length.saturating_add(1);
         out.fill(
@@ -36,6 +36,6 @@ pub(crate) fn write_too_long(out: &mut TextWriter, text: &[u8], length: usize) {
             &[count.into(), first.into(), count.into(), length.into()],
         );
     } else {
-        out.fill(TOO_LONG, &[count.into(), length.into()]);
+        out.fill_two(TOO_LONG, count, length);
     }
 }

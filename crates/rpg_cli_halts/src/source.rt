@@ -25,7 +25,7 @@ pub struct HaltedSource<'a> {
 impl HaltedSource<'_> {
     /// Begins a line about a card.
     fn write_card(self, out: &mut TextWriter, card: u16) {
-        out.fill("{}:{}: ", &[self.path.as_bytes().into(), card.into()]);
+        out.fill_two("{}:{}: ", self.path.as_bytes(), card);
     }
 
     /// Ends the line about a card, and shows the card.
@@ -76,7 +76,7 @@ fn write_made_of(
         Instruction::Return { .. } => "ENDSR",
         Instruction::Except => "EXCPT",
     };
-    out.fill(sentence, &[target.into()]);
+    out.fill_one(sentence, target);
 }
 
 /// The card of the instruction that halted.

@@ -81,7 +81,7 @@ pub fn write_byte_cause(out: &mut TextWriter, line: &[u8], place: usize) {
         BAD_BYTE
     };
     let digits = [HEX[usize::from(byte / 16)], HEX[usize::from(byte % 16)]];
-    out.fill(sentence, &[digits.as_slice().into(), EBCDIC.into()]);
+    out.fill_two(sentence, digits.as_slice(), EBCDIC);
 }
 
 const TOO_LONG: &str = "the line has {} characters, and a card has 80";
@@ -98,13 +98,13 @@ const NUMBERED: &str =
 pub(crate) fn write_long_line(out: &mut TextWriter, line: &[u8]) {
     let count = line.len();
     let rest = line.get(LOOKED_AT..).unwrap_or(&[]);
-    out.fill(TOO_LONG, &[count.into()]);
+    out.fill_one(TOO_LONG, count);
     if looks_like_ebcdic(line) {
-        out.fill("; {}", &[EBCDIC.into()]);
+        out.fill_one("; {}", EBCDIC);
     } else if line.contains(&b'\r') {
         out.write_str(RETURNS);
     } else if is_blank(rest) {
-        out.fill(BLANK, &[count.into()]);
+        out.fill_one(BLANK, count);
     } else if count == 96 {
         out.write_str(NUMBERED);
     }

@@ -129,7 +129,7 @@ fn write_follower(out: &mut TextWriter, path: &str, line: &[u8], fault: CardFaul
             (" again\n", 0)
         }
     };
-    out.fill(sentence, &[card.into()]);
+    out.fill_one(sentence, card);
 }
 
 /// The columns of an input field's decimals.
@@ -212,11 +212,8 @@ pub fn write_place(
     out.write_shown(path.as_bytes());
     let line = card.max(1);
     match columns {
-        Some(at) => out.fill(
-            ":{}:{}: {}: ",
-            &[line.into(), at.column.into(), code.into()],
-        ),
-        None => out.fill(":{}: {}: ", &[line.into(), code.into()]),
+        Some(at) => out.fill_three(":{}:{}: {}: ", line, at.column, code),
+        None => out.fill_two(":{}: {}: ", line, code),
     }
 }
 
@@ -280,7 +277,7 @@ fn write_count(out: &mut TextWriter, path: &str, faults: &[CardFault], most: u16
         (false, 1) => ": 1 fault",
         (false, _) => ": {} faults",
     };
-    out.fill(sentence, &[count.into()]);
+    out.fill_one(sentence, count);
     if count > usize::from(most) {
         write_told(out, most);
     }
@@ -294,7 +291,7 @@ pub fn write_told(out: &mut TextWriter, most: u16) {
         0 => ", none of them shown",
         _ => ", {} of them shown",
     };
-    out.fill(sentence, &[most.into()]);
+    out.fill_one(sentence, most);
 }
 
 /// Other faults hang on what the cards mean.

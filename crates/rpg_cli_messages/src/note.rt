@@ -35,7 +35,7 @@ pub fn write_note(
         ' ',
         margin.saturating_sub(code.len().saturating_add(1)),
     );
-    out.fill("{} ", &[code.into()]);
+    out.fill_one("{} ", code);
     write_sentence(out, line, source, fault);
     out.write_char('\n');
 }

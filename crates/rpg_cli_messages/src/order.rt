@@ -46,9 +46,10 @@ pub(crate) fn later_card(text: &[u8], number: u16, line: &[u8]) -> Option<LaterC
 /// Writes that a card stands after one of a later sheet.
 pub(crate) fn write_order(out: &mut TextWriter, later: Option<LaterCard>) {
     match later {
-        Some(LaterCard { card, form }) => out.fill(
+        Some(LaterCard { card, form }) => out.fill_two(
             "card {} is of a later sheet, {}",
-            &[card.into(), [form].as_slice().into()],
+            card,
+            [form].as_slice(),
         ),
         None => out.write_str("a card of a later sheet stands before this one"),
     }

@@ -36,7 +36,7 @@ pub fn write_picture(out: &mut TextWriter, card: u16, line: &[u8], columns: Opti
     };
     out.write_str("      | ");
     write_ruler(out, line, last);
-    out.fill("\n{:>5} | ", &[card.into()]);
+    out.fill_one("\n{:>5} | ", card);
     write_first(out, trimmed(line));
     if let Some(columns) = columns {
         let first = usize::from(columns.column);

@@ -44,7 +44,7 @@ fn begins_source(bytes: &[u8]) -> bool {
 fn write_wanted(out: &mut TextWriter, spot: Spot) {
     out.write_str(spot.name);
     if let Some(row) = spot.row.number {
-        out.fill(" of {} {}", &[spot.row.table.into(), row.into()]);
+        out.fill_two(" of {} {}", spot.row.table, row);
     }
     out.write_str(" was expected");
 }
@@ -55,7 +55,7 @@ fn write_found(out: &mut TextWriter, bytes: &[u8], offset: usize, count: usize) 
     let (bytes_stand, stand) = match size.saturating_sub(offset).min(count) {
         0 => {
             let unit = counted(size, "byte", "bytes");
-            out.fill(", and the file has {} {}", &[size.into(), unit.into()]);
+            out.fill_two(", and the file has {} {}", size, unit);
             return;
         }
         1 => (", and byte", " was found"),
@@ -88,7 +88,7 @@ pub fn bytes_message(
     let path = Piece::Outside(path.as_bytes());
     let (text, sentence) = (code.text(), code.sentence());
     if matches!(code, Code::NoObject) && begins_source(bytes) {
-        out.fill(SOURCE, &[path, text.into(), sentence.into()]);
+        out.fill_three(SOURCE, path, text, sentence);
         return out.finish();
     }
     out.fill(

@@ -153,10 +153,10 @@ fn asked(conditions: Conditions) -> Shows {
 /// The level of the subroutine that a call calls, or which there are.
 fn write_called(out: &mut TextWriter, rows: &Rows, level: Option<u16>) {
     match (level, rows.subroutines.len()) {
-        (Some(level), _) => out.fill(", of level {}", &[level.into()]),
+        (Some(level), _) => out.fill_one(", of level {}", level),
         (None, 0) => out.write_str("; there is none"),
         (None, 1) => out.write_str("; the only one is subroutine 0"),
-        (None, count) => out.fill("; there are {}, counted from 0", &[count.into()]),
+        (None, count) => out.fill_one("; there are {}, counted from 0", count),
     }
 }
 
@@ -178,7 +178,7 @@ fn write_parts(out: &mut TextWriter, rows: &Rows, row: usize, cause: Cause) {
                 out.write_str(", edited by the word in ");
                 write_field(out, rows, word);
             }
-            out.fill(", and ends at place {}", &[field.end.into()]);
+            out.fill_one(", and ends at place {}", field.end);
         }
         Cause::Operand { column, used } => write_used(out, rows, column, used),
         Cause::Asked { conditions } => {
@@ -192,7 +192,7 @@ fn write_parts(out: &mut TextWriter, rows: &Rows, row: usize, cause: Cause) {
         Cause::Index { used, .. } => write_used(out, rows, Column::Factor2, used),
         Cause::Short { used, entries } => {
             write_used(out, rows, Column::Result, used);
-            out.fill(", and factor 2 has {}", &[entries.into()]);
+            out.fill_one(", and factor 2 has {}", entries);
         }
         Cause::Called { level, .. } => write_called(out, rows, level),
         Cause::ForeignReturn { .. } | Cause::Unended | Cause::Level { .. } => {

@@ -15,7 +15,7 @@ pub(crate) fn counted(count: usize, one: &'static str, more: &'static str) -> &'
 pub(crate) fn write_indicator(out: &mut TextWriter, indicator: u8) {
     match indicator_name(indicator) {
         Some(name) => out.write_str(name),
-        None => out.fill("number {}", &[indicator.into()]),
+        None => out.fill_one("number {}", indicator),
     }
 }
 
@@ -44,30 +44,30 @@ fn write_form(out: &mut TextWriter, form: FieldForm) {
         Class::Table => "a table of {} {}, each a ",
     };
     let unit = counted(usize::from(form.entries), "entry", "entries");
-    out.fill(class, &[form.entries.into(), unit.into()]);
+    out.fill_two(class, form.entries, unit);
     let length = usize::from(form.length);
     let (kind, unit) = match form.kind {
         Kind::Text => ("text of {} {}", counted(length, "character", "characters")),
         Kind::Number => ("number of {} {}", counted(length, "digit", "digits")),
     };
-    out.fill(kind, &[length.into(), unit.into()]);
+    out.fill_two(kind, length, unit);
     let decimals = match (form.kind, length, form.decimals) {
         (Kind::Text, _, _) | (_, _, 0) => "",
         (_, 1, _) => ", a decimal",
         (_, _, 1) => ", 1 of them a decimal",
         _ => ", {} of them decimals",
     };
-    out.fill(decimals, &[form.decimals.into()]);
+    out.fill_one(decimals, form.decimals);
 }
 
 /// A field by its number, and what it is; where there is none, the numbers that fields have.
 pub(crate) fn write_field(out: &mut TextWriter, rows: &Rows, field: u16) {
-    out.fill("field {}, ", &[field.into()]);
+    out.fill_one("field {}, ", field);
     match (form_at(rows, field), rows.fields.len()) {
         (Some(form), _) => write_form(out, form),
         (None, 0) => out.write_str("and there are no fields"),
         (None, 1) => out.write_str("and the only field is 1"),
-        (None, count) => out.fill("and fields are 1 to {}", &[count.into()]),
+        (None, count) => out.fill_one("and fields are 1 to {}", count),
     }
 }
 
@@ -77,7 +77,7 @@ pub(crate) fn write_operand(out: &mut TextWriter, rows: &Rows, operand: Operand<
     match (operand.index, form_at(rows, operand.field)) {
         (Index::Blank, Some(form)) if is_array(form.class) => out.write_str(", without an index"),
         (Index::Blank, _) => {}
-        (Index::Literal(index), _) => out.fill(", with index {}", &[index.into()]),
+        (Index::Literal(index), _) => out.fill_one(", with index {}", index),
         (Index::Field(field), _) => {
             out.write_str(", with an index in ");
             write_field(out, rows, field);

@@ -64,19 +64,16 @@ pub(crate) fn write_subroutine(out: &mut TextWriter, rows: &Rows, row: usize) {
         return;
     };
     let level = subroutine.level;
-    out.fill(": subroutine {}, of level {}", &[row.into(), level.into()]);
+    out.fill_two(": subroutine {}, of level {}", row, level);
     let Some(last) = subroutine.instructions.last() else {
         out.write_str(", without instructions");
         return;
     };
     let count = subroutine.instructions.len();
     let unit = counted(count, "instruction", "instructions");
-    out.fill(
-        ", of {} {}, the last {}",
-        &[count.into(), unit.into(), last.name().into()],
-    );
+    out.fill_three(", of {} {}, the last {}", count, unit, last.name());
     if let Instruction::Return { subroutine } = *last {
-        out.fill(" of subroutine {}", &[subroutine.into()]);
+        out.fill_one(" of subroutine {}", subroutine);
     }
 }
 
@@ -84,7 +81,7 @@ pub(crate) fn write_subroutine(out: &mut TextWriter, rows: &Rows, row: usize) {
 pub(crate) fn write_row(out: &mut TextWriter, program: &Program, broken: BrokenRule) {
     match broken.rule {
         Rule::Overflow | Rule::Subroutine(_) => {}
-        Rule::Type(_) => out.fill(": record type {}", &[broken.row.into()]),
+        Rule::Type(_) => out.fill_one(": record type {}", broken.row),
         Rule::Line(_) => write_line(out, program.rows(), broken.row),
         Rule::Place(_) => {
             out.write_str(": ");

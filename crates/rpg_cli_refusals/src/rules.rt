@@ -15,7 +15,7 @@ pub fn rule_message(alloc: Global, path: &str, program: &Program) -> Result<Stri
         let broken = refusal.broken;
         let path = Piece::Outside(path.as_bytes());
         let (number, sentence) = (broken.rule.number(), broken.rule.sentence());
-        out.fill("{}: V{}: {}", &[path, number.into(), sentence.into()]);
+        out.fill_three("{}: V{}: {}", path, number, sentence);
         write_row(&mut out, program, broken);
         write_cause(&mut out, program.rows(), broken.row, refusal.cause);
         out.write_char('\n');

@@ -59,7 +59,7 @@ fn kept_message(
     part: Option<&str>,
 ) -> Result<String, AllocError> {
     let mut out = TextWriter::new(alloc);
-    out.fill("{} ({}): ", &[place.as_bytes().into(), word.name().into()]);
+    out.fill_two("{} ({}): ", place.as_bytes(), word.name());
     match part {
         Some(part) => {
             out.write_str("left as it was; what this run wrote is in ");

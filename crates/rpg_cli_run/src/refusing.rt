@@ -16,16 +16,16 @@ fn wanted_message(
     let rows = program.rows();
     out.write_shown(path.as_bytes());
     match answer {
-        Answer::DiskFileWanted => out.fill(
+        Answer::DiskFileWanted => out.fill_one(
             " writes a disk file of {} columns: name it with --disk FILE\n",
-            &[rows.disk_length.into()],
+            rows.disk_length,
         ),
         Answer::DateWanted => out.write_str(
             " uses the date: give --date today, or six digits, as --date 112376\n",
         ),
-        _ => out.fill(
+        _ => out.fill_one(
             " reads a secondary file of {} columns: name it with --secondary FILE\n",
-            &[rows.secondary_length.into()],
+            rows.secondary_length,
         ),
     }
     out.finish()

@@ -34,7 +34,7 @@ struct EntryAt {
 
 /// Writes the line of an entry up to its old value.
 fn write_entry(out: &mut TextWriter, names: &JobNames<'_, '_, '_>, at: EntryAt) {
-    out.fill("cycle {}: ", &[at.cycle.into()]);
+    out.fill_one("cycle {}: ", at.cycle);
     names.write_entry(out, at.field, at.form, at.position);
     out.write_str(" was ");
 }

@@ -80,21 +80,19 @@ impl Counts {
         for (row, count) in self.types.iter().enumerate() {
             out.write_str("watch: records of ");
             names.write_type(out, row);
-            out.fill(": {}\n", &[(*count).into()]);
+            out.fill_one(": {}\n", *count);
         }
     }
 
     fn write_lines(&self, out: &mut TextWriter, rows: &Rows) {
-        out.fill(
+        out.fill_two(
             "watch: heading lines at detail output: {}\nwatch: detail lines at detail output: {}\n",
-            &[self.details.heading.into(), self.details.detail.into()],
+            self.details.heading,
+            self.details.detail,
         );
-        out.fill(
-            "watch: printed lines with text: {}\n",
-            &[self.printed.into()],
-        );
+        out.fill_one("watch: printed lines with text: {}\n", self.printed);
         if rows.file_length(File::Disk) > 0 {
-            out.fill("watch: disk records: {}\n", &[self.stored.into()]);
+            out.fill_one("watch: disk records: {}\n", self.stored);
         }
     }
 

@@ -74,16 +74,14 @@ impl Level {
             return;
         };
         names.write_record(out, record);
-        out.fill(
+        out.fill_three(
             "control field L{} goes down: \"{}\" after \"{}\"",
-            &[
-                level.into(),
-                self.first.after.as_slice().into(),
-                self.first.before.as_slice().into(),
-            ],
+            level,
+            self.first.after.as_slice(),
+            self.first.before.as_slice(),
         );
         if self.falls > 1 {
-            out.fill(" ({} more)", &[(self.falls - 1).into()]);
+            out.fill_one(" ({} more)", self.falls - 1);
         }
         out.write_char('\n');
     }

@@ -41,7 +41,7 @@ pub(crate) fn write_lines(out: &mut TextWriter, begin: &str, cycle: u64, bytes: 
     for byte in bytes {
         let is_text = !is_movement(*byte);
         if is_text && !is_in_line {
-            out.fill(begin, &[cycle.into()]);
+            out.fill_one(begin, cycle);
         }
         if is_text {
             out.write_char(shown(*byte) as char);

@@ -35,12 +35,12 @@ impl JobNames<'_, '_, '_> {
     /// Writes the place of a record: its file and its number.
     pub(crate) fn write_record(&self, out: &mut TextWriter, record: Selected) {
         let name = self.file_name(record.file);
-        out.fill("{}:{}: ", &[name.as_bytes().into(), record.number.into()]);
+        out.fill_two("{}:{}: ", name.as_bytes(), record.number);
     }
 
     /// Writes a record type: its row, the first being 0, and its card.
     pub(crate) fn write_type(&self, out: &mut TextWriter, row: usize) {
-        out.fill("type {}", &[row.into()]);
+        out.fill_one("type {}", row);
         if let Some(source) = self.source {
             write_card(out, source.type_card(row));
         }
@@ -56,10 +56,10 @@ impl JobNames<'_, '_, '_> {
     ) {
         match self.name_of(field) {
             Some(name) => out.write_str(name_text(name)),
-            None => out.fill("#{}", &[field.into()]),
+            None => out.fill_one("#{}", field),
         }
         if has_entries(form) {
-            out.fill(",{}", &[position.into()]);
+            out.fill_one(",{}", position);
         }
     }
 

@@ -25,9 +25,9 @@ impl Cycle {
         if let Some(record) = self.record {
             names.write_record(out, record);
         }
-        out.fill("cycle {}", &[self.number.into()]);
+        out.fill_one("cycle {}", self.number);
         match (self.record, self.ended) {
-            (_, Some(JobEnd::Halt(halt))) => out.fill(": halt {}", &[halt.number().into()]),
+            (_, Some(JobEnd::Halt(halt))) => out.fill_one(": halt {}", halt.number()),
             (Some(Selected { row: Some(row), .. }), _) => {
                 out.write_str(": ");
                 names.write_type(out, row);
@@ -66,7 +66,7 @@ impl Told {
         to_on: bool,
     ) {
         if self.lights.has_turned(on, to_on) {
-            out.fill(begin, &[cycle.into()]);
+            out.fill_one(begin, cycle);
             self.lights.write_turned(out, on, to_on);
             out.write_char('\n');
         }

@@ -22,8 +22,8 @@ fn write_overlap(out: &mut TextWriter, first: usize, last: usize, card: u16) {
     } else {
         "the field takes places {}-{}"
     };
-    out.fill(sentence, &[first.into(), last.into()]);
-    out.fill(" of the line, and overlaps that of card {}", &[card.into()]);
+    out.fill_two(sentence, first, last);
+    out.fill_one(" of the line, and overlaps that of card {}", card);
 }
 
 fn write_sentence(out: &mut TextWriter, kind: WarningKind) {
@@ -48,12 +48,12 @@ fn write_sentence(out: &mut TextWriter, kind: WarningKind) {
         }
         WarningKind::Shorter { result, factor } => {
             let of_digits = if result == 1 { "" } else { "s" };
-            out.fill(SHORTER, &[result.into(), of_digits.into(), factor.into()]);
+            out.fill_three(SHORTER, result, of_digits, factor);
             return;
         }
     };
     let name = Indicator(indicator).name();
-    out.fill(sentence, &[name.into(), name.into()]);
+    out.fill_two(sentence, name, name);
 }
 
 fn write_warning(out: &mut TextWriter, path: &str, line: &[u8], warning: Warning) {
@@ -71,10 +71,7 @@ fn write_warning(out: &mut TextWriter, path: &str, line: &[u8], warning: Warning
 /// How many warnings there are, and how many of them are shown.
 fn write_count(out: &mut TextWriter, path: &str, count: usize, most: u16) {
     let of_warnings = if count == 1 { "" } else { "s" };
-    out.fill(
-        "{}: {} warning{}",
-        &[path.as_bytes().into(), count.into(), of_warnings.into()],
-    );
+    out.fill_three("{}: {} warning{}", path.as_bytes(), count, of_warnings);
     if count > usize::from(most) {
         write_told(out, most);
     }
