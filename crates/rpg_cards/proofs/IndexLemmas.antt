@@ -1,6 +1,7 @@
 -- What is found first in a list and in its front, and what an index finds.
 use Rattle.std.proofs.Common.{◌≡◌, ℕ, zero, suc, ◌+◌, ◌<◌, ◌≤◌, Bool, true, false, not, cond, List, [], ◌∷◌, ◌++◌, length, map, take, get_or, Option, None, Some, refl, sym, ap, ◌∙◌, arith}
 use Rattle.std.proofs.lemmas.Bool.{le-leb, le-ltb, lt-leb, lt-ltb, ltb-false, ltb-true}
+use Rattle.std.proofs.lemmas.List.{length-take-le, take_more}
 use Rattle.std.specs.Cmp.{IsEquivalence}
 use Rattle.std.specs.Cmp.Lexicographic.{pointwise}
 use Rattle.std.specs.List.{list_any}
@@ -130,6 +131,15 @@ module _ {X Y : Type 0} (test : X → Bool) (made : ℕ → X → Y) where
       noted ∙ ap (λ o. option_or o (cond (test x) (Some (made place x)) None)) was ∙ option_or_assoc (lookup found old) (first_at test made start done) (cond (test x) (Some (made place x)) None)
       ∙ ap (λ k. option_or (lookup found old) (option_or (first_at test made start done) (cond (test x) (Some (made k x)) None))) at
       ∙ ap (option_or (lookup found old)) (sym (first_at-append start done (x ∷ [])))
+
+  -- the same for the next item of a list
+  pub noted_next : {K : Type 0} (found : K → Bool) (old entries more : List (K × Y)) (start place i : ℕ) (xs : List X) (x : X) → i < length xs → x ≡ get_or xs i x → place ≡ start + i
+      → lookup found entries ≡ option_or (lookup found old) (first_at test made start (take i xs))
+      → lookup found more ≡ option_or (lookup found entries) (cond (test x) (Some (made place x)) None)
+      → lookup found more ≡ option_or (lookup found old) (first_at test made start (take (i + 1) xs))
+  noted_next found old entries more start place i xs x lt is at was noted =
+      let front : place ≡ start + length (take i xs) = let long = length-take-le i xs (omega arith) in omega arith in
+      rw (take_more xs i x lt, ← is) (noted_one found old entries more start place (take i xs) x front was noted)
 
 -- ---- names
 

@@ -10,13 +10,11 @@ ghost use Rattle.rpg_cards.specs.Constants as constants;
 ghost use Rattle.rpg_cards.specs.SameConstants.{is_same_equiv, hashed, hashed_alike};
 ghost use Rattle.rpg_cards.specs.declared.constants.Constant.TheVariants.{Text};
 
-use crate::names::one;
 use crate::spec_card::SpecCard;
-use arrayvec::ArrayVec;
 use rpg_program::form::{Class, FieldForm, Kind};
 use rpg_sheet_specs::{
-    CalculationSpec, Factor, Literal, NumericLiteral, OutputField, OutputSpec, Spec, TextLiteral,
-    Word,
+    CalculationSpec, Factor, Few, Literal, NumericLiteral, OutputField, OutputSpec, Spec,
+    TextLiteral, Word,
 };
 use std::hash::{Hash, Hasher};
 use std::marker::Model;
@@ -74,6 +72,15 @@ impl Constant {
         ensures { result ≡ Text text.now }
     {
         Constant::Text(ConstantText::new(text.as_slice()))
+    }
+
+    pub fn copied(&self) -> Self
+        ensures { result ≡ self.now }
+    {
+        match self {
+            Constant::Number(number) => Constant::Number(*number),
+            Constant::Text(text) => Constant::Text(ConstantText::new(text.as_slice())),
+        }
     }
 
     #[tactic(auto, unfolding(crate::specs::Constants::constant_form))]
@@ -175,16 +182,16 @@ pub fn factor_constant(factor: &Factor) -> Option<Constant>
 impl SpecCard {
     /// The constants of the card: those of factor 1 and factor 2, or the constant or the edit word of an output field.
     #[inline(always)]
-    pub fn constants(&self) -> ArrayVec<Constant, 2>
-        ensures { result.items ≡ constants.constants_on self.now.spec }
+    pub fn constants(&self) -> Few<Constant>
+        ensures { result ≡ constants.constants_on self.now.spec }
     {
         if !self.may_have_constants() {
-            return ArrayVec::new();
+            return Few::new();
         }
         match &self.spec {
             Spec::Calculation(calculation) => of_factors(calculation),
-            Spec::Output(OutputSpec::Field(field)) => one(of_field(field)),
-            _ => ArrayVec::new(),
+            Spec::Output(OutputSpec::Field(field)) => Few::of(of_field(field)),
+            _ => Few::new(),
         }
     }
 
@@ -212,10 +219,10 @@ fn is_literal(factor: &Option<Factor>) -> bool
     }
 }
 
-fn of_factors(calculation: &CalculationSpec) -> ArrayVec<Constant, 2>
-    ensures { result.items ≡ option_to_list (option_and_then constants.factor_constant calculation.now.factor_1) ++ option_to_list (option_and_then constants.factor_constant calculation.now.factor_2) }
+fn of_factors(calculation: &CalculationSpec) -> Few<Constant>
+    ensures { result ≡ option_to_list (option_and_then constants.factor_constant calculation.now.factor_1) ++ option_to_list (option_and_then constants.factor_constant calculation.now.factor_2) }
 {
-    let mut constants = one(of_factor(&calculation.factor_1));
+    let mut constants = Few::of(of_factor(&calculation.factor_1));
     if let Some(constant) = of_factor(&calculation.factor_2) {
         constants.push(constant);
     }

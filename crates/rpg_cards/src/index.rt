@@ -17,7 +17,7 @@ ghost use Rattle.rpg_cards.specs.declared.constants.Constant.{Constant};
 use crate::constants::{Constant, factor_constant};
 use crate::files::{FileUse, file_for, file_named};
 use crate::levels::has_match_field;
-use crate::names::{Defined, Definition, given_form};
+use crate::names::{Defined, given_form};
 use crate::spec_card::SpecCard;
 use rpg_program::form::FieldForm;
 use rpg_sheet_specs::{Factor, FileSpec, Word};
@@ -230,10 +230,15 @@ fn note_names(
     ensures place { IfOk result (λ place. place ≡ start + length (definitions_on card.now.spec)) }
     ensures noted { OnOk result (NotesNames start (definitions_on card.now.spec) names.old.entries names.new.entries) }
 {
+    let definitions = card.definitions();
     let mut place = start;
-    for definition in card.definitions() {
-        let Definition { name, form } = definition;
-        note(names, name, FirstDefinition { place, form })?;
+    for definition in definitions.as_slice() {
+        let form = definition.form;
+        note(
+            names,
+            copied(&definition.name),
+            FirstDefinition { place, form },
+        )?;
         place += 1;
     }
     Ok(place)
@@ -249,12 +254,19 @@ fn note_constants(
     ensures place { IfOk result (λ place. place ≡ start + length (constants_on card.now.spec)) }
     ensures noted { OnOk result (NotesConstants start (constants_on card.now.spec) constants.old.entries constants.new.entries) }
 {
+    let given = card.constants();
     let mut place = start;
-    for constant in card.constants() {
-        note(constants, constant, place)?;
+    for constant in given.as_slice() {
+        note(constants, constant.copied(), place)?;
         place += 1;
     }
     Ok(place)
+}
+
+fn copied(name: &Name) -> Name
+    ensures { result ≡ name.now }
+{
+    Name::new(name.as_slice())
 }
 
 /// Puts a value at a key that has none.

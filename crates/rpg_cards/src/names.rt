@@ -7,9 +7,10 @@ ghost use Rattle.rpg_cards.specs.Names as names;
 ghost use Rattle.rpg_symbols.specs.Fields as fields;
 
 use crate::spec_card::SpecCard;
-use arrayvec::ArrayVec;
 use rpg_program::form::{Class, FieldForm, Kind};
-use rpg_sheet_specs::{CalculationSpec, ExtensionSpec, InputFieldSpec, InputSpec, Spec, TableSpec};
+use rpg_sheet_specs::{
+    CalculationSpec, ExtensionSpec, Few, InputFieldSpec, InputSpec, Spec, TableSpec,
+};
 use rpg_symbols::{Name, number_form};
 
 /// A name that a card defines, with its form: none where its length, decimals or entries are past their limit.
@@ -115,17 +116,17 @@ fn sized(
 impl SpecCard {
     /// What the card defines: the tables or arrays of an E card, an input field, or a result field.
     #[inline(always)]
-    pub fn definitions(&self) -> ArrayVec<Definition, 2>
-        ensures { result.items ≡ names.definitions_on self.now.spec }
+    pub fn definitions(&self) -> Few<Definition>
+        ensures { result ≡ names.definitions_on self.now.spec }
     {
         if !self.may_define() {
-            return ArrayVec::new();
+            return Few::new();
         }
         match &self.spec {
             Spec::Extension(extension) => of_tables(extension),
-            Spec::Input(InputSpec::Field(field)) => one(Some(of_field(field))),
-            Spec::Calculation(calculation) => one(of_result(calculation)),
-            _ => ArrayVec::new(),
+            Spec::Input(InputSpec::Field(field)) => Few::of(Some(of_field(field))),
+            Spec::Calculation(calculation) => Few::of(of_result(calculation)),
+            _ => Few::new(),
         }
     }
 
@@ -142,10 +143,10 @@ impl SpecCard {
     }
 }
 
-fn of_tables(extension: &ExtensionSpec) -> ArrayVec<Definition, 2>
-    ensures { result.items ≡ map (names.definition_in extension.now) (names.tables_on extension.now) }
+fn of_tables(extension: &ExtensionSpec) -> Few<Definition>
+    ensures { result ≡ map (names.definition_in extension.now) (names.tables_on extension.now) }
 {
-    let mut definitions = ArrayVec::new();
+    let mut definitions = Few::new();
     definitions.push(of_table(extension.entries, &extension.table));
     if let Some(table) = &extension.alternating {
         definitions.push(of_table(extension.entries, table));
@@ -180,17 +181,6 @@ fn of_result(calculation: &CalculationSpec) -> Option<Definition>
         name: Name::new(entry.name.as_slice()),
         form: sized_form(length, calculation.decimals),
     })
-}
-
-/// A list of that, if there is something.
-pub(crate) fn one<T: Default + Drop>(item: Option<T>) -> ArrayVec<T, 2>
-    ensures { result.items ≡ option_to_list item }
-{
-    let mut items = ArrayVec::new();
-    if let Some(item) = item {
-        items.push(item);
-    }
-    items
 }
 
 /// The form of a name that every program has.

@@ -25,9 +25,10 @@ fn note_constants(
     constants: &mut IndexMap<Constant, Mentions>,
     card: &SpecCard,
 ) -> Result<(), AllocError> {
-    for constant in card.constants() {
+    let given = card.constants();
+    for constant in given.as_slice() {
         constants
-            .entry(constant)?
+            .entry(constant.copied())?
             .or_insert(Mentions::new(alloc))
             .note(By::Using, card.number)?;
     }

@@ -96,7 +96,8 @@ impl Names {
     }
 
     fn note_card(&mut self, card: &SpecCard) -> Result<(), AllocError> {
-        for definition in card.definitions() {
+        let definitions = card.definitions();
+        for definition in definitions.as_slice() {
             self.define(&definition.name)?;
             self.note(&definition.name, card.number, By::Giving)?;
         }

@@ -6,11 +6,11 @@ ghost use Rattle.rpg_cards.specs.Constants as known;
 ghost use Rattle.rpg_program.specs.Values.{held};
 ghost use Rattle.rpg_compile_program.specs.Data.{constant_value, constant_values};
 
-use arrayvec::ArrayVec;
 use indexmap::IndexSet;
 use rpg_cards::{Constant, SpecCard};
 use rpg_program::form::FieldForm;
 use rpg_program::value::Value;
+use rpg_sheet_specs::Few;
 use std::alloc::{AllocError, Global};
 
 /// The constants of cards, equal ones once, in the order in which they come first.
@@ -22,17 +22,17 @@ pub(crate) fn constants_of(
 {
     let mut constants = IndexSet::with_capacity(alloc, cards.len())?;
     for card in cards {
-        add(&mut constants, card.constants())?;
+        add(&mut constants, &card.constants())?;
     }
     Ok(constants)
 }
 
 /// Puts constants after the others, each unless it is among them.
-fn add(constants: &mut IndexSet<Constant>, items: ArrayVec<Constant, 2>) -> Result<(), AllocError>
-    ensures { OnOk result (constants.new.keys ≡ insert_all known.is_same constants.old.keys items.items) }
+fn add(constants: &mut IndexSet<Constant>, items: &Few<Constant>) -> Result<(), AllocError>
+    ensures { OnOk result (constants.new.keys ≡ insert_all known.is_same constants.old.keys items.now) }
 {
-    for constant in items {
-        constants.insert(constant)?;
+    for constant in items.as_slice() {
+        constants.insert(constant.copied())?;
     }
     Ok(())
 }

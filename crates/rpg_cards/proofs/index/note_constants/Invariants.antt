@@ -1,4 +1,4 @@
-use Rattle.std.proofs.Common.{◌≡◌, ◌+◌, ◌++◌, length}
+use Rattle.std.proofs.Common.{◌≡◌, ◌+◌, take}
 use Rattle.std.specs.Map.{lookup}
 use Rattle.std.specs.Option.{option_or}
 use Rattle.rpg_cards.specs.Constants.{is_same}
@@ -8,7 +8,7 @@ use Rattle.rpg_cards.proofs.index.note_constants.Given as goal
 
 abbrev pub invariant-loop-constant : goal.invariant-loop-constant
 invariant-loop-constant l = record {
-  items : l.yielded ++ l.constant-iterator ≡ l.initial.constant-iterator;
-  place : l.place ≡ l.start + length l.yielded;
-  noted : (x : Constant) → lookup (is_same x) l.constants.entries ≡ option_or (lookup (is_same x) l.initial.constants.entries) (first_at (is_same x) place_of_constant l.start l.yielded);
+  place : l.place ≡ l.start + l.constant-index;
+  noted : (x : Constant) → lookup (is_same x) l.constants.entries
+      ≡ option_or (lookup (is_same x) l.initial.constants.entries) (first_at (is_same x) place_of_constant l.start (take l.constant-index l.constant-items));
 }
