@@ -1,10 +1,16 @@
 //! An old deck as cards that are read: the rules one after the other, and the faults of the new deck.
 #![tactic(auto)]
 
+mod array_entry;
+mod array_input;
 mod fault;
 mod fitting;
 mod note;
+mod or_type;
+mod order;
+mod order_test;
 mod rules;
+mod sequenced;
 
 pub use fault::FitFault;
 pub use fitting::{FittedDeck, fit, fit_by};

@@ -2,13 +2,15 @@
 
 ghost use Rattle.rpg_fit.specs.Applied.{Applied, AppliedInTurn};
 
+use crate::array_input::input_arrays;
+use crate::or_type::or_types;
+use crate::sequenced::sequence;
 use rpg_fit_calculations::{dates, figures, moves, whole_calculations};
 use rpg_fit_cards::{Settings, columns, comments, disks, forms, numbered_pages, switches, tables};
 use rpg_fit_deck::{Editor, Rule};
 use rpg_fit_lines::{dollars, or_spaces, places, whole_outputs, words};
 use rpg_fit_overflow::{fetch, pages};
 use rpg_fit_terms::settle;
-use rpg_fit_types::{input_arrays, or_types, sequence};
 use std::alloc::Global;
 
 /// The rules in their order, since rules stand on one another.
