@@ -5,7 +5,7 @@ use rpg_cli_answers::{Answer, Listener, Reasons};
 use rpg_cli_files::{FileFault, Reason};
 use rpg_cli_text::TextWriter;
 use rpg_cli_words::{DateWord, FileWord, Request, RunWords};
-use rpg_engine::{InputFile, ReadFault, RunFault};
+use rpg_engine::{InputFile, OutputFile, ReadFault, RunFault};
 use std::alloc::{AllocError, Global};
 
 /// A file by its path and its word.
@@ -44,7 +44,7 @@ fn write_reason(out: &mut TextWriter, reason: Option<Reason>) {
 }
 
 /// Reports a file that couldn't be written while the job ran.
-fn write_print_fault(
+fn write_write_fault(
     out: &mut TextWriter,
     request: &Request,
     word: FileWord,
@@ -92,6 +92,22 @@ fn write_input_fault(
     }
 }
 
+/// Reports the output that failed.
+fn write_output_fault(
+    out: &mut TextWriter,
+    request: &Request,
+    file: OutputFile,
+    sent: u128,
+    reasons: Reasons,
+) {
+    match file {
+        OutputFile::Print => {
+            write_write_fault(out, request, FileWord::Print, sent, reasons.print)
+        }
+        OutputFile::Disk => write_write_fault(out, request, FileWord::Disk, sent, reasons.disk),
+    }
+}
+
 fn write_bad_date(out: &mut TextWriter, words: &RunWords) {
     if let Some(DateWord::Today(_)) = words.date {
         out.write_str("--date today: the system's clock can't be read\n");
@@ -108,11 +124,8 @@ fn write_run_fault(out: &mut TextWriter, request: &Request, fault: RunFault, rea
         (RunFault::Read { file, fault }, _) => {
             write_input_fault(out, request, file, fault, reasons)
         }
-        (RunFault::Print { sent }, _) => {
-            write_print_fault(out, request, FileWord::Print, sent, reasons.print)
-        }
-        (RunFault::Disk { sent }, _) => {
-            write_print_fault(out, request, FileWord::Disk, sent, reasons.disk)
+        (RunFault::Write { file, sent }, _) => {
+            write_output_fault(out, request, file, sent, reasons)
         }
         (RunFault::BadDate, Request::Run(words)) => write_bad_date(out, words),
         (RunFault::BadDate, Request::Go(words)) => write_bad_date(out, &words.run),

@@ -47,8 +47,7 @@ abbrev pub run_text : RunFault → List ℕ
 run_text (runs.Object fault) = object_text fault
 run_text runs.BadDate = codes "bad date"
 run_text (runs.Read file fault) = codes "input failed"
-run_text (runs.Print sent) = codes "output failed"
-run_text (runs.Disk sent) = codes "output failed"
+run_text (runs.Write file sent) = codes "output failed"
 run_text (runs.NoMemory cycles) = codes "no memory"
 
 -- why a file can't be read or written
@@ -136,8 +135,7 @@ abbrev pub run_status : RunFault → ℕ
 run_status (runs.Object fault) = object_status fault
 run_status runs.BadDate = 2
 run_status (runs.Read file fault) = 1
-run_status (runs.Print sent) = 1
-run_status (runs.Disk sent) = 1
+run_status (runs.Write file sent) = 1
 run_status (runs.NoMemory cycles) = 1
 
 -- the exit status of a command

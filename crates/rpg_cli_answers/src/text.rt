@@ -139,7 +139,7 @@ fn put_run_fault(text: &mut Text, fault: RunFault)
         RunFault::Object(fault) => put_object_fault(text, fault),
         RunFault::BadDate => put(text, b"bad date"),
         RunFault::Read { .. } => put(text, b"input failed"),
-        RunFault::Print { .. } | RunFault::Disk { .. } => put(text, b"output failed"),
+        RunFault::Write { .. } => put(text, b"output failed"),
         RunFault::NoMemory { .. } => put(text, b"no memory"),
     }
 }
@@ -206,10 +206,7 @@ fn run_status(fault: RunFault) -> u8
     match fault {
         RunFault::Object(fault) => object_status(fault),
         RunFault::BadDate => 2,
-        RunFault::Read { .. }
-        | RunFault::Print { .. }
-        | RunFault::Disk { .. }
-        | RunFault::NoMemory { .. } => 1,
+        RunFault::Read { .. } | RunFault::Write { .. } | RunFault::NoMemory { .. } => 1,
     }
 }
 

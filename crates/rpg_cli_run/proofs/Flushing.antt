@@ -1,45 +1,38 @@
 -- Writers that are flushed after a run: what is reported of them, and how often their calls failed.
-use Rattle.std.proofs.Common.{◌≡◌, ℕ, ◌+◌, ◌⊎◌, List, Option, Result, Ok, Err, ap, inl, inr, subst, ◌∙◌}
-use Rattle.rpg_cli_run.specs.Flushing.{Flush, disk_faults, flushed}
+use Rattle.std.proofs.Common.{◌≡◌, ℕ, ◌+◌, ◌⊎◌, List, Option, Result, Ok, Err, ap, inl, inr, refl, ◌∙◌}
+use Rattle.rpg_cli_run.specs.Flushing.{Flush, flush_faults, flushed}
 use Rattle.rpg_cli_run.specs.Running.{TellsFaults}
 use Rattle.rpg_cli_answers.specs.declared.answer.Answer.{Answer}
 use Rattle.rpg_cli_answers.specs.declared.answer.Answer.TheVariants as answers
 use Rattle.rpg_cli_files.specs.declared.files.FileFault.{FileFault}
 use Rattle.rpg_cli_words.specs.declared.request.FileWord.{FileWord}
 use Rattle.rpg_cli_words.specs.declared.request.FileWord.TheVariants as words
-use Rattle.rpg_engine.specs.Faults.{Counts}
+use Rattle.rpg_engine.proofs.Outputs.{each_file}
+use Rattle.rpg_engine.proofs.Whose.{none_rises, only_rises}
+use Rattle.rpg_engine.specs.Faults.{Counts, NoneRises, OnlyRises, Reader, Writer}
+use Rattle.rpg_engine.specs.declared.files.OutputFile.{OutputFile}
+use Rattle.rpg_engine.specs.declared.files.OutputFile.TheVariants.{Print, Disk}
 use Rattle.rpg_engine.specs.declared.report.Report.{Report}
-use Rattle.rpg_files.specs.Counting.{faults_after}
+use Rattle.rpg_program.specs.declared.input.InputFile.TheVariants.{Primary, Secondary}
 
 -- ---- how often calls failed
 
-abbrev pub counts : ℕ → ℕ → ℕ → ℕ → Counts
-counts primary secondary print disk = record { primary = primary; secondary = secondary; print = print; disk = disk }
+-- how often each device had failed after a run that gave a report, in which none did, and how often once its writers were flushed
+module _ (old mid new : Counts) (same : NoneRises old mid) (primary : new (Reader Primary) ≡ mid (Reader Primary)) (secondary : new (Reader Secondary) ≡ mid (Reader Secondary)) where
+  -- the flush of one file failed, and no other
+  one_failed : (failed : OutputFile) → new (Writer failed) ≡ mid (Writer failed) + 1 → ((file : OutputFile) → (Writer file ≡ Writer failed → ⊥) → new (Writer file) ≡ mid (Writer file)) → OnlyRises (Writer failed) old new
+  one_failed failed more stays = only_rises (Writer failed) old new (more ∙ ap (λ n. n + 1) (same (Writer failed)))
+      (λ _. primary ∙ same (Reader Primary)) (λ _. secondary ∙ same (Reader Secondary)) (λ file other. stays file other ∙ same (Writer file))
 
--- after a run in which none failed, the printer's flush did
-pub print_failed : (old : Counts) (primary secondary print print' disk : ℕ) → counts primary secondary print disk ≡ old → print' ≡ print + 1 → counts primary secondary print' disk ≡ record old { print = old.print + 1 }
-print_failed old primary secondary print print' disk same more = subst (λ (o : Counts). counts primary secondary print' disk ≡ record o { print = o.print + 1 }) same (ap (λ n. counts primary secondary n disk) more)
-
--- the disk's did, after the printer's that didn't
-pub disk_failed : (old : Counts) (primary secondary print print' disk disk' : ℕ) → counts primary secondary print disk ≡ old → print' ≡ print → disk' ≡ disk + 1
-    → counts primary secondary print' disk' ≡ record old { disk = old.disk + 1 }
-disk_failed old primary secondary print print' disk disk' same kept more =
-    subst (λ (o : Counts). counts primary secondary print' disk' ≡ record o { disk = o.disk + 1 }) same (ap (λ n. counts primary secondary n disk') kept ∙ ap (λ n. counts primary secondary print n) more)
-
--- neither did
-pub none_failed : (old : Counts) (primary secondary print print' disk disk' : ℕ) → counts primary secondary print disk ≡ old → print' ≡ print → disk' ≡ disk → counts primary secondary print' disk' ≡ old
-none_failed old primary secondary print print' disk disk' same kept stays = ap (λ n. counts primary secondary n disk') kept ∙ ap (λ n. counts primary secondary print n) stays ∙ same
-
--- the answer says which it is
-pub faults_told : (report : Report) (printer file : Flush) (given left others rest : Option (List ℕ)) (old : Counts) (primary secondary print print' disk disk' : ℕ)
-    → counts primary secondary print disk ≡ old → print' ≡ faults_after print printer → disk' ≡ disk_faults printer file disk
-    → TellsFaults (flushed report printer file) given left others rest old (counts primary secondary print' disk')
-faults_told report (Err fault) file given left others rest old primary secondary print print' disk disk' same more stays =
-    ap (λ n. counts primary secondary print' n) stays ∙ print_failed old primary secondary print print' disk same more
-faults_told report (Ok u) (Err fault) given left others rest old primary secondary print print' disk disk' same kept more =
-    disk_failed old primary secondary print print' disk disk' same kept more
-faults_told report (Ok u) (Ok v) given left others rest old primary secondary print print' disk disk' same kept stays =
-    none_failed old primary secondary print print' disk disk' same kept stays
+  -- the answer says which it is
+  pub faults_told : (report : Report) (printer file : Flush) (given left others rest : Option (List ℕ))
+      → ((written : OutputFile) → new (Writer written) ≡ flush_faults printer file written (mid (Writer written))) → TellsFaults (flushed report printer file) given left others rest old new
+  faults_told report (Err fault) file given left others rest counts =
+      one_failed Print (counts Print) (each_file (λ f. (Writer f ≡ Writer Print → ⊥) → new (Writer f) ≡ mid (Writer f)) (λ other. absurd (other refl)) (λ _. counts Disk))
+  faults_told report (Ok u) (Err fault) given left others rest counts =
+      one_failed Disk (counts Disk) (each_file (λ f. (Writer f ≡ Writer Disk → ⊥) → new (Writer f) ≡ mid (Writer f)) (λ _. counts Print) (λ other. absurd (other refl)))
+  faults_told report (Ok u) (Ok v) given left others rest counts = none_rises old new (primary ∙ same (Reader Primary)) (secondary ∙ same (Reader Secondary))
+      (each_file (λ f. new (Writer f) ≡ old (Writer f)) (counts Print ∙ same (Writer Print)) (counts Disk ∙ same (Writer Disk)))
 
 -- ---- the answer of a run that gave a report
 

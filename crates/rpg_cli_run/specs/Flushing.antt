@@ -5,9 +5,13 @@ use Rattle.rpg_cli_answers.specs.declared.answer.Answer.{Answer}
 use Rattle.rpg_cli_answers.specs.declared.answer.Answer.TheVariants as answers
 use Rattle.rpg_cli_files.specs.declared.files.FileFault.{FileFault}
 use Rattle.rpg_cli_words.specs.declared.request.FileWord.TheVariants as words
+use Rattle.rpg_engine.specs.Devices.{held}
+use Rattle.rpg_engine.specs.Faults.{write_faults}
+use Rattle.rpg_engine.specs.declared.files.OutputFile.{OutputFile}
+use Rattle.rpg_engine.specs.declared.files.OutputFile.TheVariants.{Print, Disk}
 use Rattle.rpg_engine.specs.declared.files.Writers.{Writers}
 use Rattle.rpg_engine.specs.declared.report.Report.{Report}
-use Rattle.rpg_files.specs.Counting.{device_of, faults_after, faults_of}
+use Rattle.rpg_files.specs.Counting.{faults_after}
 
 -- how a flush ended
 abbrev pub Flush : Type 0
@@ -19,10 +23,11 @@ flushed report (Err fault) disk = Err (answers.File words.Print fault)
 flushed report (Ok u) (Err fault) = Err (answers.File words.Disk fault)
 flushed report (Ok u) (Ok v) = Ok report
 
--- how often calls of the disk file have failed then
-abbrev pub disk_faults : (print disk : Flush) → ℕ → ℕ
-disk_faults (Err fault) disk n = n
-disk_faults (Ok u) disk n = faults_after n disk
+-- how often calls of a file's writer have failed then
+abbrev pub flush_faults : (print disk : Flush) → OutputFile → ℕ → ℕ
+flush_faults print disk Print n = faults_after n print
+flush_faults (Err fault) disk Disk n = n
+flush_faults (Ok u) disk Disk n = faults_after n disk
 
 -- The answer is that of both flushes, and so are the counts. The writers keep what they have.
 pub record Flushes {P D : Type 0} (contents : P → Option (List ℕ)) (stored : D → Option (List ℕ)) (report : Report) (given : Result Report Answer)
@@ -30,7 +35,5 @@ pub record Flushes {P D : Type 0} (contents : P → Option (List ℕ)) (stored :
   pub printer : Flush
   pub file : Flush
   pub answer : given ≡ flushed report printer file
-  pub print_count : faults_of after.printer ≡ faults_after (faults_of before.printer) printer
-  pub disk_count : faults_of after.disk ≡ disk_faults printer file (faults_of before.disk)
-  pub kept : Keeps (contents (device_of before.printer)) (contents (device_of after.printer))
-  pub stays : Keeps (stored (device_of before.disk)) (stored (device_of after.disk))
+  pub counts : (written : OutputFile) → write_faults after written ≡ flush_faults printer file written (write_faults before written)
+  pub kept : (file : OutputFile) → Keeps (held contents stored before file) (held contents stored after file)

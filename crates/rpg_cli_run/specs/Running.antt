@@ -1,10 +1,11 @@
 -- The answer for a run whose writers are flushed after it.
-use Rattle.std.specs.Prelude.{◌≡◌, ℕ, ◌+◌, List, Option, Result, Ok, Err}
+use Rattle.std.specs.Prelude.{ℕ, List, Option, Result, Ok, Err}
 use Rattle.rpg_cli_words.specs.declared.request.FileWord.{FileWord}
 use Rattle.rpg_cli_words.specs.declared.request.FileWord.TheVariants as words
 use Rattle.rpg_engine.specs.Devices.{Lent}
-use Rattle.rpg_engine.specs.Faults.{Counts, FaultsAre, device_counts}
+use Rattle.rpg_engine.specs.Faults.{Counts, FaultsAre, OnlyRises, Writer, device_counts}
 use Rattle.rpg_engine.specs.declared.fault.RunFault.{RunFault}
+use Rattle.rpg_engine.specs.declared.files.OutputFile.TheVariants.{Print, Disk}
 use Rattle.rpg_engine.specs.declared.files.Readers.{Readers}
 use Rattle.rpg_engine.specs.declared.files.Writers.{Writers}
 use Rattle.rpg_engine.specs.declared.report.Report.{Report}
@@ -25,8 +26,8 @@ TellsRun Came (Err e) = TellsFault Came e
 
 -- the flush of a writer failed, and no other call of it
 abbrev pub FlushFaults : FileWord → Counts → Counts → Type 0
-FlushFaults words.Print old new = new ≡ record old { print = old.print + 1 }
-FlushFaults words.Disk old new = new ≡ record old { disk = old.disk + 1 }
+FlushFaults words.Print old new = OnlyRises (Writer Print) old new
+FlushFaults words.Disk old new = OnlyRises (Writer Disk) old new
 FlushFaults word old new = ⊥
 
 -- A fault of the run agrees with the counts, and that of a file comes exactly if that writer's count rose by one.

@@ -16,6 +16,11 @@ use Rattle.rpg_files.specs.Sending.{AppendsFirst}
 use Rattle.rpg_machine.specs.Config.{Output, with_more}
 use Rattle.rpg_machine.specs.Running.{feed_behind, no_bytes}
 use Rattle.rpg_engine.proofs.Courses.{GoesOnWith, IsLast, more_none}
+use Rattle.rpg_engine.proofs.Outputs.{same_bytes}
+use Rattle.rpg_engine.specs.Outputs.{bytes_for, bytes_with}
+use Rattle.rpg_engine.specs.Reporting.{bytes_of}
+use Rattle.rpg_engine.specs.declared.files.OutputFile.{OutputFile}
+use Rattle.rpg_engine.specs.declared.files.OutputFile.TheVariants.{Print, Disk}
 
 -- ---- a front of bytes, and what is after it
 
@@ -40,6 +45,14 @@ paper_both a b = bytes_from-append None a b
 abbrev pub put_by : PhaseEnd → Output → Output → Bytes
 put_by e out o = with_feed (feed_at (stage_at e) (line_of (last_position_from (last_position out.lines) o.lines))) (with_output (last_position out.lines) o.lines o.records no_bytes)
 
+-- all that was put out by then
+abbrev pub put_with : PhaseEnd → Output → Output → Bytes
+put_with e out o = bytes_with (paper out.lines ++ (put_by e out o).print) (disk_bytes out.records ++ (put_by e out o).disk)
+
+pub put_for : (file : OutputFile) (e : PhaseEnd) (out o : Output) → bytes_for file (bytes_of out) ++ bytes_for file (put_by e out o) ≡ bytes_for file (put_with e out o)
+put_for Print e out o = refl
+put_for Disk e out o = refl
+
 -- ---- the end of a run
 
 ends_with_feed : (out o : Output) → paper out.lines ++ (([] ++ bytes_from (last_position out.lines) o.lines) ++ feed_behind (line_of (last_position_from (last_position out.lines) o.lines))) ≡ printed (with_more out o)
@@ -50,17 +63,25 @@ ends_with_feed out o =
     ∙ ap (λ last. paper (out.lines ++ o.lines) ++ feed_behind (line_of last)) (sym (end_from-lines None out.lines o.lines))
     ∙ ap (λ bytes. paper (out.lines ++ o.lines) ++ bytes) (sym (feed_is (out.lines ++ o.lines)))
 
-pub print_ends : (e : PhaseEnd) (out o : Output) → IsLast e → paper out.lines ++ (put_by e out o).print ≡ printed (with_more out o)
+print_ends : (e : PhaseEnd) (out o : Output) → IsLast e → paper out.lines ++ (put_by e out o).print ≡ printed (with_more out o)
 print_ends GoesOn out o last = absurd last
 print_ends EndOfJob out o last = ends_with_feed out o
 print_ends (Halt k) out o last = ends_with_feed out o
 print_ends (Wrong f) out o last = ends_with_feed out o
 
-pub disk_goes_on : (e : PhaseEnd) (out o : Output) → disk_bytes out.records ++ (put_by e out o).disk ≡ disk_bytes (out.records ++ o.records)
+disk_goes_on : (e : PhaseEnd) (out o : Output) → disk_bytes out.records ++ (put_by e out o).disk ≡ disk_bytes (out.records ++ o.records)
 disk_goes_on e out o = sym (disk-append out.records o.records)
 
-pub print_goes_on : (out o : Output) → paper out.lines ++ (put_by GoesOn out o).print ≡ paper (out.lines ++ o.lines)
+print_goes_on : (out o : Output) → paper out.lines ++ (put_by GoesOn out o).print ≡ paper (out.lines ++ o.lines)
 print_goes_on out o = ap (λ bytes. paper out.lines ++ bytes) (append-nil (bytes_from (last_position out.lines) o.lines)) ∙ sym (paper_both out.lines o.lines)
+
+-- after a cycle that goes on this is what was put out in all
+pub put_on : (out o : Output) (e : PhaseEnd) → e ≡ GoesOn → put_with e out o ≡ bytes_of (with_more out o)
+put_on out o e on = ap (λ (x : PhaseEnd). put_with x out o) on ∙ same_bytes _ _ _ _ (print_goes_on out o) (disk_goes_on GoesOn out o)
+
+-- after one that ended the job these are all bytes of the run
+pub put_last : (e : PhaseEnd) (out o : Output) → IsLast e → put_with e out o ≡ bytes_with (printed (with_more out o)) (stored (with_more out o))
+put_last e out o last = same_bytes _ _ _ _ (print_ends e out o last) (disk_goes_on e out o)
 
 -- ---- a run begins with what was put out
 
@@ -77,7 +98,7 @@ with_last front whole out o is ends = record { more = []; is = ap printed is ∙
 with_none : (e : PhaseEnd) (whole out : Output) → GoesOnWith e whole out → IsLast e → whole ≡ out
 with_none e whole out is last = is.output ∙ ap (with_more out) (is.last last) ∙ more_none out
 
-pub printed_begins : (e : PhaseEnd) (whole out o : Output) → GoesOnWith e whole (with_more out o) → BeginsWith (printed whole) (paper out.lines ++ (put_by e out o).print)
+printed_begins : (e : PhaseEnd) (whole out o : Output) → GoesOnWith e whole (with_more out o) → BeginsWith (printed whole) (paper out.lines ++ (put_by e out o).print)
 printed_begins GoesOn whole out o is =
     let begins = print_begins (with_more out o) is.more in
     record { more = begins.more; is = ap printed is.output ∙ begins.is ∙ ap (λ front. front ++ begins.more) (sym (print_goes_on out o)) }
@@ -85,20 +106,25 @@ printed_begins EndOfJob whole out o is = with_last _ whole out o (with_none EndO
 printed_begins (Halt k) whole out o is = with_last _ whole out o (with_none (Halt k) whole (with_more out o) is tt) (print_ends (Halt k) out o tt)
 printed_begins (Wrong f) whole out o is = with_last _ whole out o (with_none (Wrong f) whole (with_more out o) is tt) (print_ends (Wrong f) out o tt)
 
-pub stored_begins : (e : PhaseEnd) (whole out o : Output) → GoesOnWith e whole (with_more out o) → BeginsWith (stored whole) (disk_bytes out.records ++ (put_by e out o).disk)
+stored_begins : (e : PhaseEnd) (whole out o : Output) → GoesOnWith e whole (with_more out o) → BeginsWith (stored whole) (disk_bytes out.records ++ (put_by e out o).disk)
 stored_begins e whole out o is = record {
   more = disk_bytes is.more.records;
   is = ap stored is.output ∙ disk-append (out.records ++ o.records) is.more.records ∙ ap (λ front. front ++ disk_bytes is.more.records) (sym (disk_goes_on e out o));
 }
 
--- the same for the cycles done alone
-pub printed_so_far : (whole out more : Output) → whole ≡ with_more out more → BeginsWith (printed whole) (paper out.lines)
-printed_so_far whole out more is =
-    let begins = print_begins out more in
-    record { more = begins.more; is = ap printed is ∙ begins.is }
+begins_as : (bytes all front : List ℕ) → bytes ≡ all → BeginsWith all front → BeginsWith bytes front
+begins_as bytes all front is begins = record { more = begins.more; is = is ∙ begins.is }
 
-pub stored_so_far : (whole out more : Output) → whole ≡ with_more out more → BeginsWith (stored whole) (disk_bytes out.records)
-stored_so_far whole out more is = record { more = disk_bytes more.records; is = ap stored is ∙ disk-append out.records more.records }
+-- a run's bytes begin with those that were put out by the end of a cycle
+module _ (whole out : Output) (bytes : Bytes) (print : bytes.print ≡ printed whole) (disk : bytes.disk ≡ stored whole) where
+  pub put_begins : (e : PhaseEnd) (o : Output) → GoesOnWith e whole (with_more out o) → (file : OutputFile) → BeginsWith (bytes_for file bytes) (bytes_for file (put_with e out o))
+  put_begins e o is Print = begins_as bytes.print (printed whole) _ print (printed_begins e whole out o is)
+  put_begins e o is Disk = begins_as bytes.disk (stored whole) _ disk (stored_begins e whole out o is)
+
+  -- the same for the cycles done alone
+  pub so_far : (more : Output) → whole ≡ with_more out more → (file : OutputFile) → BeginsWith (bytes_for file bytes) (bytes_for file (bytes_of out))
+  so_far more is Print = let begins = print_begins out more in begins_as bytes.print (printed whole) _ print (record { more = begins.more; is = ap printed is ∙ begins.is })
+  so_far more is Disk = begins_as bytes.disk (stored whole) _ disk (record { more = disk_bytes more.records; is = ap stored is ∙ disk-append out.records more.records })
 
 -- ---- parts of them at a writer
 

@@ -9,6 +9,7 @@ use Rattle.rpg_program.specs.Put.{Bytes}
 use Rattle.rpg_program.specs.Object.{Object}
 use Rattle.rpg_engine.specs.Devices.{NoneFailed, OfRead, OfWriters}
 use Rattle.rpg_engine.specs.Inputs.{OfFronts, OfInputs, records_of}
+use Rattle.rpg_engine.specs.Outputs.{Contents}
 use Rattle.rpg_engine.specs.Reporting.{JobEndsWell, Reports, SendsParts}
 use Rattle.rpg_engine.specs.Running.{ReportsRun, RunsOnDay}
 use Rattle.rpg_engine.specs.Streaming.{StopsEarly}
@@ -28,8 +29,8 @@ of_each given left others rest Fact Other each h = record {
 
 module _ (p : Object) (day : ℤ) where
   ends_well : (each : (rs : Records) (course : Course) (bytes : Bytes) → IsRun p day (first_fields p) rs course bytes → RunsWell p (records_count rs) course)
-      (report : Report) (print print' disk disk' : Option (List ℕ)) (primary secondary : List ℕ) → Reports p day report print print' disk disk' primary secondary → JobEndsWell p day report primary secondary
-  ends_well each report print print' disk disk' primary secondary r =
+      (report : Report) (before after : Contents) (primary secondary : List ℕ) → Reports p day report before after primary secondary → JobEndsWell p day report primary secondary
+  ends_well each report before after primary secondary r =
       record {
         course = r.course;
         bytes = r.bytes;
@@ -41,13 +42,13 @@ module _ (p : Object) (day : ℤ) where
       }
 
   pub report_ends_well : ((rs : Records) (course : Course) (bytes : Bytes) → IsRun p day (first_fields p) rs course bytes → RunsWell p (records_count rs) course)
-      → (given left others rest : Option (List ℕ)) (report : Report) (print print' disk disk' : Option (List ℕ)) → OfInputs given left others rest (Reports p day report print print' disk disk')
+      → (given left others rest : Option (List ℕ)) (report : Report) (before after : Contents) → OfInputs given left others rest (Reports p day report before after)
       → OfInputs given left others rest (JobEndsWell p day report)
-  report_ends_well each given left others rest report print print' disk disk' h = of_each given left others rest _ _ (ends_well each report print print' disk disk') h
+  report_ends_well each given left others rest report before after h = of_each given left others rest _ _ (ends_well each report before after) h
 
-  pub with_run : ((rs : Records) → HasRun p day (first_fields p) rs) → (given left others rest : Option (List ℕ)) (e : RunFault) (none_failed : Type 0) (print print' disk disk' : Option (List ℕ))
-      → OfFronts given left others rest (StopsEarly p day e none_failed print print' disk disk') → OfFronts given left others rest (SendsParts p day e none_failed print print' disk disk')
-  with_run exists given left others rest e none_failed print print' disk disk' h = record {
+  pub with_run : ((rs : Records) → HasRun p day (first_fields p) rs) → (given left others rest : Option (List ℕ)) (e : RunFault) (none_failed : Type 0) (before after : Contents)
+      → OfFronts given left others rest (StopsEarly p day e none_failed before after) → OfFronts given left others rest (SendsParts p day e none_failed before after)
+  with_run exists given left others rest e none_failed before after h = record {
     primary = h.primary;
     secondary = h.secondary;
     fact = record {
@@ -66,12 +67,12 @@ pub runs_on_day : {R S P D : Type 0} (remaining : R → Option (List ℕ)) (othe
     → IfErr result (λ e. OfRead remaining others old new (OfWriters contents stored before after (StopsEarly p day e (NoneFailed before after))))
     → RunsOnDay remaining others contents stored p day old new before after result
 runs_on_day remaining others contents stored p day old new before after (Ok report) exists each reports stops = record {
-  headline = report_ends_well p day each _ _ _ _ report _ _ _ _ reports;
+  headline = report_ends_well p day each _ _ _ _ report _ _ reports;
   report = reports;
   early = tt;
 }
 runs_on_day remaining others contents stored p day old new before after (Err e) exists each reports stops = record {
   headline = tt;
   report = tt;
-  early = with_run p day exists _ _ _ _ e _ _ _ _ _ stops;
+  early = with_run p day exists _ _ _ _ e _ _ _ stops;
 }

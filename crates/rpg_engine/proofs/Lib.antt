@@ -4,6 +4,7 @@ pub mod Courses
 pub mod Flows
 pub mod Flushing
 pub mod Headline
+pub mod Outputs
 pub mod Passing
 pub mod Refusing
 pub mod Seen

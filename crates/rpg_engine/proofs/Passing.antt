@@ -1,7 +1,6 @@
 -- What a cycle does with the records that are next in the two files: which of them it does the same with, and what one that goes on has taken.
 use Rattle.std.proofs.Common.{◌≡◌, ℕ, ◌+◌, ◌≤◌, Bool, true, false, cond, not, ◌&&◌, ◌||◌, List, [], ◌∷◌, length, slice_get, Option, None, Some, is_none, refl, sym, ap, ◌∙◌, subst, arith, inl, inr}
 use Rattle.std.specs.List.{list_all}
-use Rattle.std.specs.Prelude.{◌⊎◌}
 use Rattle.rpg_cycle.proofs.Cycling.{Stays, at_totals, behind_4, behind_match, by_act, from_selection, same, stay}
 use Rattle.rpg_cycle.proofs.Ending.{shorter}
 use Rattle.rpg_cycle.proofs.InTurn.{both_on}
@@ -13,7 +12,7 @@ use Rattle.rpg_cycle.specs.Phases.{Cycle, Done, Phase, UnderWay, begun, broken_l
 use Rattle.rpg_cycle.specs.Staging.{after_selection}
 use Rattle.rpg_cycle.specs.Runs.{Records, next_of}
 use Rattle.rpg_cycle_records.specs.Earlier.{Left, Selected, control_fields, left_by}
-use Rattle.rpg_cycle_records.specs.Identifying.{is_good_record, padded}
+use Rattle.rpg_cycle_records.specs.Identifying.{padded}
 use Rattle.rpg_cycle_records.specs.Levels.{is_in_record}
 use Rattle.rpg_cycle_records.specs.Merging.{AreMergedInOrder}
 use Rattle.rpg_cycle_records.specs.Waiting.{InputState, Inputs, chosen, has_match, input_at, with_file_over, takes_in, waiting_in, with_waiting}

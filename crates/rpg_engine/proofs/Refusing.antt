@@ -1,5 +1,6 @@
 -- A job that never began.
 use Rattle.std.proofs.Common.{◌≡◌, ℕ, ℤ, false, List, [], Option, None, Some, Result, Ok, Err, IfErr, IfOk, refl, sym, ap, ◌∙◌, subst, arith, inl}
+use Rattle.std.specs.Io.KnownBytes.{Appends}
 use Rattle.std.proofs.KnownBytes.{Appends-nil, Consumes-nil}
 use Rattle.rpg_program.specs.Put.{Bytes}
 use Rattle.rpg_program.specs.declared.input.InputFile.{InputFile}
@@ -9,6 +10,8 @@ use Rattle.rpg_machine.specs.Config.{no_output}
 use Rattle.rpg_machine.specs.Running.{no_bytes}
 use Rattle.rpg_program.specs.Object.{Object}
 use Rattle.rpg_engine.specs.Inputs.{Front, OfFronts, OfInputs, WasRead}
+use Rattle.rpg_engine.specs.Outputs.{Contents, bytes_for}
+use Rattle.rpg_engine.proofs.Outputs.{none_for}
 use Rattle.rpg_cycle.specs.Starting.{date_in}
 use Rattle.rpg_cycle.specs.Job.{AtWork, Starts, first_fields, job_started}
 use Rattle.rpg_verify_rules.specs.Accepted.{IsAccepted}
@@ -34,10 +37,10 @@ none_read : (a : Option (List ℕ)) → WasRead a a
 none_read a = record { read = []; ended = false; consumed = Consumes-nil a; at_end = λ is. absurd cc }
 
 -- before the first cycle nothing was put out
-at_once : (a b print disk : Option (List ℕ)) (e : RunFault) (none_failed : Type 0) (p : Object) (day : ℤ) → ((file : InputFile) (why : ReadFault) → e ≡ faults.Read file why → ⊥)
-    → ((bytes : Bytes) → HasParts e print print disk disk bytes) → ((primary secondary : List ℕ) → IsPutOutBy 0 p day primary secondary no_bytes → MayBePutOut e p day primary secondary no_bytes)
-    → HasSent e none_failed print print disk disk no_bytes → OfFronts a a b b (StopsEarly p day e none_failed print print disk disk)
-at_once a b print disk e none_failed p day other parts may sent = record {
+at_once : (a b : Option (List ℕ)) (held : Contents) (e : RunFault) (none_failed : Type 0) (p : Object) (day : ℤ) → ((file : InputFile) (why : ReadFault) → e ≡ faults.Read file why → ⊥)
+    → ((bytes : Bytes) → HasParts e held held bytes) → ((primary secondary : List ℕ) → IsPutOutBy 0 p day primary secondary no_bytes → MayBePutOut e p day primary secondary no_bytes)
+    → HasSent e none_failed held held no_bytes → OfFronts a a b b (StopsEarly p day e none_failed held held)
+at_once a b held e none_failed p day other parts may sent = record {
   primary = none_read a;
   secondary = none_read b;
   fact = record {
@@ -51,20 +54,20 @@ at_once a b print disk e none_failed p day other parts may sent = record {
   };
 }
 
-pub object_refused : (a b print disk : Option (List ℕ)) (none_failed : Type 0) (fault : ObjectFault) (object : List ℕ) (p : Object) (day : ℤ) → HasObjectFault fault object
-    → OfFronts a a b b (StopsEarly p day (faults.Object fault) none_failed print print disk disk)
-object_refused a b print disk none_failed fault object p day is =
-    at_once a b print disk (faults.Object fault) none_failed p day (λ file why is. absurd cc) (λ bytes. (none_sent print bytes.print, none_sent disk bytes.disk)) (λ xs ys put. inl (0, put)) tt
+pub object_refused : (a b : Option (List ℕ)) (held : Contents) (none_failed : Type 0) (fault : ObjectFault) (object : List ℕ) (p : Object) (day : ℤ) → HasObjectFault fault object
+    → OfFronts a a b b (StopsEarly p day (faults.Object fault) none_failed held held)
+object_refused a b held none_failed fault object p day is =
+    at_once a b held (faults.Object fault) none_failed p day (λ file why is. absurd cc) (λ bytes file. none_sent (held file) (bytes_for file bytes)) (λ xs ys put. inl (0, put)) tt
 
-pub no_room : (a b print disk : Option (List ℕ)) (none_failed : Type 0) (p : Object) (day : ℤ) → OfFronts a a b b (StopsEarly p day (faults.NoMemory 0) none_failed print print disk disk)
-no_room a b print disk none_failed p day =
-    at_once a b print disk (faults.NoMemory 0) none_failed p day (λ file why is. absurd cc) (λ bytes. (none_sent print bytes.print, none_sent disk bytes.disk)) (λ xs ys put. put)
-    (none_sent print [], none_sent disk [], λ none. (Appends-nil print, Appends-nil disk))
+pub no_room : (a b : Option (List ℕ)) (held : Contents) (none_failed : Type 0) (p : Object) (day : ℤ) → OfFronts a a b b (StopsEarly p day (faults.NoMemory 0) none_failed held held)
+no_room a b held none_failed p day =
+    at_once a b held (faults.NoMemory 0) none_failed p day (λ file why is. absurd cc) (λ bytes file. none_sent (held file) (bytes_for file bytes)) (λ xs ys put. put)
+    (λ file. none_sent (held file) (bytes_for file no_bytes), λ none file. subst (λ (x : List ℕ). Appends (held file) (held file) x) (sym (none_for file)) (Appends-nil (held file)))
 
-pub not_started : (a b print disk : Option (List ℕ)) (none_failed : Type 0) (fault : StartFault) (p : Object) (day : ℤ) → OfFronts a a b b (StopsEarly p day (start_fault fault) none_failed print print disk disk)
-not_started a b print disk none_failed starting.BadDate p day =
-    at_once a b print disk faults.BadDate none_failed p day (λ file why is. absurd cc) (λ bytes. (none_sent print bytes.print, none_sent disk bytes.disk)) (λ xs ys put. inl (0, put)) tt
-not_started a b print disk none_failed starting.NoMemory p day = no_room a b print disk none_failed p day
+pub not_started : (a b : Option (List ℕ)) (held : Contents) (none_failed : Type 0) (fault : StartFault) (p : Object) (day : ℤ) → OfFronts a a b b (StopsEarly p day (start_fault fault) none_failed held held)
+not_started a b held none_failed starting.BadDate p day =
+    at_once a b held faults.BadDate none_failed p day (λ file why is. absurd cc) (λ bytes file. none_sent (held file) (bytes_for file bytes)) (λ xs ys put. inl (0, put)) tt
+not_started a b held none_failed starting.NoMemory p day = no_room a b held none_failed p day
 
 -- what is reported of one
 pub start_told : (fault : StartFault) (date : List ℕ) → (fault ≡ starting.BadDate → date_in date ≡ None) → IsToldOfDate {X = Report} (Err (start_fault fault)) date
@@ -90,12 +93,12 @@ inputs_same a a' b b' c c' d d' Fact e f g h holds =
     (subst (λ (x : Option (List ℕ)). OfInputs a b x d' Fact) g
     (subst (λ (x : Option (List ℕ)). OfInputs a b c x Fact) h holds)))
 
-pub reports_same : (date : List ℕ) (p : Object) (day : ℤ) (job : AtWork) (a a' b b' c c' d d' print print' disk disk' : Option (List ℕ)) (report : Report) → a ≡ a' → b ≡ b' → c ≡ c' → d ≡ d'
-    → ((x : ℤ) → job ≡ job_started job.program x (first_fields job.program) → OfInputs a b c d (Reports job.program x report print print' disk disk'))
-    → Starts p date (first_fields p) job → date_in date ≡ Some day → OfInputs a' b' c' d' (Reports p day report print print' disk disk')
-reports_same date p day job a a' b b' c c' d d' print print' disk disk' report e f g h holds starts dated =
-    inputs_same a a' b b' c c' d d' (Reports p day report print print' disk disk') e f g h
-    (same_job date p day job (λ r x. OfInputs a b c d (Reports r x report print print' disk disk')) holds starts dated)
+pub reports_same : (date : List ℕ) (p : Object) (day : ℤ) (job : AtWork) (a a' b b' c c' d d' : Option (List ℕ)) (before after : Contents) (report : Report) → a ≡ a' → b ≡ b' → c ≡ c' → d ≡ d'
+    → ((x : ℤ) → job ≡ job_started job.program x (first_fields job.program) → OfInputs a b c d (Reports job.program x report before after))
+    → Starts p date (first_fields p) job → date_in date ≡ Some day → OfInputs a' b' c' d' (Reports p day report before after)
+reports_same date p day job a a' b b' c c' d d' before after report e f g h holds starts dated =
+    inputs_same a a' b b' c c' d d' (Reports p day report before after) e f g h
+    (same_job date p day job (λ r x. OfInputs a b c d (Reports r x report before after)) holds starts dated)
 
 fronts_same : (a a' b b' c c' d d' : Option (List ℕ)) (Fact : Front → Front → Type 0) → a ≡ a' → b ≡ b' → c ≡ c' → d ≡ d' → OfFronts a b c d Fact → OfFronts a' b' c' d' Fact
 fronts_same a a' b b' c c' d d' Fact e f g h holds =
@@ -104,20 +107,19 @@ fronts_same a a' b b' c c' d d' Fact e f g h holds =
     (subst (λ (x : Option (List ℕ)). OfFronts a b x d' Fact) g
     (subst (λ (x : Option (List ℕ)). OfFronts a b c x Fact) h holds)))
 
-pub parts_same : (date : List ℕ) (p : Object) (day : ℤ) (job : AtWork) (a a' b b' c c' d d' print print' disk disk' : Option (List ℕ)) (fault : RunFault) (none_failed : Type 0) → a ≡ a' → b ≡ b' → c ≡ c' → d ≡ d'
-    → ((x : ℤ) → job ≡ job_started job.program x (first_fields job.program) → OfFronts a b c d (StopsEarly job.program x fault none_failed print print' disk disk'))
-    → Starts p date (first_fields p) job → date_in date ≡ Some day → OfFronts a' b' c' d' (StopsEarly p day fault none_failed print print' disk disk')
-parts_same date p day job a a' b b' c c' d d' print print' disk disk' fault none_failed e f g h holds starts dated =
-    fronts_same a a' b b' c c' d d' (StopsEarly p day fault none_failed print print' disk disk') e f g h
-    (same_job date p day job (λ r x. OfFronts a b c d (StopsEarly r x fault none_failed print print' disk disk')) holds starts dated)
+pub parts_same : (date : List ℕ) (p : Object) (day : ℤ) (job : AtWork) (a a' b b' c c' d d' : Option (List ℕ)) (before after : Contents) (fault : RunFault) (none_failed : Type 0) → a ≡ a' → b ≡ b' → c ≡ c' → d ≡ d'
+    → ((x : ℤ) → job ≡ job_started job.program x (first_fields job.program) → OfFronts a b c d (StopsEarly job.program x fault none_failed before after))
+    → Starts p date (first_fields p) job → date_in date ≡ Some day → OfFronts a' b' c' d' (StopsEarly p day fault none_failed before after)
+parts_same date p day job a a' b b' c c' d d' before after fault none_failed e f g h holds starts dated =
+    fronts_same a a' b b' c c' d d' (StopsEarly p day fault none_failed before after) e f g h
+    (same_job date p day job (λ r x. OfFronts a b c d (StopsEarly r x fault none_failed before after)) holds starts dated)
 
 pub told_of_run : {X : Type 0} (result : Result X RunFault) (date : List ℕ) → HasDay date → IfErr result IsRunFault → IsToldOfDate result date
 told_of_run (Ok x) date has only = has
 told_of_run (Err (faults.Object fault)) date has only = absurd only
 told_of_run (Err faults.BadDate) date has only = absurd only
 told_of_run (Err (faults.Read file fault)) date has only = has
-told_of_run (Err (faults.Print sent)) date has only = has
-told_of_run (Err (faults.Disk sent)) date has only = has
+told_of_run (Err (faults.Write file sent)) date has only = has
 told_of_run (Err (faults.NoMemory cycles)) date has only = tt
 
 pub on_err : {X E : Type 0} (r : Result X E) (P Q : E → Type 0) → ((e : E) → P e → Q e) → IfErr r P → IfErr r Q
@@ -138,8 +140,7 @@ told_of_program (Ok x) object date p spells accepted has = may_run object date p
 told_of_program (Err (faults.Object fault)) object date p spells accepted told = absurd told
 told_of_program (Err faults.BadDate) object date p spells accepted none = (p, spells, accepted, none)
 told_of_program (Err (faults.Read file fault)) object date p spells accepted has = may_run object date p spells accepted has
-told_of_program (Err (faults.Print sent)) object date p spells accepted has = may_run object date p spells accepted has
-told_of_program (Err (faults.Disk sent)) object date p spells accepted has = may_run object date p spells accepted has
+told_of_program (Err (faults.Write file sent)) object date p spells accepted has = may_run object date p spells accepted has
 told_of_program (Err (faults.NoMemory cycles)) object date p spells accepted told = tt
 
 -- where there is no job of the bytes and the date, the date is none

@@ -15,7 +15,7 @@ use Rattle.rpg_cycle_records.specs.Earlier.{Selected, left_by, with_record}
 use Rattle.rpg_cycle_records.specs.Merging.{AreMergedInOrder}
 use Rattle.rpg_cycle_records.specs.Waiting.{Inputs, unread}
 use Rattle.rpg_program.proofs.Putting.{end_from-lines}
-use Rattle.rpg_program.specs.Put.{Bytes, disk_bytes, line_of, with_output}
+use Rattle.rpg_program.specs.Put.{Bytes, line_of, with_output}
 use Rattle.rpg_program.specs.declared.input.InputFile.{InputFile}
 use Rattle.rpg_program.specs.declared.input.InputFile.TheVariants.{Primary, Secondary}
 use Rattle.rpg_files.specs.NextLine.{CanFollow}
@@ -25,10 +25,13 @@ use Rattle.rpg_files.specs.declared.reader.RecordReader.{RecordReader}
 use Rattle.rpg_machine.specs.Config.{Config, Output, no_output, with_more}
 use Rattle.rpg_machine.specs.Running.{config_on}
 use Rattle.rpg_program.specs.Object.{Object}
-use Rattle.rpg_paper.specs.Paper.{bytes_from, last_position, last_position_from, paper}
+use Rattle.rpg_paper.specs.Paper.{bytes_from, last_position, last_position_from}
 use Rattle.rpg_verify.specs.Bound.{bound}
 use Rattle.rpg_engine.specs.Inputs.{WasRead, records_of}
-use Rattle.rpg_engine.proofs.Bytes.{disk_goes_on, print_goes_on, put_by}
+use Rattle.rpg_engine.specs.Outputs.{bytes_for}
+use Rattle.rpg_engine.specs.declared.files.OutputFile.{OutputFile}
+use Rattle.rpg_engine.specs.declared.files.OutputFile.TheVariants.{Print, Disk}
+use Rattle.rpg_engine.proofs.Bytes.{put_by}
 use Rattle.rpg_engine.proofs.Courses.{HeadCycle, IsLast, IsUnderWay, begins, one_more}
 use Rattle.rpg_engine.proofs.Passing.{cycles_same, fewer_wait}
 use Rattle.rpg_engine.proofs.Taking.{Gives, Source, TakesNext}
@@ -183,23 +186,22 @@ module _ (first job : AtWork) (given others : Option (List ℕ)) (a b : Source) 
     under_way_still = reads_on a'.input b'.input _ _ t.primary.input t.secondary.input
 
 -- what the job puts out in this cycle, after what it had put out before
-pub output_is : (job mid : AtWork) (earlier : List Selected) (out : Output) (x y : Option (List ℕ)) (e : PhaseEnd) (does : DoesCycle job earlier (last_position out.lines) x y e mid)
-    → (mid.output.print ≡ job.output.print ++ (put_by e out does.out).print) × (mid.output.disk ≡ job.output.disk ++ (put_by e out does.out).disk)
-output_is job mid earlier out x y e does =
-    let last = line_of (last_position_from (last_position out.lines) does.out.lines) in
-    let is : mid.output ≡ with_feed (feed_at (stage_at e) last) (with_output (last_position out.lines) does.out.lines does.out.records job.output) =
-    does.bytes ∙ ap (λ (l : Option ℕ). with_feed (feed_at (stage_at e) l) (with_output (last_position out.lines) does.out.lines does.out.records job.output)) does.last in (
-      ap (λ (b : Bytes). b.print) is ∙ append_assoc job.output.print (bytes_from (last_position out.lines) does.out.lines) (feed_at (stage_at e) last),
-      ap (λ (b : Bytes). b.disk) is,
-    )
+pub output_is : (job mid : AtWork) (earlier : List Selected) (out : Output) (x y : Option (List ℕ)) (e : PhaseEnd) (does : DoesCycle job earlier (last_position out.lines) x y e mid) (file : OutputFile)
+    → bytes_for file mid.output ≡ bytes_for file job.output ++ bytes_for file (put_by e out does.out)
+output_is job mid earlier out x y e does file = output_for file
+  where
+    last : Option ℕ
+    last = line_of (last_position_from (last_position out.lines) does.out.lines)
+
+    is : mid.output ≡ with_feed (feed_at (stage_at e) last) (with_output (last_position out.lines) does.out.lines does.out.records job.output)
+    is = does.bytes ∙ ap (λ (l : Option ℕ). with_feed (feed_at (stage_at e) l) (with_output (last_position out.lines) does.out.lines does.out.records job.output)) does.last
+
+    output_for : (file : OutputFile) → bytes_for file mid.output ≡ bytes_for file job.output ++ bytes_for file (put_by e out does.out)
+    output_for Print = ap (λ (b : Bytes). b.print) is ∙ append_assoc job.output.print (bytes_from (last_position out.lines) does.out.lines) (feed_at (stage_at e) last)
+    output_for Disk = ap (λ (b : Bytes). b.disk) is
 
 pub steps_are : (job mid : AtWork) (earlier : List Selected) (out : Output) (x y : Option (List ℕ)) (e : PhaseEnd) (does : DoesCycle job earlier (last_position out.lines) x y e mid) → does.there.config.steps ≡ mid.config.steps
 steps_are job mid earlier out x y e does = ap (λ (c : Config). c.steps) does.config
-
--- after a cycle that goes on this is what was put out in all
-pub put_on : (out o : Output) (e : PhaseEnd) → e ≡ GoesOn
-    → (paper out.lines ++ (put_by e out o).print ≡ paper (with_more out o).lines) × (disk_bytes out.records ++ (put_by e out o).disk ≡ disk_bytes (with_more out o).records)
-put_on out o e on = (ap (λ (x : PhaseEnd). paper out.lines ++ (put_by x out o).print) on ∙ print_goes_on out o, disk_goes_on e out o)
 
 pub stream_goes_on : (first job mid : AtWork) (given others : Option (List ℕ)) (a b a' b' : Source) (cycles most greater : ℕ)
     (e : PhaseEnd) (s : Streams first given others job a b cycles most) (t : TakesNext s.earlier (last_position s.out.lines) job a b e mid a' b')

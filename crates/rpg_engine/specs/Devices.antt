@@ -7,9 +7,12 @@ use Rattle.rpg_files.specs.Counting.{device_of, faults_of}
 use Rattle.rpg_files.specs.Reading.{reader_of}
 use Rattle.rpg_files.specs.declared.counting.Counted.{Counted}
 use Rattle.rpg_files.specs.declared.reader.RecordReader.{RecordReader}
-use Rattle.rpg_engine.specs.Faults.{FaultsAre, device_counts}
+use Rattle.rpg_engine.specs.Faults.{FaultsAre, device_counts, write_faults}
 use Rattle.rpg_engine.specs.Inputs.{Front, OfFronts, OfInputs}
+use Rattle.rpg_engine.specs.Outputs.{Contents}
 use Rattle.rpg_engine.specs.declared.fault.RunFault.{RunFault}
+use Rattle.rpg_engine.specs.declared.files.OutputFile.{OutputFile}
+use Rattle.rpg_engine.specs.declared.files.OutputFile.TheVariants.{Print, Disk}
 use Rattle.rpg_engine.specs.declared.files.Readers.{Readers}
 use Rattle.rpg_engine.specs.declared.files.Writers.{Writers}
 
@@ -28,9 +31,9 @@ pub record CanCountFaults {R S P D : Type 0} (readers : Readers R S) (writers : 
 abbrev pub both : {R S : Type 0} → Counted R → Counted S → Readers R S
 both primary secondary = record { primary = primary; secondary = secondary }
 
--- no call of either writer failed
+-- no call of a writer failed
 abbrev pub NoneFailed : {P D : Type 0} → (before after : Writers P D) → Type 0
-NoneFailed before after = (faults_of after.printer ≡ faults_of before.printer) × (faults_of after.disk ≡ faults_of before.disk)
+NoneFailed before after = (file : OutputFile) → write_faults after file ≡ write_faults before file
 
 module _ {R S : Type 0} (remaining : R → Option (List ℕ)) (others : S → Option (List ℕ)) where
   -- Fact holds of each two inputs that begin with what was read of both readers.
@@ -54,9 +57,14 @@ module _ {R S : Type 0} (remaining : R → Option (List ℕ)) (others : S → Op
   TellsWhoseFault readers writers result = NamesFault readers.entry.now readers.exit.now writers.entry.now writers.exit.now result
 
 module _ {P D : Type 0} (contents : P → Option (List ℕ)) (stored : D → Option (List ℕ)) where
-  -- Fact holds of what both writers had and have.
-  abbrev pub OfWriters : {X : Type 0} → (before after : Writers P D) → (Option (List ℕ) → Option (List ℕ) → Option (List ℕ) → Option (List ℕ) → X → X → Type 0) → X → X → Type 0
-  OfWriters before after Fact = Fact (contents (device_of before.printer)) (contents (device_of after.printer)) (stored (device_of before.disk)) (stored (device_of after.disk))
+  -- what each file has
+  abbrev pub held : Writers P D → Contents
+  held writers Print = contents (device_of writers.printer)
+  held writers Disk = stored (device_of writers.disk)
+
+  -- Fact holds of what each file had and has.
+  abbrev pub OfWriters : {X : Type 0} → (before after : Writers P D) → (Contents → Contents → X → X → Type 0) → X → X → Type 0
+  OfWriters before after Fact = Fact (held before) (held after)
 
 -- ---- readers of records
 

@@ -2,6 +2,8 @@
 use Rattle.std.specs.Prelude.{◌≡◌, ℕ, ◌<◌, Bool, true, List, ◌++◌, length, Option}
 use Rattle.std.specs.Io.KnownBytes.{Consumes, IsAtEnd}
 use Rattle.rpg_cycle.specs.Runs.{Records}
+use Rattle.rpg_program.specs.declared.input.InputFile.{InputFile}
+use Rattle.rpg_program.specs.declared.input.InputFile.TheVariants.{Primary, Secondary}
 use Rattle.rpg_files.specs.NextLine.{CanFollow}
 use Rattle.rpg_files.specs.Records.{max_records, records}
 
@@ -37,6 +39,11 @@ pub record OfFronts (given left others rest : Option (List ℕ)) (Fact : Front �
 -- Fact holds of every two inputs that begin so.
 abbrev pub OfEach : Front → Front → (List ℕ → List ℕ → Type 0) → Type 0
 OfEach a b Fact = (more behind : List ℕ) → CanFollow a.ended more → CanFollow b.ended behind → Fact (a.read ++ more) (b.read ++ behind)
+
+-- of the bytes of two inputs, those of one
+abbrev pub bytes_in : InputFile → (primary secondary : List ℕ) → List ℕ
+bytes_in Primary primary secondary = primary
+bytes_in Secondary primary secondary = secondary
 
 -- the records of both
 abbrev pub records_of : List ℕ → List ℕ → Records

@@ -4,6 +4,7 @@ pub mod Devices
 pub mod Faults
 pub mod Inputs
 pub mod Objects
+pub mod Outputs
 pub mod Refusing
 pub mod Reporting
 pub mod Running

@@ -27,8 +27,7 @@ IsToldOf (Ok x) object date = MayRun object date
 IsToldOf (Err (faults.Object fault)) object date = HasObjectFault fault object
 IsToldOf (Err faults.BadDate) object date = (p : Object) × SpellsProgram object p × IsAccepted p × (date_in date ≡ None)
 IsToldOf (Err (faults.Read file fault)) object date = MayRun object date
-IsToldOf (Err (faults.Print sent)) object date = MayRun object date
-IsToldOf (Err (faults.Disk sent)) object date = MayRun object date
+IsToldOf (Err (faults.Write file sent)) object date = MayRun object date
 IsToldOf (Err (faults.NoMemory cycles)) object date = Unit {0}
 
 -- the date is a day's
@@ -41,8 +40,7 @@ IsToldOfDate (Ok x) date = HasDay date
 IsToldOfDate (Err (faults.Object fault)) date = ⊥
 IsToldOfDate (Err faults.BadDate) date = date_in date ≡ None
 IsToldOfDate (Err (faults.Read file fault)) date = HasDay date
-IsToldOfDate (Err (faults.Print sent)) date = HasDay date
-IsToldOfDate (Err (faults.Disk sent)) date = HasDay date
+IsToldOfDate (Err (faults.Write file sent)) date = HasDay date
 IsToldOfDate (Err (faults.NoMemory cycles)) date = Unit {0}
 
 -- a fault of the start, as it is reported

@@ -1,6 +1,8 @@
 -- What is reported of a run, and what each writer has of its output.
 use Rattle.std.specs.Prelude.{◌≡◌, ℕ, zero, suc, ◌+◌, ◌<◌, ◌≤◌, ◌⊎◌, ℤ, true, false, List, [], ◌++◌, length, Option, None, Some}
 use Rattle.std.specs.Io.KnownBytes.{Appends}
+use Rattle.std.specs.declared.cmp.Ordering.{Ordering}
+use Rattle.std.specs.declared.cmp.Ordering.TheVariants.{Less, Equal, Greater}
 use Rattle.rpg_cycle.specs.Counting.{records_count}
 use Rattle.rpg_cycle.specs.Ends.{GoesOn}
 use Rattle.rpg_cycle.specs.Job.{first_fields}
@@ -28,9 +30,11 @@ use Rattle.rpg_paper.specs.Paper.{paper}
 use Rattle.rpg_text.specs.Lines.{is_line}
 use Rattle.rpg_verify.specs.Bound.{bound}
 use Rattle.rpg_verify_rules.specs.Accepted.{IsAccepted}
-use Rattle.rpg_engine.specs.Inputs.{Front, OfEach, records_of}
+use Rattle.rpg_engine.specs.Inputs.{Front, OfEach, bytes_in, records_of}
+use Rattle.rpg_engine.specs.Outputs.{Contents, HaveAll, HaveParts, bytes_for, order}
 use Rattle.rpg_engine.specs.declared.fault.RunFault.{RunFault}
 use Rattle.rpg_engine.specs.declared.fault.RunFault.TheVariants as faults
+use Rattle.rpg_engine.specs.declared.files.OutputFile.{OutputFile}
 use Rattle.rpg_engine.specs.declared.report.Report.{Report}
 
 -- the run of a program over the records of a primary and of a secondary input, with a date and with its first values
@@ -38,7 +42,7 @@ abbrev pub IsRunOver : Object → ℤ → (primary secondary : List ℕ) → Cou
 IsRunOver p day primary secondary course bytes = IsRun p day (first_fields p) (records_of primary secondary) course bytes
 
 -- the report is that of the run over the inputs' records, with the place that the run reached at its end, and each writer has all of its bytes
-pub record Reports (p : Object) (day : ℤ) (report : Report) (print print' disk disk' : Option (List ℕ)) (primary secondary : List ℕ) : Type 0 where
+pub record Reports (p : Object) (day : ℤ) (report : Report) (before after : Contents) (primary secondary : List ℕ) : Type 0 where
   pub course : Course
   pub bytes : Bytes
   pub run : IsRunOver p day primary secondary course bytes
@@ -48,8 +52,7 @@ pub record Reports (p : Object) (day : ℤ) (report : Report) (print print' disk
   pub bound : report.bound ≡ bound p
   pub place : report.place ≡ running_place p course.there.config
   pub few : report.most ≤ report.bound
-  pub printed : Appends print print' bytes.print
-  pub stored : Appends disk disk' bytes.disk
+  pub sent : HaveAll before after bytes
 
 -- The report is of a run that ends well: at the end of the job or at a halt that has a number from 1 to 8, never wrong, within one cycle more
 -- than both inputs have records; and no cycle takes more steps than the program's bound.
@@ -72,15 +75,14 @@ EachRunEndsWell p = (date : List ℕ) (day : ℤ) (rs : Records) (course : Cours
     → IsRun p day (first_fields p) rs course bytes → RunsWell p (records_count rs) course
 
 -- The writer that failed has as many bytes of its output as the fault reports, and every other a first part.
-abbrev pub HasParts : RunFault → Option (List ℕ) → Option (List ℕ) → Option (List ℕ) → Option (List ℕ) → Bytes → Type 0
-HasParts (faults.Print sent) print print' disk disk' bytes = AppendsFirst print print' sent bytes.print × AppendsPrefix disk disk' bytes.disk
-HasParts (faults.Disk sent) print print' disk disk' bytes = AppendsPrefix print print' bytes.print × AppendsFirst disk disk' sent bytes.disk
-HasParts e print print' disk disk' bytes = AppendsPrefix print print' bytes.print × AppendsPrefix disk disk' bytes.disk
+abbrev pub HasParts : RunFault → (before after : Contents) → Bytes → Type 0
+HasParts (faults.Write failed sent) before after bytes = AppendsFirst (before failed) (after failed) sent (bytes_for failed bytes) × HaveParts before after bytes
+HasParts e before after bytes = HaveParts before after bytes
 
 -- such parts of the bytes of the run over the inputs' records
-abbrev pub SendsFirstParts : Object → ℤ → RunFault → (print print' disk disk' : Option (List ℕ)) → (primary secondary : List ℕ) → Type 0
-SendsFirstParts p day e print print' disk disk' primary secondary =
-    (course : Course) (bytes : Bytes) → IsRunOver p day primary secondary course bytes → HasParts e print print' disk disk' bytes
+abbrev pub SendsFirstParts : Object → ℤ → RunFault → (before after : Contents) → (primary secondary : List ℕ) → Type 0
+SendsFirstParts p day e before after primary secondary =
+    (course : Course) (bytes : Bytes) → IsRunOver p day primary secondary course bytes → HasParts e before after bytes
 
 -- So many cycles of a run, after earlier records, went on one after another and put this out; Then holds of what they led to: the
 -- earlier records, the records that are left, the configuration and the files.
@@ -115,21 +117,25 @@ abbrev pub MayBePutOut : RunFault → Object → ℤ → (primary secondary : Li
 MayBePutOut (faults.NoMemory cycles) p day primary secondary bytes = IsPutOutBy cycles p day primary secondary bytes
 MayBePutOut e p day primary secondary bytes = IsPutOut p day primary secondary bytes ⊎ ((course : Course) × IsRunOver p day primary secondary course bytes)
 
--- The printer is sent these bytes before the disk file: the printer failed before it had its own, or the disk file, and the printer had them
--- all. Where memory ran out each writer has them, unless one failed over them.
-abbrev pub HasSent : RunFault → (none_failed : Type 0) → (print print' disk disk' : Option (List ℕ)) → Bytes → Type 0
-HasSent (faults.Print sent) none_failed print print' disk disk' bytes = AppendsFirst print print' sent bytes.print × (sent < length bytes.print) × AppendsPrefix disk disk' bytes.disk
-HasSent (faults.Disk sent) none_failed print print' disk disk' bytes = Appends print print' bytes.print × AppendsFirst disk disk' sent bytes.disk × (sent < length bytes.disk)
-HasSent (faults.NoMemory cycles) none_failed print print' disk disk' bytes =
-    AppendsPrefix print print' bytes.print × AppendsPrefix disk disk' bytes.disk × (none_failed → Appends print print' bytes.print × Appends disk disk' bytes.disk)
-HasSent e none_failed print print' disk disk' bytes = Unit {0}
+-- what a file has of its bytes where a writer failed: all, if it was sent to before that one; so many, if it is that one; else a first part
+abbrev pub HasUpTo : Ordering → (sent : ℕ) → (before after : Option (List ℕ)) → List ℕ → Type 0
+HasUpTo Less sent before after bytes = Appends before after bytes
+HasUpTo Equal sent before after bytes = AppendsFirst before after sent bytes × (sent < length bytes)
+HasUpTo Greater sent before after bytes = AppendsPrefix before after bytes
+
+-- The files are sent these bytes one after another, up to the one whose writer failed. Where memory ran out each has them, unless a writer
+-- failed over them.
+abbrev pub HasSent : RunFault → (none_failed : Type 0) → (before after : Contents) → Bytes → Type 0
+HasSent (faults.Write failed sent) none_failed before after bytes = (file : OutputFile) → HasUpTo (order file failed) sent (before file) (after file) (bytes_for file bytes)
+HasSent (faults.NoMemory cycles) none_failed before after bytes = HaveParts before after bytes × (none_failed → HaveAll before after bytes)
+HasSent e none_failed before after bytes = Unit {0}
 
 -- of the run over the inputs' records each writer has a first part, and so much of what had been put out by the end of a cycle
-pub record StopsOver (p : Object) (day : ℤ) (e : RunFault) (none_failed : Type 0) (print print' disk disk' : Option (List ℕ)) (primary secondary : List ℕ) : Type 0 where
-  pub parts : SendsFirstParts p day e print print' disk disk' primary secondary
+pub record StopsOver (p : Object) (day : ℤ) (e : RunFault) (none_failed : Type 0) (before after : Contents) (primary secondary : List ℕ) : Type 0 where
+  pub parts : SendsFirstParts p day e before after primary secondary
   pub bytes : Bytes
   pub put_out : MayBePutOut e p day primary secondary bytes
-  pub sent : HasSent e none_failed print print' disk disk' bytes
+  pub sent : HasSent e none_failed before after bytes
 
 -- ---- a reader that failed
 
@@ -147,11 +153,6 @@ abbrev pub records_of_file : InputFile → Records → List (List ℕ)
 records_of_file Primary rs = rs.primary
 records_of_file Secondary rs = rs.secondary
 
--- what follows the bytes that were read of a file
-abbrev pub following_in : InputFile → (more behind : List ℕ) → List ℕ
-following_in Primary more behind = more
-following_in Secondary more behind = behind
-
 -- Of these records those are left, and the next hadn't been read: of what is left a part of a line was read, and no more; or it is one more
 -- than an input may have.
 abbrev pub IsUnread : ReadFault → (all left : List (List ℕ)) → (part more : List ℕ) → Type 0
@@ -167,19 +168,18 @@ pub record WaitsFor (p : Object) (file : InputFile) (fault : ReadFault) (all lef
 
 -- The job hadn't ended: of the run over the inputs' records so many cycles went on, each writer has just what they put out, and the next
 -- waits for a record of the reader that failed. So each run over them has more cycles.
-pub record NeedsRecord (p : Object) (day : ℤ) (file : InputFile) (fault : ReadFault) (print print' disk disk' : Option (List ℕ)) (a b : Front) : Type 0 where
+pub record NeedsRecord (p : Object) (day : ℤ) (file : InputFile) (fault : ReadFault) (before after : Contents) (a b : Front) : Type 0 where
   pub cycles : ℕ
   pub out : Output
   pub part : List ℕ
   pub known : Option (List ℕ)
-  pub printed : Appends print print' (paper out.lines)
-  pub stored : Appends disk disk' (disk_bytes out.records)
+  pub sent : HaveAll before after (bytes_of out)
   pub goes_on : (more behind : List ℕ) → CanFollow a.ended more → CanFollow b.ended behind → WentOn cycles p day (a.read ++ more) (b.read ++ behind) out
-      (λ earlier rs c i. WaitsFor p file fault (records_of (a.read ++ more) (b.read ++ behind)) rs c i part (following_in file more behind) known)
+      (λ earlier rs c i. WaitsFor p file fault (records_of (a.read ++ more) (b.read ++ behind)) rs c i part (bytes_in file more behind) known)
   pub longer : OfEach a b (λ primary secondary. (course : Course) (bytes : Bytes) → IsRunOver p day primary secondary course bytes → cycles < course.cycles)
 
 -- there is a run over the inputs' records, and each writer has such parts of its bytes; where a reader failed the job waited for its record
-pub record SendsParts (p : Object) (day : ℤ) (e : RunFault) (none_failed : Type 0) (print print' disk disk' : Option (List ℕ)) (a b : Front) : Type 0 where
+pub record SendsParts (p : Object) (day : ℤ) (e : RunFault) (none_failed : Type 0) (before after : Contents) (a b : Front) : Type 0 where
   pub run : OfEach a b (λ primary secondary. HasRun p day (first_fields p) (records_of primary secondary))
-  pub stops : OfEach a b (StopsOver p day e none_failed print print' disk disk')
-  pub needs : (file : InputFile) (fault : ReadFault) → e ≡ faults.Read file fault → NeedsRecord p day file fault print print' disk disk' a b
+  pub stops : OfEach a b (StopsOver p day e none_failed before after)
+  pub needs : (file : InputFile) (fault : ReadFault) → e ≡ faults.Read file fault → NeedsRecord p day file fault before after a b

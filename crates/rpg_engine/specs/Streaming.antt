@@ -1,6 +1,5 @@
 -- What is required of two readers for a cycle, and what becomes of its output.
-use Rattle.std.specs.Prelude.{◌≡◌, ℕ, ℤ, ◌+◌, ◌-◌, ◌^◌, ◌<◌, ◌≤◌, ◌++◌, ◌⊎◌, Bool, true, false, List, [], ◌∷◌, length, Option, None, Some, Result, Ok, Err}
-use Rattle.std.specs.Io.KnownBytes.{Appends}
+use Rattle.std.specs.Prelude.{◌≡◌, ℕ, ℤ, ◌-◌, ◌^◌, ◌<◌, ◌≤◌, Bool, true, false, List, [], ◌∷◌, Option, None, Some, Result, Ok, Err}
 use Rattle.rpg_cycle.specs.Job.{AtWork, Cycles, first_fields, job_needs_record, job_started}
 use Rattle.rpg_cycle.specs.Stages.{Ended, Going, Stage, job_end}
 use Rattle.rpg_cycle.specs.declared.ends.JobEnd.{JobEnd}
@@ -10,7 +9,6 @@ use Rattle.rpg_program.specs.declared.input.InputFile.{InputFile}
 use Rattle.rpg_program.specs.declared.input.InputFile.TheVariants.{Primary, Secondary}
 use Rattle.rpg_files.specs.Counting.{faults_of}
 use Rattle.rpg_files.specs.Reading.{IsFresh, ReadsNext, answer_of, is_record, is_sure, reader_of, record_of}
-use Rattle.rpg_files.specs.Sending.{AppendsFirst, AppendsPrefix}
 use Rattle.rpg_files.specs.declared.reader.Next.{Next}
 use Rattle.rpg_files.specs.declared.reader.Next.TheVariants as next
 use Rattle.rpg_files.specs.declared.reader.ReadFault.{ReadFault}
@@ -19,6 +17,7 @@ use Rattle.rpg_program.specs.Object.{Object}
 use Rattle.rpg_verify.specs.Bound.{bound}
 use Rattle.rpg_engine.specs.Devices.{Lent, NoneFailed, OfRead, OfWriters, readers_of}
 use Rattle.rpg_engine.specs.Inputs.{Front, OfEach}
+use Rattle.rpg_engine.specs.Outputs.{Contents}
 use Rattle.rpg_engine.specs.Reporting.{NeedsRecord, StopsOver}
 use Rattle.rpg_engine.specs.Running.{ReportsRun}
 use Rattle.rpg_engine.specs.declared.fault.CycleFault.{CycleFault}
@@ -102,57 +101,19 @@ TakesNone remaining others job primary secondary (stops.Read Secondary fault) pr
 TakesNone remaining others job primary secondary stops.NoMemory primary' secondary' =
     HasAnswered remaining (job_needs_record job Primary) primary primary' × HasAnswered others (job_needs_record job Secondary) secondary secondary'
 
--- ---- its output
-
--- a first part of what waited was sent, perhaps none, and was counted
-pub record GoesOut (old new : Option (List ℕ)) (waiting left : List ℕ) (sent sent' : ℕ) : Type 0 where
-  pub front : List ℕ
-  pub out : Appends old new front
-  pub order : front ++ left ≡ waiting
-  pub count : sent' ≡ sent + length front
-
--- what the writers have after bytes were sent in part, and the count in the fault, so many bytes having been sent before
-abbrev pub SendsSome : RunFault → ℕ → ℕ → Option (List ℕ) → Option (List ℕ) → Option (List ℕ) → Option (List ℕ) → List ℕ → List ℕ → Type 0
-SendsSome (faults.Print sent) printed stored print print' disk disk' lines records =
-    (n : ℕ) × (sent ≡ printed + n) × AppendsFirst print print' n lines × (disk' ≡ disk) × (n < length lines)
-SendsSome (faults.Disk sent) printed stored print print' disk disk' lines records =
-    (n : ℕ) × (sent ≡ stored + n) × Appends print print' lines × AppendsFirst disk disk' n records × (n < length records)
-SendsSome e printed stored print print' disk disk' lines records = ⊥
-
--- all waiting bytes were sent, unless a writer failed
-abbrev pub GoesOutUnless : (none_failed : Type 0) → Option (List ℕ) → Option (List ℕ) → Option (List ℕ) → Option (List ℕ) → List ℕ → List ℕ → Type 0
-GoesOutUnless none_failed print print' disk disk' lines records =
-    AppendsPrefix print print' lines × AppendsPrefix disk disk' records × (none_failed → Appends print print' lines × Appends disk disk' records)
-
--- the fault reported of a cycle that wasn't done after so many that were, and what the writers then have of the bytes that waited; a reader's fault is reported at once
-abbrev pub StopsBy : CycleFault → (cycles : ℕ) → RunFault → (none_failed : Type 0) → Option (List ℕ) → Option (List ℕ) → Option (List ℕ) → Option (List ℕ) → List ℕ → List ℕ → Type 0
-StopsBy (stops.Read file fault) cycles e none_failed print print' disk disk' lines records = (e ≡ faults.Read file fault) × (print' ≡ print) × (disk' ≡ disk)
-StopsBy stops.NoMemory cycles e none_failed print print' disk disk' lines records = (e ≡ faults.NoMemory cycles) × GoesOutUnless none_failed print print' disk disk' lines records
+-- ---- where the run stops
 
 -- a run stopped early: each writer has such parts of its output, and where a reader failed the job waited for its record
-pub record StopsEarly (p : Object) (day : ℤ) (e : RunFault) (none_failed : Type 0) (print print' disk disk' : Option (List ℕ)) (a b : Front) : Type 0 where
-  pub stops : OfEach a b (StopsOver p day e none_failed print print' disk disk')
-  pub needs : (file : InputFile) (fault : ReadFault) → e ≡ faults.Read file fault → NeedsRecord p day file fault print print' disk disk' a b
+pub record StopsEarly (p : Object) (day : ℤ) (e : RunFault) (none_failed : Type 0) (before after : Contents) (a b : Front) : Type 0 where
+  pub stops : OfEach a b (StopsOver p day e none_failed before after)
+  pub needs : (file : InputFile) (fault : ReadFault) → e ≡ faults.Read file fault → NeedsRecord p day file fault before after a b
 
 -- of a fault of a run that has begun
 abbrev pub IsRunFault : RunFault → Type 0
 IsRunFault (faults.Read file fault) = Unit {0}
-IsRunFault (faults.Print sent) = Unit {0}
-IsRunFault (faults.Disk sent) = Unit {0}
+IsRunFault (faults.Write file sent) = Unit {0}
 IsRunFault (faults.NoMemory cycles) = Unit {0}
 IsRunFault e = ⊥
-
--- where memory ran out: neither count rose, or one of them
-abbrev pub MayFail : (print print' disk disk' : ℕ) → Type 0
-MayFail print print' disk disk' =
-    ((print' ≡ print) × (disk' ≡ disk)) ⊎ (((print' ≡ print + 1) × (disk' ≡ disk)) ⊎ ((print' ≡ print) × (disk' ≡ disk + 1)))
-
--- whose count rose
-abbrev pub FaultsOfWriters : RunFault → (print print' disk disk' : ℕ) → Type 0
-FaultsOfWriters (faults.Print sent) print print' disk disk' = (print' ≡ print + 1) × (disk' ≡ disk)
-FaultsOfWriters (faults.Disk sent) print print' disk disk' = (print' ≡ print) × (disk' ≡ disk + 1)
-FaultsOfWriters (faults.NoMemory cycles) print print' disk disk' = MayFail print print' disk disk'
-FaultsOfWriters e print print' disk disk' = (print' ≡ print) × (disk' ≡ disk)
 
 -- ---- the run of a job that hadn't begun, over readers of records
 

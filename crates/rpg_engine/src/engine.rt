@@ -51,7 +51,7 @@ fn first_job<'a>(
 }
 
 /// Runs an accepted program over the records of two readers, as `watch_program` does over those of a job.
-fn run_over<R1: Read, R2: Read, W1: Write, W2: Write, W: Watcher>(
+fn run_through_files<R1: Read, R2: Read, W1: Write, W2: Write, W: Watcher>(
     alloc: Global,
     program: &Verified,
     date: &[u8],
@@ -103,7 +103,7 @@ pub fn watch_program<R1: Read, R2: Read, W1: Write, W2: Write, W: Watcher>(
     ensures runs { RunsProgram R1.remaining R2.remaining W1.contents W2.contents program.now date.now readers writers result }
     ensures faults { TellsWhoseFault R1.remaining R2.remaining readers writers result }
 {
-    run_over(
+    run_through_files(
         alloc,
         program,
         date,

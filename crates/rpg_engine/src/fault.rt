@@ -3,6 +3,7 @@
 ghost use Rattle.std.specs.Prelude.{◌≡◌};
 ghost use Rattle.rpg_engine.specs.declared.fault.RunFault.TheVariants as faults;
 
+use crate::files::OutputFile;
 use crate::object::ObjectFault;
 use rpg_cycle::StartFault;
 use rpg_files::ReadFault;
@@ -18,10 +19,8 @@ pub enum RunFault {
     BadDate,
     /// The reader of a file failed, or the file has more than 10,000,000 records.
     Read { file: InputFile, fault: ReadFault },
-    /// The printer failed after this many bytes were written.
-    Print { sent: u128 },
-    /// The disk file failed after this many bytes were written.
-    Disk { sent: u128 },
+    /// The writer of a file failed after this many bytes were written to it.
+    Write { file: OutputFile, sent: u128 },
     /// Memory ran out after so many cycles had finished. Their output was sent, unless a writer failed over it.
     NoMemory { cycles: u64 },
 }

@@ -27,6 +27,13 @@ impl<R1, R2> Readers<R1, R2> {
     }
 }
 
+/// A file that a run writes to: the printed lines, or the records of the disk file.
+#[derive(Clone, Copy, PartialEq, Eq)]
+pub enum OutputFile {
+    Print,
+    Disk,
+}
+
 /// What a job writes: the lines that it prints, and the records of its disk file.
 #[derive(Drop)]
 pub struct Writers<W1, W2> {

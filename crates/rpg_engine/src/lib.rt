@@ -14,7 +14,7 @@ mod watching;
 
 pub use engine::{execute, execute_program, watch_program};
 pub use fault::RunFault;
-pub use files::{Readers, Writers};
+pub use files::{OutputFile, Readers, Writers};
 pub use object::{
     ObjectFault, accept, decode_object, has_disk_file, has_secondary_file, verify_bytes,
 };

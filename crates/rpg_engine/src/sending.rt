@@ -1,15 +1,17 @@
 //! What a run puts out, on its way to the writers. It waits in the job, so that a writer is called once for many cycles.
 
-ghost use Rattle.std.specs.Prelude.{◌≡◌, ◌≤◌, ◌⊎◌, length, take, true, is_some, OnOk};
+ghost use Rattle.std.specs.Prelude.{◌≡◌, ◌-◌, ◌^◌, ◌<◌, ◌≤◌, ◌⊎◌, length, take, true, is_some, OnOk};
 ghost use Rattle.rpg_machine.specs.Running.{no_bytes};
-ghost use Rattle.rpg_engine.specs.Sending.{CanSend, SendsTo, SendsUnlessTo, SendsWaitingTo, StopsWithTo};
+ghost use Rattle.rpg_files.specs.Counting.{faults_of};
+ghost use Rattle.rpg_engine.specs.Outputs.{bytes_with};
+ghost use Rattle.rpg_engine.specs.Sending.{CanSend, SendsTo, SendsToFile, SendsUnlessTo, SendsWaitingTo, StopsWithTo, state_of};
 ghost use Rattle.rpg_engine.specs.Streaming.{IsSureWhereAsked};
 
 use crate::fault::{CycleFault, RunFault};
-use crate::files::Writers;
+use crate::files::{OutputFile, Writers};
 use crate::watching::Watcher;
 use rpg_cycle::{Job, JobEnd, Need, Output};
-use rpg_files::{RecordReader, send};
+use rpg_files::{Counted, RecordReader, send};
 use rpg_store::Store;
 use std::io::{Read, Write};
 
@@ -48,6 +50,25 @@ pub(crate) fn waiting_in(output: &Output) -> Waiting
     }
 }
 
+/// Sends bytes to a file, and counts them.
+fn send_to<W: Write>(
+    file: OutputFile,
+    writer: &mut Counted<W>,
+    bytes: &[u8],
+    sent: &mut u128,
+) -> Result<(), RunFault>
+    requires faults { faults_of writer.old < 2 ^ 64 - 1 }
+    requires few { sent.old ≤ 2 ^ 100 }
+    ensures { SendsToFile result file (state_of W.contents writer.old sent.old) (state_of W.contents writer.new sent.new) bytes.now }
+{
+    if let Err(fault) = send(writer, bytes) {
+        let sent = *sent + fault.sent as u128;
+        return Err(RunFault::Write { file, sent });
+    }
+    *sent += bytes.len() as u128;
+    Ok(())
+}
+
 /// Sends bytes to the printer, and then bytes to the disk file.
 fn send_both<W1: Write, W2: Write>(
     writers: &mut Writers<W1, W2>,
@@ -56,19 +77,11 @@ fn send_both<W1: Write, W2: Write>(
     sent: &mut Sent,
 ) -> Result<(), RunFault>
     requires ready { CanSend writers.old sent.old }
-    ensures { SendsTo W1.contents W2.contents result writers sent lines.now records.now }
+    ensures { SendsTo W1.contents W2.contents result writers sent (bytes_with lines.now records.now) }
 {
-    if let Err(fault) = send(&mut writers.printer, lines) {
-        let sent = sent.print + fault.sent as u128;
-        return Err(RunFault::Print { sent });
-    }
-    sent.print += lines.len() as u128;
-    if let Err(fault) = send(&mut writers.disk, records) {
-        let sent = sent.disk + fault.sent as u128;
-        return Err(RunFault::Disk { sent });
-    }
-    sent.disk += records.len() as u128;
-    Ok(())
+    let Writers { printer, disk } = writers;
+    send_to(OutputFile::Print, printer, lines, &mut sent.print)?;
+    send_to(OutputFile::Disk, disk, records, &mut sent.disk)
 }
 
 /// Sends all that waits at a job.
@@ -163,7 +176,7 @@ fn send_or_leave<W1: Write, W2: Write>(
     mut sent: Sent,
 )
     requires ready { CanSend writers.old sent }
-    ensures { SendsUnlessTo W1.contents W2.contents writers sent lines.now records.now }
+    ensures { SendsUnlessTo W1.contents W2.contents writers sent (bytes_with lines.now records.now) }
 {
     let _told = send_both(writers, lines, records, &mut sent);
 }
@@ -183,7 +196,7 @@ pub(crate) fn fault_behind<W1: Write, W2: Write>(
     requires lines { waiting.print ≤ length output.now.print.items }
     requires records { waiting.disk ≤ length output.now.disk.items }
     ensures { StopsWithTo W1.contents W2.contents fault cycles writers sent
-        (take waiting.print output.now.print.items) (take waiting.disk output.now.disk.items) result }
+        (bytes_with (take waiting.print output.now.print.items) (take waiting.disk output.now.disk.items)) result }
 {
     match fault {
         CycleFault::Read { file, fault } => RunFault::Read { file, fault },

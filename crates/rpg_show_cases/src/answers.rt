@@ -2,7 +2,7 @@
 
 use rpg_cli_text::TextWriter;
 use rpg_cycle::CycleEnd;
-use rpg_engine::{JobEnd, ObjectFault, Report, RunFault};
+use rpg_engine::{JobEnd, ObjectFault, OutputFile, Report, RunFault};
 
 /// Writes how a job ended.
 pub fn write_ending(out: &mut TextWriter, ending: JobEnd) {
@@ -43,6 +43,13 @@ fn write_object_fault(out: &mut TextWriter, fault: ObjectFault) {
     }
 }
 
+fn file_name(file: OutputFile) -> &'static str {
+    match file {
+        OutputFile::Print => "print",
+        OutputFile::Disk => "disk",
+    }
+}
+
 /// Writes that a writer failed, and how many bytes it had taken.
 fn write_loss(out: &mut TextWriter, file: &str, sent: u128) {
     let sent = u64::try_from(sent).unwrap_or(u64::MAX);
@@ -54,8 +61,7 @@ fn write_fault(out: &mut TextWriter, fault: RunFault) {
         RunFault::Object(fault) => write_object_fault(out, fault),
         RunFault::BadDate => out.write_str("bad date"),
         RunFault::Read { .. } => out.write_str("input failed"),
-        RunFault::Print { sent } => write_loss(out, "print", sent),
-        RunFault::Disk { sent } => write_loss(out, "disk", sent),
+        RunFault::Write { file, sent } => write_loss(out, file_name(file), sent),
         RunFault::NoMemory { .. } => out.write_str("no memory"),
     }
 }

@@ -1,5 +1,5 @@
 -- A run of a compiled program is a run of its cards, and the cards have no other.
-use Rattle.std.proofs.Common.{◌≡◌, ◌+◌, ◌≤◌, ℕ, ℤ, List, Option, Some, ap, sym, ◌∙◌, subst}
+use Rattle.std.proofs.Common.{◌≡◌, ◌+◌, ◌≤◌, ℕ, ℤ, List, Some, ap, sym, ◌∙◌, subst}
 use Rattle.rpg_cards.specs.declared.spec_card.SpecCard.{SpecCard}
 use Rattle.rpg_cycle.specs.Counting.{records_count}
 use Rattle.rpg_cycle.specs.Job.{first_fields}
@@ -8,6 +8,7 @@ use Rattle.rpg_cycle.specs.Starting.{date_in}
 use Rattle.rpg_cycle_safety.specs.Coming.{HasRun, RunsWell}
 use Rattle.rpg_program.specs.Put.{Bytes}
 use Rattle.rpg_engine.specs.Inputs.{records_of}
+use Rattle.rpg_engine.specs.Outputs.{Contents}
 use Rattle.rpg_engine.specs.Reporting.{Reports, SendsFirstParts}
 use Rattle.rpg_engine.specs.declared.fault.RunFault.{RunFault}
 use Rattle.rpg_engine.specs.declared.report.Report.{Report}
@@ -38,22 +39,21 @@ module _ (cards : List SpecCard) (allowance : ℕ) (p : Object) (digits : List �
             );
       }
 
-  pub prints : (report : Report) (print print' disk disk' : Option (List ℕ)) (primary secondary : List ℕ) → Reports p day report print print' disk disk' primary secondary
-      → PrintsAsMeant cards allowance day report print print' disk disk' primary secondary
-  prints report print print' disk disk' primary secondary r =
+  pub prints : (report : Report) (before after : Contents) (primary secondary : List ℕ) → Reports p day report before after primary secondary
+      → PrintsAsMeant cards allowance day report before after primary secondary
+  prints report before after primary secondary r =
       let s = does.start day in
       let m = does.jobs digits day dated s.0 s.1 (records_of primary secondary) r.course r.bytes r.run in
       record {
         meant = only_run (records_of primary secondary) r.course r.bytes r.run;
         ending = r.ending ∙ m.ending;
         cycles = r.cycles ∙ m.cycles;
-        printed = r.printed;
-        stored = r.stored;
+        sent = r.sent;
       }
 
-  pub sends_parts : ((records : Records) → HasRun p day (first_fields p) records) → (e : RunFault) (print print' disk disk' : Option (List ℕ)) (primary secondary : List ℕ)
-      → SendsFirstParts p day e print print' disk disk' primary secondary → SendsPartsAsMeant cards allowance day e print print' disk disk' primary secondary
-  sends_parts exists e print print' disk disk' primary secondary sends =
+  pub sends_parts : ((records : Records) → HasRun p day (first_fields p) records) → (e : RunFault) (before after : Contents) (primary secondary : List ℕ)
+      → SendsFirstParts p day e before after primary secondary → SendsPartsAsMeant cards allowance day e before after primary secondary
+  sends_parts exists e before after primary secondary sends =
       let h = exists (records_of primary secondary) in
       record {
         meant = only_run (records_of primary secondary) h.course h.bytes h.run;

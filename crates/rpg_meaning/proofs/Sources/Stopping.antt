@@ -6,6 +6,7 @@ use Rattle.rpg_compile.specs.Compile.{Compiles}
 use Rattle.rpg_compile_program.specs.Program.{program_of}
 use Rattle.rpg_engine.proofs.Headline.{of_each}
 use Rattle.rpg_engine.specs.Inputs.{OfFronts, OfInputs}
+use Rattle.rpg_engine.specs.Outputs.{Contents}
 use Rattle.rpg_engine.specs.Reporting.{Reports, SendsFirstParts, SendsParts}
 use Rattle.rpg_engine.specs.declared.fault.RunFault.{RunFault}
 use Rattle.rpg_engine.specs.declared.report.Report.{Report}
@@ -29,18 +30,18 @@ reads_none text allowance p compiled none = ap (λ (q : Object). q.secondary_len
 
 -- ---- what each two inputs that begin with what was read have
 
-module _ (p : Object) (cards : List SpecCard) (allowance : ℕ) (day : ℤ) (given left others rest print print' disk disk' : Option (List ℕ)) where
+module _ (p : Object) (cards : List SpecCard) (allowance : ℕ) (day : ℤ) (given left others rest : Option (List ℕ)) (before after : Contents) where
   -- by a run that gave a report
-  pub prints_of : ((report : Report) (primary secondary : List ℕ) → Reports p day report print print' disk disk' primary secondary → PrintsAsMeant cards allowance day report print print' disk disk' primary secondary)
-      → (r : Result Report RunFault) → IfOk r (λ report. OfInputs given left others rest (Reports p day report print print' disk disk'))
-      → IfOk r (λ report. OfInputs given left others rest (PrintsAsMeant cards allowance day report print print' disk disk'))
+  pub prints_of : ((report : Report) (primary secondary : List ℕ) → Reports p day report before after primary secondary → PrintsAsMeant cards allowance day report before after primary secondary)
+      → (r : Result Report RunFault) → IfOk r (λ report. OfInputs given left others rest (Reports p day report before after))
+      → IfOk r (λ report. OfInputs given left others rest (PrintsAsMeant cards allowance day report before after))
   prints_of each (Ok report) h = of_each given left others rest _ _ (each report) h
   prints_of each (Err e) h = tt
 
   -- by one that stopped early
-  pub stops_of : (none_failed : Type 0) → ((e : RunFault) (primary secondary : List ℕ) → SendsFirstParts p day e print print' disk disk' primary secondary → SendsPartsAsMeant cards allowance day e print print' disk disk' primary secondary)
-      → (r : Result Report RunFault) → IfErr r (λ e. OfFronts given left others rest (SendsParts p day e none_failed print print' disk disk'))
-      → IfErr r (λ e. OfInputs given left others rest (SendsPartsAsMeant cards allowance day e print print' disk disk'))
+  pub stops_of : (none_failed : Type 0) → ((e : RunFault) (primary secondary : List ℕ) → SendsFirstParts p day e before after primary secondary → SendsPartsAsMeant cards allowance day e before after primary secondary)
+      → (r : Result Report RunFault) → IfErr r (λ e. OfFronts given left others rest (SendsParts p day e none_failed before after))
+      → IfErr r (λ e. OfInputs given left others rest (SendsPartsAsMeant cards allowance day e before after))
   stops_of none_failed each (Ok report) h = tt
   stops_of none_failed each (Err e) o = record {
     primary = o.primary;

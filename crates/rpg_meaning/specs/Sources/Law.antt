@@ -1,8 +1,9 @@
 -- What holds for every source that compiles.
-use Rattle.std.specs.Prelude.{◌≡◌, ℕ, ℤ, List, Option, Some}
+use Rattle.std.specs.Prelude.{◌≡◌, ℕ, ℤ, List, Some}
 use Rattle.rpg_compile.specs.Compile.{Compiles}
 use Rattle.rpg_cycle.specs.Runs.{Records}
 use Rattle.rpg_cycle.specs.Starting.{date_in}
+use Rattle.rpg_engine.specs.Outputs.{Contents}
 use Rattle.rpg_engine.specs.Reporting.{Reports, SendsFirstParts}
 use Rattle.rpg_engine.specs.declared.fault.RunFault.{RunFault}
 use Rattle.rpg_engine.specs.declared.report.Report.{Report}
@@ -21,10 +22,10 @@ HasOneMeaning text allowance p day = (records : Records) → OnlyRun (cards_in t
 
 -- a report of a run of its program is of the run of its cards, with all its bytes
 abbrev pub PrintsItsMeaning : List ℕ → ℕ → Object → ℤ → Type 0
-PrintsItsMeaning text allowance p day = (report : Report) (print print' disk disk' : Option (List ℕ)) (primary secondary : List ℕ)
-    → Reports p day report print print' disk disk' primary secondary → PrintsAsMeant (cards_in text) allowance day report print print' disk disk' primary secondary
+PrintsItsMeaning text allowance p day = (report : Report) (before after : Contents) (primary secondary : List ℕ)
+    → Reports p day report before after primary secondary → PrintsAsMeant (cards_in text) allowance day report before after primary secondary
 
 -- the first parts that a run of its program sends before it stops are of the bytes of the run of its cards
 abbrev pub SendsItsMeaning : List ℕ → ℕ → Object → ℤ → Type 0
-SendsItsMeaning text allowance p day = (e : RunFault) (print print' disk disk' : Option (List ℕ)) (primary secondary : List ℕ)
-    → SendsFirstParts p day e print print' disk disk' primary secondary → SendsPartsAsMeant (cards_in text) allowance day e print print' disk disk' primary secondary
+SendsItsMeaning text allowance p day = (e : RunFault) (before after : Contents) (primary secondary : List ℕ)
+    → SendsFirstParts p day e before after primary secondary → SendsPartsAsMeant (cards_in text) allowance day e before after primary secondary

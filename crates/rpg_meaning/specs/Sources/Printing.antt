@@ -1,6 +1,5 @@
 -- What a run of a source comes to, by its cards alone: how it ends, in how many cycles, and the bytes that it prints and stores.
-use Rattle.std.specs.Prelude.{◌≡◌, ◌+◌, ◌≤◌, ℕ, ℤ, List, Option}
-use Rattle.std.specs.Io.KnownBytes.{Appends}
+use Rattle.std.specs.Prelude.{◌≡◌, ◌+◌, ◌≤◌, ℕ, ℤ, List}
 use Rattle.rpg_cards.specs.Keys.{key_cmp}
 use Rattle.rpg_cards.specs.declared.spec_card.SpecCard.{SpecCard}
 use Rattle.rpg_cycle.specs.Counting.{records_count}
@@ -9,6 +8,7 @@ use Rattle.rpg_cycle.specs.Stages.{job_end}
 use Rattle.rpg_program.specs.Put.{Bytes}
 use Rattle.rpg_program.specs.World.{World}
 use Rattle.rpg_engine.specs.Inputs.{records_of}
+use Rattle.rpg_engine.specs.Outputs.{Contents, HaveAll}
 use Rattle.rpg_engine.specs.Reporting.{HasParts}
 use Rattle.rpg_engine.specs.declared.fault.RunFault.{RunFault}
 use Rattle.rpg_engine.specs.declared.report.Report.{Report}
@@ -33,14 +33,13 @@ module _ (cards : List SpecCard) (allowance : ℕ) (day : ℤ) where
     pub only : (other : MeantCourse) (theirs : Bytes) → CardsRun records other theirs → (other.ending ≡ course.ending) × (other.cycles ≡ course.cycles) × (theirs ≡ bytes)
 
   -- the report is of the cards' run over the records of both inputs, and each writer has all of its bytes
-  pub record PrintsAsMeant (report : Report) (print print' disk disk' : Option (List ℕ)) (primary secondary : List ℕ) : Type 0 where
+  pub record PrintsAsMeant (report : Report) (before after : Contents) (primary secondary : List ℕ) : Type 0 where
     pub meant : OnlyRun (records_of primary secondary)
     pub ending : job_end report.ending ≡ meant.course.ending
     pub cycles : report.cycles ≡ meant.course.cycles
-    pub printed : Appends print print' meant.bytes.print
-    pub stored : Appends disk disk' meant.bytes.disk
+    pub sent : HaveAll before after meant.bytes
 
   -- each writer has a first part of the bytes of the cards' run over the records of both inputs, as long as the fault says
-  pub record SendsPartsAsMeant (e : RunFault) (print print' disk disk' : Option (List ℕ)) (primary secondary : List ℕ) : Type 0 where
+  pub record SendsPartsAsMeant (e : RunFault) (before after : Contents) (primary secondary : List ℕ) : Type 0 where
     pub meant : OnlyRun (records_of primary secondary)
-    pub parts : HasParts e print print' disk disk' meant.bytes
+    pub parts : HasParts e before after meant.bytes

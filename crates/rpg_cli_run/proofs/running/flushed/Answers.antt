@@ -1,5 +1,6 @@
 use Rattle.std.proofs.Common.{Ok, Err, refl}
 use Rattle.std.proofs.KnownBytes.{Keeps-refl}
+use Rattle.rpg_engine.proofs.Outputs.{each_file}
 use Rattle.rpg_cli_run.proofs.running.flushed.Goals as goal
 
 -- the printer's flush failed
@@ -8,10 +9,8 @@ returns-in-Err g c = record {
   printer = Err c.in-Err.fault;
   file = Ok tt;
   answer = refl;
-  print_count = c.in-Err.ensures.faults;
-  disk_count = refl;
-  kept = c.in-Err.ensures.bytes;
-  stays = Keeps-refl _;
+  counts = each_file _ c.in-Err.ensures.faults refl;
+  kept = each_file _ c.in-Err.ensures.bytes (Keeps-refl _);
 }
 
 -- the disk's did
@@ -20,10 +19,8 @@ returns-in-Err-flush_device g c = record {
   printer = Ok tt;
   file = Err c.in-Err-flush_device.fault;
   answer = refl;
-  print_count = c.in_default.ensures.faults;
-  disk_count = c.in-Err-flush_device.ensures.faults;
-  kept = c.in_default.ensures.bytes;
-  stays = c.in-Err-flush_device.ensures.bytes;
+  counts = each_file _ c.in_default.ensures.faults c.in-Err-flush_device.ensures.faults;
+  kept = each_file _ c.in_default.ensures.bytes c.in-Err-flush_device.ensures.bytes;
 }
 
 -- neither did
@@ -32,8 +29,6 @@ returns g c = record {
   printer = Ok tt;
   file = Ok tt;
   answer = refl;
-  print_count = c.in_default.ensures.faults;
-  disk_count = c.in_default-flush_device.ensures.faults;
-  kept = c.in_default.ensures.bytes;
-  stays = c.in_default-flush_device.ensures.bytes;
+  counts = each_file _ c.in_default.ensures.faults c.in_default-flush_device.ensures.faults;
+  kept = each_file _ c.in_default.ensures.bytes c.in_default-flush_device.ensures.bytes;
 }

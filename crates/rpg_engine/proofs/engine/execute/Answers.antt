@@ -15,15 +15,15 @@ returns-in_err-program-clause-runs g c =
       run = λ p day job. record {
         headline = tt;
         report = tt;
-        early = with_run p day (λ rs. c.runs_end_well.ensures.exists p c.args.date.now day rs job.spells.program job.accepted job.dated) _ _ _ _ _ _ _ _ _ _
-            (object_refused _ _ _ _ _ _ c.args.object.now p day c.in_err-program.ensures.refused);
+        early = with_run p day (λ rs. c.runs_end_well.ensures.exists p c.args.date.now day rs job.spells.program job.accepted job.dated) _ _ _ _ _ _ _ _
+            (object_refused _ _ _ _ _ c.args.object.now p day c.in_err-program.ensures.refused);
       };
     })
 
 pub returns-in_err-program-clause-faults : goal.returns-in_err-program-clause-faults
 returns-in_err-program-clause-faults g c =
     let e = err_from_is_err_and c.from_residual.result c.from_residual.ensures.1 in
-    rw (e.1, e.2) refl
+    rw (e.1, e.2) (λ device. refl)
 
 -- an accepted program
 pub returns-clause-runs : goal.returns-clause-runs

@@ -1,20 +1,21 @@
-use Rattle.std.proofs.Common.{◌≡◌, ◌∙◌, sym, ap, subst, is_some, length, max, arith, refl}
+use Rattle.std.proofs.Common.{◌∙◌, sym, ap, is_some, length, max, arith, refl}
 use Rattle.std.proofs.lemmas.Result.{err_from_is_err_and}
 use Rattle.rpg_cycle.specs.Job.{AtWork}
 use Rattle.rpg_cycle.specs.Stages.{is_going}
-use Rattle.rpg_program.specs.Put.{Bytes}
 use Rattle.rpg_machine.specs.Run.{running_place}
 use Rattle.rpg_program.specs.Object.{Object}
-use Rattle.rpg_files.specs.Counting.{faults_of}
 use Rattle.rpg_paper.specs.Paper.{last_position}
+use Rattle.rpg_engine.specs.Outputs.{bytes_for}
 use Rattle.rpg_engine.specs.Streaming.{ended_stage}
+use Rattle.rpg_engine.specs.declared.files.OutputFile.{OutputFile}
 use Rattle.rpg_engine.specs.declared.report.Report.{Report}
 use Rattle.rpg_engine.proofs.Flows.{cycled, flow_begins, flow_goes_on, flow_sends}
+use Rattle.rpg_engine.proofs.Outputs.{can_fail, none_for, unsent}
 use Rattle.rpg_engine.proofs.Sent.{all_sent, front_is, goes_out}
-use Rattle.rpg_engine.proofs.Stopping.{IsWriters, moved_by, none_waits, some_have, some_of_run, some_parts, some_writers, stays_there, stop_counts, stop_has, stop_needs, stop_of_run, stop_parts, stop_since, stopped_behind, stopped_between, stream_reports}
+use Rattle.rpg_engine.proofs.Stopping.{moved_by, none_waits, some_have, some_of_run, some_parts, stays_there, stop_counts, stop_has, stop_needs, stop_of_run, stop_parts, stopped_behind, stopped_between, stream_reports, writers_count, writers_of, writers_read}
 use Rattle.rpg_engine.proofs.Streams.{few_given, stays_bounded}
 use Rattle.rpg_engine.proofs.Taking.{faults_stay, needs_still, ready_behind, ready_still, source_of, takes_next, went}
-use Rattle.rpg_engine.proofs.Whose.{same_counts, some_faults, stop_faults}
+use Rattle.rpg_engine.proofs.Whose.{none_rises, some_faults, stop_faults}
 use Rattle.rpg_engine.proofs.run.run.Goals as goal
 
 pub cycles-init : goal.cycles-init
@@ -24,9 +25,9 @@ cycles-init g c =
     let one = begins.fresh_primary in
     let two = begins.fresh_secondary in
     record {
-      flows = flow_begins c.args.job.now (source_of g.R1.Read.remaining c.args.primary.now) (source_of g.R2.Read.remaining c.args.secondary.now) _ _ _ _
+      flows = flow_begins c.args.job.now (source_of g.R1.Read.remaining c.args.primary.now) (source_of g.R2.Read.remaining c.args.secondary.now) _
           (ap (λ (j : AtWork). j.left) first) (ap (λ (j : AtWork). j.inputs) first) (ap (λ (j : AtWork). j.last) first) (ap (λ (j : AtWork). j.output) first)
-          one.buffered one.ended one.count two.buffered two.ended two.count;
+          one.buffered one.ended one.count two.buffered two.ended two.count unsent;
       ready = record {
         going = ap (λ (j : AtWork). is_going j.stage) first;
         behind_primary = λ _. one.answer;
@@ -38,8 +39,7 @@ cycles-init g c =
       same_secondary = refl;
       alone = λ _. refl;
       few = omega arith;
-      few_printed = omega arith;
-      few_stored = omega arith;
+      few_sent = λ file. omega (arith, unsent file);
       bounded = omega arith;
       primary = refl;
       secondary = refl;
@@ -49,14 +49,10 @@ cycles-init g c =
 pub send_before_reading-requires : goal.send_before_reading-requires
 send_before_reading-requires g c =
     let i = c.cycles.invariant in
-    let none = i.flows.none_fails in
-    let devices = c.requires.devices in
     record {
       ready = record {
-        printer_faults = omega (arith, none.0, devices.printer_faults);
-        disk_faults = omega (arith, none.1, devices.disk_faults);
-        few_printed = omega (arith, i.few_printed, i.few);
-        few_stored = omega (arith, i.few_stored, i.few);
+        faults = λ file. omega (arith, (i.flows.sent file).faults, can_fail _ _ c.requires.devices file);
+        few = λ file. omega (arith, i.few_sent file, i.few);
       };
     }
 
@@ -64,25 +60,23 @@ pub returns-in_err-send_before_reading-clause-early : goal.returns-in_err-send_b
 returns-in_err-send_before_reading-clause-early g c =
     let e = err_from_is_err_and c.from_residual.result c.from_residual.ensures.1 in
     let f = c.cycles.invariant.flows in
-    let some = c.in_err-send_before_reading.ensures.sends.some in
+    let fails = c.in_err-send_before_reading.ensures.sends in
+    let writers = writers_of _ _ _ _ fails in
     let a = source_of g.R1.Read.remaining c.cycles.primary in
     let b = source_of g.R2.Read.remaining c.cycles.secondary in
-    rw (e.1, e.2) (stopped_between c.args.job.now c.cycles.job _ _ a b a.input b.input c.cycles.cycles c.cycles.most f.streams (stays_there a.input) (stays_there b.input) _ _ _ _ _ _
-    (λ n told. absurd (subst IsWriters told (some_writers _ _ _ _ _ _ _ _ _ some)))
-    (some_parts _ _ _ _ _ _ _ _ _ _ _ _ f.printed f.stored _ some) (some_have _ _ _ _ _ _ _ _ _ _ _ _ f.printed f.stored _ _ some)
-    (λ file why read. absurd (subst IsWriters read (some_writers _ _ _ _ _ _ _ _ _ some))))
+    rw (e.1, e.2) (stopped_between c.args.job.now c.cycles.job _ _ a b a.input b.input c.cycles.cycles c.cycles.most f.streams (stays_there a.input) (stays_there b.input) _ _ _ _
+    (writers_count _ _ writers) (some_parts _ _ _ _ _ f.sent _ fails) (some_have _ _ _ _ _ f.sent _ _ fails) (λ file why read. absurd (writers_read _ writers file why read)))
 
 pub returns-in_err-send_before_reading-clause-only : goal.returns-in_err-send_before_reading-clause-only
 returns-in_err-send_before_reading-clause-only g c =
     let e = err_from_is_err_and c.from_residual.result c.from_residual.ensures.1 in
-    rw (e.1, e.2) (some_of_run _ _ _ _ _ _ _ _ _ c.in_err-send_before_reading.ensures.sends.some)
+    rw (e.1, e.2) (some_of_run _ _ _ _ c.in_err-send_before_reading.ensures.sends)
 
 pub returns-in_err-send_before_reading-clause-faults : goal.returns-in_err-send_before_reading-clause-faults
 returns-in_err-send_before_reading-clause-faults g c =
     let e = err_from_is_err_and c.from_residual.result c.from_residual.ensures.1 in
     let i = c.cycles.invariant in
-    let fails = c.in_err-send_before_reading.ensures.sends in
-    rw (e.1, e.2) (some_faults _ _ _ _ _ _ _ _ _ _ _ _ _ _ _ _ _ _ _ _ _ _ _ Report fails.some fails.faults i.primary i.secondary i.flows.none_fails.0 i.flows.none_fails.1)
+    rw (e.1, e.2) (some_faults _ _ _ _ _ _ _ _ _ _ Report c.in_err-send_before_reading.ensures.sends i.primary i.secondary (λ file. (i.flows.sent file).faults) (λ file. refl))
 
 -- the cycle
 pub next_cycle-requires : goal.next_cycle-requires
@@ -102,14 +96,10 @@ next_cycle-requires g c =
 pub fault_behind-requires-clause-ready : goal.fault_behind-requires-clause-ready
 fault_behind-requires-clause-ready g c =
     let i = c.cycles.invariant in
-    let sends = c.in_ok-send_before_reading.ensures.sends in
-    let none = i.flows.none_fails in
-    let devices = c.requires.devices in
+    let out = c.in_ok-send_before_reading.ensures.sends.out in
     record {
-      printer_faults = omega (arith, sends.none_fails.0, none.0, devices.printer_faults);
-      disk_faults = omega (arith, sends.none_fails.1, none.1, devices.disk_faults);
-      few_printed = omega (arith, sends.few_printed, i.few_printed, i.few);
-      few_stored = omega (arith, sends.few_stored, i.few_stored, i.few);
+      faults = λ file. omega (arith, (out file).faults, (i.flows.sent file).faults, can_fail _ _ c.requires.devices file);
+      few = λ file. omega (arith, (out file).count, (out file).few, i.few_sent file, i.few);
     }
 
 pub returns-in-Err-clause-early : goal.returns-in-Err-clause-early
@@ -126,43 +116,35 @@ returns-in-Err-clause-early g c =
     let grows = c.next_cycle.ensures.grows in
     let lines = front_is job.output.print c.next_cycle.new.job.output.print grows.more.print c.waiting_in-waiting.result.print grows.print (c.waiting_in-waiting.ensures.print ∙ ap length c.output.ensures.print) in
     let records = front_is job.output.disk c.next_cycle.new.job.output.disk grows.more.disk c.waiting_in-waiting.result.disk grows.disk (c.waiting_in-waiting.ensures.disk ∙ ap length c.output.ensures.disk) in
-    let stopped = rw (lines, records) at (rw (c.output-in-Err.ensures.print, c.output-in-Err.ensures.disk) at c.fault_behind.ensures.stops) in
-    let stop = stop_since _ _ _ _ _ _ _ _ _ _ _ _ f.printed f.stored c.in-Err.fault _ _ _ _
-    (λ (kept : (faults_of c.fault_behind.new.writers.printer ≡ faults_of c.args.writers.now.printer) × (faults_of c.fault_behind.new.writers.disk ≡ faults_of c.args.writers.now.disk)).
-    (kept.0 ∙ sym f.none_fails.0, kept.1 ∙ sym f.none_fails.1)) stopped in
-    stopped_between c.args.job.now job _ _ a b _ _ c.cycles.cycles c.cycles.most s moved.0 moved.1 _ _ _ _ _ _
-    (stop_counts _ _ _ _ _ _ _ _ _ _ _ _ f.printed f.stored c.in-Err.fault _ _ _ stop)
-    (stop_parts _ _ _ _ _ _ _ _ _ _ _ _ f.printed f.stored c.in-Err.fault _ _ _ stop)
-    (stop_has _ _ _ _ _ _ _ _ _ _ _ _ f.printed f.stored c.in-Err.fault _ _ _ stop)
-    (stop_needs _ _ _ _ _ _ _ _ _ _ _ _ f.printed f.stored g.R1.Read.remaining g.R2.Read.remaining job c.cycles.primary c.next_cycle.new.primary c.cycles.secondary c.next_cycle.new.secondary
+    let stop = rw (lines, records) at (rw (c.output-in-Err.ensures.print, c.output-in-Err.ensures.disk) at c.fault_behind.ensures.1) in
+    stopped_between c.args.job.now job _ _ a b _ _ c.cycles.cycles c.cycles.most s moved.0 moved.1 _ _ _ _
+    (stop_counts _ _ _ _ _ f.sent c.in-Err.fault _ _ stop)
+    (stop_parts _ _ _ _ _ f.sent c.in-Err.fault _ _ stop)
+    (stop_has _ _ _ _ _ f.sent c.in-Err.fault _ _ stop)
+    (stop_needs _ _ _ _ _ f.sent g.R1.Read.remaining g.R2.Read.remaining job c.cycles.primary c.next_cycle.new.primary c.cycles.secondary c.next_cycle.new.secondary
     _ _ s.primary s.secondary (ready_still c.cycles.job job sends.rest c.cycles.primary c.cycles.secondary i.ready).limit_primary
-    c.in-Err.fault _ _ _ stop none (none_waits job _ _ c.in-Err.fault c.in_ok-send_before_reading.ensures.ready c.in-Err.ensures.sure))
+    c.in-Err.fault _ _ stop none (none_waits job _ _ c.in-Err.fault c.in_ok-send_before_reading.ensures.ready c.in-Err.ensures.sure))
 
 pub returns-in-Err-clause-only : goal.returns-in-Err-clause-only
-returns-in-Err-clause-only g c = stop_of_run c.in-Err.fault _ _ _ _ _ _ _ _ _ c.fault_behind.ensures.stops
+returns-in-Err-clause-only g c = stop_of_run c.in-Err.fault _ _ _ _ _ c.fault_behind.ensures.1
 
 pub returns-in-Err-clause-faults : goal.returns-in-Err-clause-faults
 returns-in-Err-clause-faults g c =
     let i = c.cycles.invariant in
     let streams = i.flows.streams in
-    let same = c.in_ok-send_before_reading.ensures.sends.none_fails in
-    let stops = c.fault_behind.ensures in
-    stop_faults g.R1.Read.remaining g.R2.Read.remaining c.cycles.primary c.next_cycle.new.primary c.cycles.secondary c.next_cycle.new.secondary _ _ streams.primary streams.secondary c.send_before_reading.new.job c.in-Err.fault _ _ _ _ _ _ _ _ _
-    _ _ _ _ _ _ _ _ Report c.in-Err.ensures.none stops.stops stops.faults i.primary i.secondary (same.0 ∙ i.flows.none_fails.0) (same.1 ∙ i.flows.none_fails.1)
+    let out = c.in_ok-send_before_reading.ensures.sends.out in
+    stop_faults g.R1.Read.remaining g.R2.Read.remaining c.cycles.primary c.next_cycle.new.primary c.cycles.secondary c.next_cycle.new.secondary _ _ streams.primary streams.secondary c.send_before_reading.new.job
+    _ _ i.primary i.secondary refl refl c.in-Err.fault _ _ _ _ _ Report c.in-Err.ensures.none c.fault_behind.ensures.1 (λ file. (out file).faults ∙ (i.flows.sent file).faults) (λ file. refl)
 
 -- after a cycle
 pub send_where_enough-requires : goal.send_where_enough-requires
 send_where_enough-requires g c =
     let i = c.cycles.invariant in
-    let sends = c.in_ok-send_before_reading.ensures.sends in
-    let none = i.flows.none_fails in
-    let devices = c.requires.devices in
+    let out = c.in_ok-send_before_reading.ensures.sends.out in
     record {
       ready = record {
-        printer_faults = omega (arith, sends.none_fails.0, none.0, devices.printer_faults);
-        disk_faults = omega (arith, sends.none_fails.1, none.1, devices.disk_faults);
-        few_printed = omega (arith, sends.few_printed, i.few_printed, i.few);
-        few_stored = omega (arith, sends.few_stored, i.few_stored, i.few);
+        faults = λ file. omega (arith, (out file).faults, (i.flows.sent file).faults, can_fail _ _ c.requires.devices file);
+        few = λ file. omega (arith, (out file).count, (out file).few, i.few_sent file, i.few);
       };
     }
 
@@ -181,25 +163,24 @@ returns-in_err-send_where_enough-clause-early g c =
     let k = cycled c.args.job.now job _ _ a b c.cycles.cycles c.cycles.most _ _ f mid a' b'
     (takes_next g.R1.Read.remaining g.R2.Read.remaining job mid c.cycles.primary c.next_cycle.new.primary c.cycles.secondary c.next_cycle.new.secondary _
     (ready_still c.cycles.job job sends.rest c.cycles.primary c.cycles.secondary c.cycles.invariant.ready) c.in-Ok.ensures.cycle s.earlier s.left s.orderly (last_position s.out.lines) s.last) in
-    let some = c.in_err-send_where_enough.ensures.sends.some in
-    rw (e.1, e.2) (stopped_behind c.args.job.now job mid _ _ a b a' b' c.cycles.cycles c.cycles.most _ _ k.ending _ _ _ _ s k.takes
-    (some_parts _ _ _ _ _ _ _ _ _ _ _ _ k.printed k.stored _ some) (some_have _ _ _ _ _ _ _ _ _ _ _ _ k.printed k.stored _ _ some) (some_writers _ _ _ _ _ _ _ _ _ some))
+    let fails = c.in_err-send_where_enough.ensures.sends in
+    rw (e.1, e.2) (stopped_behind c.args.job.now job mid _ _ a b a' b' c.cycles.cycles c.cycles.most _ _ k.ending _ _ s k.takes
+    (some_parts _ _ _ _ _ k.sent _ fails) (some_have _ _ _ _ _ k.sent _ _ fails) (writers_of _ _ _ _ fails))
 
 pub returns-in_err-send_where_enough-clause-only : goal.returns-in_err-send_where_enough-clause-only
 returns-in_err-send_where_enough-clause-only g c =
     let e = err_from_is_err_and c.from_residual-in_err-send_where_enough.result c.from_residual-in_err-send_where_enough.ensures.1 in
-    rw (e.1, e.2) (some_of_run _ _ _ _ _ _ _ _ _ c.in_err-send_where_enough.ensures.sends.some)
+    rw (e.1, e.2) (some_of_run _ _ _ _ c.in_err-send_where_enough.ensures.sends)
 
 pub returns-in_err-send_where_enough-clause-faults : goal.returns-in_err-send_where_enough-clause-faults
 returns-in_err-send_where_enough-clause-faults g c =
     let e = err_from_is_err_and c.from_residual-in_err-send_where_enough.result c.from_residual-in_err-send_where_enough.ensures.1 in
     let i = c.cycles.invariant in
-    let same = c.in_ok-send_before_reading.ensures.sends.none_fails in
+    let out = c.in_ok-send_before_reading.ensures.sends.out in
     let takes = c.in-Ok.ensures.cycle in
-    let fails = c.in_err-send_where_enough.ensures.sends in
-    rw (e.1, e.2) (some_faults _ _ _ _ _ _ _ _ _ _ _ _ _ _ _ _ _ _ _ _ _ _ _ Report fails.some fails.faults
+    rw (e.1, e.2) (some_faults _ _ _ _ _ _ _ _ _ _ Report c.in_err-send_where_enough.ensures.sends
     (faults_stay g.R1.Read.remaining _ _ _ _ takes.asks_primary ∙ i.primary) (faults_stay g.R2.Read.remaining _ _ _ _ takes.asks_secondary ∙ i.secondary)
-    (same.0 ∙ i.flows.none_fails.0) (same.1 ∙ i.flows.none_fails.1))
+    (λ file. (out file).faults ∙ (i.flows.sent file).faults) (λ file. refl))
 
 pub returns-in-Some-clause-report : goal.returns-in-Some-clause-report
 returns-in-Some-clause-report g c =
@@ -218,22 +199,21 @@ returns-in-Some-clause-report g c =
     (ready_still c.cycles.job job sends.rest c.cycles.primary c.cycles.secondary c.cycles.invariant.ready) takes s.earlier s.left s.orderly (last_position s.out.lines) s.last) in
     let all = c.in_ok-send_where_enough.ensures in
     let empty = all.all (ap is_some c.in-Some.is) in
-    let printed = all_sent _ _ _ _ _ (goes_out _ _ _ _ _ k.printed _ _ _ all.sends.printed) (ap (λ (x : Bytes). x.print) empty) in
-    let stored = all_sent _ _ _ _ _ (goes_out _ _ _ _ _ k.stored _ _ _ all.sends.stored) (ap (λ (x : Bytes). x.disk) empty) in
+    let sent = λ (file : OutputFile). all_sent _ _ _ _ (goes_out _ _ _ _ (k.sent file) _ _ (all.sends.out file)) (ap (bytes_for file) empty ∙ none_for file) in
     let few = stays_bounded c.args.job.now job mid _ _ a b a' b' c.cycles.cycles c.cycles.most k.ending s k.takes c.cycles.invariant.bounded takes.cycle.bounded in
     let most = c.max-most.ensures ∙ ap (max c.cycles.most) c.steps.ensures in
-    stream_reports c.args.job.now job mid _ _ a b a' b' c.cycles.cycles c.cycles.most c.max-most.result _ _ _ _ c.args.bound c.in-Some.ending c.running_place.result k.ending
-    s k.takes (takes.cycle.stage ∙ ap ended_stage c.in-Some.is) most printed stored c.requires.bound (omega (arith, few, most, c.requires.bound))
+    stream_reports c.args.job.now job mid _ _ a b a' b' c.cycles.cycles c.cycles.most c.max-most.result _ _ c.args.bound c.in-Some.ending c.running_place.result k.ending
+    s k.takes (takes.cycle.stage ∙ ap ended_stage c.in-Some.is) most sent c.requires.bound (omega (arith, few, most, c.requires.bound))
     (c.running_place.ensures ∙ ap (λ (j : AtWork). running_place j.program j.config) all.sends.rest)
 
 pub returns-in-Some-clause-faults : goal.returns-in-Some-clause-faults
 returns-in-Some-clause-faults g c =
     let i = c.cycles.invariant in
     let takes = c.in-Ok.ensures.cycle in
-    let same = c.in_ok-send_before_reading.ensures.sends.none_fails in
-    let last = c.in_ok-send_where_enough.ensures.sends.none_fails in
-    same_counts _ _ _ _ _ _ _ _ (faults_stay g.R1.Read.remaining _ _ _ _ takes.asks_primary ∙ i.primary) (faults_stay g.R2.Read.remaining _ _ _ _ takes.asks_secondary ∙ i.secondary)
-    (last.0 ∙ same.0 ∙ i.flows.none_fails.0) (last.1 ∙ same.1 ∙ i.flows.none_fails.1)
+    let out = c.in_ok-send_before_reading.ensures.sends.out in
+    let last = c.in_ok-send_where_enough.ensures.sends.out in
+    none_rises _ _ (faults_stay g.R1.Read.remaining _ _ _ _ takes.asks_primary ∙ i.primary) (faults_stay g.R2.Read.remaining _ _ _ _ takes.asks_secondary ∙ i.secondary)
+    (λ file. (last file).faults ∙ (out file).faults ∙ (i.flows.sent file).faults)
 
 pub cycles-preserved : goal.cycles-preserved
 cycles-preserved g c =
@@ -268,8 +248,7 @@ cycles-preserved g c =
       same_secondary = c.in-Ok.ensures.same.1 ∙ i.same_secondary;
       alone = λ none. c.in-Ok.ensures.alone (ap (λ (p : Object). p.secondary_length) s.program ∙ none) ∙ i.alone none;
       few = let one = few_given c.next_cycle.new.primary in let two = few_given c.next_cycle.new.secondary in let few = later.streams.few in omega (arith, one, two, few);
-      few_printed = omega (arith, sends.few_printed, all.few_printed, i.few_printed);
-      few_stored = omega (arith, sends.few_stored, all.few_stored, i.few_stored);
+      few_sent = λ file. omega (arith, (sends.out file).count, (sends.out file).few, (all.out file).count, (all.out file).few, i.few_sent file);
       bounded = omega (arith, few, most);
       primary = faults_stay g.R1.Read.remaining _ _ _ _ takes.asks_primary ∙ i.primary;
       secondary = faults_stay g.R2.Read.remaining _ _ _ _ takes.asks_secondary ∙ i.secondary;

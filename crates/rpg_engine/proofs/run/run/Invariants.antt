@@ -3,7 +3,8 @@ use Rattle.rpg_files.specs.Counting.{device_of, faults_of}
 use Rattle.rpg_files.specs.Reading.{reader_of}
 use Rattle.rpg_files.specs.Records.{max_records}
 use Rattle.rpg_verify.specs.Bound.{bound}
-use Rattle.rpg_engine.specs.Sending.{none_sent, written}
+use Rattle.rpg_engine.specs.Sending.{none_sent, sent_to, written}
+use Rattle.rpg_engine.specs.declared.files.OutputFile.{OutputFile}
 use Rattle.rpg_engine.proofs.Flows.{Flows}
 use Rattle.rpg_engine.proofs.Taking.{AreReady, source_of}
 use Rattle.rpg_engine.proofs.run.run.Given as goal
@@ -19,8 +20,7 @@ invariant-cycles g l = record {
   same_secondary : l.secondary.reader.ghost_name ≡ l.initial.secondary.reader.ghost_name;
   alone : l.initial.job.program.secondary_length ≡ 0 → l.secondary ≡ l.initial.secondary;
   few : l.cycles ≤ max_records + max_records;
-  few_printed : l.sent.print ≤ l.cycles * 36893488147419103232;
-  few_stored : l.sent.disk ≤ l.cycles * 36893488147419103232;
+  few_sent : (file : OutputFile) → sent_to l.sent file ≤ l.cycles * 36893488147419103232;
   bounded : l.most ≤ bound l.initial.job.program;
   primary : faults_of (reader_of l.primary) ≡ faults_of (reader_of l.initial.primary);
   secondary : faults_of (reader_of l.secondary) ≡ faults_of (reader_of l.initial.secondary);

@@ -14,12 +14,12 @@ returns-clause-runs g c =
       untouched = ran.untouched;
       alone = λ none. ran.alone (reads_none _ _ _ compiled none);
       prints = λ day dated. let on = ran.run day dated in
-          prints_of source.program (cards_in source.text.items) source.allowance day _ _ _ _ _ _ _ _
-          (λ report primary secondary. law.prints source.text.items source.allowance source.program c.program.ensures.program compiled c.args.date.now day dated report _ _ _ _ primary secondary)
+          prints_of source.program (cards_in source.text.items) source.allowance day _ _ _ _ _ _
+          (λ report primary secondary. law.prints source.text.items source.allowance source.program c.program.ensures.program compiled c.args.date.now day dated report _ _ primary secondary)
           c.watch_program.result on.report;
       stops = λ day dated. let on = ran.run day dated in
-          stops_of source.program (cards_in source.text.items) source.allowance day _ _ _ _ _ _ _ _ _
-          (λ e primary secondary. law.parts source.text.items source.allowance source.program c.program.ensures.program compiled c.args.date.now day dated e _ _ _ _ primary secondary)
+          stops_of source.program (cards_in source.text.items) source.allowance day _ _ _ _ _ _ _
+          (λ e primary secondary. law.parts source.text.items source.allowance source.program c.program.ensures.program compiled c.args.date.now day dated e _ _ primary secondary)
           c.watch_program.result on.early;
     }
 

@@ -7,7 +7,7 @@ use Rattle.rpg_engine.proofs.Headline.{runs_on_day, with_run}
 use Rattle.rpg_engine.proofs.Refusing.{no_room, not_started, on_err, on_ok, parts_same, reports_same, start_told, told_of_run}
 use Rattle.rpg_engine.proofs.Whose.{same_fault, start_faults}
 use Rattle.rpg_engine.specs.declared.report.Report.{Report}
-use Rattle.rpg_engine.proofs.engine.run_over.Goals as goal
+use Rattle.rpg_engine.proofs.engine.run_through_files.Goals as goal
 
 -- ---- a job that never began
 
@@ -22,7 +22,7 @@ returns-in_err-job-clause-runs g c =
         headline = tt;
         report = tt;
         early = with_run c.args.program.now day (λ rs. c.runs_end_well.ensures.exists c.args.program.now c.args.date.now day rs c.program.ensures.program c.program.ensures.accepted dated)
-            _ _ _ _ _ _ _ _ _ _ (not_started _ _ _ _ _ _ c.args.program.now day);
+            _ _ _ _ _ _ _ _ (not_started _ _ _ _ _ c.args.program.now day);
       };
     })
 
@@ -37,7 +37,7 @@ returns-in_err-primary_room-clause-runs g c =
         headline = tt;
         report = tt;
         early = with_run c.args.program.now day (λ rs. c.runs_end_well.ensures.exists c.args.program.now c.args.date.now day rs c.program.ensures.program c.program.ensures.accepted dated)
-            _ _ _ _ _ _ _ _ _ _ (no_room _ _ _ _ _ c.args.program.now day);
+            _ _ _ _ _ _ _ _ (no_room _ _ _ _ c.args.program.now day);
       };
     })
 
@@ -52,7 +52,7 @@ returns-in_err-secondary_room-clause-runs g c =
         headline = tt;
         report = tt;
         early = with_run c.args.program.now day (λ rs. c.runs_end_well.ensures.exists c.args.program.now c.args.date.now day rs c.program.ensures.program c.program.ensures.accepted dated)
-            _ _ _ _ _ _ _ _ _ _ (no_room _ _ _ _ _ c.args.program.now day);
+            _ _ _ _ _ _ _ _ (no_room _ _ _ _ c.args.program.now day);
       };
     })
 
@@ -64,12 +64,12 @@ returns-in_err-job-clause-faults g c =
 pub returns-in_err-primary_room-clause-faults : goal.returns-in_err-primary_room-clause-faults
 returns-in_err-primary_room-clause-faults g c =
     let e = err_from_is_err_and c.from_residual-in_err-primary_room.result c.from_residual-in_err-primary_room.ensures.1 in
-    rw (e.1, e.2) (inl refl)
+    rw (e.1, e.2) (inl (λ device. refl))
 
 pub returns-in_err-secondary_room-clause-faults : goal.returns-in_err-secondary_room-clause-faults
 returns-in_err-secondary_room-clause-faults g c =
     let e = err_from_is_err_and c.from_residual-in_err-secondary_room.result c.from_residual-in_err-secondary_room.ensures.1 in
-    rw (e.1, e.2) (inl refl)
+    rw (e.1, e.2) (inl (λ device. refl))
 
 -- ---- the readers end as the run left them
 
@@ -86,10 +86,10 @@ returns-clause-runs g c =
       run = λ day dated. runs_on_day _ _ _ _ c.args.program.now day _ _ _ _ _
           (λ rs. c.runs_end_well.ensures.exists c.args.program.now c.args.date.now day rs c.program.ensures.program c.program.ensures.accepted dated)
           (λ rs course bytes run. c.runs_end_well.ensures.each c.args.program.now c.args.date.now day rs course bytes c.program.ensures.program c.program.ensures.accepted dated run)
-          (on_ok ran.result _ _ (λ report holds. reports_same c.args.date.now c.args.program.now day c.in_ok-job.job _ _ _ _ _ _ _ _ _ _ _ _ report
+          (on_ok ran.result _ _ (λ report holds. reports_same c.args.date.now c.args.program.now day c.in_ok-job.job _ _ _ _ _ _ _ _ _ _ report
           (ap (λ x. g.R1.Read.remaining (device_of x)) c.new-records.ensures.untouched) (ap (λ x. g.R1.Read.remaining (device_of x)) same)
           (ap (λ x. g.R2.Read.remaining (device_of x)) c.new-others.ensures.untouched) (ap (λ x. g.R2.Read.remaining (device_of x)) same_too) holds start dated) ran.ensures.report)
-          (on_err ran.result _ _ (λ e holds. parts_same c.args.date.now c.args.program.now day c.in_ok-job.job _ _ _ _ _ _ _ _ _ _ _ _ e _
+          (on_err ran.result _ _ (λ e holds. parts_same c.args.date.now c.args.program.now day c.in_ok-job.job _ _ _ _ _ _ _ _ _ _ e _
           (ap (λ x. g.R1.Read.remaining (device_of x)) c.new-records.ensures.untouched) (ap (λ x. g.R1.Read.remaining (device_of x)) same)
           (ap (λ x. g.R2.Read.remaining (device_of x)) c.new-others.ensures.untouched) (ap (λ x. g.R2.Read.remaining (device_of x)) same_too) holds start dated) ran.ensures.early);
     }
