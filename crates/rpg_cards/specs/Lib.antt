@@ -11,7 +11,6 @@ pub mod Keys
 pub mod Labels
 pub mod Levels
 pub mod Names
-pub mod Operations
 pub mod Plain
 pub mod SameConstants
 pub mod Sections

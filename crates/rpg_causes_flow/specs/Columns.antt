@@ -4,12 +4,12 @@ use Rattle.std.specs.Option.{option_map, option_or}
 use Rattle.rpg_cards.specs.Calculations.{CalculationGroup, depends, goes_on, group_end, open_calculation_group}
 use Rattle.rpg_cards.specs.Cards.{calculation_on}
 use Rattle.rpg_cards.specs.Groups.{joins}
-use Rattle.rpg_cards.specs.Operations.{card_columns}
-use Rattle.rpg_cards.specs.declared.operations.Column.{Column}
-use Rattle.rpg_cards.specs.declared.operations.Column.TheVariants.{Blank, May, Must}
-use Rattle.rpg_cards.specs.declared.operations.Content.{Content}
-use Rattle.rpg_cards.specs.declared.operations.Shown.{Shown}
-use Rattle.rpg_cards.specs.declared.operations.Shown.TheVariants as shown
+use Rattle.rpg_sheet_specs.specs.Operations.{card_columns}
+use Rattle.rpg_sheet_specs.specs.declared.operations.Column.{Column}
+use Rattle.rpg_sheet_specs.specs.declared.operations.Column.TheVariants.{Blank, May, Must}
+use Rattle.rpg_sheet_specs.specs.declared.operations.Content.{Content}
+use Rattle.rpg_sheet_specs.specs.declared.operations.Shown.{Shown}
+use Rattle.rpg_sheet_specs.specs.declared.operations.Shown.TheVariants as shown
 use Rattle.rpg_cards.specs.declared.spec_card.SpecCard.{SpecCard}
 use Rattle.rpg_causes_flow.specs.declared.columns.ColumnCause.{ColumnCause}
 use Rattle.rpg_causes_flow.specs.declared.columns.ColumnCause.TheVariants.{ConditionsNeeded, HighAndLow, IndicatorNeeded, LastCardAlone, LengthAlone, Needed, NoIndicators, NoOperation, NotAllowed, NotPlain, Unconditioned}

@@ -2,8 +2,8 @@
 use Rattle.std.proofs.Common.{◌≡◌, Bool, true, false, cond, ◌||◌, Option, None, Some, refl, ap, ◌∙◌}
 use Rattle.std.specs.Option.{option_or}
 use Rattle.std.specs.Prelude.{is_some}
-use Rattle.rpg_cards.specs.declared.operations.Kinds.{Kinds}
-use Rattle.rpg_cards.specs.declared.operations.Kinds.TheVariants.{Numbers, Alike, Any}
+use Rattle.rpg_sheet_specs.specs.declared.operations.Kinds.{Kinds}
+use Rattle.rpg_sheet_specs.specs.declared.operations.Kinds.TheVariants.{Numbers, Alike, Any}
 use Rattle.rpg_causes_operands.specs.Operands.{of_pair}
 use Rattle.rpg_program.specs.declared.form.FieldForm.{FieldForm}
 use Rattle.rpg_faults_operands.specs.Kinds.{has_text, kinds_differ, wrong_kinds}

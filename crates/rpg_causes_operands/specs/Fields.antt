@@ -3,8 +3,8 @@ use Rattle.std.specs.Prelude.{List, Option, None, Some, is_none, is_some, option
 use Rattle.std.specs.Option.{option_map, option_or}
 use Rattle.rpg_cards.specs.Calculations.{card_ending}
 use Rattle.rpg_cards.specs.Cards.{output_field_on}
-use Rattle.rpg_cards.specs.Operations.{card_columns}
-use Rattle.rpg_cards.specs.declared.operations.OperationColumns.{OperationColumns}
+use Rattle.rpg_sheet_specs.specs.Operations.{card_columns}
+use Rattle.rpg_sheet_specs.specs.declared.operations.OperationColumns.{OperationColumns}
 use Rattle.rpg_cards.specs.declared.spec_card.SpecCard.{SpecCard}
 use Rattle.rpg_causes_operands.specs.Names.{definer}
 use Rattle.rpg_causes_operands.specs.declared.fields.FieldCause.{FieldCause}

@@ -2,7 +2,7 @@
 use Rattle.std.specs.Prelude.{ℕ, List, Option, None, Some, option_and_then, if◌then◌else◌}
 use Rattle.std.specs.Option.{option_or}
 use Rattle.rpg_cards.specs.Names.{form_in, form_of_name}
-use Rattle.rpg_cards.specs.declared.operations.Content.{Content}
+use Rattle.rpg_sheet_specs.specs.declared.operations.Content.{Content}
 use Rattle.rpg_cards.specs.declared.spec_card.SpecCard.{SpecCard}
 use Rattle.rpg_causes_operands.specs.Names.{definer, first_some}
 use Rattle.rpg_causes_operands.specs.declared.indexes.IndexCause.{IndexCause}

@@ -5,7 +5,7 @@ use Rattle.std.specs.Option.{option_and_then, option_map, option_map_or, option_
 use Rattle.std.specs.Prelude.{unwrap_or}
 use Rattle.rpg_cards.specs.Keys.{Key, entry_operand, key_index}
 use Rattle.rpg_cards.specs.Plain.{Each}
-use Rattle.rpg_cards.specs.declared.operations.Content.TheVariants.{Value}
+use Rattle.rpg_sheet_specs.specs.declared.operations.Content.TheVariants.{Value}
 use Rattle.rpg_cards.specs.Cards.{output_field_in, output_field_on}
 use Rattle.rpg_cards.specs.Groups.{Follower, output_role}
 use Rattle.rpg_cards.specs.declared.spec_card.SpecCard.{SpecCard}

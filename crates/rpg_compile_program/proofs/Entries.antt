@@ -5,9 +5,9 @@ use Rattle.std.specs.Option.{ForSome, option_and_then, option_map, option_map_or
 use Rattle.std.specs.Prelude.{nat_lt, unwrap_or, ◌^◌}
 use Rattle.rpg_cards.specs.Keys as keys
 use Rattle.rpg_cards.specs.Keys.{Fixed, Key, Named, entry_operand, key_index, nowhere}
-use Rattle.rpg_cards.specs.declared.operations.Column.TheVariants.{Must}
-use Rattle.rpg_cards.specs.declared.operations.Content.{Content}
-use Rattle.rpg_cards.specs.declared.operations.Content.TheVariants.{Label, Searched, Subroutine, Table, Value, WholeArray}
+use Rattle.rpg_sheet_specs.specs.declared.operations.Column.TheVariants.{Must}
+use Rattle.rpg_sheet_specs.specs.declared.operations.Content.{Content}
+use Rattle.rpg_sheet_specs.specs.declared.operations.Content.TheVariants.{Label, Searched, Subroutine, Table, Value, WholeArray}
 use Rattle.rpg_cards.specs.Constants.{constant_form, constant_of, form_of_factor}
 use Rattle.rpg_cards.specs.Names.{form_in, form_of_name}
 use Rattle.rpg_cards.specs.declared.constants.Constant.{Constant}

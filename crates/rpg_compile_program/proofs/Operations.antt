@@ -8,11 +8,11 @@ use Rattle.std.specs.Prelude.{is_some, nat_le, nat_lt, unwrap_or, ◌==◌}
 use Rattle.rpg_cards.specs.Deeds.{deed_by, deed_from, deed_of, factor_1_operand, first_or_result, result_operand, resulting_shows, factor_2_operand, shows_of}
 use Rattle.rpg_cards.specs.Keys as keys
 use Rattle.rpg_cards.specs.Keys.{Key, Named, entry_operand}
-use Rattle.rpg_cards.specs.Operations.{card_columns}
-use Rattle.rpg_cards.specs.declared.operations.Column.TheVariants.{Must}
-use Rattle.rpg_cards.specs.declared.operations.Content.{Content}
-use Rattle.rpg_cards.specs.declared.operations.Content.TheVariants.{Searched, Table, Value, WholeArray}
-use Rattle.rpg_cards.specs.declared.operations.OperationColumns.{OperationColumns}
+use Rattle.rpg_sheet_specs.specs.Operations.{card_columns}
+use Rattle.rpg_sheet_specs.specs.declared.operations.Column.TheVariants.{Must}
+use Rattle.rpg_sheet_specs.specs.declared.operations.Content.{Content}
+use Rattle.rpg_sheet_specs.specs.declared.operations.Content.TheVariants.{Searched, Table, Value, WholeArray}
+use Rattle.rpg_sheet_specs.specs.declared.operations.OperationColumns.{OperationColumns}
 use Rattle.rpg_cards.specs.Names.{form_in, form_of_name}
 use Rattle.rpg_cards.specs.declared.spec_card.SpecCard.{SpecCard}
 use Rattle.rpg_program.specs.Forms.{entries_of, has_field, is_array, is_table, may_write}

@@ -5,7 +5,7 @@ use Rattle.std.specs.Cmp.Lexicographic.{bytes_decides, pointwise}
 use Rattle.std.specs.Option.{option_and_then, option_map, option_map_or}
 use Rattle.std.specs.Prelude.{◌&&◌, codes, is_none, is_some, nat_eq, nat_lt, if◌then◌else◌}
 use Rattle.rpg_cards.specs.Keys.{Fixed, Key, Named, entry_operand, key_index}
-use Rattle.rpg_cards.specs.declared.operations.Content.TheVariants.{Value}
+use Rattle.rpg_sheet_specs.specs.declared.operations.Content.TheVariants.{Value}
 use Rattle.rpg_cards.specs.Constants.{constant_form}
 use Rattle.rpg_cards.specs.Names.{form_in, form_of_name}
 use Rattle.rpg_cards.specs.declared.constants.Constant.TheVariants as constant

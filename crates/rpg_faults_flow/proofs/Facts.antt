@@ -27,7 +27,7 @@ use Rattle.rpg_sheet_specs.specs.declared.calculation.Operation.TheVariants as o
 use Rattle.rpg_sheet_specs.specs.declared.entry.Entry.{Entry}
 use Rattle.rpg_sheet_specs.specs.declared.literal.Factor.{Factor}
 use Rattle.rpg_sheet_specs.specs.declared.literal.Factor.TheVariants as factor
-use Rattle.rpg_cards.specs.Operations.{card_columns}
+use Rattle.rpg_sheet_specs.specs.Operations.{card_columns}
 use Rattle.std.specs.Prelude.{nat_lt}
 
 -- a GOTO and an EXSR have a name

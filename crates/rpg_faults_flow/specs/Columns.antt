@@ -3,13 +3,13 @@ use Rattle.std.specs.Prelude.{ℕ, ◌==◌, nat_lt, List, Bool, true, false, no
 use Rattle.std.specs.Option.{option_map, option_map_or}
 use Rattle.rpg_cards.specs.Calculations.{CalculationGroup, depends, goes_on, group_end, open_calculation_group}
 use Rattle.rpg_cards.specs.Keys.{plain_name}
-use Rattle.rpg_cards.specs.Operations.{card_columns}
-use Rattle.rpg_cards.specs.declared.operations.Column.{Column}
-use Rattle.rpg_cards.specs.declared.operations.Column.TheVariants.{Blank, May, Must}
-use Rattle.rpg_cards.specs.declared.operations.Content.{Content}
-use Rattle.rpg_cards.specs.declared.operations.Content.TheVariants as content
-use Rattle.rpg_cards.specs.declared.operations.Shown.{Shown}
-use Rattle.rpg_cards.specs.declared.operations.Shown.TheVariants as shown
+use Rattle.rpg_sheet_specs.specs.Operations.{card_columns}
+use Rattle.rpg_sheet_specs.specs.declared.operations.Column.{Column}
+use Rattle.rpg_sheet_specs.specs.declared.operations.Column.TheVariants.{Blank, May, Must}
+use Rattle.rpg_sheet_specs.specs.declared.operations.Content.{Content}
+use Rattle.rpg_sheet_specs.specs.declared.operations.Content.TheVariants as content
+use Rattle.rpg_sheet_specs.specs.declared.operations.Shown.{Shown}
+use Rattle.rpg_sheet_specs.specs.declared.operations.Shown.TheVariants as shown
 use Rattle.rpg_cards.specs.Cards.{calculation_on}
 use Rattle.rpg_cards.specs.Groups.{joins}
 use Rattle.rpg_cards.specs.declared.spec_card.SpecCard.{SpecCard}

@@ -4,7 +4,7 @@ use Rattle.std.specs.Option.{option_map, option_map_or}
 use Rattle.rpg_cards.specs.Calculations.{calculation_ending, card_ending, goes_on}
 use Rattle.rpg_cards.specs.Cards.{calculation_on}
 use Rattle.rpg_cards.specs.Deeds.{deed_of}
-use Rattle.rpg_cards.specs.Operations.{card_columns}
+use Rattle.rpg_sheet_specs.specs.Operations.{card_columns}
 use Rattle.rpg_cards.specs.declared.spec_card.SpecCard.{SpecCard}
 use Rattle.rpg_faults_flow.specs.Columns.{bad_by_end, misses}
 use Rattle.rpg_faults_flow.specs.Flow.{gives_again}

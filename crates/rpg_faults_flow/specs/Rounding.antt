@@ -2,7 +2,7 @@
 use Rattle.std.specs.Prelude.{List, Bool, true, false, not, ◌&&◌, ◌||◌, Option}
 use Rattle.std.specs.Option.{option_map_or}
 use Rattle.rpg_cards.specs.Calculations.{card_ending, last_card, open_calculation_group}
-use Rattle.rpg_cards.specs.Operations.{card_columns}
+use Rattle.rpg_sheet_specs.specs.Operations.{card_columns}
 use Rattle.rpg_cards.specs.Cards.{calculation_on}
 use Rattle.rpg_cards.specs.Groups.{joins}
 use Rattle.rpg_cards.specs.declared.spec_card.SpecCard.{SpecCard}

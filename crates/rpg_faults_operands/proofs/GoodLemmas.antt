@@ -7,12 +7,12 @@ use Rattle.rpg_cards.specs.Calculations.{card_ending}
 use Rattle.rpg_cards.specs.Cards.{output_field_on}
 use Rattle.rpg_cards.specs.Constants.{form_of_factor}
 use Rattle.rpg_cards.specs.Names.{form_in, form_of_name, is_missing}
-use Rattle.rpg_cards.specs.Operations.{card_columns}
+use Rattle.rpg_sheet_specs.specs.Operations.{card_columns}
 use Rattle.rpg_cards.specs.declared.names.Defined.{Defined}
 use Rattle.rpg_cards.specs.declared.names.Defined.TheVariants.{Missing, Bad, Good}
-use Rattle.rpg_cards.specs.declared.operations.Column.{Column}
-use Rattle.rpg_cards.specs.declared.operations.Content.{Content}
-use Rattle.rpg_cards.specs.declared.operations.OperationColumns.{OperationColumns}
+use Rattle.rpg_sheet_specs.specs.declared.operations.Column.{Column}
+use Rattle.rpg_sheet_specs.specs.declared.operations.Content.{Content}
+use Rattle.rpg_sheet_specs.specs.declared.operations.OperationColumns.{OperationColumns}
 use Rattle.rpg_cards.specs.declared.spec_card.SpecCard.{SpecCard}
 use Rattle.rpg_program.specs.declared.form.FieldForm.{FieldForm}
 use Rattle.rpg_faults_operands.proofs.Listed.{any_of_three, any_on}

@@ -2,10 +2,10 @@
 use Rattle.std.specs.Prelude.{List, Bool, true, false, not, ◌&&◌, ◌||◌, is_some, is_none}
 use Rattle.std.specs.Option.{option_map_or}
 use Rattle.rpg_cards.specs.Calculations.{card_ending}
-use Rattle.rpg_cards.specs.Operations.{card_columns}
-use Rattle.rpg_cards.specs.declared.operations.OperationColumns.{OperationColumns}
-use Rattle.rpg_cards.specs.declared.operations.Shown.{Shown}
-use Rattle.rpg_cards.specs.declared.operations.Shown.TheVariants as shown
+use Rattle.rpg_sheet_specs.specs.Operations.{card_columns}
+use Rattle.rpg_sheet_specs.specs.declared.operations.OperationColumns.{OperationColumns}
+use Rattle.rpg_sheet_specs.specs.declared.operations.Shown.{Shown}
+use Rattle.rpg_sheet_specs.specs.declared.operations.Shown.TheVariants as shown
 use Rattle.rpg_cards.specs.Cards.{output_field_on}
 use Rattle.rpg_cards.specs.declared.spec_card.SpecCard.{SpecCard}
 use Rattle.rpg_program.specs.Forms.{is_array, is_table}

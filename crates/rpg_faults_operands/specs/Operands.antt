@@ -2,12 +2,12 @@
 use Rattle.std.specs.Prelude.{List, ◌++◌, Bool, true, false, Option, None, Some, if◌then◌else◌}
 use Rattle.std.specs.Option.{option_and_then, option_map, option_map_or, option_to_list}
 use Rattle.rpg_cards.specs.Calculations.{card_ending}
-use Rattle.rpg_cards.specs.Operations.{card_columns}
-use Rattle.rpg_cards.specs.declared.operations.Column.{Column}
-use Rattle.rpg_cards.specs.declared.operations.Column.TheVariants.{Blank, May, Must}
-use Rattle.rpg_cards.specs.declared.operations.Content.{Content}
-use Rattle.rpg_cards.specs.declared.operations.Content.TheVariants.{Value, WholeArray, Searched, Table, Label, Subroutine}
-use Rattle.rpg_cards.specs.declared.operations.OperationColumns.{OperationColumns}
+use Rattle.rpg_sheet_specs.specs.Operations.{card_columns}
+use Rattle.rpg_sheet_specs.specs.declared.operations.Column.{Column}
+use Rattle.rpg_sheet_specs.specs.declared.operations.Column.TheVariants.{Blank, May, Must}
+use Rattle.rpg_sheet_specs.specs.declared.operations.Content.{Content}
+use Rattle.rpg_sheet_specs.specs.declared.operations.Content.TheVariants.{Value, WholeArray, Searched, Table, Label, Subroutine}
+use Rattle.rpg_sheet_specs.specs.declared.operations.OperationColumns.{OperationColumns}
 use Rattle.rpg_cards.specs.Cards.{output_field_on}
 use Rattle.rpg_cards.specs.Constants.{form_of_factor}
 use Rattle.rpg_cards.specs.Names.{form_in, form_of_name}

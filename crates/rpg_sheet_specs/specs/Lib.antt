@@ -1,6 +1,7 @@
 pub mod Cards
 pub mod Columns
 pub mod Numeral
+pub mod Operations
 pub mod Ranges
 pub mod Specs
 pub mod Tables

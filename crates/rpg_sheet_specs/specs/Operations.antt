@@ -1,13 +1,13 @@
 -- What operations have on their cards: one line an operation, the only list of the operations.
 use Rattle.std.specs.Prelude.{Bool, true, false}
-use Rattle.rpg_cards.specs.declared.operations.Column.{Column}
-use Rattle.rpg_cards.specs.declared.operations.Column.TheVariants.{Blank, May, Must}
-use Rattle.rpg_cards.specs.declared.operations.Content.TheVariants.{Value, WholeArray, Searched, Table, Label, Subroutine}
-use Rattle.rpg_cards.specs.declared.operations.Kinds.{Kinds}
-use Rattle.rpg_cards.specs.declared.operations.Kinds.TheVariants as kinds
-use Rattle.rpg_cards.specs.declared.operations.OperationColumns.{OperationColumns}
-use Rattle.rpg_cards.specs.declared.operations.Shown.{Shown}
-use Rattle.rpg_cards.specs.declared.operations.Shown.TheVariants as shown
+use Rattle.rpg_sheet_specs.specs.declared.operations.Column.{Column}
+use Rattle.rpg_sheet_specs.specs.declared.operations.Column.TheVariants.{Blank, May, Must}
+use Rattle.rpg_sheet_specs.specs.declared.operations.Content.TheVariants.{Value, WholeArray, Searched, Table, Label, Subroutine}
+use Rattle.rpg_sheet_specs.specs.declared.operations.Kinds.{Kinds}
+use Rattle.rpg_sheet_specs.specs.declared.operations.Kinds.TheVariants as kinds
+use Rattle.rpg_sheet_specs.specs.declared.operations.OperationColumns.{OperationColumns}
+use Rattle.rpg_sheet_specs.specs.declared.operations.Shown.{Shown}
+use Rattle.rpg_sheet_specs.specs.declared.operations.Shown.TheVariants as shown
 use Rattle.rpg_sheet_specs.specs.declared.calculation.Operation.{Operation}
 use Rattle.rpg_sheet_specs.specs.declared.calculation.Operation.TheVariants as op
 

@@ -1,9 +1,9 @@
 //! What operations have on their cards.
 
 ghost use Rattle.std.specs.Prelude.{◌≡◌};
-ghost use Rattle.rpg_cards.specs.Operations as operations;
+ghost use Rattle.rpg_sheet_specs.specs.Operations as operations;
 
-use rpg_sheet_specs::Operation;
+use crate::calculation::Operation;
 
 /// What stands in a column of a calculation card.
 #[derive(Clone, Copy)]
