@@ -26,7 +26,7 @@ KIT = Path(os.path.realpath(shutil.which("rt") or sys.exit("there is no rt"))).p
 CRATE = "wrong_definitions"
 # the definitions that may be wrong, or that stand above such a one
 DEFINITIONS = (
-    "rpg_program", "rpg_cards", "rpg_symbols", "rpg_faults_flow", "rpg_faults_operands", "rpg_faults_limits", "rpg_faults_data", "rpg_faults",
+    "rpg_program", "rpg_cards", "rpg_symbols", "rpg_faults_flow", "rpg_faults_operands", "rpg_faults_limits", "rpg_faults_data", "rpg_faults_tree", "rpg_faults",
     "rpg_compile_program", "rpg_job", "rpg_meaning",
 )
 # the proofs of the equations

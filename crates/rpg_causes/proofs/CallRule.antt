@@ -14,8 +14,8 @@ use Rattle.rpg_causes_flow.proofs.LabelLemmas.{is_given_is}
 use Rattle.rpg_causes_flow.specs.Labels.{giver, card_target, target_by, target_of}
 use Rattle.rpg_causes_flow.specs.declared.labels.Giver.{Giver}
 use Rattle.rpg_causes_flow.specs.declared.labels.Target.{Target}
+use Rattle.rpg_faults_flow.proofs.Ending.{asked}
 use Rattle.rpg_faults_flow.proofs.Facts.{last_with}
-use Rattle.rpg_faults_flow.proofs.Listed.{asked}
 use Rattle.rpg_faults_flow.specs.Flow.{calls_itself, comes_back}
 use Rattle.rpg_sheet_specs.specs.declared.calculation.CalculationSpec.{CalculationSpec}
 

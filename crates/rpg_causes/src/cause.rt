@@ -5,6 +5,7 @@ ghost use Rattle.rpg_causes.specs.Causes as causes;
 ghost use Rattle.rpg_causes.specs.Files as file_causes;
 ghost use Rattle.rpg_faults.specs.Rules as rules;
 ghost use Rattle.rpg_faults.specs.declared.code.FaultCode.TheVariants.{F9, F12, F16};
+ghost use Rattle.rpg_faults_tree.specs.Marked.{AreBreaking};
 ghost use Rattle.rpg_faults_flow.specs.Flow as flow_rules;
 ghost use Rattle.rpg_faults_limits.specs.Causes as limit_causes;
 ghost use Rattle.rpg_faults_limits.specs.Files as file_rules;
@@ -13,7 +14,7 @@ ghost use Rattle.rpg_faults_limits.specs.Limits as limit_rules;
 use crate::editing::{EditingCause, editing_cause};
 use crate::files::{FileCause, FileOnCard, file_cause, moved_disk};
 use crate::joins::{JoinCause, join_cause};
-use crate::known::{flow_before, limits_before, no_cards, sheets_before};
+use crate::known::{limits_before, no_cards, sheets_before};
 use crate::places::{PlaceCause, outside_cause};
 use rpg_cards::{IndexedCards, SpecCard};
 use rpg_causes_flow::{
@@ -28,8 +29,8 @@ use rpg_causes_operands::{
 };
 use rpg_faults::FaultCode;
 use rpg_faults_data::{DataCause, data_cause};
-use rpg_faults_flow::{Labels, calls_itself};
 use rpg_faults_limits::{LimitCause, limit_cause};
+use rpg_faults_tree::Found;
 use rpg_symbols::Name;
 
 /// Why a card has a fault.
@@ -81,15 +82,15 @@ pub enum Cause {
     Data(DataCause),
 }
 
-/// Why the first card with a number breaks the rule of a code; nothing where it doesn't. The labels are those of the source.
+/// Why the first card with a number breaks the rule of a code; nothing where it doesn't. What is found is of the source.
 pub fn fault_cause(
     source: &IndexedCards,
-    labels: &Labels,
+    found: &Found,
     number: u16,
     code: FaultCode,
 ) -> Option<Cause>
     requires few { length source.now ≤ 2000 }
-    requires labels { labels.now ≡ source.now }
+    requires found { AreBreaking source.now found.now }
     ensures cause { result ≡ causes.cause_at [] source.now number code }
     ensures rule { is_some result ≡ causes.is_broken_at [] source.now number code }
 {
@@ -97,7 +98,7 @@ pub fn fault_cause(
     let mut rest = source.as_slice();
     while let Some((card, after)) = rest.split_first() {
         if card.number == number {
-            return cause_of(source, labels, before, card, after, code);
+            return cause_of(source, found, before, card, after, code);
         }
         before = with_card(source, before, card, after);
         rest = after;
@@ -108,7 +109,7 @@ pub fn fault_cause(
 #[tactic(auto, unfolding(crate::specs::Causes::cause_of, rpg_faults::specs::Rules::rule))]
 fn cause_of(
     source: &IndexedCards,
-    labels: &Labels,
+    found: &Found,
     before: &[SpecCard],
     card: &SpecCard,
     after: &[SpecCard],
@@ -116,7 +117,7 @@ fn cause_of(
 ) -> Option<Cause>
     requires split { source.now ≡ before.now ++ card.now ∷ after.now }
     requires few { length source.now ≤ 2000 }
-    requires labels { labels.now ≡ source.now }
+    requires found { AreBreaking source.now found.now }
     ensures cause { result ≡ causes.cause_of code before.now card.now after.now }
     ensures rule { is_some result ≡ rules.rule code before.now card.now after.now }
 {
@@ -135,7 +136,7 @@ fn cause_of(
         FaultCode::F12 => misordered(source, before, card, after),
         FaultCode::F13 => Some(Cause::Apart(apart_cause(source, before, card, after)?)),
         FaultCode::F14 => {
-            let cause = recursion_cause(source, labels, before, card, after);
+            let cause = recursion_cause(source, found, before, card, after);
             Some(Cause::Recursion(cause?))
         }
         FaultCode::F15 => Some(Cause::Rounding(rounding_cause(before, card, after)?)),
@@ -181,34 +182,33 @@ fn wrong_file(
 /// F14: the subroutine that the calculation calls, if that one leads back.
 fn recursion_cause(
     source: &IndexedCards,
-    labels: &Labels,
+    found: &Found,
     before: &[SpecCard],
     card: &SpecCard,
     after: &[SpecCard],
 ) -> Option<Target>
     requires split { source.now ≡ before.now ++ card.now ∷ after.now }
     requires few { length source.now ≤ 2000 }
-    requires labels { labels.now ≡ source.now }
+    requires found { AreBreaking source.now found.now }
     ensures cause { result ≡ causes.recursion before.now card.now after.now }
     ensures rule { is_some result ≡ flow_rules.calls_itself (before.now ++ card.now ∷ after.now) before.now card.now after.now }
 {
-    recursion(source, labels, before, card, after)
+    recursion(source, found, before, card, after)
 }
 
 fn recursion(
     source: &IndexedCards,
-    labels: &Labels,
+    found: &Found,
     before: &[SpecCard],
     card: &SpecCard,
     after: &[SpecCard],
 ) -> Option<Target>
     requires split { source.now ≡ before.now ++ card.now ∷ after.now }
     requires few { length source.now ≤ 2000 }
-    requires labels { labels.now ≡ source.now }
+    requires found { AreBreaking source.now found.now }
     ensures { result ≡ causes.recursion before.now card.now after.now }
 {
-    let flow = flow_before(source, before, card, after);
-    if calls_itself(labels, &flow, before, card, after) {
+    if found.calls_itself(card) {
         target_on(source, card, after)
     } else {
         None

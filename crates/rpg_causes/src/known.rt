@@ -2,12 +2,10 @@
 
 ghost use Rattle.std.specs.Prelude.{◌≡◌, [], ◌∷◌, ◌++◌, ◌≤◌, length};
 ghost use Rattle.rpg_cards.specs.Sheets.{AreSheets};
-ghost use Rattle.rpg_faults_flow.specs.Seen.{IsFlow};
 ghost use Rattle.rpg_faults_limits.specs.State.{AreLimits};
 
 use rpg_cards::{IndexedCards, Sheets, SpecCard};
 use rpg_causes_operands::with_card;
-use rpg_faults_flow::Flow;
 use rpg_faults_limits::Limits;
 
 /// The cards before the first one.
@@ -69,31 +67,4 @@ pub(crate) fn limits_before(
         rest = behind;
     }
     limits
-}
-
-/// The sections, subroutines and labels.
-pub(crate) fn flow_before(
-    source: &IndexedCards,
-    before: &[SpecCard],
-    card: &SpecCard,
-    after: &[SpecCard],
-) -> Flow
-    requires split { source.now ≡ before.now ++ card.now ∷ after.now }
-    requires few { length source.now ≤ 2000 }
-    ensures { IsFlow before.now (card.now ∷ after.now) result }
-{
-    let count = before.len();
-    let mut flow = Flow::nothing();
-    let mut seen = no_cards(source);
-    let mut rest = source.as_slice();
-    while let Some((next, behind)) = rest.split_first() {
-        let place = seen.len();
-        if place == count {
-            return flow;
-        }
-        flow = flow.with(seen, next, behind);
-        seen = with_card(source, seen, next, behind);
-        rest = behind;
-    }
-    flow
 }

@@ -13,14 +13,14 @@ use Rattle.rpg_cards.specs.Names.{definitions, definitions_on, given_names, is_o
 use Rattle.rpg_cards.specs.declared.labels.Label.{Label}
 use Rattle.rpg_cards.specs.declared.labels.Named.{Named}
 use Rattle.rpg_cards.specs.declared.spec_card.SpecCard.{SpecCard}
+use Rattle.rpg_causes_flow.proofs.Carried.{nowhere-is}
 use Rattle.rpg_causes_flow.specs.Labels.{name_given_on, giver, giver_if, if_names_field, nowhere_cause, of_target, of_wanted, unless_alike}
 use Rattle.rpg_causes_operands.specs.Names.{defines, first_defining}
 use Rattle.rpg_causes_flow.specs.declared.labels.Giver.{Giver}
 use Rattle.rpg_causes_flow.specs.declared.labels.NowhereCause.TheVariants.{Absent, Other}
 use Rattle.rpg_causes_flow.specs.declared.labels.TwiceCause.TheVariants.{EveryProgram, Field}
-use Rattle.rpg_faults_flow.proofs.Carried.{group_at-is}
+use Rattle.rpg_faults_flow.proofs.Ending.{asked, group_at-is}
 use Rattle.rpg_faults_flow.proofs.Facts.{last_with}
-use Rattle.rpg_faults_flow.proofs.Listed.{asked, nowhere-is}
 use Rattle.rpg_faults_flow.specs.ByCard.{calculation_lacks_label}
 use Rattle.rpg_faults_flow.specs.Flow.{alike, gives_again, goes_nowhere, is_defined, is_given_as}
 use Rattle.rpg_sheet_specs.specs.declared.calculation.CalculationSpec.{CalculationSpec}

@@ -1,3 +1,4 @@
+pub mod Carried
 pub mod Groups
 pub mod LabelLemmas
 pub mod Options

@@ -16,11 +16,12 @@ use Rattle.rpg_causes_flow.specs.Order.{begun_name, bracket_on, bracket_card, cl
 use Rattle.rpg_causes_flow.specs.declared.brackets.Bracket.{Bracket}
 use Rattle.rpg_causes_flow.specs.declared.order.OrderCause.{OrderCause}
 use Rattle.rpg_causes_flow.specs.declared.order.OrderCause.TheVariants.{Early, NoBegsr, NoEndsr, Outside, OutsideSection, Unjoined}
-use Rattle.rpg_faults_flow.proofs.Carried.{bracket_at-is, closed_by, closed_step, group_at-is, level_in-is, level_with-is}
+use Rattle.rpg_faults_flow.proofs.Ending.{group_at-is}
+use Rattle.rpg_causes_flow.proofs.Carried.{bracket_at-is, closed_by, closed_step, level_in-is, level_with-is}
 use Rattle.rpg_faults_flow.proofs.Facts.{last_with}
 use Rattle.rpg_faults_flow.specs.ByCard.{bracket_at, bracket_of, calculation_level, level_with}
 use Rattle.rpg_faults_flow.specs.Order.{breaks_calculation, breaks_group, breaks_order, is_bracket, is_closed, is_early, is_outside_subroutine, section_rank}
-use Rattle.rpg_faults_flow.specs.Seen.{level_of_group}
+use Rattle.rpg_faults_flow.specs.ByCard.{level_of_group}
 use Rattle.rpg_sheet_specs.specs.declared.calculation.CalculationSpec.{CalculationSpec}
 use Rattle.rpg_sheet_specs.specs.declared.calculation.ControlLevel.{ControlLevel}
 

@@ -13,17 +13,17 @@ use Rattle.rpg_cards.specs.declared.labels.Label.{Label}
 use Rattle.rpg_cards.specs.declared.labels.Named.{Named}
 use Rattle.rpg_cards.specs.declared.labels.Section.{Section}
 use Rattle.rpg_cards.specs.declared.spec_card.SpecCard.{SpecCard}
+use Rattle.rpg_causes_flow.proofs.Carried.{level_in-is}
 use Rattle.rpg_causes_flow.proofs.Options.{some_if}
 use Rattle.rpg_causes_flow.specs.Sections.{apart, apart_by, apart_on, first_label_on_cards, if_apart, label_by, label_if, section_by_state, section_on}
 use Rattle.rpg_causes_flow.specs.declared.labels.Target.{Target}
 use Rattle.rpg_causes_flow.specs.declared.sections.LabelOnCard.{LabelOnCard}
-use Rattle.rpg_faults_flow.proofs.Carried.{group_at-is, level_in-is, pushed}
+use Rattle.rpg_faults_flow.proofs.Ending.{asked, group_at-is, pushed}
 use Rattle.rpg_faults_flow.proofs.Facts.{last_with}
-use Rattle.rpg_faults_flow.proofs.Listed.{asked}
 use Rattle.rpg_faults_flow.proofs.Walk.{open_behind-push}
 use Rattle.rpg_faults_flow.specs.ByCard.{calculation_level}
 use Rattle.rpg_faults_flow.specs.Flow.{are_apart, goes_apart, leaves_by, leaves_section}
-use Rattle.rpg_faults_flow.specs.Seen.{level_of_group}
+use Rattle.rpg_faults_flow.specs.ByCard.{level_of_group}
 use Rattle.rpg_sheet_specs.specs.declared.calculation.CalculationSpec.{CalculationSpec}
 use Rattle.rpg_sheet_specs.specs.declared.calculation.ControlLevel.{ControlLevel}
 use Rattle.rpg_sheet_specs.specs.declared.calculation.ControlLevel.TheVariants as control

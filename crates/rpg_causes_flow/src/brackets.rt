@@ -9,7 +9,7 @@ ghost use Rattle.rpg_cards.specs.declared.spec_card.SpecCard.{SpecCard};
 ghost use Rattle.rpg_causes_flow.specs.Order as causes;
 ghost use Rattle.rpg_faults_flow.specs.ByCard as by_card;
 ghost use Rattle.rpg_faults_flow.specs.Order as rules;
-ghost use Rattle.rpg_faults_flow.specs.Seen.{level_of_group};
+ghost use Rattle.rpg_faults_flow.specs.ByCard.{level_of_group};
 
 use rpg_cards::{SpecCard, begins_subroutine, ends_subroutine, is_subroutine, joins, last_card};
 use rpg_sheet_specs::{CalculationSpec, ControlLevel};

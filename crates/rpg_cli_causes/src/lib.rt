@@ -21,4 +21,4 @@ mod spot;
 
 pub use cause::write_cause;
 pub use root::{Root, root_of};
-pub use spot::{SourceCards, labels_of};
+pub use spot::{SourceCards, found_in};

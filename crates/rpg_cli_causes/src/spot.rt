@@ -1,11 +1,13 @@
 //! A fault's card among the others, and what stands there.
 
-ghost use Rattle.std.specs.Prelude.{◌≡◌, ◌≤◌, IfOk, length};
+ghost use Rattle.std.specs.Prelude.{◌≤◌, IfOk, length};
+ghost use Rattle.rpg_cli_causes.specs.Props.{AreBreaking-prop};
+ghost use Rattle.rpg_faults_tree.specs.Marked.{AreBreaking};
 
 use rpg_cards::{Defined, IndexedCards, SpecCard};
 use rpg_causes::{Cause, fault_cause};
 use rpg_faults::FaultCode;
-use rpg_faults_flow::Labels;
+use rpg_faults_tree::{Found, are_in_order};
 use rpg_program::form::FieldForm;
 use rpg_sheet::{ColumnFault, ColumnRange, DataSpec, Entry, Factor, Word};
 use rpg_text::{first_line, trimmed};
@@ -14,32 +16,32 @@ use std::alloc::{AllocError, Global};
 /// No source has more cards.
 const MOST_CARDS: usize = 2000;
 
-/// The labels of a source.
-pub fn labels_of<'a>(alloc: Global, cards: &IndexedCards<'a>) -> Result<Labels<'a>, AllocError>
-    ensures labels { IfOk result (λ labels. labels ≡ cards.now) }
-    ensures few { IfOk result (λ labels. length cards.now ≤ 2000) }
+/// The cards of a source that break the rules of its tree.
+pub fn found_in(alloc: Global, cards: &IndexedCards) -> Result<Found, AllocError>
+    ensures found { IfOk result (λ found. AreBreaking cards.now found) }
+    ensures few { IfOk result (λ found. length cards.now ≤ 2000) }
 {
     let cards = cards.as_slice();
-    if cards.len() > MOST_CARDS {
+    if cards.len() > MOST_CARDS || !are_in_order(cards) {
         return Err(AllocError);
     }
-    Labels::new(alloc, cards)
+    Found::new(alloc, cards)
 }
 
-/// The cards of a source that can be read, its labels and its text. There are no cards where only the card of the fault is known.
+/// The cards of a source that can be read, what its tree breaks and its text. There are no cards where only the card of the fault is known.
 #[derive(Clone, Copy)]
 pub struct SourceCards<'a> {
     pub cards: &'a IndexedCards<'a>,
-    pub labels: &'a Labels<'a>,
+    pub found: &'a Found,
     pub text: &'a [u8],
     pub ghost few: { length cards.now ≤ 2000 },
-    pub ghost labelled: { labels.now ≡ cards.now },
+    pub ghost broken: { AreBreaking cards.now found.now } by { AreBreaking-prop cards.now found.now },
 }
 
 impl SourceCards<'_> {
     /// Why a card has a fault.
     pub(crate) fn cause(self, number: u16, code: FaultCode) -> Option<Cause> {
-        fault_cause(self.cards, self.labels, number, code)
+        fault_cause(self.cards, self.found, number, code)
     }
 }
 

@@ -3,9 +3,9 @@ use Rattle.std.proofs.Common.{◌≡◌, ◌||◌, List, ◌∷◌, ◌++◌, re
 use Rattle.rpg_cards.specs.declared.spec_card.SpecCard.{SpecCard}
 use Rattle.rpg_deck.specs.Flat.{IsInOrder}
 use Rattle.rpg_deck.specs.Tree.{tree}
-use Rattle.rpg_deck_laws.proofs.Broken.{apart-broken, nowhere-broken, order-broken, recursion-broken, rounding-broken}
-use Rattle.rpg_deck_laws.proofs.Each.{AreBroken, broken-same}
-use Rattle.rpg_deck_laws.specs.Rules.{leaving_cards, lost_cards, misplaced_cards, recursive_cards, wrongly_rounding_cards}
+use Rattle.rpg_faults_tree.proofs.Broken.{apart-broken, nowhere-broken, order-broken, recursion-broken, rounding-broken}
+use Rattle.rpg_faults_tree.proofs.Each.{AreBroken, broken-same}
+use Rattle.rpg_faults_tree.specs.Rules.{leaving_cards, lost_cards, misplaced_cards, recursive_cards, wrongly_rounding_cards}
 use Rattle.rpg_faults.specs.Rules.{rule}
 use Rattle.rpg_faults.specs.declared.code.FaultCode.TheVariants.{F10, F12, F13, F14, F15}
 use Rattle.rpg_faults_flow.specs.Flow.{calls_itself, goes_apart, goes_nowhere}

@@ -1,10 +1,1 @@
-pub mod Among
-pub mod Begins
-pub mod Broken
 pub mod Codes
-pub mod Each
-pub mod Ends
-pub mod Ordering
-pub mod Rounds
-pub mod Stepping
-pub mod Strays

@@ -1,5 +1,5 @@
 //! Laws of the rules of a tree. The functions do nothing: they are called only for their contracts.
-ghost use Rattle.rpg_deck_laws.specs.Rules.{Finds, leaving_cards, lost_cards, misplaced_cards, recursive_cards, wrongly_rounding_cards};
+ghost use Rattle.rpg_faults_tree.specs.Rules.{Finds, leaving_cards, lost_cards, misplaced_cards, recursive_cards, wrongly_rounding_cards};
 ghost use Rattle.rpg_faults.specs.Rules.{rule};
 ghost use Rattle.rpg_faults.specs.declared.code.FaultCode.TheVariants.{F10, F12, F13, F14, F15};
 

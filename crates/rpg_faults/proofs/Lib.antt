@@ -4,5 +4,6 @@ pub mod LevelLemmas
 pub mod MatchLemmas
 pub mod Numbering
 pub mod OpenTypes
+pub mod Ordering
 pub mod TypeLemmas
 mod ToldLemmas

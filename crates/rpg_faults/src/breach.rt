@@ -5,11 +5,12 @@ ghost use Rattle.std.specs.Bool.{OnTrue};
 ghost use Rattle.rpg_faults.specs.Rules as rules;
 ghost use Rattle.rpg_faults.specs.Seen.{AreCardsSeen};
 ghost use Rattle.rpg_faults_operands.specs.Good.{HasGoodOperands};
+ghost use Rattle.rpg_faults_tree.specs.Marked.{AreBreaking};
 
 use crate::code::FaultCode;
 use crate::seen::Seen;
 use rpg_cards::{IndexedCards, SpecCard};
-use rpg_faults_flow::Labels;
+use rpg_faults_tree::Found;
 
 /// Whether a card breaks the rule of a code. Each card is asked for each code, so it is compiled in place. Where its operands are known to
 /// be good, the rules on them aren't asked.
@@ -18,13 +19,13 @@ use rpg_faults_flow::Labels;
 pub(crate) fn breaks(
     code: FaultCode,
     source: &IndexedCards,
-    labels: &Labels,
+    found: &Found,
     seen: &Seen,
     has_good_operands: bool,
     card: &SpecCard,
     after: &[SpecCard],
 ) -> bool
-    requires labels { labels.now ≡ source.now }
+    requires found { AreBreaking source.now found.now }
     requires seen { AreCardsSeen source.now (card.now ∷ after.now) seen.now }
     requires good { OnTrue has_good_operands (HasGoodOperands source.now card.now after.now) }
     ensures { result ≡ rules.rule code seen.now.before.now card.now after.now }
@@ -48,21 +49,23 @@ pub(crate) fn breaks(
         FaultCode::F7 => rpg_faults_limits::breaks_files(source, &seen.sheets, before, card),
         FaultCode::F8 => rpg_faults_operands::bad_indicator(source, card),
         FaultCode::F9 => {
-            rpg_faults_flow::bad_columns(&seen.flow, before, card, after)
+            rpg_faults_flow::bad_columns(before, card, after)
                 || rpg_faults_operands::bad_columns(source, card, after)
                 || rpg_faults_limits::moves_disk(source, &seen.sheets, before, card)
         }
-        FaultCode::F10 => rpg_faults_flow::goes_nowhere(labels, before, card, after),
-        FaultCode::F11 => rpg_faults_flow::names_twice(
-            source, labels, &seen.flow, before, card, after,
+        FaultCode::F10 => found.goes_nowhere(card),
+        FaultCode::F11 => rpg_faults_tree::names_twice(
+            source,
+            found,
+            &seen.counts,
+            before,
+            card,
+            after,
         ),
-        FaultCode::F12 => {
-            rpg_faults_flow::breaks_order(&seen.flow, before, card, after)
-                || rpg_faults_limits::strays(source, &seen.sheets, before, card)
-        }
-        FaultCode::F13 => rpg_faults_flow::goes_apart(labels, &seen.flow, before, card, after),
-        FaultCode::F14 => rpg_faults_flow::calls_itself(labels, &seen.flow, before, card, after),
-        FaultCode::F15 => rpg_faults_flow::bad_rounding(&seen.flow, before, card, after),
+        FaultCode::F12 => found.breaks_order(card),
+        FaultCode::F13 => found.goes_apart(card),
+        FaultCode::F14 => found.calls_itself(card),
+        FaultCode::F15 => found.rounds_wrongly(card),
         FaultCode::F16 => crate::misplaces(source, &seen.sheets, &seen.places, before, card, after),
         FaultCode::F17 => rpg_faults_operands::bad_editing(source, card),
         FaultCode::F18 => rpg_faults_data::breaks_data(source, &seen.places.decks, before, card),

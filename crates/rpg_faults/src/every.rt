@@ -2,8 +2,10 @@
 
 ghost use Rattle.std.specs.Prelude.{◌≡◌, [], ◌++◌, ◌∷◌, ◌≤◌, length, IfOk, OnOk};
 ghost use Rattle.rpg_cards.specs.Cards.{Numbered};
+ghost use Rattle.rpg_deck.specs.Flat.{IsInOrder};
 ghost use Rattle.rpg_faults.specs.Seen.{AreCardsSeen};
 ghost use Rattle.rpg_faults.specs.Told as told;
+ghost use Rattle.rpg_faults_tree.specs.Marked.{AreBreaking};
 
 use crate::Places;
 use crate::breach::breaks;
@@ -12,34 +14,35 @@ use crate::marks::fault_columns;
 use crate::seen::Seen;
 use crate::source_fault::{CardFault, SourceCode};
 use rpg_cards::{IndexedCards, SpecCard};
-use rpg_faults_flow::Labels;
 use rpg_faults_limits::lacks_input;
 use rpg_faults_operands::has_good_operands;
+use rpg_faults_tree::Found;
 use std::alloc::{AllocError, Global};
 
 /// All faults by card, then by code, each with the columns that it speaks of, found in one pass over the cards. There are none exactly where
 /// `first_fault` finds none. An error is for want of memory.
-pub fn all_faults(alloc: Global, cards: &[SpecCard]) -> Result<Vec<CardFault>, AllocError>
+pub(crate) fn all_faults(alloc: Global, cards: &[SpecCard]) -> Result<Vec<CardFault>, AllocError>
     requires numbered { Numbered 1 cards.now }
+    requires ordered { IsInOrder 0 cards.now }
     requires few { length cards.now ≤ 2000 }
     ensures { IfOk result (λ faults. told.AreFaultsOf cards.now faults.items) }
 {
     let source = IndexedCards::new(alloc, cards)?;
-    let labels = Labels::new(alloc, cards)?;
-    faults_in(alloc, &source, &labels)
+    let found = Found::new(alloc, cards)?;
+    faults_in(alloc, &source, &found)
 }
 
 fn faults_in(
     alloc: Global,
     source: &IndexedCards,
-    labels: &Labels,
+    found: &Found,
 ) -> Result<Vec<CardFault>, AllocError>
-    requires labels { labels.now ≡ source.now }
+    requires found { AreBreaking source.now found.now }
     requires few { length source.now ≤ 2000 }
     ensures { IfOk result (λ faults. faults.items ≡ told.told_faults source.now) }
 {
     let mut faults = faults_of_whole(alloc, source)?;
-    put_faults(&mut faults, source, labels)?;
+    put_faults(&mut faults, source, found)?;
     Ok(faults)
 }
 
@@ -62,9 +65,9 @@ fn faults_of_whole(alloc: Global, source: &IndexedCards) -> Result<Vec<CardFault
 fn put_faults(
     faults: &mut Vec<CardFault>,
     source: &IndexedCards,
-    labels: &Labels,
+    found: &Found,
 ) -> Result<(), AllocError>
-    requires labels { labels.now ≡ source.now }
+    requires found { AreBreaking source.now found.now }
     requires few { length source.now ≤ 2000 }
     ensures { OnOk result (faults.new.items ≡ faults.old.items ++ told.told_from [] source.now) }
 {
@@ -72,7 +75,7 @@ fn put_faults(
     let mut seen = Seen::nothing(source, places);
     let mut rest = source.as_slice();
     while let Some((card, after)) = rest.split_first() {
-        put_faults_on(faults, source, labels, &seen, card, after)?;
+        put_faults_on(faults, source, found, &seen, card, after)?;
         seen.pass(source, card, after);
         rest = after;
     }
@@ -83,22 +86,22 @@ fn put_faults(
 fn put_faults_on(
     faults: &mut Vec<CardFault>,
     source: &IndexedCards,
-    labels: &Labels,
+    found: &Found,
     seen: &Seen,
     card: &SpecCard,
     after: &[SpecCard],
 ) -> Result<(), AllocError>
-    requires labels { labels.now ≡ source.now }
+    requires found { AreBreaking source.now found.now }
     requires seen { AreCardsSeen source.now (card.now ∷ after.now) seen.now }
     ensures { OnOk result (faults.new.items ≡ faults.old.items ++ told.told_on seen.now.before.now card.now after.now) }
 {
     let is_good = has_good_operands(source, card, after);
     for code in FaultCode::all() {
-        if breaks(code, source, labels, seen, is_good, card, after) {
+        if breaks(code, source, found, seen, is_good, card, after) {
             faults.push(CardFault {
                 card: card.number,
                 code: SourceCode::Fault(code),
-                columns: fault_columns(code, source, labels, seen, card, after),
+                columns: fault_columns(code, source, found, seen, card, after),
             })?;
         }
     }

@@ -1,14 +1,15 @@
 //! From the text of a source to all that is wrong with it.
 
 ghost use Rattle.std.specs.Prelude.{◌≡◌, map, IfErr, IfOk};
+ghost use Rattle.rpg_deck.specs.Flat.{IsInOrder};
 ghost use Rattle.rpg_faults.specs.EverySource as every;
 ghost use Rattle.rpg_faults.specs.Told.{AreFaultsOf};
 ghost use Rattle.rpg_faults.specs.declared.source_fault.SourceFault.TheVariants.{NoMemory};
 ghost use Rattle.rpg_sheet.specs.Sheet.{source};
 ghost use Rattle.rpg_sheet.specs.Unreadable.{unreadable_cards};
 
-use crate::all_faults;
 use crate::cards::spec_cards;
+use crate::every::all_faults;
 use crate::source_fault::{CardFault, SourceCode, SourceFault};
 use rpg_sheet::{Cards, SheetFault, UnreadableCard};
 use std::alloc::{AllocError, Global};
@@ -29,6 +30,7 @@ pub fn source_faults(alloc: Global, text: &[u8]) -> Result<Vec<CardFault>, Sourc
 
 /// All faults of cards that can be read.
 fn faults_of(alloc: Global, cards: Cards) -> Result<Vec<CardFault>, AllocError>
+    requires { IsInOrder 0 (every.numbered_specs cards) }
     ensures { IfOk result (λ faults. AreFaultsOf (every.numbered_specs cards) faults.items) }
 {
     let cards = spec_cards(alloc, cards)?;

@@ -1,6 +1,4 @@
-//! Places that are wrong: columns of records and of lines.
-//! The least fault of a source.
-//! The cards of a source without a fault, or its least fault.
+//! The cards of a source without a fault, or what is wrong with it; and columns of records and of lines.
 #![tactic(auto)]
 
 mod breach;
@@ -21,10 +19,8 @@ mod state;
 
 pub use code::FaultCode;
 pub use columns::misplaces;
-pub use every::all_faults;
 pub use every_source::source_faults;
 pub use fault::Fault;
-pub use least::first_fault;
 pub use source::faultless_cards;
 pub use source_fault::{CardFault, SourceCode, SourceFault};
 pub use state::Places;

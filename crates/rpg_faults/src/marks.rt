@@ -1,11 +1,12 @@
 //! Which columns of a card a fault speaks of.
 
-ghost use Rattle.std.specs.Prelude.{◌≡◌, ◌∷◌, ◌++◌, Option};
+ghost use Rattle.std.specs.Prelude.{◌≡◌, ◌∷◌, Option};
 ghost use Rattle.std.specs.Option.{option_map};
 ghost use Rattle.rpg_cards.specs.Sheets.{AreSheets};
 ghost use Rattle.rpg_faults.specs.Marks as marks;
 ghost use Rattle.rpg_faults.specs.Seen.{AreCardsSeen};
 ghost use Rattle.rpg_faults.specs.State.{IsPlaces};
+ghost use Rattle.rpg_faults_tree.specs.Marked.{AreBreaking};
 ghost use Rattle.rpg_sheet_specs.specs.declared.file.FileSpec.{FileSpec};
 
 use crate::code::FaultCode;
@@ -14,35 +15,35 @@ use crate::lengths::JoinedLengths;
 use crate::seen::Seen;
 use crate::state::Places;
 use rpg_cards::{IndexedCards, Sheets, SpecCard};
-use rpg_faults_flow::Labels;
+use rpg_faults_tree::Found;
 use rpg_sheet_specs::{ColumnFault, ColumnRange, InputFieldSpec, InputSpec, RecordCode, Three};
 
 /// The columns that a fault of a card speaks of: none where the card as a whole is meant.
 pub(crate) fn fault_columns(
     code: FaultCode,
     source: &IndexedCards,
-    labels: &Labels,
+    found: &Found,
     seen: &Seen,
     card: &SpecCard,
     after: &[SpecCard],
 ) -> Option<ColumnFault>
-    requires labels { labels.now ≡ source.now }
+    requires found { AreBreaking source.now found.now }
     requires seen { AreCardsSeen source.now (card.now ∷ after.now) seen.now }
     ensures { result ≡ marks.fault_columns code seen.now.before.now card.now after.now }
 {
-    Some(fault_range(code, source, labels, seen, card, after)?.columns())
+    Some(fault_range(code, source, found, seen, card, after)?.columns())
 }
 
 #[tactic(auto, unfolding(crate::specs::Marks::fault_range))]
 fn fault_range(
     code: FaultCode,
     source: &IndexedCards,
-    labels: &Labels,
+    found: &Found,
     seen: &Seen,
     card: &SpecCard,
     after: &[SpecCard],
 ) -> Option<ColumnRange>
-    requires labels { labels.now ≡ source.now }
+    requires found { AreBreaking source.now found.now }
     requires seen { AreCardsSeen source.now (card.now ∷ after.now) seen.now }
     ensures { result ≡ marks.fault_range code seen.now.before.now card.now after.now }
 {
@@ -60,8 +61,13 @@ fn fault_range(
         FaultCode::F8 => rpg_faults_operands::indicator_columns(source, card),
         FaultCode::F9 => missing_columns(source, seen, card, after),
         FaultCode::F10 | FaultCode::F13 | FaultCode::F14 => Some(rpg_faults_flow::target_range()),
-        FaultCode::F11 => Some(rpg_faults_flow::twice_range(
-            source, labels, &seen.flow, before, card, after,
+        FaultCode::F11 => Some(rpg_faults_tree::twice_range(
+            source,
+            found,
+            &seen.counts,
+            before,
+            card,
+            after,
         )),
         FaultCode::F12 => order_columns(card),
         FaultCode::F15 => rpg_faults_flow::rounding_columns(card, after),
@@ -81,7 +87,7 @@ fn missing_columns(
     requires { AreCardsSeen source.now (card.now ∷ after.now) seen.now }
     ensures { result ≡ marks.missing_columns seen.now.before.now card.now after.now }
 {
-    if rpg_faults_flow::bad_columns(&seen.flow, seen.before, card, after) {
+    if rpg_faults_flow::bad_columns(seen.before, card, after) {
         rpg_faults_flow::calculation_columns(card, after)
     } else if rpg_faults_operands::bad_columns(source, card, after) {
         rpg_faults_operands::missing_columns(card, after)

@@ -6,8 +6,8 @@ ghost use Rattle.rpg_faults.specs.State.{IsPlaces};
 
 use crate::Places;
 use rpg_cards::{IndexedCards, Sheets, SpecCard};
-use rpg_faults_flow::Flow;
 use rpg_faults_limits::Limits;
+use rpg_faults_tree::Counts;
 
 /// The cards before a card, with what they come to.
 #[derive(Clone, Copy)]
@@ -15,7 +15,7 @@ pub(crate) struct Seen<'a> {
     pub before: &'a [SpecCard],
     pub sheets: Sheets,
     pub limits: Limits,
-    pub flow: Flow,
+    pub counts: Counts,
     pub places: Places<'a>,
 }
 
@@ -31,7 +31,7 @@ impl<'a> Seen<'a> {
             before: &source.as_slice()[..0],
             sheets: Sheets::none(),
             limits: Limits::nothing(source),
-            flow: Flow::nothing(),
+            counts: Counts::nothing(),
             places,
         }
     }
@@ -45,7 +45,7 @@ impl<'a> Seen<'a> {
         let before = self.before;
         self.sheets = self.sheets.with(source, before, card);
         self.limits = self.limits.with(source, before, card, after);
-        self.flow = self.flow.with(before, card, after);
+        self.counts = self.counts.with(before, card, after);
         self.places.pass(source, before, card, after);
         self.before = with_card(source, before, card, after);
     }

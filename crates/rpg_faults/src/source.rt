@@ -4,7 +4,7 @@ ghost use Rattle.std.specs.Prelude.{IfOk, IfErr};
 ghost use Rattle.rpg_faults.specs.Source as sources;
 
 use crate::cards::spec_cards;
-use crate::first_fault;
+use crate::least::first_fault;
 use crate::source_fault::{SourceCode, SourceFault};
 use rpg_cards::SpecCard;
 use std::alloc::Global;

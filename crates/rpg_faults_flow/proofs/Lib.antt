@@ -1,14 +1,9 @@
-pub mod Bits
-pub mod Carried
 pub mod Counted
+pub mod Ending
 pub mod Facts
-pub mod Found
 pub mod Goals
 pub mod Joined
-pub mod Listed
-pub mod Ordered
 pub mod Paired
 pub mod Placed
 pub mod Reaching
-pub mod Twice
 pub mod Walk

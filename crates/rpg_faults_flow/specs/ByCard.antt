@@ -1,29 +1,26 @@
--- The rules for a card, by what is known of the cards before it.
-use Rattle.std.specs.Prelude.{ℕ, ◌+◌, ◌-◌, nat_lt, List, [], Bool, true, false, not, ◌&&◌, ◌||◌, Option, None, Some, is_none, is_some, if◌then◌else◌}
+-- The rules for a card, by the group that the card right before belongs to.
+use Rattle.std.specs.Prelude.{◌-◌, List, Bool, false, not, ◌&&◌, ◌||◌, Option, None, Some, is_none, is_some, if◌then◌else◌}
 use Rattle.std.specs.Option.{option_and_then, option_map, option_map_or}
-use Rattle.rpg_cards.specs.Calculations.{CalculationGroup, calculations, calculations_from, card_ending, depends, goes_on, group_end, group_with}
+use Rattle.rpg_cards.specs.Calculations.{CalculationGroup, calculations, card_ending, depends, goes_on, group_end}
 use Rattle.rpg_cards.specs.Deeds.{Calculation, deed_of}
 use Rattle.rpg_cards.specs.Keys.{Key}
-use Rattle.rpg_cards.specs.Calls.{called_subroutine, subroutine_in}
-use Rattle.rpg_cards.specs.Labels.{begins_subroutine, brackets, ends, gives, is_begsr, is_endsr, label_named, labels, wants}
+use Rattle.rpg_cards.specs.Labels.{begins_subroutine, ends, is_endsr, labels, wants}
 use Rattle.rpg_cards.specs.declared.labels.Label.{Label}
-use Rattle.rpg_cards.specs.declared.labels.Named.{Named}
-use Rattle.rpg_cards.specs.declared.labels.Section.{Section}
-use Rattle.rpg_cards.specs.declared.labels.Section.TheVariants.{Detail, Outside, Subroutine, Total}
 use Rattle.rpg_cards.specs.Sections.{is_subroutine}
 use Rattle.rpg_cards.specs.Cards.{calculation_on}
 use Rattle.rpg_cards.specs.Groups.{joins}
 use Rattle.rpg_cards.specs.declared.spec_card.SpecCard.{SpecCard}
 use Rattle.rpg_faults_flow.specs.Columns.{bad_by_end, may_depend}
-use Rattle.rpg_faults_flow.specs.Flow as flow
 use Rattle.rpg_faults_flow.specs.Flow.{is_given_as}
-use Rattle.rpg_faults_flow.specs.Order.{is_bracket, is_closed, section_rank}
-use Rattle.rpg_faults_flow.specs.declared.flow.Flow.{Flow}
+use Rattle.rpg_faults_flow.specs.Order.{is_bracket}
 use Rattle.rpg_sheet_specs.specs.declared.calculation.CalculationSpec.{CalculationSpec}
 use Rattle.rpg_sheet_specs.specs.declared.calculation.ControlLevel.{ControlLevel}
-use Rattle.rpg_sheet_specs.specs.declared.calculation.ControlLevel.TheVariants as control
 
 -- ---- the group that a card belongs to
+
+-- columns 7 and 8 of a group's first card
+abbrev pub level_of_group : Option CalculationGroup → Option ControlLevel
+level_of_group o = option_map (λ g. g.first.control_level) o
 
 -- columns 7 and 8 of the first card of the group that the card belongs to
 abbrev pub calculation_level : Option ControlLevel → CalculationSpec → ControlLevel
@@ -48,24 +45,6 @@ bracket_in level k = if is_subroutine level && is_bracket (deed_of k) then Some 
 abbrev pub bracket_at : Option ControlLevel → SpecCard → List SpecCard → Option Bool
 bracket_at group c after = option_and_then (λ k. bracket_in (calculation_level group k) k) (card_ending c after)
 
--- ---- with one more card
-
--- whether a subroutine is open after a BEGSR or ENDSR, if there is one
-abbrev pub inside_behind : Bool → Option Bool → Bool
-inside_behind inside bracket = option_map_or not bracket inside
-
--- how many subroutines have begun after a BEGSR or ENDSR, if there is one
-abbrev pub begun_behind : ℕ → Option Bool → ℕ
-begun_behind begun bracket = option_map_or (λ is_end. if is_end then begun else begun + 1) bracket begun
-
--- the rank of the last section so far, with one more card
-abbrev pub highest_with : ℕ → SpecCard → ℕ
-highest_with highest c = option_map_or (λ k. if nat_lt highest (section_rank k.control_level) then section_rank k.control_level else highest) (calculation_on c.spec) highest
-
--- a label or a subroutine's name is given
-abbrev pub is_label_at : SpecCard → List SpecCard → Bool
-is_label_at c after = option_map_or (λ k. is_some (gives (deed_of k))) (card_ending c after) false
-
 -- ---- F9
 
 -- F9 of the conditions, by whether a group is open and whether the next card continues it
@@ -76,64 +55,7 @@ bad_dependence in_group on k after = ((on || (joins k.control_level && in_group)
 abbrev pub bad_card : Bool → CalculationSpec → List SpecCard → Bool
 bad_card in_group k after = bad_dependence in_group (goes_on after) k after || ((is_some k.length && is_none k.result_field) || bad_by_end (goes_on after) k)
 
--- ---- F12
-
--- a group of an earlier section than a card before, or an SR group outside the subroutines that is neither BEGSR nor ENDSR
-abbrev pub misplaced : Flow → CalculationSpec → List SpecCard → Bool
-misplaced f k after = nat_lt (section_rank k.control_level) f.highest || (is_subroutine k.control_level && (not (is_bracket (deed_of (group_end k after))) && not f.is_inside))
-
--- BEGSR or ENDSR outside SR groups, ENDSR without BEGSR, or BEGSR without ENDSR
-abbrev pub unpaired_in : Bool → ControlLevel → CalculationSpec → Bool → Bool
-unpaired_in inside level k closed =
-    (is_bracket (deed_of k) && not (is_subroutine level))
-    || ((is_subroutine level && is_endsr (deed_of k) && not inside) || (is_subroutine level && is_begsr (deed_of k) && not closed))
-
--- the subroutine that begins on the last card of a group is closed after it
-abbrev pub closed_behind : Option CalculationGroup → CalculationSpec → List SpecCard → Bool
-closed_behind o k after = is_closed (brackets (calculations_from (Some (group_with o k)) after []))
-
--- F12 of a C card, by what is known of the cards before it
-abbrev pub breaks_card : Flow → Option CalculationGroup → CalculationSpec → List SpecCard → Bool
-breaks_card f o k after =
-    (if joins k.control_level then is_none f.group else misplaced f k after)
-    || (not (goes_on after) && unpaired_in f.is_inside (calculation_level f.group k) k (closed_behind o k after))
-
--- ---- labels and calls
-
--- the subroutine of an SR group: the one that it begins, or the open one; outside where there is none
-abbrev pub subroutine_in_flow : Flow → Bool → Section
-subroutine_in_flow f true = Subroutine f.begun
-subroutine_in_flow f false = if f.is_inside then Subroutine (f.begun - 1) else Outside
-
--- the section of a calculation, by columns 7 and 8 of its group's first card
-abbrev pub calculation_section : Flow → ControlLevel → CalculationSpec → Section
-calculation_section f control.Detail k = Detail
-calculation_section f (control.Total i) k = Total
-calculation_section f control.Subroutine k = subroutine_in_flow f (is_begsr (deed_of k))
-calculation_section f control.And k = Outside
-calculation_section f control.Or k = Outside
-
--- that of a card's calculation
-abbrev pub section_at : Flow → CalculationSpec → Section
-section_at f k = calculation_section f (calculation_level f.group k) k
-
--- the label or the subroutine that a calculation gives, with its section
-abbrev pub label_in : Flow → CalculationSpec → Option Label
-label_in f k = option_map (λ n. record { named = n; section = section_at f k }) (gives (deed_of k))
-
--- the call of an EXSR in a subroutine, as caller and callee, if the callee is given
-abbrev pub calculation_call : Flow → List Label → CalculationSpec → Option (ℕ × ℕ)
-calculation_call f given k = option_and_then (λ caller. option_map (λ callee. (caller, callee)) (option_and_then (called_subroutine given) (wants (deed_of k)))) (subroutine_in (section_at f k))
-
--- on a card
-abbrev pub card_label : Flow → SpecCard → List SpecCard → Option Label
-card_label f c after = option_and_then (label_in f) (card_ending c after)
-
--- the call of the calculation that ends on a card
-abbrev pub card_call : Flow → List Label → SpecCard → List SpecCard → Option (ℕ × ℕ)
-card_call f given c after = option_and_then (calculation_call f given) (card_ending c after)
-
--- ---- F10, F13
+-- ---- F10
 
 -- all labels and subroutines of a source
 abbrev pub labels_in : List SpecCard → List Label
@@ -142,11 +64,3 @@ labels_in cards = labels (calculations cards)
 -- F10 of a calculation: its GOTO or EXSR names what isn't given
 abbrev pub calculation_lacks_label : List SpecCard → CalculationSpec → Bool
 calculation_lacks_label cards k = option_map_or (λ n. not (is_given_as (labels_in cards) n)) (wants (deed_of k)) false
-
--- a GOTO from that section to that name leaves the section
-abbrev pub name_leaves : List SpecCard → Section → Named → Bool
-name_leaves cards own n = option_map_or (flow.leaves_by own n) (label_named n.name (labels_in cards)) false
-
--- F13 of a calculation: its GOTO leaves its section
-abbrev pub calculation_leaves_section : List SpecCard → Flow → CalculationSpec → Bool
-calculation_leaves_section cards f k = option_map_or (name_leaves cards (section_at f k)) (wants (deed_of k)) false

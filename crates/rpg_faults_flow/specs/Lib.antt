@@ -1,9 +1,7 @@
 pub mod ByCard
 pub mod Columns
 pub mod Flow
-pub mod Index
 pub mod Kept
 pub mod Marks
 pub mod Order
 pub mod Rounding
-pub mod Seen

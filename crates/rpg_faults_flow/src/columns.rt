@@ -1,27 +1,35 @@
 //! F9 of calculation cards: columns that are missing or not allowed.
 
-ghost use Rattle.std.specs.Prelude.{◌≡◌, ◌∷◌, Option};
+ghost use Rattle.std.specs.Prelude.{◌≡◌, Option, is_some};
 ghost use Rattle.std.specs.Option.{option_map};
+ghost use Rattle.rpg_cards.specs.Calculations.{open_calculation_group};
 ghost use Rattle.rpg_faults_flow.specs.Columns as spec;
-ghost use Rattle.rpg_faults_flow.specs.Seen.{IsFlow};
 ghost use Rattle.rpg_faults_flow.specs.ByCard as by_card;
 ghost use Rattle.rpg_sheet_specs.specs.declared.literal.Factor.TheVariants as factor;
 
-use crate::flow::Flow;
 use rpg_cards::{
     Column, Content, Shown, SpecCard, columns, depends, goes_on, group_end, joins, plain_name,
 };
 use rpg_sheet_specs::{CalculationSpec, Entry, Factor, Indicator, Operation, Three};
 
 /// F9 of calculation cards, but for the sequence of what LOKUP searches.
-pub fn bad_columns(flow: &Flow, before: &[SpecCard], card: &SpecCard, after: &[SpecCard]) -> bool
-    requires { IsFlow before.now (card.now ∷ after.now) flow.now }
+pub fn bad_columns(before: &[SpecCard], card: &SpecCard, after: &[SpecCard]) -> bool
     ensures { result ≡ spec.bad_calculation_columns before.now card.now after.now }
 {
     let Some(calculation) = card.calculation() else {
         return false;
     };
-    bad_card(flow.group.is_some(), calculation, after)
+    bad_card(is_in_group(before), calculation, after)
+}
+
+/// Whether the card right before is a calculation card.
+fn is_in_group(before: &[SpecCard]) -> bool
+    ensures { result ≡ is_some (open_calculation_group before.now) }
+{
+    match before.last() {
+        None => false,
+        Some(card) => card.calculation().is_some(),
+    }
 }
 
 fn bad_card(is_in_group: bool, calculation: &CalculationSpec, after: &[SpecCard]) -> bool

@@ -1,5 +1,5 @@
 //! Laws of the definitions. The functions do nothing: they are called only for their contracts.
-ghost use Rattle.std.specs.Prelude.{ℕ, List, length, ◌≤◌};
+ghost use Rattle.std.specs.Prelude.{List, length, ◌≤◌};
 ghost use Rattle.rpg_cards.specs.Calculations as cards;
 ghost use Rattle.rpg_cards.specs.Plain.{ArePlain};
 ghost use Rattle.rpg_cards.specs.Sections as sections;

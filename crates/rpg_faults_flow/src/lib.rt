@@ -2,25 +2,11 @@
 #![tactic(auto)]
 
 mod columns;
-mod cycles;
-mod flow;
-mod groups;
-mod labels;
 mod laws;
 mod marks;
-mod names;
-mod order;
-mod rounding;
-mod targets;
 
 pub use columns::{bad_columns, has_more, may_depend};
-pub use flow::Flow;
-pub use labels::Labels;
 pub use laws::faultless_sections_are_plain;
 pub use marks::{
-    calculation_columns, further_range, order_columns, rounding_columns, target_range, twice_range,
+    calculation_columns, further_range, order_columns, rounding_columns, target_range,
 };
-pub use names::names_twice;
-pub use order::breaks_order;
-pub use rounding::bad_rounding;
-pub use targets::{calls_itself, goes_apart, goes_nowhere};

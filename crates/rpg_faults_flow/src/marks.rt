@@ -1,19 +1,13 @@
 //! Which columns of a calculation card the faults of control point at.
 
-ghost use Rattle.std.specs.Prelude.{◌≡◌, ◌∷◌, ◌++◌, false};
+ghost use Rattle.std.specs.Prelude.{◌≡◌, false};
 ghost use Rattle.std.specs.Option.{option_map_or};
 ghost use Rattle.rpg_cards.specs.Calculations.{card_ending};
 ghost use Rattle.rpg_faults_flow.specs.Marks as marks;
 ghost use Rattle.rpg_faults_flow.specs.Rounding as rounding;
-ghost use Rattle.rpg_faults_flow.specs.Seen.{IsFlow};
 
 use crate::columns::{bad_by_end, misses, misses_result};
-use crate::flow::Flow;
-use crate::groups::is_bracket;
-use crate::labels::Labels;
-use crate::names::gives_again;
-use crate::rounding::may_half_adjust;
-use rpg_cards::{IndexedCards, SpecCard, columns, goes_on, last_card};
+use rpg_cards::{SpecCard, begins_subroutine, columns, ends_subroutine, goes_on, last_card};
 use rpg_sheet_specs::{CalculationSpec, ColumnRange, ConditionSpec, Indicator, Operation, Three};
 
 /// F9 of a calculation: what is missing or not allowed.
@@ -117,27 +111,6 @@ pub fn target_range() -> ColumnRange
     ColumnRange::SecondFactor
 }
 
-/// F11: the name of the label or the subroutine, or of the field.
-pub fn twice_range(
-    source: &IndexedCards,
-    labels: &Labels,
-    flow: &Flow,
-    before: &[SpecCard],
-    card: &SpecCard,
-    after: &[SpecCard],
-) -> ColumnRange
-    requires split { source.now ≡ before.now ++ card.now ∷ after.now }
-    requires labels { labels.now ≡ source.now }
-    requires flow { IsFlow before.now (card.now ∷ after.now) flow.now }
-    ensures { result ≡ marks.twice_range before.now card.now after.now }
-{
-    if gives_again(source, labels, flow, before, card, after) {
-        ColumnRange::FirstFactor
-    } else {
-        ColumnRange::ResultName
-    }
-}
-
 /// F12 of a calculation: BEGSR or ENDSR, else columns 7 and 8.
 pub fn order_columns(card: &SpecCard) -> Option<ColumnRange>
     ensures { result ≡ marks.calculation_order_columns card.now }
@@ -148,7 +121,7 @@ pub fn order_columns(card: &SpecCard) -> Option<ColumnRange>
 fn order_range(calculation: &CalculationSpec) -> ColumnRange
     ensures { result ≡ marks.order_range calculation.now }
 {
-    if is_bracket(calculation) {
+    if begins_subroutine(calculation) || ends_subroutine(calculation) {
         ColumnRange::Operation
     } else {
         ColumnRange::ControlLevel
@@ -173,5 +146,14 @@ fn is_rounded(card: &SpecCard, after: &[SpecCard]) -> bool
     match last_card(card, after) {
         None => false,
         Some(last) => may_half_adjust(last),
+    }
+}
+
+fn may_half_adjust(calculation: &CalculationSpec) -> bool
+    ensures { result ≡ rounding.operation_passes rounding.may_half_adjust calculation.now }
+{
+    match calculation.operation {
+        None => false,
+        Some(operation) => columns(operation).may_half_adjust,
     }
 }

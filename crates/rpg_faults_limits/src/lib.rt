@@ -9,7 +9,6 @@ mod lines;
 mod marks;
 mod measures;
 mod names;
-mod order;
 mod state;
 mod storage;
 mod totals;
@@ -22,5 +21,4 @@ pub use marks::{
 };
 pub use measures::{Limit, LimitCause};
 pub use names::{bad_size, redefines};
-pub use order::strays;
 pub use state::Limits;

@@ -4,9 +4,9 @@ use Rattle.rpg_cards.specs.Labels.{begun_count}
 use Rattle.rpg_cards.specs.declared.spec_card.SpecCard.{SpecCard}
 use Rattle.rpg_causes_flow.proofs.OrderLemmas.{begun_step, one_if}
 use Rattle.rpg_causes_flow.specs.Order.{bracket_on, opens}
-use Rattle.rpg_faults_flow.proofs.Carried.{level_with-is}
+use Rattle.rpg_causes_flow.proofs.Carried.{level_with-is}
 use Rattle.rpg_faults_flow.specs.ByCard.{level_with}
-use Rattle.rpg_faults_flow.specs.Seen.{level_of_group}
+use Rattle.rpg_faults_flow.specs.ByCard.{level_of_group}
 use Rattle.rpg_causes_flow.proofs.brackets.count_begun.Goals as goal
 
 pub loop-card-init : goal.loop-card-init

@@ -2,7 +2,7 @@ use Rattle.std.proofs.Common.{◌≡◌, ◌+◌, ◌≤◌, ◌++◌, List, Opt
 use Rattle.rpg_cards.specs.Calculations.{CalculationGroup, calculations_before, calculations_from}
 use Rattle.rpg_cards.specs.Labels.{begun_count}
 use Rattle.rpg_cards.specs.declared.spec_card.SpecCard.{SpecCard}
-use Rattle.rpg_faults_flow.specs.Seen.{level_of_group}
+use Rattle.rpg_faults_flow.specs.ByCard.{level_of_group}
 use Rattle.rpg_causes_flow.proofs.brackets.count_begun.Given as goal
 
 abbrev pub invariant-loop-card : goal.invariant-loop-card

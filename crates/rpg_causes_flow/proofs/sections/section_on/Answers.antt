@@ -7,7 +7,7 @@ use Rattle.rpg_causes_flow.proofs.SectionLemmas.{section_rule}
 use Rattle.rpg_causes_flow.specs.Order.{opens}
 use Rattle.rpg_causes_flow.specs.Sections.{section_by_state}
 use Rattle.rpg_faults_flow.specs.ByCard.{calculation_level}
-use Rattle.rpg_faults_flow.specs.Seen.{level_of_group}
+use Rattle.rpg_faults_flow.specs.ByCard.{level_of_group}
 use Rattle.rpg_causes_flow.proofs.sections.section_on.Goals as goal
 
 pub returns : goal.returns

@@ -2,7 +2,6 @@ use Rattle.std.proofs.Common.{◌∙◌, ap, sym}
 use Rattle.std.specs.Option.{option_map_or}
 use Rattle.std.specs.Prelude.{false, option_copied}
 use Rattle.rpg_cards.specs.Calculations.{open_calculation_group}
-use Rattle.rpg_faults_flow.proofs.Ordered.{bad_card-is}
 use Rattle.rpg_faults_flow.specs.Columns.{bad_calculation}
 use Rattle.rpg_faults_flow.specs.ByCard.{bad_card}
 use Rattle.rpg_faults_flow.proofs.columns.bad_columns.Goals as goal
@@ -12,6 +11,5 @@ returns c =
     let k = c.in-Some.calculation.now in
     let after = c.args.after.now in
     let is = sym c.calculation.ensures ∙ ap option_copied c.in-Some.is in
-    c.bad_card.ensures ∙ ap (λ b. bad_card b k after) c.is_some.ensures
-    ∙ bad_card-is c.args.before.now c.args.card.now after c.args.flow.now k c.requires
+    c.bad_card.ensures ∙ ap (λ b. bad_card b k after) c.is_in_group.ensures
     ∙ ap (λ x. option_map_or (λ k. bad_calculation (open_calculation_group c.args.before.now) k after) x false) (sym is)

@@ -7,6 +7,6 @@ returns-clause-seen c = record {
   few = c.requires.few;
   sheets = c.none.ensures c.args.source.now;
   limits = c.nothing.ensures;
-  flow = c.nothing-2.ensures c.args.source.now;
+  counts = c.nothing-2.ensures c.args.source.now;
   places = c.requires.places;
 }

@@ -1,6 +1,6 @@
 use Rattle.std.proofs.Common.{◌++◌, ◌∷◌, [], ◌∙◌, sym, ap, subst, append_assoc}
 use Rattle.rpg_cards.specs.Sheets.{AreSheets}
-use Rattle.rpg_faults_flow.specs.Seen.{IsFlow}
+use Rattle.rpg_faults_tree.specs.Counted.{AreCounts}
 use Rattle.rpg_faults_limits.specs.State.{AreLimits}
 use Rattle.rpg_faults.proofs.seen.Seen.pass.Goals as goal
 
@@ -14,6 +14,6 @@ returns-clause-seen c =
       few = c.requires.few;
       sheets = subst (λ b. AreSheets cards b c.with-self.result) same c.with-self.ensures;
       limits = subst (λ b. AreLimits cards b after c.with-self-2.result) same c.with-self-2.ensures;
-      flow = subst (λ b. IsFlow b after c.with-self-3.result) same c.with-self-3.ensures;
+      counts = subst (λ b. AreCounts b after c.with-self-3.result) same c.with-self-3.ensures;
       places = rw c.with_card-self.ensures c.pass.ensures;
     }

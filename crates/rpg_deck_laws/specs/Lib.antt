@@ -1,4 +1,0 @@
-pub mod Numbers
-pub mod Order
-pub mod Rounding
-pub mod Rules

@@ -1,0 +1,126 @@
+-- The cards that break a rule, one after the other, and cards of one sheet among them.
+use Rattle.std.proofs.Common.{◌≡◌, ℕ, ◌⊎◌, Bool, true, false, ◌||◌, List, [], ◌∷◌, ◌++◌, refl, sym, ap, ◌∙◌, arith, subst, append_assoc, append-nil, inl, inr}
+use Rattle.std.specs.Prelude.{◌↔◌, Contains}
+use Rattle.std.proofs.lemmas.Bool.{or_left, or_right}
+use Rattle.std.proofs.lemmas.List.Elements.{Contains-append_cases, Contains-append_left, Contains-append_right, Contains-push_cases}
+use Rattle.rpg_cards.specs.declared.spec_card.SpecCard.{SpecCard}
+use Rattle.rpg_deck.specs.Flat.{back}
+use Rattle.rpg_deck.specs.declared.card.Card.{Card}
+use Rattle.rpg_faults_tree.specs.Numbers.{one_if}
+use Rattle.rpg_faults_tree.specs.Breaks.{BreaksRule}
+use Rattle.rpg_faults_flow.specs.Kept.{Rule}
+use Rattle.rpg_sheet_specs.specs.declared.spec.Spec.{Spec}
+
+-- the numbers of these cards that break a rule, with the cards before and after them
+abbrev pub each : Rule → List SpecCard → List SpecCard → List SpecCard → List ℕ
+each r before [] after = []
+each r before (c ∷ cs) after = one_if (r before c (cs ++ after)) c.number ++ each r (before ++ c ∷ []) cs after
+
+module _ (r : Rule) where
+  one-cases : (b : Bool) (m n : ℕ) → Contains (one_if b m) n → (b ≡ true) × (m ≡ n)
+  one-cases true m n has = by (Contains-push_cases [] m n has)
+    where
+      by : Contains {X = ℕ} [] n ⊎ (m ≡ n) → (true ≡ true) × (m ≡ n)
+      by (inl none) = absurd (omega (arith, none.1))
+      by (inr same) = (refl, same)
+  one-cases false m n has = absurd (omega (arith, has.1))
+
+  one-there : (b : Bool) (n : ℕ) → b ≡ true → Contains (one_if b n) n
+  one-there true n is = (0, omega arith, refl)
+  one-there false n is = absurd cc
+
+  breaks-from : (before cards : List SpecCard) (n : ℕ) → Contains (each r before cards []) n → BreaksRule r (before ++ cards) n
+  breaks-from before [] n has = absurd (omega (arith, has.1))
+  breaks-from before (c ∷ cs) n has = by (breaks-from (before ++ c ∷ []) cs n) (Contains-append_cases (one_if (r before c (cs ++ [])) c.number) (each r (before ++ c ∷ []) cs []) n has)
+    where
+      by : (Contains (each r (before ++ c ∷ []) cs []) n → BreaksRule r ((before ++ c ∷ []) ++ cs) n) → Contains (one_if (r before c (cs ++ [])) c.number) n ⊎ Contains (each r (before ++ c ∷ []) cs []) n → BreaksRule r (before ++ c ∷ cs) n
+      by more (inl here) =
+          let is : (r before c (cs ++ []) ≡ true) × (c.number ≡ n) = one-cases (r before c (cs ++ [])) c.number n here in
+          record { before = before; card = c; after = cs; split = refl; here = is.1; broken = sym (ap (r before c) (append-nil cs)) ∙ is.0 }
+      by more (inr later) = subst (λ xs. BreaksRule r xs n) (append_assoc before (c ∷ []) cs) (more later)
+
+  found-from : (before front : List SpecCard) (c : SpecCard) (after : List SpecCard) → r (before ++ front) c after ≡ true → Contains (each r before (front ++ c ∷ after) []) c.number
+  found-from before [] c after is =
+      let here : r before c (after ++ []) ≡ true = ap (r before c) (append-nil after) ∙ sym (ap (λ xs. r xs c after) (append-nil before)) ∙ is in
+      Contains-append_left (one_if (r before c (after ++ [])) c.number) (each r (before ++ c ∷ []) after []) c.number (one-there (r before c (after ++ [])) c.number here)
+  found-from before (d ∷ ds) c after is =
+      Contains-append_right (one_if (r before d ((ds ++ c ∷ after) ++ [])) d.number) (each r (before ++ d ∷ []) (ds ++ c ∷ after) []) c.number
+      (found-from (before ++ d ∷ []) ds c after (ap (λ xs. r xs c after) (append_assoc before (d ∷ []) ds) ∙ is))
+
+  -- they are the cards that break the rule
+  pub each-breaks : (cards : List SpecCard) (n : ℕ) → Contains (each r [] cards []) n ↔ BreaksRule r cards n
+  each-breaks cards n = (breaks-from [] cards n, found)
+    where
+      found : BreaksRule r cards n → Contains (each r [] cards []) n
+      found b = subst (λ xs. Contains (each r [] xs []) n) (sym b.split) (subst (λ m. Contains (each r [] (b.before ++ b.card ∷ b.after) []) m) b.here (found-from [] b.before b.card b.after b.broken))
+
+  pub each-append : (before xs ys after : List SpecCard) → each r before (xs ++ ys) after ≡ each r before xs (ys ++ after) ++ each r (before ++ xs) ys after
+  each-append before [] ys after = ap (λ b. each r b ys after) (sym (append-nil before))
+  each-append before (x ∷ xs) ys after =
+      ap (λ rest. one_if (r before x rest) x.number ++ each r (before ++ x ∷ []) (xs ++ ys) after) (append_assoc xs ys after)
+      ∙ ap (λ ns. one_if (r before x (xs ++ (ys ++ after))) x.number ++ ns) (each-append (before ++ x ∷ []) xs ys after)
+      ∙ ap (λ b. one_if (r before x (xs ++ (ys ++ after))) x.number ++ (each r (before ++ x ∷ []) xs (ys ++ after) ++ each r b ys after)) (append_assoc before (x ∷ []) xs)
+      ∙ sym (append_assoc (one_if (r before x (xs ++ (ys ++ after))) x.number) (each r (before ++ x ∷ []) xs (ys ++ after)) (each r (before ++ x ∷ xs) ys after))
+
+  -- no card of a sheet that the rule says nothing of
+  abbrev pub IsSilent : {X : Type 0} → (X → Spec) → Type 0
+  IsSilent {X} make = (before : List SpecCard) (n : ℕ) (x : X) (after : List SpecCard) → r before (record { number = n; spec = make x }) after ≡ false
+
+  pub silent : {X : Type 0} (make : X → Spec) → IsSilent make → (before : List SpecCard) (xs : List (Card X)) (after : List SpecCard) → each r before (back make xs) after ≡ []
+  silent make none before [] after = refl
+  silent make none before (x ∷ xs) after =
+      ap (λ b. one_if b x.number ++ each r (before ++ record { number = x.number; spec = make x.spec } ∷ []) (back make xs) after) (none before x.number x.spec (back make xs ++ after))
+      ∙ silent make none (before ++ record { number = x.number; spec = make x.spec } ∷ []) xs after
+
+  -- past such a sheet, and up to it
+  pub past : {X : Type 0} (make : X → Spec) → IsSilent make → (before : List SpecCard) (xs : List (Card X)) (ys after : List SpecCard) → each r before (back make xs ++ ys) after ≡ each r (before ++ back make xs) ys after
+  past make none before xs ys after = each-append before (back make xs) ys after ∙ ap (λ ns. ns ++ each r (before ++ back make xs) ys after) (silent make none before xs (ys ++ after))
+
+  pub up_to : {X : Type 0} (make : X → Spec) → IsSilent make → (before xs : List SpecCard) (ys : List (Card X)) (after : List SpecCard) → each r before (xs ++ back make ys) after ≡ each r before xs (back make ys ++ after)
+  up_to make none before xs ys after =
+      each-append before xs (back make ys) after ∙ ap (λ ns. each r before xs (back make ys ++ after) ++ ns) (silent make none (before ++ xs) ys after) ∙ append-nil (each r before xs (back make ys ++ after))
+
+-- ---- of several rules
+
+-- where two rules are the same for the splits of some cards, the same cards break them
+pub breaks-same : (q r : Rule) (cards : List SpecCard) (n : ℕ) → ((before : List SpecCard) (c : SpecCard) (after : List SpecCard) → cards ≡ before ++ c ∷ after → q before c after ≡ r before c after) → BreaksRule q cards n → BreaksRule r cards n
+breaks-same q r cards n same b = record { before = b.before; card = b.card; after = b.after; split = b.split; here = b.here; broken = sym (same b.before b.card b.after b.split) ∙ b.broken }
+
+-- either of two rules
+abbrev pub either : Rule → Rule → Rule
+either q r before c after = q before c after || r before c after
+
+pub breaks-either : (q r : Rule) (cards : List SpecCard) (n : ℕ) → BreaksRule (either q r) cards n → BreaksRule q cards n ⊎ BreaksRule r cards n
+breaks-either q r cards n b = by (q b.before b.card b.after) refl b.broken
+  where
+    by : (x : Bool) → q b.before b.card b.after ≡ x → (x || r b.before b.card b.after) ≡ true → BreaksRule q cards n ⊎ BreaksRule r cards n
+    by true is holds = inl (record { before = b.before; card = b.card; after = b.after; split = b.split; here = b.here; broken = is })
+    by false is holds = inr (record { before = b.before; card = b.card; after = b.after; split = b.split; here = b.here; broken = holds })
+
+pub either-left : (q r : Rule) (cards : List SpecCard) (n : ℕ) → BreaksRule q cards n → BreaksRule (either q r) cards n
+either-left q r cards n b = record { before = b.before; card = b.card; after = b.after; split = b.split; here = b.here; broken = or_left (q b.before b.card b.after) (r b.before b.card b.after) b.broken }
+
+pub either-right : (q r : Rule) (cards : List SpecCard) (n : ℕ) → BreaksRule r cards n → BreaksRule (either q r) cards n
+either-right q r cards n b = record { before = b.before; card = b.card; after = b.after; split = b.split; here = b.here; broken = or_right (q b.before b.card b.after) (r b.before b.card b.after) b.broken }
+
+-- numbers that are the cards that break a rule
+abbrev pub AreBroken : Rule → List SpecCard → List ℕ → Type 0
+AreBroken r cards ns = (n : ℕ) → Contains ns n ↔ BreaksRule r cards n
+
+pub by-each : (r : Rule) (cards : List SpecCard) (ns : List ℕ) → each r [] cards [] ≡ ns → AreBroken r cards ns
+by-each r cards ns is n = subst (λ xs. Contains xs n ↔ BreaksRule r cards n) is (each-breaks r cards n)
+
+pub broken-same : (q r : Rule) (cards : List SpecCard) (ns : List ℕ) → ((before : List SpecCard) (c : SpecCard) (after : List SpecCard) → cards ≡ before ++ c ∷ after → q before c after ≡ r before c after) → AreBroken q cards ns → AreBroken r cards ns
+broken-same q r cards ns same are n =
+    ((λ has. breaks-same q r cards n same ((are n).0 has)), (λ b. (are n).1 (breaks-same r q cards n (λ before c after split. sym (same before c after split)) b)))
+
+pub broken-either : (q r : Rule) (cards : List SpecCard) (ms ns : List ℕ) → AreBroken q cards ms → AreBroken r cards ns → AreBroken (either q r) cards (ms ++ ns)
+broken-either q r cards ms ns left right n = ((λ has. to (Contains-append_cases ms ns n has)), (λ b. from (breaks-either q r cards n b)))
+  where
+    to : Contains ms n ⊎ Contains ns n → BreaksRule (either q r) cards n
+    to (inl has) = either-left q r cards n ((left n).0 has)
+    to (inr has) = either-right q r cards n ((right n).0 has)
+
+    from : BreaksRule q cards n ⊎ BreaksRule r cards n → Contains (ms ++ ns) n
+    from (inl b) = Contains-append_left ms ns n ((left n).1 b)
+    from (inr b) = Contains-append_right ms ns n ((right n).1 b)

@@ -1,0 +1,10 @@
+use Rattle.rpg_deck.specs.Steps.{steps_in}
+use Rattle.rpg_deck.specs.Tree.{tree}
+use Rattle.rpg_faults_tree.proofs.Counting.{front, labels_behind_front}
+use Rattle.rpg_faults_tree.proofs.Twice.{labels_of_steps}
+use Rattle.rpg_cards.specs.Labels.{labels}
+use Rattle.rpg_faults_tree.proofs.names.is_given.Goals as goal
+
+pub returns : goal.returns
+returns c = λ cards before after card found split counts.
+    c.is_given.ensures (steps_in (tree cards)) (labels (front before card after)) (labels_behind_front before card after) found.found.labels (labels_of_steps cards before card after found.ordered split) counts.labels

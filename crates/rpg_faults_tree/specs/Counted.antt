@@ -1,0 +1,27 @@
+-- How many labels and definitions the cards before a card have.
+use Rattle.std.specs.Prelude.{◌≡◌, List, ◌∷◌, ◌++◌, length, Bool, false, is_some}
+use Rattle.std.specs.Option.{option_map_or}
+use Rattle.rpg_cards.specs.Calculations.{calculations_before, card_ending}
+use Rattle.rpg_cards.specs.Deeds.{deed_of}
+use Rattle.rpg_cards.specs.Keys.{Name}
+use Rattle.rpg_cards.specs.Labels.{gives, label_named, labels}
+use Rattle.rpg_cards.specs.Names.{definitions}
+use Rattle.rpg_cards.specs.declared.spec_card.SpecCard.{SpecCard}
+use Rattle.rpg_faults_tree.specs.Marked.{AreBreaking}
+use Rattle.rpg_faults_tree.specs.declared.counts.Counts.{Counts}
+use Rattle.rpg_faults_tree.specs.declared.found.Found.{Found}
+
+-- those of the cards before, with the cards from the card on
+pub record AreCounts (before rest : List SpecCard) (c : Counts) : Type 0 where
+  pub labels : c.labels ≡ length (labels (calculations_before before rest))
+  pub definitions : c.definitions ≡ length (definitions before)
+
+-- a label or a subroutine's name is given on the card
+abbrev pub is_label_at : SpecCard → List SpecCard → Bool
+is_label_at c after = option_map_or (λ k. is_some (gives (deed_of k))) (card_ending c after) false
+
+-- whether a label or a subroutine before a card has the name, where this is found of its source and counted before it
+abbrev pub TellsGiven : Found → Counts → Name → Bool → Type 0
+TellsGiven f n name answer =
+    (cards before after : List SpecCard) → (c : SpecCard) → AreBreaking cards f → cards ≡ before ++ c ∷ after → AreCounts before (c ∷ after) n
+    → answer ≡ is_some (label_named name (labels (calculations_before before (c ∷ after))))

@@ -1,0 +1,70 @@
+-- Where the name of each label and subroutine is given first, and the calls that come back.
+use Rattle.std.specs.Prelude.{◌≡◌, ℕ, ◌+◌, ◌<◌, ◌==◌, List, length, get_or, Bool, ◌&&◌, nat_eq, nat_le, nat_lt, ◌-◌}
+use Rattle.std.specs.Cmp.Lexicographic.{pointwise}
+use Rattle.std.specs.Int.{bit_at}
+use Rattle.std.specs.List.{list_any}
+use Rattle.std.specs.Map.{lookup}
+use Rattle.rpg_cards.specs.Calls.{reaches, reaches_in}
+use Rattle.rpg_cards.specs.Keys.{Name}
+use Rattle.rpg_cards.specs.declared.labels.Label.{Label}
+use Rattle.rpg_cards.specs.Index.{first_at}
+use Rattle.rpg_deck.specs.Steps.{Step, calls_of_steps, labels_of_steps}
+use Rattle.rpg_faults_tree.specs.declared.labels.FirstLabel.{FirstLabel}
+use Rattle.rpg_faults_tree.specs.declared.labels.Labels.{Labels}
+use Rattle.rpg_faults_tree.specs.declared.labels.Target.{Target}
+
+-- ---- names
+
+-- the label has that name
+abbrev pub is_for : Name → Label → Bool
+is_for name l = pointwise nat_eq name l.named.name
+
+-- a label as a target of control
+abbrev pub target_of : Label → Target
+target_of l = record { is_subroutine = l.named.is_subroutine; section = l.section }
+
+-- a label, with its place among all that are given
+abbrev pub first_label : ℕ → Label → FirstLabel
+first_label i l = record { place = i; target = target_of l }
+
+-- each name with the first label that is given it
+abbrev pub IsLabelIndex : List (Name × FirstLabel) → List Label → Type 0
+IsLabelIndex names ls = (name : Name) → lookup (pointwise nat_eq name) names ≡ first_at (is_for name) first_label 0 ls
+
+-- ---- calls
+
+-- the numbers of the caller and of the callee
+abbrev pub Call : Type 0
+Call = ℕ × ℕ
+
+-- the same caller and the same callee
+abbrev pub same_call : Call → Call → Bool
+same_call p q = p.0 == q.0 && p.1 == q.1
+
+-- the calls whose callee reaches their caller
+abbrev pub AreCycles : List Call → List Call → Type 0
+AreCycles found all = (p : Call) → list_any (same_call p) found ≡ (list_any (same_call p) all && reaches all p.1 p.0)
+
+-- the labels of steps, and those of their calls that come back
+pub record AreLabelsOf (ss : List Step) (l : Labels) : Type 0 where
+  pub index : IsLabelIndex l.names.entries (labels_of_steps ss)
+  pub cycles : AreCycles l.cycles.items (calls_of_steps ss)
+
+-- ---- which subroutines reach which, 64 of them at a time: each is a bit of a word
+
+-- all numbers of callers and callees are below the count
+abbrev pub AreBelow : ℕ → List Call → Type 0
+AreBelow count all = (k : ℕ) → k < length all → ((get_or all k (0, 0)).0 < count) × ((get_or all k (0, 0)).1 < count)
+
+-- bit i of the word is set
+abbrev pub has_word_bit : ℕ → ℕ → Bool
+has_word_bit word i = bit_at word i == 1
+
+-- a subroutine that is one of the 64 from `first` on
+abbrev pub is_in_word : ℕ → ℕ → Bool
+is_in_word first x = nat_le first x && nat_lt (x - first) 64
+
+-- by at most so many calls
+pub record IsReaching (steps : ℕ) (all : List Call) (first count : ℕ) (words : List ℕ) : Type 0 where
+  pub each_has : length words ≡ count
+  pub reaching : (x i : ℕ) → x < count → i < 64 → has_word_bit (get_or words x 0) i ≡ reaches_in steps all x (first + i)

@@ -1,0 +1,55 @@
+-- What the rules of a tree find, as sets of cards.
+use Rattle.std.specs.Prelude.{◌≡◌, ℕ, List, ◌∷◌, ◌++◌, Bool, false, ◌||◌, get_or, nat_eq}
+use Rattle.std.specs.List.{list_any}
+use Rattle.rpg_cards.specs.Cards.{Numbered}
+use Rattle.rpg_cards.specs.declared.spec_card.SpecCard.{SpecCard}
+use Rattle.rpg_deck.specs.Flat.{IsInOrder}
+use Rattle.rpg_deck.specs.Steps.{steps_in}
+use Rattle.rpg_deck.specs.Tree.{Tree, tree}
+use Rattle.rpg_faults_flow.specs.Flow as goals
+use Rattle.rpg_faults_flow.specs.Kept.{Rule}
+use Rattle.rpg_faults_flow.specs.Order as flow
+use Rattle.rpg_faults_limits.specs.Order.{is_stray}
+use Rattle.rpg_faults_tree.specs.Index.{AreLabelsOf}
+use Rattle.rpg_faults_tree.specs.Rules.{leaving_cards, lost_cards, misplaced_cards, recursive_cards, wrongly_rounding_cards}
+use Rattle.rpg_faults_tree.specs.declared.card_set.CardSet.{CardSet}
+use Rattle.rpg_faults_tree.specs.declared.found.Found.{Found}
+
+-- the set has just these numbers
+abbrev pub AreMarked : CardSet → List ℕ → Type 0
+AreMarked set numbers = (n : ℕ) → get_or set.marks.items n false ≡ list_any (nat_eq n) numbers
+
+-- just the cards of a tree that break each rule
+pub record AreBreakingIn (t : Tree) (f : Found) : Type 0 where
+  pub labels : AreLabelsOf (steps_in t) f.labels
+  pub lost : AreMarked f.lost (lost_cards t)
+  pub misplaced : AreMarked f.misplaced (misplaced_cards t)
+  pub leaving : AreMarked f.leaving (leaving_cards t)
+  pub recursive : AreMarked f.recursive (recursive_cards t)
+  pub wrongly_rounding : AreMarked f.wrongly_rounding (wrongly_rounding_cards t)
+
+-- just the cards of a source that break each rule
+pub record AreBreaking (cards : List SpecCard) (f : Found) : Type 0 where
+  pub numbered : Numbered 1 cards
+  pub ordered : IsInOrder 0 cards
+  pub found : AreBreakingIn (tree cards) f
+
+-- whether the card breaks the rule, where this is found of its source
+abbrev pub Tells : Rule → Found → SpecCard → Bool → Type 0
+Tells r f c answer = (cards before after : List SpecCard) → AreBreaking cards f → cards ≡ before ++ c ∷ after → answer ≡ r before c after
+
+-- F12 of C cards, and of I and O cards
+abbrev pub breaks_order : Rule
+breaks_order before c after = flow.breaks_order before c after || is_stray before c
+
+-- F10
+abbrev pub goes_nowhere : Rule
+goes_nowhere before c after = goals.goes_nowhere (before ++ c ∷ after) before c after
+
+-- F13
+abbrev pub goes_apart : Rule
+goes_apart before c after = goals.goes_apart (before ++ c ∷ after) before c after
+
+-- F14
+abbrev pub calls_itself : Rule
+calls_itself before c after = goals.calls_itself (before ++ c ∷ after) before c after

@@ -1,0 +1,57 @@
+-- F10, F12, F13, F14 and F15 as rules of a tree: for each the numbers of the cards that break it.
+use Rattle.std.specs.Prelude.{◌↔◌, ℕ, List, Contains, Bool, false, not}
+use Rattle.std.specs.Option.{option_map_or}
+use Rattle.rpg_cards.specs.Labels.{label_named, wants}
+use Rattle.rpg_cards.specs.declared.labels.Label.{Label}
+use Rattle.rpg_cards.specs.declared.labels.Named.{Named}
+use Rattle.rpg_cards.specs.declared.labels.Section.{Section}
+use Rattle.rpg_cards.specs.declared.spec_card.SpecCard.{SpecCard}
+use Rattle.rpg_deck.specs.Flat.{IsInOrder}
+use Rattle.rpg_deck.specs.Steps.{Step, call_of, calls_of_steps, deed, labels_of_steps, steps_in}
+use Rattle.rpg_deck.specs.Tree.{Tree, tree}
+use Rattle.rpg_faults_tree.specs.Numbers.{at_operations}
+use Rattle.rpg_faults_tree.specs.Order.{out_of_order}
+use Rattle.rpg_faults_tree.specs.Rounding.{wrong_from}
+use Rattle.rpg_faults_tree.specs.Breaks.{BreaksRule}
+use Rattle.rpg_faults_flow.specs.Flow.{comes_back, is_given_as, leaves_by}
+use Rattle.rpg_faults_flow.specs.Kept.{Rule}
+
+-- of cards in the order of the sheets, the list of their tree has just the numbers of those that break the rule
+abbrev pub Finds : (Tree → List ℕ) → Rule → Type 0
+Finds list r = (cards : List SpecCard) → IsInOrder 0 cards → (number : ℕ) → Contains (list (tree cards)) number ↔ BreaksRule r cards number
+
+-- a GOTO to a label, or an EXSR of a subroutine, that isn't given
+abbrev pub step_goes_nowhere : List Label → Step → Bool
+step_goes_nowhere given s = option_map_or (λ n. not (is_given_as given n)) (wants (deed s)) false
+
+-- F10: the cards with a GOTO or an EXSR to what isn't given
+abbrev pub lost_cards : Tree → List ℕ
+lost_cards t = at_operations (λ s after. step_goes_nowhere (labels_of_steps (steps_in t)) s) (steps_in t)
+
+-- F12: the cards that begin a misplaced calculation or have an unpaired BEGSR or ENDSR, and I and O cards that need one before them
+abbrev pub misplaced_cards : Tree → List ℕ
+misplaced_cards t = out_of_order (steps_in t) t.types t.lines
+
+-- a GOTO from that section to that name leaves the section
+abbrev pub name_leaves : List Label → Section → Named → Bool
+name_leaves given own n = option_map_or (leaves_by own n) (label_named n.name given) false
+
+-- a GOTO to a label of another section
+abbrev pub step_leaves_section : List Label → Step → Bool
+step_leaves_section given s = option_map_or (name_leaves given s.section) (wants (deed s)) false
+
+-- F13: the cards with a GOTO to another section
+abbrev pub leaving_cards : Tree → List ℕ
+leaving_cards t = at_operations (λ s after. step_leaves_section (labels_of_steps (steps_in t)) s) (steps_in t)
+
+-- a call of a subroutine that reaches the one it is made in
+abbrev pub calls_back : List Label → List (ℕ × ℕ) → Step → Bool
+calls_back given all s = comes_back all (call_of given s)
+
+-- F14: the cards with a call that leads back to its own subroutine
+abbrev pub recursive_cards : Tree → List ℕ
+recursive_cards t = at_operations (λ s after. calls_back (labels_of_steps (steps_in t)) (calls_of_steps (steps_in t)) s) (steps_in t)
+
+-- F15: the cards with H where nothing is rounded, or MVR without a division
+abbrev pub wrongly_rounding_cards : Tree → List ℕ
+wrongly_rounding_cards t = wrong_from false t.calculations

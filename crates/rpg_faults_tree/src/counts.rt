@@ -1,0 +1,78 @@
+//! How many labels and names are given before a card.
+
+ghost use Rattle.std.specs.Prelude.{◌≡◌, ◌≤◌, [], ◌∷◌, ◌++◌, List, length};
+ghost use Rattle.std.specs.Option.{option_to_list};
+ghost use Rattle.rpg_cards.specs.Names as names;
+ghost use Rattle.rpg_cards.specs.declared.spec_card.SpecCard.{SpecCard};
+ghost use Rattle.rpg_faults_tree.specs.Counted as counted;
+ghost use Rattle.rpg_faults_tree.specs.Counted.{AreCounts};
+
+use rpg_cards::{SpecCard, gives, last_card};
+use rpg_sheet_specs::{CalculationSpec, InputSpec, Spec};
+
+/// How many are given before a card.
+#[derive(Clone, Copy)]
+pub struct Counts {
+    /// Labels and names of subroutines.
+    pub(crate) labels: u16,
+    /// Definitions of names.
+    pub(crate) definitions: u16,
+}
+
+impl Counts {
+    /// Before all cards.
+    pub fn nothing() -> Self
+        ensures { (cards : List SpecCard) → AreCounts [] cards result }
+    {
+        Counts {
+            labels: 0,
+            definitions: 0,
+        }
+    }
+
+    /// The same with one more card, given the cards after it.
+    pub fn with(self, before: &[SpecCard], card: &SpecCard, after: &[SpecCard]) -> Self
+        requires few { length before.now ≤ 2000 }
+        requires counts { AreCounts before.now (card.now ∷ after.now) self }
+        ensures { AreCounts (before.now ++ card.now ∷ []) after.now result }
+    {
+        Counts {
+            labels: self.labels + u16::from(is_label_at(card, after)),
+            definitions: self.definitions + definition_count(card),
+        }
+    }
+}
+
+/// Whether a card ends its group and gives a name.
+fn is_label_at(card: &SpecCard, after: &[SpecCard]) -> bool
+    ensures { result ≡ counted.is_label_at card.now after.now }
+{
+    match last_card(card, after) {
+        None => false,
+        Some(calculation) => gives(calculation).is_some(),
+    }
+}
+
+/// How many names a card defines, without their forms.
+fn definition_count(card: &SpecCard) -> u16
+    ensures { result ≡ length (names.definitions_on card.now.spec) }
+{
+    match &card.spec {
+        Spec::Extension(extension) => match &extension.alternating {
+            None => 1,
+            Some(_) => 2,
+        },
+        Spec::Input(InputSpec::Field(_)) => 1,
+        Spec::Calculation(calculation) => result_count(calculation),
+        _ => 0,
+    }
+}
+
+fn result_count(calculation: &CalculationSpec) -> u16
+    ensures { result ≡ length (option_to_list (names.definition_by calculation.now)) }
+{
+    match (&calculation.length, &calculation.result_field) {
+        (Some(_), Some(_)) => 1,
+        _ => 0,
+    }
+}

@@ -1,0 +1,100 @@
+//! What the rules of a tree find.
+
+ghost use Rattle.std.specs.Prelude.{◌≤◌, length, IfOk};
+ghost use Rattle.rpg_cards.specs.Cards.{Numbered};
+ghost use Rattle.rpg_deck.specs.Flat.{IsInOrder};
+ghost use Rattle.rpg_deck.specs.Seen.{tree_in};
+ghost use Rattle.rpg_faults_flow.specs.Rounding.{bad_rounding};
+ghost use Rattle.rpg_faults_tree.specs.Marked as marked;
+ghost use Rattle.rpg_faults_tree.specs.Marked.{AreBreaking, AreBreakingIn};
+
+use crate::card_set::CardSet;
+use crate::labels::Labels;
+use crate::order::misplaced_cards;
+use crate::rounding::wrongly_rounding_cards;
+use crate::targets::{leaving_cards, lost_cards, recursive_cards};
+use rpg_cards::SpecCard;
+use rpg_deck::{Deck, Tree, steps_of};
+use std::alloc::{AllocError, Global};
+
+/// The cards that break F10 and F12 to F15, and an index of the labels.
+#[derive(Drop)]
+pub struct Found {
+    pub(crate) labels: Labels,
+    pub(crate) lost: CardSet,
+    pub(crate) misplaced: CardSet,
+    pub(crate) leaving: CardSet,
+    pub(crate) recursive: CardSet,
+    pub(crate) wrongly_rounding: CardSet,
+}
+
+impl Found {
+    pub fn new(alloc: Global, cards: &[SpecCard]) -> Result<Self, AllocError>
+        requires numbered { Numbered 1 cards.now }
+        requires ordered { IsInOrder 0 cards.now }
+        requires few { length cards.now ≤ 2000 }
+        ensures { IfOk result (λ found. AreBreaking cards.now found) }
+    {
+        let deck = Deck::new(alloc, cards)?;
+        let tree = Tree::of(alloc, &deck)?;
+        found_in(alloc, &tree)
+    }
+
+    /// F10.
+    pub fn goes_nowhere(&self, card: &SpecCard) -> bool
+        ensures { marked.Tells marked.goes_nowhere self.now card.now result }
+    {
+        self.lost.has(card.number)
+    }
+
+    /// F12.
+    pub fn breaks_order(&self, card: &SpecCard) -> bool
+        ensures { marked.Tells marked.breaks_order self.now card.now result }
+    {
+        self.misplaced.has(card.number)
+    }
+
+    /// F13.
+    pub fn goes_apart(&self, card: &SpecCard) -> bool
+        ensures { marked.Tells marked.goes_apart self.now card.now result }
+    {
+        self.leaving.has(card.number)
+    }
+
+    /// F14.
+    pub fn calls_itself(&self, card: &SpecCard) -> bool
+        ensures { marked.Tells marked.calls_itself self.now card.now result }
+    {
+        self.recursive.has(card.number)
+    }
+
+    /// F15.
+    pub fn rounds_wrongly(&self, card: &SpecCard) -> bool
+        ensures { marked.Tells bad_rounding self.now card.now result }
+    {
+        self.wrongly_rounding.has(card.number)
+    }
+}
+
+fn found_in(alloc: Global, tree: &Tree) -> Result<Found, AllocError>
+    requires { length tree.now.calculations.items ≤ 2000 }
+    ensures { IfOk result (λ found. AreBreakingIn (tree_in tree.now) found) }
+{
+    let groups = tree.calculations.as_slice();
+    let steps = steps_of(alloc, groups)?;
+    let steps = steps.as_slice();
+    let labels = Labels::new(alloc, steps)?;
+    let lost = lost_cards(alloc, &labels, steps)?;
+    let misplaced = misplaced_cards(alloc, steps, &tree.types, &tree.lines)?;
+    let leaving = leaving_cards(alloc, &labels, steps)?;
+    let recursive = recursive_cards(alloc, &labels, steps)?;
+    let wrongly_rounding = wrongly_rounding_cards(alloc, groups)?;
+    Ok(Found {
+        labels,
+        lost: CardSet::of(alloc, lost.as_slice())?,
+        leaving: CardSet::of(alloc, leaving.as_slice())?,
+        recursive: CardSet::of(alloc, recursive.as_slice())?,
+        misplaced: CardSet::of(alloc, misplaced.as_slice())?,
+        wrongly_rounding: CardSet::of(alloc, wrongly_rounding.as_slice())?,
+    })
+}

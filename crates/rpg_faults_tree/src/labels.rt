@@ -1,0 +1,181 @@
+//! The labels and subroutines of a source, and the calls between them.
+
+ghost use Rattle.std.specs.Prelude.{◌≡◌, ◌≤◌, ◌++◌, Contains, List, length, map, nat_eq, None, Some, is_some, if◌then◌else◌, IfOk, OnOk};
+ghost use Rattle.std.specs.Cmp.Lexicographic.{pointwise};
+ghost use Rattle.std.specs.Map.{lookup};
+ghost use Rattle.std.specs.Option.{option_map, option_or, option_to_list};
+ghost use Rattle.rpg_cards.specs.Calls as calls_of;
+ghost use Rattle.rpg_cards.specs.Keys.{Name};
+ghost use Rattle.rpg_cards.specs.Labels as labels;
+ghost use Rattle.rpg_cards.specs.declared.labels.Label.{Label};
+ghost use Rattle.rpg_deck.specs.Seen.{step_in};
+ghost use Rattle.rpg_deck.specs.Steps as steps_of;
+ghost use Rattle.rpg_faults_tree.specs.Index as index;
+ghost use Rattle.rpg_faults_tree.specs.Rules as rules;
+
+use crate::cycles::{cycles, has_call};
+use rpg_cards::{Named, Section, gives, wants};
+use rpg_deck::{Step, last_card};
+use rpg_symbols::Name;
+use std::alloc::{AllocError, Global};
+use std::collections::HashMap;
+
+/// What a name means as a target of control.
+#[derive(Clone, Copy)]
+pub(crate) struct Target {
+    pub is_subroutine: bool,
+    pub section: Section,
+}
+
+/// The first label or subroutine of a name, and its place among all that are given.
+#[derive(Clone, Copy)]
+pub(crate) struct FirstLabel {
+    pub place: u16,
+    pub target: Target,
+}
+
+/// An index of the labels and subroutines of a source.
+#[derive(Drop)]
+pub struct Labels {
+    pub(crate) names: HashMap<Name, FirstLabel>,
+    /// The calls, by caller and callee, whose callee reaches their caller.
+    pub(crate) cycles: Vec<(u16, u16)>,
+}
+
+impl Labels {
+    /// Finds the first label of each name, and the calls that come back.
+    pub(crate) fn new(alloc: Global, steps: &[Step]) -> Result<Self, AllocError>
+        requires { length steps.now ≤ 2000 }
+        ensures { IfOk result (index.AreLabelsOf (map step_in steps.now)) }
+    {
+        let names = names_of(alloc, steps)?;
+        let calls = calls_of(alloc, &names, steps)?;
+        let cycles = cycles(alloc, calls.as_slice())?;
+        Ok(Labels { names, cycles })
+    }
+
+    /// What the first label of a name is.
+    pub(crate) fn target(&self, name: &Name) -> Option<Target>
+        ensures { (ss : List steps_of.Step) → index.AreLabelsOf ss self.now → result ≡ option_map index.target_of (labels.label_named name.now (steps_of.labels_of_steps ss)) }
+    {
+        target_in(&self.names, name)
+    }
+
+    /// Whether a name is given by so many labels at the front.
+    pub fn is_given(&self, name: &Name, count: u16) -> bool
+        ensures { (ss : List steps_of.Step) → (front behind : List Label) → index.AreLabelsOf ss self.now → steps_of.labels_of_steps ss ≡ front ++ behind → count ≡ length front → result ≡ is_some (labels.label_named name.now front) }
+    {
+        match self.names.get(name) {
+            None => false,
+            Some(first) => first.place < count,
+        }
+    }
+
+    /// Whether a step makes a call whose callee reaches its caller.
+    pub(crate) fn calls_back(&self, step: &Step) -> bool
+        ensures { (ss : List steps_of.Step) → index.AreLabelsOf ss self.now → Contains ss (step_in step.now) → result ≡ rules.calls_back (steps_of.labels_of_steps ss) (steps_of.calls_of_steps ss) (step_in step.now) }
+    {
+        match call_in(&self.names, step) {
+            None => false,
+            Some(call) => has_call(self.cycles.as_slice(), call),
+        }
+    }
+}
+
+/// Each name with its first label.
+fn names_of(alloc: Global, steps: &[Step]) -> Result<HashMap<Name, FirstLabel>, AllocError>
+    requires { length steps.now ≤ 2000 }
+    ensures { IfOk result (λ names. index.IsLabelIndex names.entries (steps_of.labels_of_steps (map step_in steps.now))) }
+{
+    let mut names = HashMap::new(alloc);
+    let mut place = 0;
+    for step in steps {
+        let Some(named) = gives(last_card(step.group).spec) else {
+            continue;
+        };
+        let target = Target {
+            is_subroutine: named.is_subroutine,
+            section: step.section,
+        };
+        note(&mut names, named.name, FirstLabel { place, target })?;
+        place += 1;
+    }
+    Ok(names)
+}
+
+/// Puts a label at a name that has none.
+fn note(
+    names: &mut HashMap<Name, FirstLabel>,
+    name: Name,
+    label: FirstLabel,
+) -> Result<(), AllocError>
+    ensures { OnOk result ((q : Name) → lookup (pointwise nat_eq q) names.new.entries ≡ option_or (lookup (pointwise nat_eq q) names.old.entries) (if pointwise nat_eq q name then Some label else None)) }
+{
+    if names.contains_key(&name) {
+        return Ok(());
+    }
+    names.insert(name, label)?;
+    Ok(())
+}
+
+fn target_in(names: &HashMap<Name, FirstLabel>, name: &Name) -> Option<Target>
+    ensures { (ls : List Label) → index.IsLabelIndex names.now.entries ls → result ≡ option_map index.target_of (labels.label_named name.now ls) }
+{
+    Some(names.get(name)?.target)
+}
+
+/// All calls in subroutines, by caller and callee.
+fn calls_of(
+    alloc: Global,
+    names: &HashMap<Name, FirstLabel>,
+    steps: &[Step],
+) -> Result<Vec<(u16, u16)>, AllocError>
+    requires { index.IsLabelIndex names.now.entries (steps_of.labels_of_steps (map step_in steps.now)) }
+    ensures { IfOk result (λ calls. calls.items ≡ steps_of.calls_of_steps (map step_in steps.now)) }
+{
+    let mut calls = Vec::new(alloc);
+    for step in steps {
+        add_call(&mut calls, call_in(names, step))?;
+    }
+    Ok(calls)
+}
+
+/// One more call, if there is one.
+fn add_call(calls: &mut Vec<(u16, u16)>, call: Option<(u16, u16)>) -> Result<(), AllocError>
+    ensures { OnOk result (calls.new.items ≡ calls.old.items ++ option_to_list call) }
+{
+    if let Some(call) = call {
+        calls.push(call)?;
+    }
+    Ok(())
+}
+
+/// The call of a step in a subroutine.
+fn call_in(names: &HashMap<Name, FirstLabel>, step: &Step) -> Option<(u16, u16)>
+    ensures { (ls : List Label) → index.IsLabelIndex names.now.entries ls → result ≡ steps_of.call_of ls (step_in step.now) }
+{
+    let caller = subroutine_in(step.section)?;
+    let callee = called(names, &wants(last_card(step.group).spec)?)?;
+    Some((caller, callee))
+}
+
+fn subroutine_in(section: Section) -> Option<u16>
+    ensures { result ≡ calls_of.subroutine_in section }
+{
+    match section {
+        Section::Subroutine(number) => Some(number),
+        Section::Detail | Section::Total | Section::Outside => None,
+    }
+}
+
+/// The number of the subroutine that is called.
+fn called(names: &HashMap<Name, FirstLabel>, wanted: &Named) -> Option<u16>
+    ensures { (ls : List Label) → index.IsLabelIndex names.now.entries ls → result ≡ calls_of.called_subroutine ls wanted.now }
+{
+    let target = target_in(names, &wanted.name)?;
+    if wanted.is_subroutine && target.is_subroutine {
+        subroutine_in(target.section)
+    } else {
+        None
+    }
+}

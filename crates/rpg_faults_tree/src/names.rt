@@ -1,0 +1,116 @@
+//! F11: a name that is given twice, to labels, subroutines or fields.
+
+ghost use Rattle.std.specs.Prelude.{◌≡◌, ◌∷◌, ◌++◌, false};
+ghost use Rattle.std.specs.Option.{option_and_then, option_map_or};
+ghost use Rattle.rpg_cards.specs.Calculations as calculations;
+ghost use Rattle.rpg_cards.specs.Deeds as deeds;
+ghost use Rattle.rpg_cards.specs.Labels as labels_of;
+ghost use Rattle.rpg_faults_flow.specs.Flow as spec;
+ghost use Rattle.rpg_faults_flow.specs.Marks as marks;
+ghost use Rattle.rpg_faults_tree.specs.Counted.{AreCounts, TellsGiven};
+ghost use Rattle.rpg_faults_tree.specs.Marked.{AreBreaking};
+
+use crate::counts::Counts;
+use crate::found::Found;
+use rpg_cards::{IndexedCards, Named, SpecCard, gives, last_card};
+use rpg_sheet_specs::ColumnRange;
+use rpg_symbols::Name;
+
+/// F11, at the later of the two cards.
+pub fn names_twice(
+    source: &IndexedCards,
+    found: &Found,
+    counts: &Counts,
+    before: &[SpecCard],
+    card: &SpecCard,
+    after: &[SpecCard],
+) -> bool
+    requires split { source.now ≡ before.now ++ card.now ∷ after.now }
+    requires found { AreBreaking source.now found.now }
+    requires counts { AreCounts before.now (card.now ∷ after.now) counts.now }
+    ensures { result ≡ spec.names_twice before.now card.now after.now }
+{
+    gives_again(source, found, counts, before, card, after)
+        || defines_label(source, found, counts, before, card, after)
+}
+
+/// F11: the name of the label or the subroutine, or of the field.
+pub fn twice_range(
+    source: &IndexedCards,
+    found: &Found,
+    counts: &Counts,
+    before: &[SpecCard],
+    card: &SpecCard,
+    after: &[SpecCard],
+) -> ColumnRange
+    requires split { source.now ≡ before.now ++ card.now ∷ after.now }
+    requires found { AreBreaking source.now found.now }
+    requires counts { AreCounts before.now (card.now ∷ after.now) counts.now }
+    ensures { result ≡ marks.twice_range before.now card.now after.now }
+{
+    if gives_again(source, found, counts, before, card, after) {
+        ColumnRange::FirstFactor
+    } else {
+        ColumnRange::ResultName
+    }
+}
+
+/// Whether a label or a subroutine has a name that is given before, or that is a field's by then.
+fn gives_again(
+    source: &IndexedCards,
+    found: &Found,
+    counts: &Counts,
+    before: &[SpecCard],
+    card: &SpecCard,
+    after: &[SpecCard],
+) -> bool
+    requires split { source.now ≡ before.now ++ card.now ∷ after.now }
+    requires found { AreBreaking source.now found.now }
+    requires counts { AreCounts before.now (card.now ∷ after.now) counts.now }
+    ensures { result ≡ option_map_or (spec.gives_again before.now card.now after.now) (calculations.calculation_ending before.now card.now after.now) false }
+{
+    match name_given(card, after) {
+        None => false,
+        Some(given) => {
+            let definitions = usize::from(counts.definitions) + card.definitions().len();
+            is_given(found, counts, &given.name) || !source.is_new_name(definitions, &given.name)
+        }
+    }
+}
+
+/// Whether a name is given to a label or a subroutine before a card.
+fn is_given(found: &Found, counts: &Counts, name: &Name) -> bool
+    ensures { TellsGiven found.now counts.now name.now result }
+{
+    found.labels.is_given(name, counts.labels)
+}
+
+/// The name of the label or the subroutine that is given on a card.
+fn name_given(card: &SpecCard, after: &[SpecCard]) -> Option<Named>
+    ensures { result ≡ option_and_then (λ k. labels_of.gives (deeds.deed_of k)) (calculations.card_ending card.now after.now) }
+{
+    gives(last_card(card, after)?)
+}
+
+/// Whether a card defines a field whose name is given before.
+fn defines_label(
+    source: &IndexedCards,
+    found: &Found,
+    counts: &Counts,
+    before: &[SpecCard],
+    card: &SpecCard,
+    after: &[SpecCard],
+) -> bool
+    requires split { source.now ≡ before.now ++ card.now ∷ after.now }
+    requires found { AreBreaking source.now found.now }
+    requires counts { AreCounts before.now (card.now ∷ after.now) counts.now }
+    ensures { result ≡ spec.defines_label (labels_of.labels (calculations.calculations_before before.now (card.now ∷ after.now))) card.now }
+{
+    let definitions = card.definitions();
+    for definition in definitions.as_slice() {
+        if is_given(found, counts, &definition.name) {
+            return true;
+        }
+    }
+    false
+}

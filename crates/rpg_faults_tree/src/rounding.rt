@@ -1,0 +1,79 @@
+//! F15: H where nothing is rounded, and MVR where no division has left a remainder.
+
+ghost use Rattle.std.specs.Prelude.{◌≡◌, ◌++◌, false, map, IfOk, OnOk};
+ghost use Rattle.rpg_deck.specs.Seen.{group_in, card_in_memory};
+ghost use Rattle.rpg_faults_flow.specs.Rounding as flow;
+ghost use Rattle.rpg_faults_tree.specs.Rounding as rounding;
+
+use crate::numbers::add;
+use rpg_cards::{columns, joins};
+use rpg_deck::{Card, Group, last_card};
+use rpg_sheet_specs::{CalculationSpec, Operation};
+use std::alloc::{AllocError, Global};
+
+/// F15: the cards that round wrongly.
+pub(crate) fn wrongly_rounding_cards(
+    alloc: Global,
+    groups: &[Group<CalculationSpec>],
+) -> Result<Vec<u16>, AllocError>
+    ensures { IfOk result (λ found. found.items ≡ rounding.wrong_from false (map group_in groups.now)) }
+{
+    let mut found = Vec::new(alloc);
+    let mut is_after_division = false;
+    for group in groups {
+        push_wrong(&mut found, is_after_division, group.first, group.followers)?;
+        is_after_division = leaves_remainder(last_card(group).spec);
+    }
+    Ok(found)
+}
+
+/// Those of a group.
+fn push_wrong<'deck, 'source>(
+    found: &mut Vec<u16>,
+    is_after_division: bool,
+    first: &'deck Card<&'source CalculationSpec>,
+    followers: &'deck [Card<&'source CalculationSpec>],
+) -> Result<(), AllocError>
+    ensures { OnOk result (found.new.items ≡ found.old.items ++ rounding.wrong_in is_after_division (card_in_memory first.now) (map card_in_memory followers.now)) }
+{
+    let mut card = first;
+    for next in followers {
+        add(found, card.spec.half_adjust, card.number)?;
+        card = next;
+    }
+    add(
+        found,
+        rounds_wrongly(is_after_division, card.spec),
+        card.number,
+    )
+}
+
+/// Whether a card with an operation has H that isn't allowed, or MVR without a division right before.
+fn rounds_wrongly(is_after_division: bool, calculation: &CalculationSpec) -> bool
+    ensures { result ≡ rounding.breaks_rounding_rule is_after_division calculation.now }
+{
+    (calculation.half_adjust && !may_half_adjust(calculation))
+        || (is_remainder(calculation) && (joins(calculation) || !is_after_division))
+}
+
+fn may_half_adjust(calculation: &CalculationSpec) -> bool
+    ensures { result ≡ flow.operation_passes flow.may_half_adjust calculation.now }
+{
+    match calculation.operation {
+        None => false,
+        Some(operation) => columns(operation).may_half_adjust,
+    }
+}
+
+fn is_remainder(calculation: &CalculationSpec) -> bool
+    ensures { result ≡ flow.operation_passes flow.is_remainder calculation.now }
+{
+    calculation.operation == Some(Operation::MoveRemainder)
+}
+
+/// Whether it is a division without H.
+fn leaves_remainder(calculation: &CalculationSpec) -> bool
+    ensures { result ≡ flow.leaves_remainder calculation.now }
+{
+    calculation.operation == Some(Operation::Divide) && !calculation.half_adjust
+}

@@ -1,0 +1,128 @@
+//! F12 of I and O cards: cards that need one before them.
+
+ghost use Rattle.std.specs.Prelude.{◌≡◌, ◌++◌, Bool, map, OnOk};
+ghost use Rattle.rpg_deck.specs.Seen.{card_in_memory, sheet_in};
+ghost use Rattle.rpg_faults_limits.specs.Order as limits;
+ghost use Rattle.rpg_faults_tree.specs.Order as order;
+ghost use Rattle.rpg_faults_limits.specs.Limits.{is_output_field};
+
+use crate::numbers::add;
+use rpg_deck::{Card, Sheet};
+use rpg_sheet_specs::{InputSpec, OutputSpec};
+use std::alloc::AllocError;
+
+/// A card of a sheet with groups.
+pub(crate) trait Joined: Drop {
+    ghost joins: { Self → Bool };
+
+    ghost takes: { Self → Bool };
+
+    ghost is_field: { Self → Bool };
+
+    /// Whether it goes on with the card right before it.
+    fn joins(&self) -> bool
+        ensures { result ≡ joins self.now };
+
+    /// Whether such a card may come right after it.
+    fn takes(&self) -> bool
+        ensures { result ≡ takes self.now };
+
+    fn is_field(&self) -> bool
+        ensures { result ≡ is_field self.now };
+}
+
+/// AND cards go on with the codes of a record type.
+impl Joined for InputSpec {
+    ghost joins = { order.is_and };
+
+    ghost takes = { limits.takes_codes };
+
+    ghost is_field = { order.is_input_field };
+
+    fn joins(&self) -> bool {
+        matches!(self, InputSpec::And(_))
+    }
+
+    fn takes(&self) -> bool {
+        matches!(self, InputSpec::Type(_) | InputSpec::And(_))
+    }
+
+    fn is_field(&self) -> bool {
+        matches!(self, InputSpec::Field(_))
+    }
+}
+
+/// AND and OR cards go on with the conditions of a line.
+impl Joined for OutputSpec {
+    ghost joins = { order.is_and_or };
+
+    ghost takes = { limits.takes_conditions };
+
+    ghost is_field = { is_output_field };
+
+    fn joins(&self) -> bool {
+        matches!(self, OutputSpec::And(_) | OutputSpec::Or(_))
+    }
+
+    fn takes(&self) -> bool {
+        matches!(
+            self,
+            OutputSpec::Record(_) | OutputSpec::And(_) | OutputSpec::Or(_)
+        )
+    }
+
+    fn is_field(&self) -> bool {
+        matches!(self, OutputSpec::Field(_))
+    }
+}
+
+/// The cards of a sheet that need one before them.
+pub(crate) fn push_strays<X: Joined>(
+    found: &mut Vec<u16>,
+    sheet: &Sheet<X>,
+) -> Result<(), AllocError>
+    ensures { OnOk result (found.new.items ≡ found.old.items ++ order.strays_in X.joins X.takes X.is_field (sheet_in sheet.now)) }
+{
+    push_cut_off(found, false, sheet.strays)?;
+    push_cut_off_followers(found, sheet)?;
+    push_fields(found, sheet.strays)
+}
+
+/// Those that go on with the card right before them, where it takes none such. Whether one may come first is given.
+fn push_cut_off<X: Joined>(
+    found: &mut Vec<u16>,
+    is_first_taken: bool,
+    cards: &[Card<&X>],
+) -> Result<(), AllocError>
+    ensures { OnOk result (found.new.items ≡ found.old.items ++ order.cut_off X.joins X.takes is_first_taken (map card_in_memory cards.now)) }
+{
+    let mut is_taken = is_first_taken;
+    for card in cards {
+        add(found, card.spec.joins() && !is_taken, card.number)?;
+        is_taken = card.spec.takes();
+    }
+    Ok(())
+}
+
+/// Those among the followers of the groups.
+fn push_cut_off_followers<X: Joined>(
+    found: &mut Vec<u16>,
+    sheet: &Sheet<X>,
+) -> Result<(), AllocError>
+    ensures { OnOk result (found.new.items ≡ found.old.items ++ order.cut_off_followers X.joins X.takes (sheet_in sheet.now).groups) }
+{
+    for group in &sheet.groups {
+        push_cut_off(found, true, group.followers)?;
+    }
+    Ok(())
+}
+
+/// Fields.
+fn push_fields<X: Joined>(found: &mut Vec<u16>, cards: &[Card<&X>]) -> Result<(), AllocError>
+    ensures { OnOk result (found.new.items ≡ found.old.items ++ order.passing_numbers X.is_field (map card_in_memory cards.now)) }
+{
+    for card in cards {
+        add(found, card.spec.is_field(), card.number)?;
+    }
+    Ok(())
+}
