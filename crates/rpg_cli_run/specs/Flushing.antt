@@ -5,7 +5,7 @@ use Rattle.rpg_cli_answers.specs.declared.answer.Answer.{Answer}
 use Rattle.rpg_cli_answers.specs.declared.answer.Answer.TheVariants as answers
 use Rattle.rpg_cli_files.specs.declared.files.FileFault.{FileFault}
 use Rattle.rpg_cli_words.specs.declared.request.FileWord.TheVariants as words
-use Rattle.rpg_engine.specs.Devices.{held}
+use Rattle.rpg_engine.specs.Devices.{file_contents}
 use Rattle.rpg_engine.specs.Faults.{write_faults}
 use Rattle.rpg_engine.specs.declared.files.OutputFile.{OutputFile}
 use Rattle.rpg_engine.specs.declared.files.OutputFile.TheVariants.{Print, Disk}
@@ -36,4 +36,4 @@ pub record Flushes {P D : Type 0} (contents : P → Option (List ℕ)) (stored :
   pub file : Flush
   pub answer : given ≡ flushed report printer file
   pub counts : (written : OutputFile) → write_faults after written ≡ flush_faults printer file written (write_faults before written)
-  pub kept : (file : OutputFile) → Keeps (held contents stored before file) (held contents stored after file)
+  pub kept : (file : OutputFile) → Keeps (file_contents contents stored before file) (file_contents contents stored after file)

@@ -4,7 +4,7 @@ use Rattle.std.proofs.KnownBytes.{Appends-kept}
 use Rattle.std.specs.Io.KnownBytes.{Keeps}
 use Rattle.rpg_program.specs.Object.{Object}
 use Rattle.rpg_engine.proofs.Headline.{of_each}
-use Rattle.rpg_engine.specs.Devices.{held}
+use Rattle.rpg_engine.specs.Devices.{file_contents}
 use Rattle.rpg_engine.specs.Outputs.{Contents, bytes_for}
 use Rattle.rpg_engine.specs.Reporting.{Reports}
 use Rattle.rpg_engine.specs.Running.{IsProgramRun}
@@ -31,7 +31,7 @@ reports_kept p report before after flushed kept day primary secondary r = record
 -- a run that gave a report, whose writers were flushed after it
 pub run_kept : {R S P D : Type 0} (remaining : R → Option (List ℕ)) (others : S → Option (List ℕ)) (contents : P → Option (List ℕ)) (stored : D → Option (List ℕ))
     (p : Object) (date : List ℕ) (old new : Readers R S) (before after flushed : Writers P D) (report : Report)
-    → ((file : OutputFile) → Keeps (held contents stored after file) (held contents stored flushed file))
+    → ((file : OutputFile) → Keeps (file_contents contents stored after file) (file_contents contents stored flushed file))
     → IsProgramRun remaining others contents stored p date old new before after (Ok report) → IsProgramRun remaining others contents stored p date old new before flushed (Ok report)
 run_kept remaining others contents stored p date old new before after flushed report kept ran = record {
   refused = ran.refused;

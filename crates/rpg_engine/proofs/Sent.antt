@@ -8,7 +8,7 @@ use Rattle.std.specs.declared.cmp.Ordering.TheVariants.{Less, Equal, Greater}
 use Rattle.std.proofs.KnownBytes.{Appends-nil, Appends-trans}
 use Rattle.rpg_files.specs.Sending.{AppendsFirst, AppendsPrefix}
 use Rattle.rpg_engine.specs.Reporting.{HasUpTo}
-use Rattle.rpg_engine.specs.Sending.{FileState, GoesOut, IsLeft}
+use Rattle.rpg_engine.specs.Sending.{FileState, GoesOut, IsFileAfterFault}
 use Rattle.rpg_engine.proofs.Bytes.{BeginsWith, front_sent, part_sent}
 
 -- bytes begin with themselves
@@ -86,15 +86,15 @@ module _ (start now : FileState) (waiting all : List ℕ) (s : IsSent start now 
   -- ---- where a writer failed over what waited
 
   -- its own
-  pub counted_sent : (count : ℕ) (next : FileState) (whole : List ℕ) → BeginsWith whole all → IsLeft Equal count now next waiting → AppendsFirst start.has next.has count whole
+  pub counted_sent : (count : ℕ) (next : FileState) (whole : List ℕ) → BeginsWith whole all → IsFileAfterFault Equal count now next waiting → AppendsFirst start.has next.has count whole
   counted_sent count next whole begins left = subst (λ (k : ℕ). AppendsFirst start.has next.has k whole) (sym left.counted) (first_sent next.has whole left.taken begins left.out)
 
-  pub left_parts : (o : Ordering) (count : ℕ) (next : FileState) (whole : List ℕ) → BeginsWith whole all → IsLeft o count now next waiting → AppendsPrefix start.has next.has whole
+  pub left_parts : (o : Ordering) (count : ℕ) (next : FileState) (whole : List ℕ) → BeginsWith whole all → IsFileAfterFault o count now next waiting → AppendsPrefix start.has next.has whole
   left_parts Less count next whole begins left = waiting_sent next.has whole begins left.out
   left_parts Equal count next whole begins left = (count, counted_sent count next whole begins left)
   left_parts Greater count next whole begins left = still_sent next.has whole begins (ap (λ (f : FileState). f.has) left)
 
-  pub left_up_to : (o : Ordering) (count : ℕ) (next : FileState) → IsLeft o count now next waiting → HasUpTo o count start.has next.has all
+  pub left_up_to : (o : Ordering) (count : ℕ) (next : FileState) → IsFileAfterFault o count now next waiting → HasUpTo o count start.has next.has all
   left_up_to Less count next left = rest_sent next.has left.out
   left_up_to Equal count next left =
       (counted_sent count next all (begins_whole all) left, subst (λ (k : ℕ). k < length all) (sym left.counted) (strictly_sent left.taken left.part))

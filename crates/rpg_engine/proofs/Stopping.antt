@@ -31,10 +31,10 @@ use Rattle.rpg_machine.specs.Running.{config_on, no_bytes}
 use Rattle.rpg_program.specs.Object.{Object, input_length}
 use Rattle.rpg_program.specs.declared.section.Place.{Place}
 use Rattle.rpg_verify.specs.Bound.{bound}
-use Rattle.rpg_engine.specs.Inputs.{OfFronts, OfInputs, bytes_in, records_of}
+use Rattle.rpg_engine.specs.Inputs.{OfFronts, OfInputs, bytes_of_input, records_of}
 use Rattle.rpg_engine.specs.Outputs.{Contents, HaveAll, HaveParts, bytes_for, bytes_with, order}
 use Rattle.rpg_engine.specs.Reporting.{AreSameOrBad, IsBad, GoesOnFor, HasParts, HasSent, IsPutOut, IsPutOutBy, IsRunOver, IsUnread, MayBePutOut, Reports, WaitsFor, WentOn, bytes_of, records_of_file}
-use Rattle.rpg_engine.specs.Sending.{FailsToSend, FileState, IsLeft, IsSendingOf, States, StopsWith, held_in}
+use Rattle.rpg_engine.specs.Sending.{FailsToSend, FileState, IsFileAfterFault, IsSendingOf, States, StopsWith, held_in}
 use Rattle.rpg_engine.specs.Streaming.{Asks, FailsToRead, HasAnswered, IsRunFault, StopsEarly, TakesNone, ended_stage, record_with}
 use Rattle.rpg_engine.specs.declared.fault.CycleFault.{CycleFault}
 use Rattle.rpg_engine.specs.declared.fault.CycleFault.TheVariants as stops
@@ -212,7 +212,7 @@ pub record ReadFails (job : AtWork) (file : InputFile) (fault : ReadFault) {give
   pub known : Option (List ℕ)
   pub unread : (more behind : List ℕ) → CanFollow i.ended more → CanFollow j.ended behind
       → IsUnread fault (records_of_file file (record { primary = all_of since one.read more; secondary = all_of since_too two.read behind }))
-      (records_of_file file (record { primary = left_of a one.read more; secondary = left_of b two.read behind })) part (bytes_in file more behind)
+      (records_of_file file (record { primary = left_of a one.read more; secondary = left_of b two.read behind })) part (bytes_of_input file more behind)
   pub first : file ≡ Secondary → job_needs_record job Primary ≡ true → (more : List ℕ) → CanFollow i.ended more → AreSameOrBad job.program Primary known (first_if_any (left_of a one.read more))
   pub sent : HaveAll before after put
 
@@ -309,7 +309,7 @@ module _ (first job : AtWork) (given others : Option (List ℕ)) (a b : Source) 
   waits_for : (file : InputFile) (fault : ReadFault) (before after : Contents) (fails : ReadFails job file fault s.primary.since s.secondary.since one two (bytes_of s.out) before after)
       → (more behind : List ℕ) → CanFollow i.ended more → CanFollow j.ended behind
       → WaitsFor job.program file fault (records_of (xs_of more) (ys_of behind)) (records_of (a.input.buffered ++ (one.read ++ more)) (b.input.buffered ++ (two.read ++ behind))) stands_now job.inputs
-      fails.part (bytes_in file more behind) fails.known
+      fails.part (bytes_of_input file more behind) fails.known
   waits_for file fault before after fails more behind can can_too = record {
     needed = going_on (is_going job.stage) (needs_record job.program stands_now job.inputs file) fails.needed;
     unread = fails.unread more behind can can_too;
@@ -350,9 +350,9 @@ module _ (first job : AtWork) (given others : Option (List ℕ)) (a b : Source) 
             goes_on = λ more behind can can_too.
                 let xs = xs_of more in
                 let ys = ys_of behind in
-                went_on day is more behind can can_too (λ earlier rs c k. WaitsFor first.program file fault (records_of xs ys) rs c k failed.part (bytes_in file more behind) failed.known)
+                went_on day is more behind can can_too (λ earlier rs c k. WaitsFor first.program file fault (records_of xs ys) rs c k failed.part (bytes_of_input file more behind) failed.known)
                 (subst (λ (p : Object). WaitsFor p file fault (records_of xs ys) (records_of (a.input.buffered ++ (one.read ++ more)) (b.input.buffered ++ (two.read ++ behind))) stands_now job.inputs
-                failed.part (bytes_in file more behind) failed.known) s.program (waits_for file fault before after failed more behind can can_too));
+                failed.part (bytes_of_input file more behind) failed.known) s.program (waits_for file fault before after failed more behind can can_too));
             longer = λ more behind can can_too course bytes run.
                 let u = reads_on first job given others a b cycles most s i j _ _ one two more behind can can_too in
                 let later = u.back course (runs_from first day (xs_of more) (ys_of behind) course bytes is run) in
@@ -434,8 +434,8 @@ stopped_behind first job mid given others a b a' b' cycles most fault none_faile
 
 -- all of these bytes were put out, and some of them wait
 module _ (start now next : States) (waiting put : Bytes) (went : (file : OutputFile) → IsSent (start file) (now file) (bytes_for file waiting) (bytes_for file put)) where
-  own_left : (e : RunFault) (fails : FailsToSend e now next waiting) → IsLeft Equal fails.count (now fails.failed) (next fails.failed) (bytes_for fails.failed waiting)
-  own_left e fails = subst (λ (o : Ordering). IsLeft o fails.count (now fails.failed) (next fails.failed) (bytes_for fails.failed waiting)) (own_order fails.failed) (fails.left fails.failed)
+  own_left : (e : RunFault) (fails : FailsToSend e now next waiting) → IsFileAfterFault Equal fails.count (now fails.failed) (next fails.failed) (bytes_for fails.failed waiting)
+  own_left e fails = subst (λ (o : Ordering). IsFileAfterFault o fails.count (now fails.failed) (next fails.failed) (bytes_for fails.failed waiting)) (own_order fails.failed) (fails.left fails.failed)
 
   -- a writer failed over those
   each_part : (e : RunFault) → FailsToSend e now next waiting → (bytes : Bytes) → ((file : OutputFile) → BeginsWith (bytes_for file bytes) (bytes_for file put)) → HaveParts (held_in start) (held_in next) bytes

@@ -20,7 +20,7 @@ use Rattle.rpg_engine.specs.Faults.{Counts, Device, FaultsAre, NoneRises, OnlyRi
 use Rattle.rpg_engine.specs.Inputs.{HasTooMany, OfInputs}
 use Rattle.rpg_engine.specs.Outputs.{bytes_for, order}
 use Rattle.rpg_engine.specs.Refusing.{start_fault}
-use Rattle.rpg_engine.specs.Sending.{FailsToSend, FileState, IsLeft, IsSendingOf, States, StopsWith}
+use Rattle.rpg_engine.specs.Sending.{FailsToSend, FileState, IsFileAfterFault, IsSendingOf, States, StopsWith}
 use Rattle.rpg_engine.specs.Streaming.{HasAnswered, TakesNone}
 use Rattle.rpg_engine.specs.declared.fault.CycleFault.{CycleFault}
 use Rattle.rpg_engine.specs.declared.fault.CycleFault.TheVariants as stops
@@ -36,7 +36,7 @@ use Rattle.rpg_engine.proofs.Taking.{faults_stay, source_of}
 -- ---- which counts rose
 
 -- no other writer failed
-left_faults : (o : Ordering) (count : ℕ) (old new : FileState) (bytes : List ℕ) → (o ≡ Equal → ⊥) → IsLeft o count old new bytes → new.faults ≡ old.faults
+left_faults : (o : Ordering) (count : ℕ) (old new : FileState) (bytes : List ℕ) → (o ≡ Equal → ⊥) → IsFileAfterFault o count old new bytes → new.faults ≡ old.faults
 left_faults Less count old new bytes other left = left.faults
 left_faults Equal count old new bytes other left = absurd (other refl)
 left_faults Greater count old new bytes other left = ap (λ (f : FileState). f.faults) left
@@ -66,7 +66,7 @@ only_rises failed old new rises primary secondary written = (rises, others)
 one_rises : (e : RunFault) (now next : States) (bytes : Bytes) (old new : Counts) (f : FailsToSend e now next bytes) → new (Reader Primary) ≡ old (Reader Primary) → new (Reader Secondary) ≡ old (Reader Secondary)
     → ((file : OutputFile) → (now file).faults ≡ old (Writer file)) → ((file : OutputFile) → new (Writer file) ≡ (next file).faults) → OnlyRises (Writer f.failed) old new
 one_rises e now next bytes old new f primary secondary was is =
-    let own = subst (λ (o : Ordering). IsLeft o f.count (now f.failed) (next f.failed) (bytes_for f.failed bytes)) (own_order f.failed) (f.left f.failed) in
+    let own = subst (λ (o : Ordering). IsFileAfterFault o f.count (now f.failed) (next f.failed) (bytes_for f.failed bytes)) (own_order f.failed) (f.left f.failed) in
     only_rises (Writer f.failed) old new (is f.failed ∙ own.faults ∙ ap (λ n. n + 1) (was f.failed)) (λ _. primary) (λ _. secondary)
     (λ file other. is file ∙ left_faults (order file f.failed) f.count (now file) (next file) (bytes_for file bytes) (λ same. other (ap Writer (same_file file f.failed same))) (f.left file) ∙ was file)
 

@@ -58,13 +58,13 @@ module _ {R S : Type 0} (remaining : R → Option (List ℕ)) (others : S → Op
 
 module _ {P D : Type 0} (contents : P → Option (List ℕ)) (stored : D → Option (List ℕ)) where
   -- what each file has
-  abbrev pub held : Writers P D → Contents
-  held writers Print = contents (device_of writers.printer)
-  held writers Disk = stored (device_of writers.disk)
+  abbrev pub file_contents : Writers P D → Contents
+  file_contents writers Print = contents (device_of writers.printer)
+  file_contents writers Disk = stored (device_of writers.disk)
 
   -- Fact holds of what each file had and has.
   abbrev pub OfWriters : {X : Type 0} → (before after : Writers P D) → (Contents → Contents → X → X → Type 0) → X → X → Type 0
-  OfWriters before after Fact = Fact (held before) (held after)
+  OfWriters before after Fact = Fact (file_contents before) (file_contents after)
 
 -- ---- readers of records
 

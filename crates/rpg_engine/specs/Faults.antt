@@ -4,7 +4,7 @@ use Rattle.rpg_program.specs.declared.input.InputFile.{InputFile}
 use Rattle.rpg_program.specs.declared.input.InputFile.TheVariants.{Primary, Secondary}
 use Rattle.rpg_files.specs.Counting.{faults_of}
 use Rattle.rpg_files.specs.declared.reader.ReadFault.TheVariants as reading
-use Rattle.rpg_engine.specs.Inputs.{HasTooMany, OfInputs, bytes_in}
+use Rattle.rpg_engine.specs.Inputs.{HasTooMany, OfInputs, bytes_of_input}
 use Rattle.rpg_engine.specs.declared.fault.RunFault.{RunFault}
 use Rattle.rpg_engine.specs.declared.fault.RunFault.TheVariants as faults
 use Rattle.rpg_engine.specs.declared.files.OutputFile.{OutputFile}
@@ -46,6 +46,6 @@ abbrev pub FaultsAre : {X : Type 0} → Result X RunFault → (given left others
 FaultsAre (Err (faults.Write file sent)) given left others rest old new = OnlyRises (Writer file) old new
 FaultsAre (Err (faults.Read file reading.Device)) given left others rest old new = OnlyRises (Reader file) old new
 FaultsAre (Err (faults.Read file reading.TooMany)) given left others rest old new =
-    NoneRises old new × OfInputs given left others rest (λ primary secondary. HasTooMany (bytes_in file primary secondary))
+    NoneRises old new × OfInputs given left others rest (λ primary secondary. HasTooMany (bytes_of_input file primary secondary))
 FaultsAre (Err (faults.NoMemory cycles)) given left others rest old new = NoneRises old new ⊎ ((file : OutputFile) × OnlyRises (Writer file) old new)
 FaultsAre result given left others rest old new = NoneRises old new

@@ -41,9 +41,9 @@ abbrev pub OfEach : Front → Front → (List ℕ → List ℕ → Type 0) → T
 OfEach a b Fact = (more behind : List ℕ) → CanFollow a.ended more → CanFollow b.ended behind → Fact (a.read ++ more) (b.read ++ behind)
 
 -- of the bytes of two inputs, those of one
-abbrev pub bytes_in : InputFile → (primary secondary : List ℕ) → List ℕ
-bytes_in Primary primary secondary = primary
-bytes_in Secondary primary secondary = secondary
+abbrev pub bytes_of_input : InputFile → (primary secondary : List ℕ) → List ℕ
+bytes_of_input Primary primary secondary = primary
+bytes_of_input Secondary primary secondary = secondary
 
 -- the records of both
 abbrev pub records_of : List ℕ → List ℕ → Records

@@ -30,7 +30,7 @@ use Rattle.rpg_paper.specs.Paper.{paper}
 use Rattle.rpg_text.specs.Lines.{is_line}
 use Rattle.rpg_verify.specs.Bound.{bound}
 use Rattle.rpg_verify_rules.specs.Accepted.{IsAccepted}
-use Rattle.rpg_engine.specs.Inputs.{Front, OfEach, bytes_in, records_of}
+use Rattle.rpg_engine.specs.Inputs.{Front, OfEach, bytes_of_input, records_of}
 use Rattle.rpg_engine.specs.Outputs.{Contents, HaveAll, HaveParts, bytes_for, order}
 use Rattle.rpg_engine.specs.declared.fault.RunFault.{RunFault}
 use Rattle.rpg_engine.specs.declared.fault.RunFault.TheVariants as faults
@@ -175,7 +175,7 @@ pub record NeedsRecord (p : Object) (day : ℤ) (file : InputFile) (fault : Read
   pub known : Option (List ℕ)
   pub sent : HaveAll before after (bytes_of out)
   pub goes_on : (more behind : List ℕ) → CanFollow a.ended more → CanFollow b.ended behind → WentOn cycles p day (a.read ++ more) (b.read ++ behind) out
-      (λ earlier rs c i. WaitsFor p file fault (records_of (a.read ++ more) (b.read ++ behind)) rs c i part (bytes_in file more behind) known)
+      (λ earlier rs c i. WaitsFor p file fault (records_of (a.read ++ more) (b.read ++ behind)) rs c i part (bytes_of_input file more behind) known)
   pub longer : OfEach a b (λ primary secondary. (course : Course) (bytes : Bytes) → IsRunOver p day primary secondary course bytes → cycles < course.cycles)
 
 -- there is a run over the inputs' records, and each writer has such parts of its bytes; where a reader failed the job waited for its record

@@ -9,16 +9,16 @@ use Rattle.rpg_cards.specs.Keys.{Name}
 use Rattle.rpg_cards.specs.Labels.{label_named}
 use Rattle.rpg_cards.specs.declared.labels.Label.{Label}
 use Rattle.rpg_cards.specs.Index.{first_at}
-use Rattle.rpg_faults_tree.specs.Index.{IsLabelIndex, first_label, is_for, target_of}
+use Rattle.rpg_faults_tree.specs.Index.{IsLabelIndex, first_label, is_for, label_target}
 use Rattle.rpg_faults_tree.specs.declared.labels.FirstLabel.{FirstLabel}
 
 module _ (name : Name) where
-  first_find : (i : ℕ) (ls : List Label) → option_map (λ f. f.target) (first_at (is_for name) first_label i ls) ≡ option_map target_of (label_named name ls)
+  first_find : (i : ℕ) (ls : List Label) → option_map (λ f. f.target) (first_at (is_for name) first_label i ls) ≡ option_map label_target (label_named name ls)
   first_find i [] = refl
   first_find i (l ∷ ls) = by (is_for name l) (first_find (i + 1) ls)
     where
-      by : (b : Bool) → option_map (λ f. f.target) (first_at (is_for name) first_label (i + 1) ls) ≡ option_map target_of (label_named name ls)
-          → option_map (λ f. f.target) (cond b (Some (first_label i l)) (first_at (is_for name) first_label (i + 1) ls)) ≡ option_map target_of (cond b (Some l) (label_named name ls))
+      by : (b : Bool) → option_map (λ f. f.target) (first_at (is_for name) first_label (i + 1) ls) ≡ option_map label_target (label_named name ls)
+          → option_map (λ f. f.target) (cond b (Some (first_label i l)) (first_at (is_for name) first_label (i + 1) ls)) ≡ option_map label_target (cond b (Some l) (label_named name ls))
       by true more = refl
       by false more = more
 
@@ -46,7 +46,7 @@ module _ (name : Name) where
       by false more = more
 
   module _ (names : List (Name × FirstLabel)) (o : Option FirstLabel) (found : o ≡ lookup (pointwise nat_eq name) names) where
-    pub found_target : (ls : List Label) → IsLabelIndex names ls → option_map (λ f. f.target) o ≡ option_map target_of (label_named name ls)
+    pub found_target : (ls : List Label) → IsLabelIndex names ls → option_map (λ f. f.target) o ≡ option_map label_target (label_named name ls)
     found_target ls index = ap (option_map (λ f. f.target)) (found ∙ index name) ∙ first_find 0 ls
 
     pub found_place : (ls front behind : List Label) (n : ℕ) → IsLabelIndex names ls → ls ≡ front ++ behind → n ≡ length front → option_map_or (λ f. nat_lt f.place n) o false ≡ is_some (label_named name front)

@@ -20,12 +20,12 @@ abbrev pub is_for : Name → Label → Bool
 is_for name l = pointwise nat_eq name l.named.name
 
 -- a label as a target of control
-abbrev pub target_of : Label → Target
-target_of l = record { is_subroutine = l.named.is_subroutine; section = l.section }
+abbrev pub label_target : Label → Target
+label_target l = record { is_subroutine = l.named.is_subroutine; section = l.section }
 
 -- a label, with its place among all that are given
 abbrev pub first_label : ℕ → Label → FirstLabel
-first_label i l = record { place = i; target = target_of l }
+first_label i l = record { place = i; target = label_target l }
 
 -- each name with the first label that is given it
 abbrev pub IsLabelIndex : List (Name × FirstLabel) → List Label → Type 0

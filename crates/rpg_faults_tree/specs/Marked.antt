@@ -39,17 +39,17 @@ abbrev pub Tells : Rule → Found → SpecCard → Bool → Type 0
 Tells r f c answer = (cards before after : List SpecCard) → AreBreaking cards f → cards ≡ before ++ c ∷ after → answer ≡ r before c after
 
 -- F12 of C cards, and of I and O cards
-abbrev pub breaks_order : Rule
-breaks_order before c after = flow.breaks_order before c after || is_stray before c
+abbrev pub breaks_any_order : Rule
+breaks_any_order before c after = flow.breaks_order before c after || is_stray before c
 
 -- F10
-abbrev pub goes_nowhere : Rule
-goes_nowhere before c after = goals.goes_nowhere (before ++ c ∷ after) before c after
+abbrev pub goes_nowhere_in_source : Rule
+goes_nowhere_in_source before c after = goals.goes_nowhere (before ++ c ∷ after) before c after
 
 -- F13
-abbrev pub goes_apart : Rule
-goes_apart before c after = goals.goes_apart (before ++ c ∷ after) before c after
+abbrev pub goes_apart_in_source : Rule
+goes_apart_in_source before c after = goals.goes_apart (before ++ c ∷ after) before c after
 
 -- F14
-abbrev pub calls_itself : Rule
-calls_itself before c after = goals.calls_itself (before ++ c ∷ after) before c after
+abbrev pub calls_itself_in_source : Rule
+calls_itself_in_source before c after = goals.calls_itself (before ++ c ∷ after) before c after

@@ -42,28 +42,28 @@ impl Found {
 
     /// F10.
     pub fn goes_nowhere(&self, card: &SpecCard) -> bool
-        ensures { marked.Tells marked.goes_nowhere self.now card.now result }
+        ensures { marked.Tells marked.goes_nowhere_in_source self.now card.now result }
     {
         self.lost.has(card.number)
     }
 
     /// F12.
     pub fn breaks_order(&self, card: &SpecCard) -> bool
-        ensures { marked.Tells marked.breaks_order self.now card.now result }
+        ensures { marked.Tells marked.breaks_any_order self.now card.now result }
     {
         self.misplaced.has(card.number)
     }
 
     /// F13.
     pub fn goes_apart(&self, card: &SpecCard) -> bool
-        ensures { marked.Tells marked.goes_apart self.now card.now result }
+        ensures { marked.Tells marked.goes_apart_in_source self.now card.now result }
     {
         self.leaving.has(card.number)
     }
 
     /// F14.
     pub fn calls_itself(&self, card: &SpecCard) -> bool
-        ensures { marked.Tells marked.calls_itself self.now card.now result }
+        ensures { marked.Tells marked.calls_itself_in_source self.now card.now result }
     {
         self.recursive.has(card.number)
     }

@@ -56,7 +56,7 @@ impl Labels {
 
     /// What the first label of a name is.
     pub(crate) fn target(&self, name: &Name) -> Option<Target>
-        ensures { (ss : List steps_of.Step) → index.AreLabelsOf ss self.now → result ≡ option_map index.target_of (labels.label_named name.now (steps_of.labels_of_steps ss)) }
+        ensures { (ss : List steps_of.Step) → index.AreLabelsOf ss self.now → result ≡ option_map index.label_target (labels.label_named name.now (steps_of.labels_of_steps ss)) }
     {
         target_in(&self.names, name)
     }
@@ -119,7 +119,7 @@ fn note(
 }
 
 fn target_in(names: &HashMap<Name, FirstLabel>, name: &Name) -> Option<Target>
-    ensures { (ls : List Label) → index.IsLabelIndex names.now.entries ls → result ≡ option_map index.target_of (labels.label_named name.now ls) }
+    ensures { (ls : List Label) → index.IsLabelIndex names.now.entries ls → result ≡ option_map index.label_target (labels.label_named name.now ls) }
 {
     Some(names.get(name)?.target)
 }

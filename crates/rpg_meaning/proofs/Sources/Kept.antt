@@ -4,7 +4,7 @@ use Rattle.std.proofs.KnownBytes.{Appends-kept}
 use Rattle.std.specs.Io.KnownBytes.{Keeps}
 use Rattle.rpg_cards.specs.declared.spec_card.SpecCard.{SpecCard}
 use Rattle.rpg_engine.proofs.Headline.{of_each}
-use Rattle.rpg_engine.specs.Devices.{held}
+use Rattle.rpg_engine.specs.Devices.{file_contents}
 use Rattle.rpg_engine.specs.Outputs.{Contents, bytes_for}
 use Rattle.rpg_engine.specs.declared.files.OutputFile.{OutputFile}
 use Rattle.rpg_engine.specs.declared.files.Readers.{Readers}
@@ -28,7 +28,7 @@ printed_kept cards allowance report before after flushed kept day primary second
 -- a run that gave a report, whose writers were flushed after it
 pub source_kept : {R S P D : Type 0} (remaining : R → Option (List ℕ)) (others : S → Option (List ℕ)) (contents : P → Option (List ℕ)) (stored : D → Option (List ℕ))
     (source : CompiledSource) (date : List ℕ) (old new : Readers R S) (before after flushed : Writers P D) (report : Report)
-    → ((file : OutputFile) → Keeps (held contents stored after file) (held contents stored flushed file))
+    → ((file : OutputFile) → Keeps (file_contents contents stored after file) (file_contents contents stored flushed file))
     → IsSourceRun remaining others contents stored source date old new before after (Ok report) → IsSourceRun remaining others contents stored source date old new before flushed (Ok report)
 source_kept remaining others contents stored source date old new before after flushed report kept ran = record {
   faultless = ran.faultless;
