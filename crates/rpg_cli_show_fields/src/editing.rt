@@ -1,34 +1,8 @@
 //! Edit codes, when a line is put out, and how the form moves, as cards and listings have them.
 
 use rpg_cli_text::TextWriter;
-use rpg_edit_marks::{EditCode, Ending, Fill};
+use rpg_edit_marks::{EditCode, Fill};
 use rpg_program::line::{Spacing, Time};
-
-/// The character of an edit code: the table of codes has a row of four for each ending.
-fn code_letter(code: EditCode) -> u8 {
-    let (ending, commas, zeros) = match code {
-        EditCode::X => return b'X',
-        EditCode::Y => return b'Y',
-        EditCode::Z => return b'Z',
-        EditCode::Combination {
-            ending,
-            commas,
-            zeros,
-        } => (ending, commas, zeros),
-    };
-    let first: u8 = match ending {
-        Ending::Unsigned => b'1',
-        Ending::Credit => b'A',
-        Ending::Minus => b'J',
-    };
-    let column: u8 = match (commas, zeros) {
-        (true, true) => 0,
-        (true, false) => 1,
-        (false, true) => 2,
-        (false, false) => 3,
-    };
-    first.saturating_add(column)
-}
 
 /// Writes the edit code of a field, and what fills the places before its number.
 pub fn write_code(out: &mut TextWriter, code: EditCode, fill: Fill) {
@@ -37,7 +11,7 @@ pub fn write_code(out: &mut TextWriter, code: EditCode, fill: Fill) {
         Fill::Star => " filled with *",
         Fill::Dollar => " with $ before it",
     };
-    let letter = char::from(code_letter(code));
+    let letter = char::from(code.character());
     out.fill_two(" by code {}{}", letter, filled);
 }
 

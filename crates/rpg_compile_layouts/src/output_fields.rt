@@ -164,19 +164,7 @@ fn fill_of(field: &OutputField) -> Fill
     ensures { result ≡ lines.output_fill field.now }
 {
     match (&field.code, &field.text) {
-        (Some(_), Some(text)) => fill_by(text.as_slice()),
+        (Some(_), Some(text)) => Fill::of(text.as_slice()).unwrap_or(Fill::Blank),
         _ => Fill::Blank,
-    }
-}
-
-fn fill_by(text: &[u8]) -> Fill
-    ensures { result ≡ lines.fill_by text.now }
-{
-    if text == b"*".as_slice() {
-        Fill::Star
-    } else if text == b"$".as_slice() {
-        Fill::Dollar
-    } else {
-        Fill::Blank
     }
 }

@@ -1,9 +1,9 @@
 -- The field of an output card that breaks no rule of cards is one that breaks no rule of lines, by names.
 use Rattle.std.proofs.Common.{◌≡◌, ℕ, ◌≤◌, Bool, true, false, not, cond, ◌||◌, List, length, Option, None, Some, refl, sym, ap, ◌∙◌, subst}
 use Rattle.std.proofs.lemmas.Bool.{and_from, and_parts, le-leb, ltb-false, not-false, not_from_false, or_parts, or_right}
-use Rattle.std.specs.Cmp.Lexicographic.{bytes_decides, pointwise}
+use Rattle.std.specs.Cmp.Lexicographic.{bytes_decides}
 use Rattle.std.specs.Option.{option_and_then, option_map, option_map_or}
-use Rattle.std.specs.Prelude.{◌&&◌, codes, is_none, is_some, nat_eq, nat_lt, if◌then◌else◌}
+use Rattle.std.specs.Prelude.{◌&&◌, codes, is_none, is_some, nat_lt, unwrap_or, if◌then◌else◌}
 use Rattle.rpg_cards.specs.Keys.{Fixed, Key, Named, entry_operand, key_index}
 use Rattle.rpg_sheet_specs.specs.declared.operations.Content.TheVariants.{Value}
 use Rattle.rpg_cards.specs.Constants.{constant_form}
@@ -40,7 +40,8 @@ use Rattle.rpg_sheet_specs.specs.declared.entry.EntryIndex.TheVariants as writte
 use Rattle.rpg_sheet_specs.specs.declared.indicator.ConditionSpec.{ConditionSpec}
 use Rattle.rpg_sheet_specs.specs.declared.indicator.Three.{Three}
 use Rattle.rpg_sheet_specs.specs.declared.output.OutputField.{OutputField}
-use Rattle.rpg_compile_program.specs.Lines.{fill_by, line_field_of, names_page}
+use Rattle.rpg_compile_program.specs.Lines.{line_field_of, names_page}
+use Rattle.rpg_edit_marks.specs.Code.{fill_by}
 use Rattle.rpg_compile_program.proofs.Entries.{some_form}
 
 module _ (cards : List SpecCard) (forms : Key → Option FieldForm) (words : Key → List ℕ)
@@ -108,7 +109,7 @@ module _ (cards : List SpecCard) (forms : Key → Option FieldForm) (words : Key
   plain_wide kind.Text d = refl
 
   by_code : (cs : Three (Option ConditionSpec)) (e : Entry) (code : EditCode) (b : Bool) (n : ℕ) (text : Option (List ℕ)) (d : FieldForm) (fill : Fill) →
-      option_map_or fill_by text fills.Blank ≡ fill → suits d (hows.Code code fill) ≡ true → IsEdited d (with_entry cs e (Some code) b n text) (hows.Code code fill)
+      unwrap_or (option_and_then fill_by text) fills.Blank ≡ fill → suits d (hows.Code code fill) ≡ true → IsEdited d (with_entry cs e (Some code) b n text) (hows.Code code fill)
   by_code cs e code b n text d fill is fit =
       record {
         fits = rw is fit;
@@ -120,16 +121,14 @@ module _ (cards : List SpecCard) (forms : Key → Option FieldForm) (words : Key
   filled cs e code b n None d how is fit =
       let same : hows.Code code fills.Blank ≡ how = cc in
       subst (λ (h : How (List ℕ)). IsEdited d (with_entry cs e (Some code) b n None) h) same (by_code cs e code b n None d fills.Blank refl (subst (λ (h : How (List ℕ)). suits d h ≡ true) (sym same) fit))
-  filled cs e code b n (Some x) d how is fit = by_text (pointwise nat_eq x (codes "*")) (pointwise nat_eq x (codes "$")) refl refl is
+  filled cs e code b n (Some x) d how is fit = by_fill (fill_by x) refl is
     where
-      by_fill : (fill : Fill) → fill_by x ≡ fill → hows.Code code fill ≡ how → IsEdited d (with_entry cs e (Some code) b n (Some x)) how
-      by_fill fill at same = subst (λ (h : How (List ℕ)). IsEdited d (with_entry cs e (Some code) b n (Some x)) h) same (by_code cs e code b n (Some x) d fill at (subst (λ (h : How (List ℕ)). suits d h ≡ true) (sym same) fit))
-
-      by_text : (s t : Bool) → pointwise nat_eq x (codes "*") ≡ s → pointwise nat_eq x (codes "$") ≡ t →
-          option_map (λ (fill : Fill). hows.Code code fill) (cond s (Some fills.Star) (cond t (Some fills.Dollar) None)) ≡ Some how → IsEdited d (with_entry cs e (Some code) b n (Some x)) how
-      by_text true t is_star is_dollar h = by_fill fills.Star (ap (λ s. cond s fills.Star (cond (pointwise nat_eq x (codes "$")) fills.Dollar fills.Blank)) is_star) cc
-      by_text false true is_star is_dollar h = by_fill fills.Dollar (ap (λ s. cond s fills.Star (cond (pointwise nat_eq x (codes "$")) fills.Dollar fills.Blank)) is_star ∙ ap (λ s. cond s fills.Dollar fills.Blank) is_dollar) cc
-      by_text false false is_star is_dollar h = absurd cc
+      by_fill : (o : Option Fill) → fill_by x ≡ o → option_map (λ (fill : Fill). hows.Code code fill) o ≡ Some how → IsEdited d (with_entry cs e (Some code) b n (Some x)) how
+      by_fill None at h = absurd cc
+      by_fill (Some fill) at h =
+          let same : hows.Code code fill ≡ how = cc in
+          subst (λ (h : How (List ℕ)). IsEdited d (with_entry cs e (Some code) b n (Some x)) h) same
+            (by_code cs e code b n (Some x) d fill (ap (λ (o : Option Fill). unwrap_or o fills.Blank) at) (subst (λ (h : How (List ℕ)). suits d h ≡ true) (sym same) fit))
 
   unfilled : (cs : Three (Option ConditionSpec)) (e : Entry) (b : Bool) (n : ℕ) (text : Option (List ℕ)) (d : FieldForm) (how : How (List ℕ)) → card_entry_form cards e ≡ Some d →
       IsListed None text → how_by None text ≡ Some how → suits d how ≡ true → IsEdited d (with_entry cs e None b n text) how

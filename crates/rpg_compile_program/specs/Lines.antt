@@ -2,7 +2,7 @@
 use Rattle.std.specs.Prelude.{ℕ, ◌++◌, Bool, false, ◌&&◌, List, [], ◌∷◌, map, Option, None, Some, is_none, is_some, unwrap_or, nat_eq, codes, if◌then◌else◌}
 use Rattle.std.specs.Cmp.Lexicographic.{pointwise}
 use Rattle.std.specs.List.{filter_map}
-use Rattle.std.specs.Option.{option_map, option_map_or}
+use Rattle.std.specs.Option.{option_and_then, option_map, option_map_or}
 use Rattle.rpg_cards.specs.Calculations.{in_places, standing}
 use Rattle.rpg_cards.specs.Keys.{Fixed, Key, Nowhere, entry_operand}
 use Rattle.rpg_cards.specs.Cards.{output_field_in}
@@ -25,6 +25,7 @@ use Rattle.rpg_program.specs.declared.line.Source.TheVariants as source
 use Rattle.rpg_program.specs.declared.line.Spacing.{Spacing}
 use Rattle.rpg_program.specs.declared.operation.Index.TheVariants as index
 use Rattle.rpg_program.specs.declared.operation.Operand.{Operand}
+use Rattle.rpg_edit_marks.specs.Code.{fill_by}
 use Rattle.rpg_edit_marks.specs.declared.code.EditCode.{EditCode}
 use Rattle.rpg_edit_marks.specs.declared.code.EditCode.TheVariants as edit
 use Rattle.rpg_edit_marks.specs.declared.code.Fill.{Fill}
@@ -125,13 +126,9 @@ editing_by f None = if is_some f.operand then editing_unmarked (puts_page f) f.t
 abbrev pub editing_of : OutputField → Editing Key
 editing_of f = editing_by f f.code
 
--- with a code the text is a fill
-abbrev pub fill_by : List ℕ → Fill
-fill_by text = if pointwise nat_eq text (codes "*") then fills.Star else (if pointwise nat_eq text (codes "$") then fills.Dollar else fills.Blank)
-
--- the fill of an output field: blanks without a code
+-- the fill of an output field: the text beside its code, else blanks
 abbrev pub output_fill : OutputField → Fill
-output_fill f = if is_some f.code then option_map_or fill_by f.text fills.Blank else fills.Blank
+output_fill f = if is_some f.code then unwrap_or (option_and_then fill_by f.text) fills.Blank else fills.Blank
 
 -- the row of an output field, by names
 abbrev pub line_field_of : OutputField → LineField Key

@@ -1,5 +1,6 @@
 -- Edit codes.
-use Rattle.std.specs.Prelude.{◌≡◌, find, option_map, ℕ, zero, suc, ◌-◌, ◌%◌, max, Bool, true, false, not, ◌&&◌, List, [], ◌∷◌, ◌++◌, replicate, ℤ, Option, if◌then◌else◌, nat_lt, ◌==◌, unsigned_abs}
+use Rattle.std.specs.Prelude.{◌≡◌, find, option_map, ℕ, zero, suc, codes, nat_eq, ◌+◌, ◌-◌, ◌%◌, max, Bool, true, false, not, ◌&&◌, List, [], ◌∷◌, ◌++◌, replicate, ℤ, Option, None, Some, if◌then◌else◌, nat_lt, ◌==◌, unsigned_abs}
+use Rattle.std.specs.Cmp.Lexicographic.{pointwise}
 use Rattle.rpg_edit_marks.specs.declared.mark.Mark.{Mark}
 use Rattle.rpg_edit_marks.specs.declared.mark.Mark.TheVariants.{Digit, Insert, Sign}
 use Rattle.rpg_edit_marks.specs.declared.code.Ending.{Ending}
@@ -77,6 +78,29 @@ IsFitCode len dec X fill = fill ≡ Blank
 IsFitCode len dec Y fill = (len ≡ 6) × (dec ≡ 0) × (fill ≡ Blank)
 IsFitCode len dec Z fill = fill ≡ Blank
 
+-- blanks fill
+abbrev pub is_blank_fill : Fill → Bool
+is_blank_fill Blank = true
+is_blank_fill f = false
+
+-- X, Y and Z take no fill
+abbrev pub takes_fill : EditCode → Fill → Bool
+takes_fill (Combination commas zeros ending) fill = true
+takes_fill X fill = is_blank_fill fill
+takes_fill Y fill = is_blank_fill fill
+takes_fill Z fill = is_blank_fill fill
+
+-- Y edits six digits without decimals, and X, Y and Z take no fill, as a test
+abbrev pub fits_code : ℕ → ℕ → EditCode → Fill → Bool
+fits_code len dec (Combination commas zeros ending) fill = true
+fits_code len dec X fill = is_blank_fill fill
+fits_code len dec Y fill = (len == 6) && ((dec == 0) && is_blank_fill fill)
+fits_code len dec Z fill = is_blank_fill fill
+
+-- the fill of a constant beside a code: an asterisk, or a dollar sign
+abbrev pub fill_by : List ℕ → Option Fill
+fill_by text = if pointwise nat_eq text (codes "*") then Some Star else (if pointwise nat_eq text (codes "$") then Some Dollar else None)
+
 -- the edit code of each character that is one
 abbrev pub table_of_codes : List (ℕ × EditCode)
 table_of_codes =
@@ -88,3 +112,16 @@ table_of_codes =
 -- the code of a character
 abbrev pub code_of : ℕ → Option EditCode
 code_of c = option_map (λ row. row.1) (find (λ row. row.0 == c) table_of_codes)
+
+-- the character of the first code with an ending: 1 to 4, A to D, J to M
+abbrev pub first_character : Ending → ℕ
+first_character Unsigned = 49
+first_character Credit = 65
+first_character Minus = 74
+
+-- the character of a code
+abbrev pub code_character : EditCode → ℕ
+code_character (Combination commas zeros ending) = first_character ending + (if commas then 0 else 2) + (if zeros then 0 else 1)
+code_character X = 88
+code_character Y = 89
+code_character Z = 90

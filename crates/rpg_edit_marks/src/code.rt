@@ -1,6 +1,6 @@
 //! Edit codes.
 
-ghost use Rattle.std.specs.Prelude.{◌≡◌, ◌==◌, ◌%◌, ◌↔◌, nat_lt, IsTrue};
+ghost use Rattle.std.specs.Prelude.{◌≡◌, ◌==◌, ◌%◌, nat_lt};
 
 /// What follows a number: nothing, or its sign, which shows as blanks where the number isn't negative.
 #[derive(Clone, Copy)]
@@ -10,12 +10,51 @@ pub enum Ending {
     Minus,
 }
 
+impl Ending {
+    ghost use Rattle.rpg_edit_marks.specs.Code.{first_character};
+
+    /// The character of the first code with this ending.
+    fn first_character(self) -> u8
+        ensures { result ≡ first_character self }
+    {
+        match self {
+            Ending::Unsigned => b'1',
+            Ending::Credit => b'A',
+            Ending::Minus => b'J',
+        }
+    }
+}
+
 /// What precedes the first printed character: blanks, asterisks, or blanks and one dollar sign.
-#[derive(Clone, Copy, PartialEq, Eq)]
+#[derive(Clone, Copy)]
 pub enum Fill {
     Blank,
     Star,
     Dollar,
+}
+
+impl Fill {
+    ghost use Rattle.rpg_edit_marks.specs.Code.{fill_by, is_blank_fill};
+
+    /// The fill of a constant beside an edit code: an asterisk, or a dollar sign.
+    pub fn of(text: &[u8]) -> Option<Fill>
+        ensures { result ≡ fill_by text.now }
+    {
+        match text {
+            b"*" => Some(Fill::Star),
+            b"$" => Some(Fill::Dollar),
+            _ => None,
+        }
+    }
+
+    pub fn is_blank(self) -> bool
+        ensures { result ≡ is_blank_fill self }
+    {
+        match self {
+            Fill::Blank => true,
+            Fill::Star | Fill::Dollar => false,
+        }
+    }
 }
 
 /// An edit code by its columns in the table of codes (this profile): 1 to 4, A to D and J to M are `Combination`.
@@ -32,7 +71,7 @@ pub enum EditCode {
 }
 
 impl EditCode {
-    ghost use Rattle.rpg_edit_marks.specs.Code.{code_of, IsFitCode};
+    ghost use Rattle.rpg_edit_marks.specs.Code.{code_character, code_of, fits_code, takes_fill};
 
     /// The code of a character, where it is one.
     pub fn of(character: u8) -> Option<EditCode>
@@ -49,15 +88,40 @@ impl EditCode {
         }
     }
 
-    /// Whether the code edits numbers of this form with this fill: Y takes six digits without decimals, and X, Y
-    /// and Z take no fill.
-    pub fn fits(self, fill: Fill, len: u8, dec: u8) -> bool
-        ensures { IsTrue result ↔ IsFitCode len dec self fill }
+    /// The character of the code.
+    pub fn character(self) -> u8
+        ensures { result ≡ code_character self }
+    {
+        match self {
+            EditCode::Combination {
+                commas,
+                zeros,
+                ending,
+            } => ending.first_character() + if commas { 0 } else { 2 } + if zeros { 0 } else { 1 },
+            EditCode::X => b'X',
+            EditCode::Y => b'Y',
+            EditCode::Z => b'Z',
+        }
+    }
+
+    /// Whether the code takes this fill: X, Y and Z take none.
+    pub fn takes(self, fill: Fill) -> bool
+        ensures { result ≡ takes_fill self fill }
     {
         match self {
             EditCode::Combination { .. } => true,
-            EditCode::X | EditCode::Z => fill == Fill::Blank,
-            EditCode::Y => len == 6 && dec == 0 && fill == Fill::Blank,
+            EditCode::X | EditCode::Y | EditCode::Z => fill.is_blank(),
+        }
+    }
+
+    /// Whether the code edits numbers of this form with this fill: Y edits six digits without decimals.
+    pub fn fits(self, fill: Fill, length: u16, decimals: u8) -> bool
+        ensures { result ≡ fits_code length decimals self fill }
+    {
+        match self {
+            EditCode::Combination { .. } => true,
+            EditCode::X | EditCode::Z => fill.is_blank(),
+            EditCode::Y => length == 6 && (decimals == 0 && fill.is_blank()),
         }
     }
 

@@ -11,7 +11,8 @@ use Rattle.rpg_program.specs.Effect.{Effect, Leaves, go_on, quiet, then_go, unle
 use Rattle.rpg_program.specs.Ends.{End, Fault, GoesOn, Halt, Kind, Storage, Wrong}
 use Rattle.rpg_program.specs.Entries.{position_of}
 use Rattle.rpg_program.specs.Forms.{has_field, is_array, is_index_form, is_text_constant, kind_of, length_of, may_write, same_kind}
-use Rattle.rpg_program.specs.LineFaults.{KeepsFieldRules, field_fault, fits_editing, fits_source, fits_word, has_kinds, has_storage, has_word, is_blank_fill, prints_page, line_fault}
+use Rattle.rpg_edit_marks.specs.Code.{is_blank_fill}
+use Rattle.rpg_program.specs.LineFaults.{KeepsFieldRules, field_fault, fits_editing, fits_source, fits_word, has_kinds, has_storage, has_word, prints_page, line_fault}
 use Rattle.rpg_program.specs.Lines.{Draft, Drafted, Line, after_movement, after_skip, after_space, assembled, blank_line, blanked, blanked_all, with_page_counted, drafted, exception_output, go_on_with, is_asked, laid, laid_over, line_out, lines_out, next_page, one_out, printed_line, put_on, put_out, remembered, spaced_before, unless_faulty, where_asked, with_field, with_fields}
 use Rattle.rpg_program.specs.Rows.{has_entry, has_index, has_operand, is_one, is_one_entry, is_shaped}
 use Rattle.rpg_program.specs.Showing.{turned_on}

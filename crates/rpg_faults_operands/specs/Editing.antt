@@ -1,16 +1,15 @@
 -- F17: edit codes and words that don't fit; and how wide an output field is.
-use Rattle.std.specs.Prelude.{ℕ, List, length, codes, Bool, true, false, not, ◌&&◌, nat_eq, Option, None, Some, is_none, is_some, if◌then◌else◌}
-use Rattle.std.specs.Cmp.Lexicographic.{pointwise}
+use Rattle.std.specs.Prelude.{ℕ, List, length, Bool, true, false, not, ◌&&◌, Option, None, Some, is_none, is_some, if◌then◌else◌}
 use Rattle.std.specs.Option.{option_and_then, option_map, option_map_or}
 use Rattle.rpg_cards.specs.Cards.{output_field_on}
 use Rattle.rpg_cards.specs.declared.spec_card.SpecCard.{SpecCard}
 use Rattle.rpg_program.specs.Forms.{same_kind}
-use Rattle.rpg_program.specs.LineFaults.{fits_code, fits_word, is_blank_fill}
+use Rattle.rpg_program.specs.LineFaults.{fits_word}
+use Rattle.rpg_edit_marks.specs.Code.{fill_by, fits_code, takes_fill}
 use Rattle.rpg_program.specs.declared.form.FieldForm.{FieldForm}
 use Rattle.rpg_program.specs.declared.form.Kind.TheVariants as kind
 use Rattle.rpg_edit_marks.specs.How.{width_of}
 use Rattle.rpg_edit_marks.specs.declared.code.EditCode.{EditCode}
-use Rattle.rpg_edit_marks.specs.declared.code.EditCode.TheVariants.{Combination, X, Y, Z}
 use Rattle.rpg_edit_marks.specs.declared.code.Fill.{Fill}
 use Rattle.rpg_edit_marks.specs.declared.code.Fill.TheVariants as fill
 use Rattle.rpg_edit_marks.specs.declared.how.How.{How}
@@ -21,14 +20,10 @@ use Rattle.rpg_faults_operands.specs.Operands.{output_form}
 
 -- ---- the meaning of the columns
 
--- with a code, an asterisk or a dollar sign
-abbrev pub fill_sign : List ℕ → Option Fill
-fill_sign text = if pointwise nat_eq text (codes "*") then Some fill.Star else (if pointwise nat_eq text (codes "$") then Some fill.Dollar else None)
-
 -- the fill of a code: blanks where there is no text, none for a text that is no fill
 abbrev pub fill_in : Option (List ℕ) → Option Fill
 fill_in None = Some fill.Blank
-fill_in (Some text) = fill_sign text
+fill_in (Some text) = fill_by text
 
 -- how a field is edited, by its code and its text; none if there is a code and the text is no fill
 abbrev pub how_by : Option EditCode → Option (List ℕ) → Option (How (List ℕ))
@@ -41,13 +36,6 @@ abbrev pub output_how : OutputField → Option (How (List ℕ))
 output_how f = how_by f.code f.text
 
 -- ---- whether it fits
-
--- X, Y and Z take no fill
-abbrev pub takes_fill : EditCode → Fill → Bool
-takes_fill (Combination commas zeros ending) f = true
-takes_fill X f = is_blank_fill f
-takes_fill Y f = is_blank_fill f
-takes_fill Z f = is_blank_fill f
 
 -- the code takes its fill
 abbrev pub has_fill : How (List ℕ) → Bool

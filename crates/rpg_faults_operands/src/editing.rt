@@ -13,23 +13,9 @@ use rpg_cards::{IndexedCards, SpecCard};
 use rpg_edit_marks::{EditCode, Fill};
 use rpg_edit_widths::{EditWord, How};
 use rpg_program::form::{FieldForm, Kind};
-use rpg_program::line::{fits_code, is_blank_fill};
 use rpg_sheet_specs::{OutputField, TextLiteral};
 
 // ---- the meaning of the columns
-
-/// With a code, an asterisk or a dollar sign.
-fn fill_by(text: &[u8]) -> Option<Fill>
-    ensures { result ≡ editing.fill_sign text.now }
-{
-    if text == b"*".as_slice() {
-        Some(Fill::Star)
-    } else if text == b"$".as_slice() {
-        Some(Fill::Dollar)
-    } else {
-        None
-    }
-}
 
 /// The fill that a text with a code means: blanks where there is no text.
 pub fn fill_in(text: &Option<TextLiteral<24>>) -> Option<Fill>
@@ -37,25 +23,16 @@ pub fn fill_in(text: &Option<TextLiteral<24>>) -> Option<Fill>
 {
     match text {
         None => Some(Fill::Blank),
-        Some(text) => fill_by(text.as_slice()),
+        Some(text) => Fill::of(text.as_slice()),
     }
 }
 
 // ---- whether it fits
 
-fn takes_fill(code: EditCode, fill: Fill) -> bool
-    ensures { result ≡ editing.takes_fill code fill }
-{
-    match code {
-        EditCode::Combination { .. } => true,
-        EditCode::X | EditCode::Y | EditCode::Z => is_blank_fill(fill),
-    }
-}
-
 fn suits_code(form: FieldForm, code: EditCode, fill: Fill) -> bool
     ensures { result ≡ editing.suits form (how.Code code fill) }
 {
-    !is_text(form) && fits_code(form.length, form.decimals, code, fill)
+    !is_text(form) && code.fits(fill, form.length, form.decimals)
 }
 
 /// The word, where it fits.
@@ -101,7 +78,7 @@ pub(crate) fn lacks_fill(field: &OutputField) -> bool
     };
     match fill_in(&field.text) {
         None => true,
-        Some(fill) => !takes_fill(code, fill),
+        Some(fill) => !code.takes(fill),
     }
 }
 

@@ -19,7 +19,7 @@ pub(crate) fn field_width(field: &Card, form: Option<Form>) -> usize {
         return form.length;
     }
     match EditCode::of(field.column(38)) {
-        Some(code) => coded_width(form, code, fill(constant.text())),
+        Some(code) => coded_width(form, code, Fill::of(constant.text()).unwrap_or(Fill::Blank)),
         None if field.is_blank(45, 70) => form.length,
         None => constant.text().len(),
     }
@@ -33,13 +33,4 @@ fn coded_width(form: Form, code: EditCode, fill: Fill) -> usize {
     }
     let how = How::Code { code, fill };
     width(form.length as u8, decimals as u8, &how)
-}
-
-/// What a constant beside an edit code fills with.
-fn fill(constant: &[u8]) -> Fill {
-    match constant {
-        [b'$'] => Fill::Dollar,
-        [b'*'] => Fill::Star,
-        _ => Fill::Blank,
-    }
 }

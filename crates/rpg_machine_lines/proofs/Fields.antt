@@ -1,7 +1,7 @@
 -- Fields with nothing wrong.
 use Rattle.std.proofs.Common.{◌≡◌, ℕ, ℤ, ◌≤◌, Bool, true, false, not, ◌&&◌, cond, nat_le, eqb, eqb-true, leb-true, List, ◌++◌, Option, None, Some, refl, sym, ap, ◌∙◌, subst, arith, length, drop, take, ◌-◌, ◌+◌, length-append, length-take-le}
 use Rattle.std.proofs.lemmas.List.{take-take}
-use Rattle.rpg_edit_marks.specs.Code.{IsFitCode}
+use Rattle.rpg_edit_marks.specs.Code.{IsFitCode, fits_code, is_blank_fill}
 use Rattle.rpg_edit_marks.specs.Edited.{places}
 use Rattle.rpg_edit_marks.specs.How.{edited, width_of}
 use Rattle.rpg_edit_marks.specs.Word.{has_dollar_at_stop, word_marks, IsWordFor}
@@ -10,7 +10,7 @@ use Rattle.rpg_edit_marks.specs.declared.code.EditCode.TheVariants as codes
 use Rattle.rpg_edit_marks.specs.declared.code.Fill.{Fill}
 use Rattle.rpg_edit_marks.specs.declared.code.Fill.TheVariants as fills
 use Rattle.rpg_edit_marks.specs.declared.how.How.{How}
-use Rattle.rpg_program.specs.LineFaults.{field_fault, field_width, fits_code, fits_editing, fits_word, has_kinds, has_room, has_storage, has_word, is_blank_fill, may_change}
+use Rattle.rpg_program.specs.LineFaults.{field_fault, field_width, fits_editing, fits_word, has_kinds, has_room, has_storage, has_word, may_change}
 use Rattle.rpg_program.specs.Lines.{laid_over}
 use Rattle.rpg_program.specs.Rows.{has_entry, is_one_entry}
 use Rattle.rpg_program.specs.declared.form.FieldForm.{FieldForm}

@@ -1,7 +1,7 @@
 -- The letters of edited fields.
 use Rattle.std.proofs.Common.{◌≡◌, ℕ, ◌<◌, ◌^◌, true, false, cond, List, [], ◌∷◌, Option, Some, None, Ok, refl, sym, ap, ◌∙◌, arith, inl, inr, eqb, eqb-true}
 use Rattle.std.specs.Prelude.{find, option_map}
-use Rattle.rpg_edit_marks.specs.Code.{code_of, table_of_codes}
+use Rattle.rpg_edit_marks.specs.Code.{code_character, code_of, table_of_codes}
 use Rattle.rpg_edit_marks.specs.declared.code.EditCode.{EditCode}
 use Rattle.rpg_edit_marks.specs.declared.code.EditCode.TheVariants.{Combination, X, Y, Z}
 use Rattle.rpg_edit_marks.specs.declared.code.Ending.TheVariants.{Unsigned, Credit, Minus}
@@ -11,13 +11,13 @@ use Rattle.rpg_object_format.proofs.Laws.{IsRule}
 use Rattle.rpg_object_format.proofs.Rules.{chosen, stands_for, value_is}
 use Rattle.rpg_object_rows.specs.declared.letter.Letter.{Letter}
 use Rattle.rpg_object_rows.specs.declared.letter.Letter.TheVariants.{Plain, Code, Word}
-use Rattle.rpg_object_rows.specs.Lines.{edit_code_number, editing_by_letter, is_word_field, known_edit_code, letter_in, letter_number, letter_of, word_in}
+use Rattle.rpg_object_rows.specs.Lines.{editing_by_letter, is_word_field, known_edit_code, letter_in, letter_number, letter_of, word_in}
 use Rattle.rpg_object_instructions.proofs.Choices.{decided, some_is}
 
--- each code with its number
+-- each code with its character
 abbrev AreNumbered : List (ℕ × EditCode) → Type 0
 AreNumbered [] = Unit {0}
-AreNumbered (r ∷ rows) = (edit_code_number r.1 ≡ r.0) × AreNumbered rows
+AreNumbered (r ∷ rows) = (code_character r.1 ≡ r.0) × AreNumbered rows
 
 codes_numbered : AreNumbered table_of_codes
 codes_numbered = (refl, (refl, (refl, (refl, (refl, (refl, (refl, (refl, (refl, (refl, (refl, (refl, (refl, (refl, (refl, tt)))))))))))))))
@@ -25,11 +25,11 @@ codes_numbered = (refl, (refl, (refl, (refl, (refl, (refl, (refl, (refl, (refl, 
 abbrev code_in : List (ℕ × EditCode) → ℕ → Option EditCode
 code_in rows n = option_map (λ row. row.1) (find (λ row. eqb row.0 n) rows)
 
-code_is : (rows : List (ℕ × EditCode)) → AreNumbered rows → (n : ℕ) (c : EditCode) → code_in rows n ≡ Some c → edit_code_number c ≡ n
+code_is : (rows : List (ℕ × EditCode)) → AreNumbered rows → (n : ℕ) (c : EditCode) → code_in rows n ≡ Some c → code_character c ≡ n
 code_is [] h n c e = absurd (let k = e in cc)
 code_is (r ∷ rows) h n c e =
     elim (decided (eqb r.0 n) (Some r) (find (λ row. eqb row.0 n) rows)) [
-      | inl w ↦ ap edit_code_number (sym (some_is r.1 c (sym (ap (λ (o : Option (ℕ × EditCode)). option_map (λ row. row.1) o) w.1) ∙ e))) ∙ h.0 ∙ eqb-true _ _ w.0
+      | inl w ↦ ap code_character (sym (some_is r.1 c (sym (ap (λ (o : Option (ℕ × EditCode)). option_map (λ row. row.1) o) w.1) ∙ e))) ∙ h.0 ∙ eqb-true _ _ w.0
       | inr w ↦ code_is rows h.1 n c (sym (ap (λ (o : Option (ℕ × EditCode)). option_map (λ row. row.1) o) w.1) ∙ e)
     ]
 

@@ -1,10 +1,7 @@
 -- Output lines.
-use Rattle.std.specs.Prelude.{ℕ, ◌+◌, ◌/◌, ◌%◌, List, [], ◌∷◌, length, Bool, true, false, ◌||◌, ◌==◌, nat_lt, if◌then◌else◌, Option, Some, None, Result, Ok, Err}
-use Rattle.rpg_edit_marks.specs.Code.{code_of}
+use Rattle.std.specs.Prelude.{ℕ, ◌/◌, ◌%◌, List, [], ◌∷◌, length, Bool, true, false, ◌||◌, ◌==◌, nat_lt, if◌then◌else◌, Option, Some, None, Result, Ok, Err}
+use Rattle.rpg_edit_marks.specs.Code.{code_character, code_of}
 use Rattle.rpg_edit_marks.specs.declared.code.EditCode.{EditCode}
-use Rattle.rpg_edit_marks.specs.declared.code.EditCode.TheVariants.{Combination, X, Y, Z}
-use Rattle.rpg_edit_marks.specs.declared.code.Ending.{Ending}
-use Rattle.rpg_edit_marks.specs.declared.code.Ending.TheVariants as endings
 use Rattle.rpg_edit_marks.specs.declared.code.Fill.{Fill}
 use Rattle.rpg_edit_marks.specs.declared.code.Fill.TheVariants as fills
 use Rattle.rpg_program.specs.declared.condition.Condition.{Condition}
@@ -78,23 +75,10 @@ allowed_alternatives n = if nat_lt 0 n then up_to 50 n else Err NotAllowed
 
 -- ---- how a field is edited
 
--- the first code with that ending: 1 to 4, A to D, J to M
-abbrev pub first_edit_code : Ending → ℕ
-first_edit_code endings.Unsigned = 49
-first_edit_code endings.Credit = 65
-first_edit_code endings.Minus = 74
-
--- the character of a code
-abbrev pub edit_code_number : EditCode → ℕ
-edit_code_number (Combination commas zeros ending) = first_edit_code ending + (if commas then 0 else 2) + (if zeros then 0 else 1)
-edit_code_number X = 88
-edit_code_number Y = 89
-edit_code_number Z = 90
-
 -- 0, the character of a code, or `W`
 abbrev pub letter_number : Letter → ℕ
 letter_number letters.Plain = 0
-letter_number (letters.Code code) = edit_code_number code
+letter_number (letters.Code code) = code_character code
 letter_number letters.Word = 87
 
 -- the letter of an edit code, if there is one

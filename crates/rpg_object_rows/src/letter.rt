@@ -6,7 +6,7 @@ ghost use Rattle.rpg_object_format.specs.Numbers.{allowed};
 ghost use Rattle.rpg_object_format.specs.Reading.{ReadsAs};
 ghost use Rattle.rpg_object_rows.specs.Lines as rows;
 
-use rpg_edit_marks::{EditCode, Ending};
+use rpg_edit_marks::EditCode;
 use rpg_object_format::fault::{Code, ReadFault};
 use rpg_object_format::number::{byte_at, number_at};
 use rpg_program::line::Editing;
@@ -32,38 +32,12 @@ fn letter_of(n: u8) -> Result<Letter, Code>
     }
 }
 
-fn first_edit_code(ending: Ending) -> u8
-    ensures { result ≡ rows.first_edit_code ending }
-{
-    match ending {
-        Ending::Unsigned => b'1',
-        Ending::Credit => b'A',
-        Ending::Minus => b'J',
-    }
-}
-
-/// The character of an edit code.
-fn edit_code_number(code: EditCode) -> u8
-    ensures { result ≡ rows.edit_code_number code }
-{
-    match code {
-        EditCode::Combination {
-            commas,
-            zeros,
-            ending,
-        } => first_edit_code(ending) + if commas { 0 } else { 2 } + if zeros { 0 } else { 1 },
-        EditCode::X => b'X',
-        EditCode::Y => b'Y',
-        EditCode::Z => b'Z',
-    }
-}
-
 pub fn letter_number(letter: Letter) -> u8
     ensures { result ≡ rows.letter_number letter }
 {
     match letter {
         Letter::Plain => 0,
-        Letter::Code(code) => edit_code_number(code),
+        Letter::Code(code) => code.character(),
         Letter::Word => b'W',
     }
 }

@@ -2,10 +2,8 @@
 use Rattle.std.specs.Prelude.{◌≡◌, All, ℕ, Bool, true, false, not, ◌&&◌, ◌||◌, ◌==◌, nat_le, Option, None, Some, List, length, if◌then◌else◌}
 use Rattle.rpg_edit_marks.specs.Edited.{places}
 use Rattle.rpg_edit_marks.specs.Word.{has_dollar_at_stop, word_marks}
-use Rattle.rpg_edit_marks.specs.declared.code.EditCode.{EditCode}
-use Rattle.rpg_edit_marks.specs.declared.code.EditCode.TheVariants as codes
+use Rattle.rpg_edit_marks.specs.Code.{fits_code, is_blank_fill}
 use Rattle.rpg_edit_marks.specs.declared.code.Fill.{Fill}
-use Rattle.rpg_edit_marks.specs.declared.code.Fill.TheVariants as fills
 use Rattle.rpg_program.specs.Editing.{how_of, width_as}
 use Rattle.rpg_program.specs.Ends.{Fault, Storage, Kind}
 use Rattle.rpg_program.specs.Forms.{kind_of, length_of, decimals_of, has_field, is_index_form, is_text_constant, may_write, same_kind}
@@ -28,18 +26,6 @@ unfoldable pub line_fault : ℕ → Spacing → Option Fault
 line_fault len s = if nat_le 1 len && is_spacing s then None else Some Storage
 
 -- ---- editing
-
--- blanks fill
-abbrev pub is_blank_fill : Fill → Bool
-is_blank_fill fills.Blank = true
-is_blank_fill f = false
-
--- Y edits six digits without decimals, and X, Y and Z take no fill
-abbrev pub fits_code : ℕ → ℕ → EditCode → Fill → Bool
-fits_code len dec (codes.Combination commas zeros ending) fill = true
-fits_code len dec codes.X fill = is_blank_fill fill
-fits_code len dec codes.Y fill = (len == 6) && ((dec == 0) && is_blank_fill fill)
-fits_code len dec codes.Z fill = is_blank_fill fill
 
 -- 1 to 24 characters, as many places as digits, and no dollar sign right before the stop
 abbrev pub fits_word : ℕ → List ℕ → Bool

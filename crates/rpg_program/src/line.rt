@@ -1,8 +1,5 @@
 //! Output lines.
 
-ghost use Rattle.std.specs.Prelude.{◌≡◌};
-ghost use Rattle.rpg_program.specs.LineFaults as words;
-
 use crate::condition::Conditions;
 use crate::operation::Operand;
 use rpg_edit_marks::{EditCode, Fill};
@@ -81,27 +78,5 @@ impl<K: Copy> Clone for Editing<K> {
 impl<K: Copy> Clone for LineField<K> {
     fn clone(&self) -> Result<Self, AllocError> {
         Ok(*self)
-    }
-}
-
-/// Whether blanks fill.
-pub fn is_blank_fill(fill: Fill) -> bool
-    ensures { result ≡ words.is_blank_fill fill }
-{
-    match fill {
-        Fill::Blank => true,
-        Fill::Star | Fill::Dollar => false,
-    }
-}
-
-/// Whether a code edits numbers of this length and these decimals with this fill: Y edits six digits without decimals,
-/// and X, Y and Z take no fill.
-pub fn fits_code(length: u16, decimals: u8, code: EditCode, fill: Fill) -> bool
-    ensures { result ≡ words.fits_code length decimals code fill }
-{
-    match code {
-        EditCode::Combination { .. } => true,
-        EditCode::X | EditCode::Z => is_blank_fill(fill),
-        EditCode::Y => length == 6 && (decimals == 0 && is_blank_fill(fill)),
     }
 }

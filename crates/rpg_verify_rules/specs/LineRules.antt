@@ -1,9 +1,10 @@
 -- The rules of output lines.
 use Rattle.std.specs.Prelude.{ℕ, Bool, true, not, ◌&&◌, ◌==◌, Option}
 use Rattle.std.specs.List.{list_all, list_any}
+use Rattle.rpg_edit_marks.specs.Code.{fits_code, is_blank_fill}
 use Rattle.rpg_edit_marks.specs.declared.code.Fill.{Fill}
 use Rattle.rpg_program.specs.Forms.{decimals_of, form_at, is_text_constant, kind_of, length_of, same_kind}
-use Rattle.rpg_program.specs.LineFaults.{blanks_writable, fits_code, fits_source, fits_word, has_room, is_blank_fill, is_spacing}
+use Rattle.rpg_program.specs.LineFaults.{blanks_writable, fits_source, fits_word, has_room, is_spacing}
 use Rattle.rpg_program.specs.Rows.{has_entry, is_one_entry}
 use Rattle.rpg_program.specs.declared.form.FieldForm.{FieldForm}
 use Rattle.rpg_program.specs.declared.form.Kind.TheVariants as kinds

@@ -24,7 +24,7 @@ use rpg_program::form::{FieldForm, Kind, same_kind};
 use rpg_program::forms::{
     decimals_of, form_at, is_index_form, is_text_constant, kind_of, length_of, may_write,
 };
-use rpg_program::line::{Editing, File, LineField, Source, Spacing, fits_code, is_blank_fill};
+use rpg_program::line::{Editing, File, LineField, Source, Spacing};
 use rpg_program::rows::{Line, Rows, Version};
 
 /// Whether a line breaks a rule.
@@ -116,12 +116,12 @@ fn edits_form(form: Option<FieldForm>, editing: Editing<u16>, fill: Fill) -> boo
     ensures { result ≡ words.edits_form form editing fill }
 {
     match editing {
-        Editing::Plain => is_blank_fill(fill),
+        Editing::Plain => fill.is_blank(),
         Editing::Code(code) => {
             same_kind(kind_of(form), Kind::Number)
-                && fits_code(length_of(form), decimals_of(form), code, fill)
+                && code.fits(fill, length_of(form), decimals_of(form))
         }
-        Editing::Word(_) => same_kind(kind_of(form), Kind::Number) && is_blank_fill(fill),
+        Editing::Word(_) => same_kind(kind_of(form), Kind::Number) && fill.is_blank(),
     }
 }
 
