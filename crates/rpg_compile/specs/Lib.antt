@@ -1,5 +1,6 @@
 pub mod CallLevels
 pub mod Called
+pub mod Coding
 pub mod Compile
 pub mod Limits
 pub mod Marked

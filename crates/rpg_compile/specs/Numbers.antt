@@ -1,7 +1,8 @@
 -- Names with numbers: labels with their places, and subroutines.
-use Rattle.std.specs.Prelude.{ℕ, suc, ◌+◌, List, [], ◌∷◌, nat_eq, Option, None, Some, unwrap_or}
+use Rattle.std.specs.Prelude.{◌≡◌, ℕ, suc, ◌+◌, List, [], ◌∷◌, nat_eq, Option, None, Some, unwrap_or}
 use Rattle.std.specs.Cmp.Lexicographic.{pointwise}
 use Rattle.std.specs.Map.{lookup}
+use Rattle.std.specs.Option.{option_or}
 use Rattle.rpg_cards.specs.Deeds.{Calculation}
 use Rattle.rpg_cards.specs.Keys.{Key, Name}
 use Rattle.rpg_cards.specs.Sections.{Subroutine, label_on}
@@ -20,6 +21,10 @@ number_named entries (Some n) = lookup (pointwise nat_eq n) entries
 -- the number of a name, or the one for all other names
 abbrev pub number_by : NameNumbers → Option Name → ℕ
 number_by t n = unwrap_or (number_named t.numbers.entries n) t.otherwise
+
+-- each name keeps the number that it had, and any other has its number among more names
+abbrev pub NumbersMore : NumberedNames → NumberedNames → NumberedNames → Type 0
+NumbersMore more old new = (n : List ℕ) → lookup (pointwise nat_eq n) new ≡ option_or (lookup (pointwise nat_eq n) old) (lookup (pointwise nat_eq n) more)
 
 -- a name with its number, if there is one, before the others
 abbrev pub with_numbered_name : Option Name → ℕ → NumberedNames → NumberedNames

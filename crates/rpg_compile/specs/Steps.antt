@@ -1,13 +1,16 @@
 -- What a deed becomes.
-use Rattle.std.specs.Prelude.{ℕ, ◌+◌, ◌++◌, List, [], ◌∷◌, length, Option, None, Some}
+use Rattle.std.specs.Prelude.{ℕ, Bool, ◌+◌, ◌++◌, List, [], ◌∷◌, length, Option, None, Some}
 use Rattle.rpg_cards.specs.Calculations.{awaited_level}
-use Rattle.rpg_cards.specs.Deeds.{Acts, Begins, Deed, Ends, Executes, GoesTo, Marks, Nothing, PutsOut}
+use Rattle.rpg_cards.specs.Deeds.{Acts, Begins, Deed, Ends, Executes, GoesTo, Marks, Nothing, PutsOut, factor_2_operand, first_or_result, result_operand, resulting_shows}
 use Rattle.rpg_cards.specs.Keys.{Key}
 use Rattle.rpg_cards.specs.declared.spec_card.SpecCard.{SpecCard}
 use Rattle.rpg_compile_program.specs.Code.{level_code, tests_code, waits}
 use Rattle.rpg_program.specs.declared.operation.Action.{Action}
+use Rattle.rpg_program.specs.declared.operation.Action.TheVariants.{Assign, Compute, Move}
 use Rattle.rpg_program.specs.declared.operation.Instruction.{Instruction}
 use Rattle.rpg_program.specs.declared.operation.Operand.{Operand}
+use Rattle.rpg_program.specs.declared.operation.Operator.{Operator}
+use Rattle.rpg_program.specs.declared.operation.Side.{Side}
 use Rattle.rpg_compile.specs.Tests.{alternatives_in, tests_in}
 use Rattle.rpg_compile.specs.Walk.{size_with}
 use Rattle.rpg_sheet_specs.specs.declared.calculation.CalculationSpec.{CalculationSpec}
@@ -22,6 +25,18 @@ action_in (Marks l) = None
 action_in (Begins n) = None
 action_in (Ends l) = None
 action_in Nothing = None
+
+-- ADD, SUB and MULT of a card
+abbrev pub computation : Operator → CalculationSpec → Action (Operand Key)
+computation o k = Compute o k.half_adjust (first_or_result k) (factor_2_operand k) (result_operand k) (resulting_shows k)
+
+-- Z-ADD and Z-SUB of a card
+abbrev pub assignment : Bool → CalculationSpec → Action (Operand Key)
+assignment is_negated k = Assign is_negated k.half_adjust (factor_2_operand k) (result_operand k) (resulting_shows k)
+
+-- MOVE and MOVEL of a card
+abbrev pub movement : Side → CalculationSpec → Action (Operand Key)
+movement side k = Move side (factor_2_operand k) (result_operand k)
 
 -- the instructions of a group of cards, which end in that one
 abbrev pub code_of_group : ℕ → CalculationSpec → List SpecCard → Instruction ℕ → List (Instruction ℕ)

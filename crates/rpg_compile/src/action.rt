@@ -4,9 +4,8 @@ ghost use Rattle.std.specs.Prelude.{◌≡◌, IfSome, unwrap_or};
 ghost use Rattle.std.specs.Option.{option_map};
 ghost use Rattle.rpg_cards.specs.Deeds as deeds;
 ghost use Rattle.rpg_cards.specs.Keys as keys;
-ghost use Rattle.rpg_program.specs.declared.operation.Action.TheVariants as actions;
 ghost use Rattle.rpg_compile.specs.Marked.{IsMarkedAction};
-ghost use Rattle.rpg_compile.specs.Steps.{action_in};
+ghost use Rattle.rpg_compile.specs.Steps as steps;
 ghost use Rattle.rpg_effect_renaming.specs.Naming.{renamed_action, renamed_operand};
 ghost use Rattle.rpg_compile_program.specs.Table.{key_number};
 
@@ -21,7 +20,7 @@ pub(crate) fn action_of(
     calculation: &CalculationSpec,
     operation: Operation,
 ) -> Option<Action<Operand<u16>>>
-    ensures value { result ≡ option_map (renamed_action (key_number table.now)) (action_in (deeds.deed_by calculation.now operation)) }
+    ensures value { result ≡ option_map (renamed_action (key_number table.now)) (steps.action_in (deeds.deed_by calculation.now operation)) }
     ensures kept { IfSome result IsMarkedAction }
 {
     let half = calculation.half_adjust;
@@ -85,7 +84,7 @@ fn compute(
     table: &FieldTable,
     calculation: &CalculationSpec,
 ) -> Action<Operand<u16>>
-    ensures value { result ≡ renamed_action (key_number table.now) (actions.Compute operator calculation.now.half_adjust (deeds.first_or_result calculation.now) (deeds.factor_2_operand calculation.now) (deeds.result_operand calculation.now) (deeds.resulting_shows calculation.now)) }
+    ensures value { result ≡ renamed_action (key_number table.now) (steps.computation operator calculation.now) }
     ensures kept { IsMarkedAction result }
 {
     Action::Compute {
@@ -104,7 +103,7 @@ fn assign(
     table: &FieldTable,
     calculation: &CalculationSpec,
 ) -> Action<Operand<u16>>
-    ensures value { result ≡ renamed_action (key_number table.now) (actions.Assign is_negated calculation.now.half_adjust (deeds.factor_2_operand calculation.now) (deeds.result_operand calculation.now) (deeds.resulting_shows calculation.now)) }
+    ensures value { result ≡ renamed_action (key_number table.now) (steps.assignment is_negated calculation.now) }
     ensures kept { IsMarkedAction result }
 {
     Action::Assign {
@@ -118,7 +117,7 @@ fn assign(
 
 /// MOVE and MOVEL.
 fn moved(side: Side, table: &FieldTable, calculation: &CalculationSpec) -> Action<Operand<u16>>
-    ensures value { result ≡ renamed_action (key_number table.now) (actions.Move side (deeds.factor_2_operand calculation.now) (deeds.result_operand calculation.now)) }
+    ensures value { result ≡ renamed_action (key_number table.now) (steps.movement side calculation.now) }
     ensures kept { IsMarkedAction result }
 {
     Action::Move {

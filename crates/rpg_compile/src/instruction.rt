@@ -3,10 +3,8 @@
 ghost use Rattle.std.specs.Prelude.{◌≡◌, IfSome};
 ghost use Rattle.std.specs.Option.{option_to_list};
 ghost use Rattle.rpg_cards.specs.Deeds as deeds;
-ghost use Rattle.rpg_compile_program.specs.Code.{step_code};
+ghost use Rattle.rpg_compile.specs.Coding.{deed_code};
 ghost use Rattle.rpg_compile.specs.Marked.{IsMarked};
-ghost use Rattle.rpg_compile.specs.Numbers.{number_by};
-ghost use Rattle.rpg_compile_program.specs.Table.{key_number};
 
 use crate::action::action_of;
 use crate::numbers::NameNumbers;
@@ -30,7 +28,7 @@ impl Section<'_> {
     /// TAG and BEGSR have none.
     #[tactic(auto, using(crate::proofs::Steps::acted), unfolding(rpg_compile_program::specs::Code::step_code))]
     pub(crate) fn instruction_of(&self, calculation: &CalculationSpec) -> Option<Instruction<u16>>
-        ensures value { option_to_list result ≡ step_code (key_number self.now.table.now) (number_by self.now.labels.now) (number_by self.now.subroutines.now) self.now.own (deeds.deed_of calculation.now) }
+        ensures value { option_to_list result ≡ deed_code self.now (deeds.deed_of calculation.now) }
         ensures kept { IfSome result IsMarked }
     {
         let own = self.own;

@@ -1,9 +1,6 @@
 //! Names with numbers.
 
-ghost use Rattle.std.specs.Prelude.{◌≡◌, ◌+◌, ◌<◌, ℕ, List, [], Option, Some, None, nat_eq, length, option_copied, if◌then◌else◌, IfOk, OnOk};
-ghost use Rattle.std.specs.Cmp.Lexicographic.{pointwise};
-ghost use Rattle.std.specs.Map.{lookup};
-ghost use Rattle.std.specs.Option.{option_or};
+ghost use Rattle.std.specs.Prelude.{◌≡◌, ◌+◌, ◌<◌, ℕ, List, [], ◌∷◌, Option, length, option_copied, IfOk, OnOk};
 ghost use Rattle.rpg_cards.specs.Deeds.{deed_of};
 ghost use Rattle.rpg_cards.specs.Sections.{callee, label_on};
 ghost use Rattle.rpg_compile_program.specs.Code.{label_place, sizes};
@@ -82,7 +79,7 @@ fn note_labels(
     first: u16,
 ) -> Result<u16, AllocError>
     requires { first + sizes (section_in part cards.now) < 65536 }
-    ensures noted { OnOk result ((n : List ℕ) → lookup (pointwise nat_eq n) places.new.entries ≡ option_or (lookup (pointwise nat_eq n) places.old.entries) (lookup (pointwise nat_eq n) (numbers_of.labels_from first (section_in part cards.now)))) }
+    ensures noted { OnOk result (numbers_of.NumbersMore (numbers_of.labels_from first (section_in part cards.now)) places.old.entries places.new.entries) }
     ensures end { IfOk result (λ end. end ≡ first + sizes (section_in part cards.now)) }
 {
     let mut place = first;
@@ -101,7 +98,7 @@ fn note_subroutines(
     cards: &[SpecCard],
 ) -> Result<u16, AllocError>
     requires { length (subroutines_in cards.now) < 65536 }
-    ensures noted { OnOk result ((n : List ℕ) → lookup (pointwise nat_eq n) numbers.new.entries ≡ option_or (lookup (pointwise nat_eq n) numbers.old.entries) (lookup (pointwise nat_eq n) (numbers_of.names_from 0 (subroutines_in cards.now)))) }
+    ensures noted { OnOk result (numbers_of.NumbersMore (numbers_of.names_from 0 (subroutines_in cards.now)) numbers.old.entries numbers.new.entries) }
     ensures count { IfOk result (λ count. count ≡ length (subroutines_in cards.now)) }
 {
     let mut count = 0;
@@ -120,7 +117,7 @@ fn note(
     name: Option<&Name>,
     number: u16,
 ) -> Result<(), AllocError>
-    ensures { OnOk result ((n : List ℕ) → lookup (pointwise nat_eq n) numbers.new.entries ≡ option_or (lookup (pointwise nat_eq n) numbers.old.entries) (lookup (pointwise nat_eq n) (numbers_of.with_numbered_name (option_copied name.entry) number []))) }
+    ensures { OnOk result (numbers_of.NumbersMore (numbers_of.with_numbered_name (option_copied name.entry) number []) numbers.old.entries numbers.new.entries) }
 {
     match name {
         None => Ok(()),
@@ -129,7 +126,7 @@ fn note(
 }
 
 fn note_name(numbers: &mut IndexMap<Name, u16>, name: Name, number: u16) -> Result<(), AllocError>
-    ensures { OnOk result ((n : List ℕ) → lookup (pointwise nat_eq n) numbers.new.entries ≡ option_or (lookup (pointwise nat_eq n) numbers.old.entries) (if pointwise nat_eq n name then Some number else None)) }
+    ensures { OnOk result (numbers_of.NumbersMore ((name, number) ∷ []) numbers.old.entries numbers.new.entries) }
 {
     if numbers.contains_key(&name) {
         return Ok(());

@@ -5,9 +5,9 @@ ghost use Rattle.rpg_cards.specs.Calculations.{calculations};
 ghost use Rattle.rpg_cards.specs.Plain.{ArePlain};
 ghost use Rattle.rpg_cards.specs.Sections.{sections_of};
 ghost use Rattle.rpg_compile_program.specs.Code as code_of;
-ghost use Rattle.rpg_compile_program.specs.Levels.{subroutine_level};
 ghost use Rattle.rpg_compile_program.specs.Whole as whole;
 ghost use Rattle.rpg_compile.specs.Called.{level_at};
+ghost use Rattle.rpg_compile.specs.Coding.{rows_of_subroutines};
 ghost use Rattle.rpg_compile.specs.Marked.{IsMarked, IsMarkedRow};
 ghost use Rattle.rpg_compile.specs.Numbers.{body_sizes, number_by};
 ghost use Rattle.rpg_compile.specs.Walk.{section_in, subroutines_in};
@@ -44,7 +44,7 @@ pub fn section_rows(
     requires plain { ArePlain (sections_of (calculations cards.now)) }
     ensures detail { IfOk result (λ r. r.detail.items ≡ whole.detail_code (key_number table.now) (sections_of (calculations cards.now))) }
     ensures total { IfOk result (λ r. r.total.items ≡ whole.total_code (key_number table.now) (sections_of (calculations cards.now))) }
-    ensures subroutines { IfOk result (λ r. map subroutine_row r.subroutines.items ≡ whole.subroutine_rows (key_number table.now) (subroutine_level (subroutines_in cards.now)) (sections_of (calculations cards.now))) }
+    ensures subroutines { IfOk result (λ r. map subroutine_row r.subroutines.items ≡ rows_of_subroutines table.now cards.now) }
     ensures detail_kept { IfOk result (λ r. All IsMarked r.detail.items) }
     ensures total_kept { IfOk result (λ r. All IsMarked r.total.items) }
     ensures subroutines_kept { IfOk result (λ r. All IsMarkedRow (map subroutine_row r.subroutines.items)) }

@@ -5,11 +5,10 @@ ghost use Rattle.std.specs.Option.{ForSome};
 ghost use Rattle.rpg_cards.specs.Calculations as calculations;
 ghost use Rattle.rpg_compile_program.specs.Code as code_of;
 ghost use Rattle.rpg_compile.specs.Marked.{IsMarked};
-ghost use Rattle.rpg_compile.specs.Numbers.{number_by};
+ghost use Rattle.rpg_compile.specs.Coding as coding;
 ghost use Rattle.rpg_compile.specs.Steps as steps;
 ghost use Rattle.rpg_compile.specs.Walk as walk;
 ghost use Rattle.rpg_program.specs.Kept.{IsIndicator};
-ghost use Rattle.rpg_compile_program.specs.Table.{key_number};
 
 use crate::code::Code;
 use crate::group::CardGroup;
@@ -31,7 +30,7 @@ pub(crate) fn push_section(
     first: u16,
 ) -> Result<(), AllocError>
     requires { first + code_of.sizes (walk.section_in part cards.now) < 65536 }
-    ensures { OnOk result (code.new ≡ code.old ++ code_of.code_from (key_number section.now.table.now) (number_by section.now.labels.now) (number_by section.now.subroutines.now) section.now.own first (walk.section_in part cards.now)) }
+    ensures { OnOk result (code.new ≡ code.old ++ coding.code_in section.now first (walk.section_in part cards.now)) }
 {
     let mut place = first;
     let mut rest = cards;
@@ -50,7 +49,7 @@ fn push_group(
     place: u16,
 ) -> Result<(), AllocError>
     requires { place + code_of.size (calculations.calculation_of group.now) < 65536 }
-    ensures { OnOk result (code.new ≡ code.old ++ code_of.group_code (key_number section.now.table.now) (number_by section.now.labels.now) (number_by section.now.subroutines.now) section.now.own place (calculations.calculation_of group.now)) }
+    ensures { OnOk result (code.new ≡ code.old ++ coding.calculation_code section.now place (calculations.calculation_of group.now)) }
 {
     let Some(instruction) = section.instruction_of(group.last()) else {
         return Ok(());
