@@ -54,8 +54,8 @@ pub(crate) const FAULTS: &str = "\
     %- out of the detail calculations into a subroutine:\n\n     C                     GOTO OUT\n     CSR         OUT       ENDSR\
     %- a GOTO leads to a label of its own section: the detail calculations, the total calculations,\n  or one subroutine:\n\n     C                     GOTO OUT\n     C           OUT       TAG\
     %set an indicator before the end of the section, and test it where you want to go on.\nUse EXSR to enter a subroutine\
-    @F14%a subroutine calls itself, maybe through others%cards\
-    %- a subroutine that calls itself, maybe through others:\n\n     CSR         SUB       BEGSR\n     CSR                   EXSR SUB\n     CSR                   ENDSR\
+    @F14%a subroutine calls itself, possibly through others%cards\
+    %- a subroutine that calls itself, possibly through others:\n\n     CSR         SUB       BEGSR\n     CSR                   EXSR SUB\n     CSR                   ENDSR\
     %- subroutines may call others, as long as none leads back to itself\
     %go back to the subroutine's beginning with GOTO and a label in place of EXSR\
     @F15%H isn't allowed, or MVR doesn't follow a division without H%cards\

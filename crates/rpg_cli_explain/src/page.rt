@@ -26,7 +26,7 @@ const ROWS: &str =
 
 /// What to do with an object program that is refused.
 const ANEW: &str =
-    "compile the source again, or ask who made the object program. What rpg2 compile\nmakes is never refused, so its bytes were changed, or something else made it";
+    "compile the source again, or ask who made the object program. What rpg2 compile\nmakes is never rejected, so its bytes were changed, or something else made it";
 
 /// A part of a text, the first being 0; nothing where the text has fewer.
 fn part_of(text: &'static str, separator: char, number: usize) -> &'static str {

@@ -5,7 +5,7 @@ pub(crate) const REWRITINGS: &str = "\
     A1%directives for the listing and DEBUG become comments%\
     %     I/EJECT\n     C   01                DEBUG\
     %     I*EJECT\n     C*  01                DEBUG\
-    %nothing. The lines of DEBUG aren't printed any more\
+    %nothing. The lines of DEBUG aren't printed\
     @A2%columns that stand for nothing are blanked%\
     %     FINPUT   IP  F  80                READ40 SYS005S                R\
     %     FINPUT   IP  F  80  80            READ40\

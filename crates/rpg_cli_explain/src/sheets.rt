@@ -25,4 +25,4 @@ pub(crate) const SHEETS: &str = "\
     @S6%it is card 2,001%\
     %- the 2,001st line, whatever stands on it: blank lines, comments and data count\
     %- 2,000 lines\
-    %take comments away, or make two programs of it";
+    %remove comments, or make two programs of it";

@@ -103,7 +103,7 @@ impl Topic {
                 "F codes are checked once no card has an S code. Nothing is written; status 3"
             }
             Topic::Fault(_) => {
-                "checked once no S code is left. The line has the first card and its least code, standard\nerror has all. Nothing is written; status 3"
+                "checked once no S code is left. The line has the first card and its lowest code; standard\nerror has all. Nothing is written; status 3"
             }
             Topic::Warning(_) => {
                 "reported on standard error for a source without a fault. The object program is written, and the\nline is as without it; status 0. With --deny nothing is written, and the line has the code; status 3"
@@ -112,7 +112,7 @@ impl Topic {
                 "the job ends at once, and what was put out before stays; status 5"
             }
             Topic::Rule(_) => {
-                "nothing is run. The least rule that a row breaks is reported, with the first row that breaks\nit, counted from 0; status 4"
+                "nothing is run. The lowest rule that a row breaks is reported, with the first row that breaks\nit, counted from 0; status 4"
             }
             Topic::Bytes(_) => {
                 "nothing is run. The first number that is wrong is reported, with the offset of its first byte,\ncounted from 0; the rules, V1 to V26, come after; status 4"

@@ -1,4 +1,4 @@
-//! What an object program reads, writes and asks for, in words.
+//! What an object program reads, writes and needs, in words.
 
 use crate::header::{write_length, write_version};
 use crate::shown::{broken_by, write_refusal};
@@ -116,7 +116,7 @@ fn refused_overview(
     out.finish()
 }
 
-/// What a program reads, writes and asks for: its files with their lengths, the date, control levels, the most steps and bytes of a cycle, and the
+/// What a program reads, writes and needs: its files with their lengths, the date, control levels, the most steps and bytes of a cycle, and the
 /// command that runs it; or the rule that it breaks.
 pub fn program_overview(alloc: Global, program: Program) -> Result<String, AllocError> {
     match verify(alloc, program) {

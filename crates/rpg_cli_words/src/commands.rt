@@ -14,7 +14,7 @@ records: IN OUT by to file length rdw lines ascii low-blank drop deck format: Co
 fit: SRC.old NEW table switches forms format: Rewrites the old deck SRC as cards that are read, and reports each change
 verify: OBJ format quiet: Verifies the object program OBJ, and prints the most steps that a cycle can take
 explain: CODE list: Explains codes, such as F16, S5, V21, B5 or halt 4, or all of them
-show: OBJ source rows format: Shows what the object program OBJ reads, writes and asks for, or its rows
+show: OBJ source rows format: Shows what the object program OBJ reads, writes and needs, or its rows
 run: OBJ INPUT PRINT date secondary disk most keep source trace watch format quiet: Runs the object program OBJ over the records of INPUT, and prints to PRINT
 go: SRC INPUT PRINT.go date secondary disk most keep trace watch allowance faults deny allow format quiet: Compiles the source SRC and runs it over the records of INPUT";
 
@@ -40,10 +40,10 @@ go: SRC INPUT PRINT.go date secondary disk most keep trace watch allowance fault
 /// | `C` | the code of a warning, several times |
 ///
 /// `=VALUE` after the letter is what help calls the value, and `!OTHER` names a word that doesn't go with this one.
-const WORDS: &str = "SRC R The source, a card a line; - is standard input
-SRC.each S The sources, a card a line; - is standard input
+const WORDS: &str = "SRC R The source, one card per line; - is standard input
+SRC.each S The sources, one card per line; - is standard input
 SRC.short R The lines of shorthand, or with --short the cards; - is standard input
-SRC.old R The old deck, a card a line
+SRC.old R The old deck, one card per line
 OBJ R The object program
 OBJ.new R Where the object program goes
 INPUT R The records; - is standard input
@@ -62,7 +62,7 @@ quiet Q Prints no line if the exit status is 0
 short F!ruler Prints the shorthand of the cards in SRC
 ruler F Puts a ruler, which is a comment, before the cards
 by E=SRC!to The deck that reads the records; P and B may stand in column 43 of its I cards
-to V=SRC The same for the way back: lines become records
+to V=SRC The deck, to turn lines back into records
 file V=NAME The file of the deck, if it isn't the primary one
 length L=N How many bytes a record has, if 24-27 of the F card don't say so
 rdw F!lines Each record follows its record descriptor word

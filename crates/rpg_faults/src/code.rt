@@ -33,7 +33,7 @@ pub enum FaultCode {
     F12 = 12,
     /// GOTO leads to another section.
     F13 = 13,
-    /// A subroutine calls itself, maybe through others.
+    /// A subroutine calls itself, possibly through others.
     F14 = 14,
     /// H isn't allowed, or MVR doesn't follow a division without H.
     F15 = 15,
@@ -133,7 +133,7 @@ impl FaultCode {
                 "sections are out of order, BEGSR and ENDSR aren't paired, or a card needs one before it"
             }
             FaultCode::F13 => "GOTO leads to another section",
-            FaultCode::F14 => "a subroutine calls itself, maybe through others",
+            FaultCode::F14 => "a subroutine calls itself, possibly through others",
             FaultCode::F15 => "H isn't allowed, or MVR doesn't follow a division without H",
             FaultCode::F16 => {
                 "a column is outside the record or the line, a field is wider than its end, or control or match fields don't agree"
