@@ -5,6 +5,7 @@ use Rattle.std.specs.List.{list_all, prefix_len}
 use Rattle.std.proofs.lemmas.Bool.{and_parts}
 use Rattle.std.proofs.lemmas.Grind.{common_steps}
 use Rattle.std.proofs.lemmas.List.{drop-take, drop-drop, take-take}
+use Rattle.rpg_sheet.specs.Ranges.{conditions_from, indicators_from}
 use Rattle.rpg_sheet_specs.specs.Columns.{cols, is_filled, fault_if_some, values, at_with, also}
 use Rattle.rpg_sheet_specs.specs.Tables.{conditions, three_indicators, three}
 use Rattle.rpg_sheet_specs.specs.Values.{blank_or}
@@ -35,20 +36,20 @@ among_blank a b c d card one first some last blank =
     let front : take (d - (c - 1)) (take (b - (c - 1)) (drop (c - 1) card)) ≡ take (d - (c - 1)) (drop (c - 1) card) = take-take (d - (c - 1)) (b - (c - 1)) (drop (c - 1) card) (omega arith) in
     rw front at (all-take is_blank (d - (c - 1)) (take (b - (c - 1)) (drop (c - 1) card)) all)
 
-pub no_conditions : (a : ℕ) (card : List ℕ) → 1 ≤ a → all_blank (cols a (a + 8) card) ≡ true → Ok (three None None None) ≡ (conditions a (a + 2) (a + 3) (a + 5) (a + 6) (a + 8)).reading card
+pub no_conditions : (a : ℕ) (card : List ℕ) → 1 ≤ a → all_blank (cols a (a + 8) card) ≡ true → Ok (three None None None) ≡ (conditions_from a).reading card
 unfolding conditions values at_with also blank_or
 no_conditions a card one blank =
     rw (
       among_blank a (a + 8) a (a + 2) card one (omega arith) (omega arith) (omega arith) blank,
-      among_blank a (a + 8) (a + 3) (a + 5) card one (omega arith) (omega arith) (omega arith) blank,
-      among_blank a (a + 8) (a + 6) (a + 8) card one (omega arith) (omega arith) (omega arith) blank,
+      among_blank a (a + 8) (a + 3) (a + 3 + 2) card one (omega arith) (omega arith) (omega arith) blank,
+      among_blank a (a + 8) (a + 6) (a + 6 + 2) card one (omega arith) (omega arith) (omega arith) blank,
     ) refl
 
-pub no_indicators : (a : ℕ) (card : List ℕ) → 1 ≤ a → all_blank (cols a (a + 5) card) ≡ true → Ok (three None None None) ≡ (three_indicators a (a + 1) (a + 2) (a + 3) (a + 4) (a + 5)).reading card
+pub no_indicators : (a : ℕ) (card : List ℕ) → 1 ≤ a → all_blank (cols a (a + 5) card) ≡ true → Ok (three None None None) ≡ (indicators_from a).reading card
 unfolding three_indicators values at_with also blank_or
 no_indicators a card one blank =
     rw (
       among_blank a (a + 5) a (a + 1) card one (omega arith) (omega arith) (omega arith) blank,
-      among_blank a (a + 5) (a + 2) (a + 3) card one (omega arith) (omega arith) (omega arith) blank,
-      among_blank a (a + 5) (a + 4) (a + 5) card one (omega arith) (omega arith) (omega arith) blank,
+      among_blank a (a + 5) (a + 2) (a + 2 + 1) card one (omega arith) (omega arith) (omega arith) blank,
+      among_blank a (a + 5) (a + 4) (a + 4 + 1) card one (omega arith) (omega arith) (omega arith) blank,
     ) refl

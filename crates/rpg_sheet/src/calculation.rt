@@ -10,17 +10,18 @@ ghost use Rattle.rpg_sheet_specs.specs.Values as values;
 use crate::card::Card;
 use crate::columns::{at, conditions, indicators};
 use rpg_sheet_specs::{
-    CalculationSpec, ColumnFault, ConditionSpec, ControlLevel, Factor, Operation, Three,
+    CalculationSpec, ColumnFault, ConditionSpec, ControlLevel, Factor, Operation, Three, ranges,
 };
 
 pub(crate) fn calculation_card(card: &Card) -> Result<CalculationSpec, ColumnFault>
     ensures { result ≡ tables.calculation_card.reading card.now }
 {
-    let control_level = at(7, 8, rpg_sheet_values::control_level(card.columns(7, 8)))?;
-    let conditions = conditions(card, 9)?;
-    let factor_1 = card.optional_factor(18, 27)?;
-    let operation = card.optional_operation(28, 32)?;
-    let factor_2 = card.optional_factor(33, 42)?;
+    let text = card.columns(ranges::CONTROL_LEVEL);
+    let control_level = at(ranges::CONTROL_LEVEL, rpg_sheet_values::control_level(text))?;
+    let conditions = conditions(card, ranges::CONDITIONS)?;
+    let factor_1 = card.optional_factor(ranges::FIRST_FACTOR)?;
+    let operation = card.optional_operation(ranges::OPERATION)?;
+    let factor_2 = card.optional_factor(ranges::SECOND_FACTOR)?;
     calculation_with(
         card,
         control_level,
@@ -47,11 +48,11 @@ fn calculation_with(
         ⊛ columns.at 53 53 (values.marked (codes "H"))
         ⊛ tables.three_indicators 54 55 56 57 58 59).reading card.now }
 {
-    let result_field = card.optional_entry(43, 48)?;
-    let length = card.optional_number(49, 51)?;
-    let decimals = card.optional_digit(52, 52)?;
-    let half_adjust = at(53, 53, rpg_sheet_values::marked(b"H", card.columns(53, 53)))?;
-    let resulting_indicators = indicators(card, 54)?;
+    let result_field = card.optional_entry(ranges::RESULT_NAME)?;
+    let length = card.optional_number(ranges::RESULT_LENGTH)?;
+    let decimals = card.optional_digit(ranges::RESULT_DECIMALS)?;
+    let half_adjust = card.mark(ranges::HALF_ADJUST, b"H")?;
+    let resulting_indicators = indicators(card, ranges::RESULTING_INDICATORS)?;
     Ok(CalculationSpec {
         control_level,
         conditions,

@@ -1,13 +1,14 @@
 //! A card and its columns.
 
-ghost use Rattle.std.specs.Prelude.{◌≡◌, ◌+◌, ◌-◌, ◌≤◌, ◌++◌, length, take, replicate, position, IsTrue};
+ghost use Rattle.std.specs.Prelude.{◌≡◌, ◌-◌, ◌≤◌, ◌++◌, length, take, replicate, position, IsTrue};
 ghost use Rattle.std.specs.List.{list_all};
-ghost use Rattle.rpg_sheet.specs.Ranges.{AreColumns};
-ghost use Rattle.rpg_sheet_specs.specs.Columns.{cols, is_filled, fault_if_some};
+ghost use Rattle.rpg_sheet.specs.Ranges.{cols_from};
+ghost use Rattle.rpg_sheet_specs.specs.Cards.{card_of};
+ghost use Rattle.rpg_sheet_specs.specs.Columns.{is_filled, fault_if_some};
 ghost use Rattle.rpg_text.specs.Texts.{all_blank, is_character};
 
-use crate::line::columns_of;
-use rpg_sheet_specs::ColumnFault;
+use crate::columns::Read;
+use rpg_sheet_specs::{CardColumns, ColumnFault};
 use std::marker::Model;
 
 /// A card: its 80 columns, each with a character.
@@ -64,35 +65,32 @@ impl Card {
         &self.characters
     }
 
-    /// The columns from `first` to `last`, counted from 1.
+    /// What stands in columns.
     #[inline(always)]
-    pub(crate) fn columns(&self, first: u8, last: u8) -> &[u8]
-        requires columns { AreColumns first last }
-        ensures value { result.now ≡ cols first last self.now }
-        ensures len { length result.now ≡ last + 1 - first }
+    pub(crate) fn columns<const WIDTH: usize>(&self, columns: CardColumns<WIDTH>) -> &[u8]
+        ensures value { result.now ≡ cols_from columns.entry.first WIDTH self.now }
+        ensures len { length result.now ≡ WIDTH }
         ensures characters { IsTrue (list_all is_character result.now) }
     {
-        &self.characters[first as usize - 1..last as usize]
+        let start = columns.first as usize - 1;
+        &self.characters[start..start + WIDTH]
     }
 
-    /// The columns from `first` to `last` have no value of their own.
+    /// Columns without a value of their own.
     #[inline(always)]
-    pub(crate) fn blank(&self, first: u8, last: u8) -> Result<(), ColumnFault>
-        requires columns { AreColumns first last }
-        ensures { result ≡ fault_if_some first (position is_filled (cols first last self.now)) }
+    pub(crate) fn blank<const WIDTH: usize>(&self, columns: CardColumns<WIDTH>) -> Read<()>
+        ensures { result ≡ fault_if_some columns.entry.first (position is_filled (cols_from columns.entry.first WIDTH self.now)) }
     {
-        let text = self.columns(first, last);
+        let text = self.columns(columns);
         if has_only_blanks(text) {
             return Ok(());
         }
         match first_filled(text) {
             None => Ok(()),
             Some(i) => {
-                let column = first + i as u8;
-                Err(ColumnFault {
-                    column,
-                    last: column,
-                })
+                let column = columns.first + i as u8;
+                let last = column;
+                Err(ColumnFault { column, last })
             }
         }
     }
@@ -114,4 +112,15 @@ pub(crate) fn has_only_blanks(text: &[u8]) -> bool
         are_all = (*character == b' ') & are_all;
     }
     are_all
+}
+
+/// The columns of a line's card: what a longer line has after them is left out.
+#[tactic(auto, using(crate::proofs::Padding::laid))]
+pub(crate) fn columns_of(line: &[u8]) -> [u8; 80]
+    ensures { result ≡ card_of line.now }
+{
+    let mut columns = [b' '; 80];
+    let len = line.len().min(80);
+    columns[..len].copy_from_slice(&line[..len]);
+    columns
 }

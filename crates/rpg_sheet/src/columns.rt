@@ -1,228 +1,203 @@
 //! What ranges of columns hold, each range read by one call. An error names the range's first column.
 #![tactic(auto, unfolding(rpg_sheet_specs::specs::Columns::values, rpg_sheet_specs::specs::Columns::at_with, rpg_sheet_specs::specs::Columns::also, rpg_sheet_specs::specs::Values::blank_or, rpg_sheet_specs::specs::Tables::conditions, rpg_sheet_specs::specs::Tables::three_indicators))]
 
-ghost use Rattle.std.specs.Prelude.{◌≡◌, ◌+◌, ◌≤◌, None, Some, ok_or, option_map, if◌then◌else◌};
-ghost use Rattle.rpg_sheet.specs.Ranges.{AreColumns};
-ghost use Rattle.rpg_sheet_specs.specs.Columns.{cols, column_fault};
+ghost use Rattle.std.specs.Prelude.{◌≡◌, ◌≤◌, None, Some, ok_or, option_map, if◌then◌else◌};
+ghost use Rattle.rpg_sheet.specs.Ranges.{conditions_from, indicators_from, line_from};
+ghost use Rattle.rpg_sheet_specs.specs.Columns.{fault_from};
 ghost use Rattle.rpg_sheet_specs.specs.Tables as tables;
 ghost use Rattle.rpg_sheet_specs.specs.Values as values;
 ghost use Rattle.rpg_text.specs.Texts.{all_blank};
 
 use crate::card::{Card, has_only_blanks};
 use rpg_sheet_specs::{
-    ColumnFault, ConditionSpec, Entry, Factor, Indicator, Operation, RecordCode, TextLiteral,
-    Three, Within, Word,
+    CardColumns, ColumnFault, ConditionSpec, Entry, Factor, Indicator, Operation, RecordCode,
+    TextLiteral, Three, Within, Word,
 };
 use rpg_text::is_blank;
 
 /// What columns mean, or that they have a bad value.
 pub(crate) type Read<T> = Result<T, ColumnFault>;
 
-/// The value of the columns from `first` to `last`.
-pub(crate) fn at<T>(first: u8, last: u8, value: Option<T>) -> Read<T>
-    ensures { result ≡ ok_or value (column_fault first last) }
+/// The value of columns.
+pub(crate) fn at<T, const WIDTH: usize>(columns: CardColumns<WIDTH>, value: Option<T>) -> Read<T>
+    ensures { result ≡ ok_or value (fault_from columns.entry.first WIDTH) }
 {
-    value.ok_or(ColumnFault {
-        column: first,
-        last,
-    })
+    value.ok_or(columns.fault())
 }
 
 /// Blank, or the value of the text in these columns.
 #[inline(always)]
-pub(crate) fn optional<T: Drop>(
-    first: u8,
-    last: u8,
+pub(crate) fn optional<T: Drop, const WIDTH: usize>(
+    columns: CardColumns<WIDTH>,
     text: &[u8],
     value: Option<T>,
 ) -> Read<Option<T>>
-    ensures { result ≡ ok_or (if all_blank text.now then Some None else option_map Some value) (column_fault first last) }
+    ensures { result ≡ ok_or (if all_blank text.now then Some None else option_map Some value) (fault_from columns.entry.first WIDTH) }
 {
-    at(first, last, rpg_sheet_values::blank_or(text, value))
+    at(columns, rpg_sheet_values::blank_or(text, value))
 }
 
 impl Card {
     /// A name of at most `N` characters.
-    pub(crate) fn name<const N: usize>(&self, first: u8, last: u8) -> Read<Word<N>>
-        requires columns { AreColumns first last }
-        ensures { result ≡ ok_or (values.name N (cols first last self.now)) (column_fault first last) }
+    pub(crate) fn name<const N: usize>(&self, columns: CardColumns<N>) -> Read<Word<N>>
+        ensures { result ≡ (line_from columns.entry.first N (values.name N)).reading self.now }
     {
-        let value = rpg_sheet_values::name(self.columns(first, last));
-        at(first, last, value)
+        let value = rpg_sheet_values::name(self.columns(columns));
+        at(columns, value)
     }
 
     /// Blank or a name.
-    pub(crate) fn optional_name<const N: usize>(&self, first: u8, last: u8) -> Read<Option<Word<N>>>
-        requires columns { AreColumns first last }
-        ensures { result ≡ ok_or (values.blank_or (values.name N) (cols first last self.now)) (column_fault first last) }
+    pub(crate) fn optional_name<const N: usize>(
+        &self,
+        columns: CardColumns<N>,
+    ) -> Read<Option<Word<N>>>
+        ensures { result ≡ (line_from columns.entry.first N (values.blank_or (values.name N))).reading self.now }
     {
-        let text = self.columns(first, last);
+        let text = self.columns(columns);
         if is_blank(text) {
             return Ok(None);
         }
-        at(first, last, rpg_sheet_values::name(text).map(Some))
+        at(columns, rpg_sheet_values::name(text).map(Some))
     }
 
     /// Blank or a factor.
-    pub(crate) fn optional_factor(&self, first: u8, last: u8) -> Read<Option<Factor>>
-        requires columns { AreColumns first last }
-        requires short { last ≤ first + 9 }
-        ensures { result ≡ ok_or (values.blank_or values.factor (cols first last self.now)) (column_fault first last) }
+    pub(crate) fn optional_factor(&self, columns: CardColumns<10>) -> Read<Option<Factor>>
+        ensures { result ≡ (line_from columns.first 10 (values.blank_or values.factor)).reading self.now }
     {
-        let text = self.columns(first, last);
+        let text = self.columns(columns);
         if is_blank(text) {
             return Ok(None);
         }
-        at(first, last, rpg_sheet_values::factor_of(text).map(Some))
+        at(columns, rpg_sheet_values::factor_of(text).map(Some))
     }
 
     /// Right-aligned digits after blanks.
-    pub(crate) fn number(&self, first: u8, last: u8) -> Read<u16>
-        requires columns { AreColumns first last }
-        requires short { last ≤ first + 3 }
-        ensures { result ≡ ok_or (values.number (cols first last self.now)) (column_fault first last) }
+    pub(crate) fn number<const WIDTH: usize>(&self, columns: CardColumns<WIDTH>) -> Read<u16>
+        requires short { WIDTH ≤ 4 }
+        ensures { result ≡ (line_from columns.entry.first WIDTH values.number).reading self.now }
     {
-        let value = rpg_sheet_values::number(self.columns(first, last));
-        at(first, last, value)
+        let value = rpg_sheet_values::number(self.columns(columns));
+        at(columns, value)
     }
 
     /// Blank or a number.
-    pub(crate) fn optional_number(&self, first: u8, last: u8) -> Read<Option<u16>>
-        requires columns { AreColumns first last }
-        requires short { last ≤ first + 3 }
-        ensures { result ≡ ok_or (values.blank_or values.number (cols first last self.now)) (column_fault first last) }
+    pub(crate) fn optional_number(&self, columns: CardColumns<3>) -> Read<Option<u16>>
+        ensures { result ≡ (line_from columns.first 3 (values.blank_or values.number)).reading self.now }
     {
-        let text = self.columns(first, last);
-        optional(first, last, text, rpg_sheet_values::number(text))
+        let text = self.columns(columns);
+        optional(columns, text, rpg_sheet_values::number(text))
     }
 
     /// Blank or a digit.
-    pub(crate) fn optional_digit(&self, first: u8, last: u8) -> Read<Option<u8>>
-        requires columns { AreColumns first last }
-        requires one { last ≡ first }
-        ensures { result ≡ ok_or (values.blank_or values.digits (cols first last self.now)) (column_fault first last) }
+    pub(crate) fn optional_digit(&self, columns: CardColumns<1>) -> Read<Option<u8>>
+        ensures { result ≡ (line_from columns.first 1 (values.blank_or values.digits)).reading self.now }
     {
-        let text = self.columns(first, last);
-        optional(first, last, text, rpg_sheet_values::digit(text))
+        let text = self.columns(columns);
+        optional(columns, text, rpg_sheet_values::digit(text))
+    }
+
+    /// Blank or this character.
+    pub(crate) fn mark(&self, columns: CardColumns<1>, character: &[u8]) -> Read<bool>
+        ensures { result ≡ (line_from columns.first 1 (values.marked character.now)).reading self.now }
+    {
+        let value = rpg_sheet_values::marked(character, self.columns(columns));
+        at(columns, value)
     }
 
     /// Blank or an indicator.
-    pub(crate) fn optional_indicator(&self, first: u8, last: u8) -> Read<Option<Indicator>>
-        requires columns { AreColumns first last }
-        ensures { result ≡ ok_or (values.blank_or values.indicator (cols first last self.now)) (column_fault first last) }
+    pub(crate) fn optional_indicator(&self, columns: CardColumns<2>) -> Read<Option<Indicator>>
+        ensures { result ≡ (line_from columns.first 2 (values.blank_or values.indicator)).reading self.now }
     {
-        let text = self.columns(first, last);
-        optional(first, last, text, rpg_sheet_values::indicator(text))
+        let text = self.columns(columns);
+        optional(columns, text, rpg_sheet_values::indicator(text))
     }
 
     /// Blank or a condition.
-    pub(crate) fn optional_condition(&self, first: u8, last: u8) -> Read<Option<ConditionSpec>>
-        requires columns { AreColumns first last }
-        requires three { last ≡ first + 2 }
-        ensures { result ≡ ok_or (values.blank_or values.condition (cols first last self.now)) (column_fault first last) }
+    pub(crate) fn optional_condition(&self, columns: CardColumns<3>) -> Read<Option<ConditionSpec>>
+        ensures { result ≡ (line_from columns.first 3 (values.blank_or values.condition)).reading self.now }
     {
-        let text = self.columns(first, last);
-        optional(first, last, text, rpg_sheet_values::condition(text))
+        let text = self.columns(columns);
+        optional(columns, text, rpg_sheet_values::condition(text))
     }
 
     /// Blank or an operation.
-    pub(crate) fn optional_operation(&self, first: u8, last: u8) -> Read<Option<Operation>>
-        requires columns { AreColumns first last }
-        ensures { result ≡ ok_or (values.blank_or tables.operation (cols first last self.now)) (column_fault first last) }
+    pub(crate) fn optional_operation(&self, columns: CardColumns<5>) -> Read<Option<Operation>>
+        ensures { result ≡ (line_from columns.first 5 (values.blank_or tables.operation)).reading self.now }
     {
-        let text = self.columns(first, last);
-        optional(first, last, text, rpg_sheet_values::operation(text))
+        let text = self.columns(columns);
+        optional(columns, text, rpg_sheet_values::operation(text))
     }
 
     /// Blank or an entry.
-    pub(crate) fn optional_entry(&self, first: u8, last: u8) -> Read<Option<Entry>>
-        requires columns { AreColumns first last }
-        ensures { result ≡ ok_or (values.blank_or values.entry (cols first last self.now)) (column_fault first last) }
+    pub(crate) fn optional_entry(&self, columns: CardColumns<6>) -> Read<Option<Entry>>
+        ensures { result ≡ (line_from columns.first 6 (values.blank_or values.entry)).reading self.now }
     {
-        let text = self.columns(first, last);
+        let text = self.columns(columns);
         if is_blank(text) {
             return Ok(None);
         }
-        at(first, last, rpg_sheet_values::entry(text).map(Some))
+        at(columns, rpg_sheet_values::entry(text).map(Some))
     }
 
     /// Blank or a level after its letter.
     pub(crate) fn optional_level(
         &self,
         letter: u8,
-        first: u8,
-        last: u8,
+        columns: CardColumns<2>,
     ) -> Read<Option<Within<1, 9>>>
-        requires columns { AreColumns first last }
-        ensures { result ≡ ok_or (values.blank_or (values.level letter) (cols first last self.now)) (column_fault first last) }
+        ensures { result ≡ (line_from columns.first 2 (values.blank_or (values.level letter))).reading self.now }
     {
-        let text = self.columns(first, last);
-        optional(first, last, text, rpg_sheet_values::level(letter, text))
+        let text = self.columns(columns);
+        optional(columns, text, rpg_sheet_values::level(letter, text))
     }
 
     /// Blank or a record code.
-    pub(crate) fn optional_record_code(&self, first: u8, last: u8) -> Read<Option<RecordCode>>
-        requires columns { AreColumns first last }
-        requires seven { last ≡ first + 6 }
-        ensures { result ≡ ok_or (values.blank_or values.record_code (cols first last self.now)) (column_fault first last) }
+    pub(crate) fn optional_record_code(&self, columns: CardColumns<7>) -> Read<Option<RecordCode>>
+        ensures { result ≡ (line_from columns.first 7 (values.blank_or values.record_code)).reading self.now }
     {
-        let text = self.columns(first, last);
-        optional(first, last, text, rpg_sheet_values::record_code(text))
+        let text = self.columns(columns);
+        optional(columns, text, rpg_sheet_values::record_code(text))
     }
 
     /// Blank or how many lines the form spaces.
-    pub(crate) fn optional_space(&self, first: u8, last: u8) -> Read<Option<Within<0, 3>>>
-        requires columns { AreColumns first last }
-        ensures { result ≡ ok_or (values.blank_or tables.space (cols first last self.now)) (column_fault first last) }
+    pub(crate) fn optional_space(&self, columns: CardColumns<1>) -> Read<Option<Within<0, 3>>>
+        ensures { result ≡ (line_from columns.first 1 (values.blank_or tables.space)).reading self.now }
     {
-        let text = self.columns(first, last);
-        optional(first, last, text, rpg_sheet_values::space(text))
+        let text = self.columns(columns);
+        optional(columns, text, rpg_sheet_values::space(text))
     }
 
     /// Blank or the line that the form skips to.
-    pub(crate) fn optional_skip(&self, first: u8, last: u8) -> Read<Option<Within<1, 66>>>
-        requires columns { AreColumns first last }
-        requires two { last ≡ first + 1 }
-        ensures { result ≡ ok_or (values.blank_or tables.skip (cols first last self.now)) (column_fault first last) }
+    pub(crate) fn optional_skip(&self, columns: CardColumns<2>) -> Read<Option<Within<1, 66>>>
+        ensures { result ≡ (line_from columns.first 2 (values.blank_or tables.skip)).reading self.now }
     {
-        let text = self.columns(first, last);
-        optional(first, last, text, rpg_sheet_values::skip(text))
+        let text = self.columns(columns);
+        optional(columns, text, rpg_sheet_values::skip(text))
     }
 
     /// Blank or a text.
-    pub(crate) fn optional_text<const N: usize>(
-        &self,
-        first: u8,
-        last: u8,
-    ) -> Read<Option<TextLiteral<N>>>
-        requires columns { AreColumns first last }
-        requires short { last ≤ first + N + 1 }
-        ensures { result ≡ ok_or (values.blank_or values.quoted (cols first last self.now)) (column_fault first last) }
+    pub(crate) fn optional_text(&self, columns: CardColumns<26>) -> Read<Option<TextLiteral<24>>>
+        ensures { result ≡ (line_from columns.first 26 (values.blank_or values.quoted)).reading self.now }
     {
-        let text = self.columns(first, last);
+        let text = self.columns(columns);
         if is_blank(text) {
             return Ok(None);
         }
-        at(first, last, rpg_sheet_values::quoted(text).map(Some))
+        at(columns, rpg_sheet_values::quoted(text).map(Some))
     }
 }
 
 /// Three conditions.
-pub(crate) fn conditions(card: &Card, first: u8) -> Read<Three<Option<ConditionSpec>>>
-    requires counted { 1 ≤ first }
-    requires within { first ≤ 72 }
-    ensures { result ≡ (tables.conditions first (first + 2) (first + 3) (first + 5) (first + 6) (first + 8)).reading card.now }
+pub(crate) fn conditions(card: &Card, columns: CardColumns<9>) -> Read<Three<Option<ConditionSpec>>>
+    ensures { result ≡ (conditions_from columns.first).reading card.now }
 {
-    if has_only_blanks(card.columns(first, first + 8)) {
-        return Ok(Three {
-            first: None,
-            second: None,
-            third: None,
-        });
+    if has_only_blanks(card.columns(columns)) {
+        return Ok(Three::none());
     }
-    let one = card.optional_condition(first, first + 2)?;
-    let two = card.optional_condition(first + 3, first + 5)?;
-    let three = card.optional_condition(first + 6, first + 8)?;
+    let first = columns.first;
+    let one = card.optional_condition(CardColumns { first })?;
+    let two = card.optional_condition(CardColumns { first: first + 3 })?;
+    let three = card.optional_condition(CardColumns { first: first + 6 })?;
     Ok(Three {
         first: one,
         second: two,
@@ -231,21 +206,16 @@ pub(crate) fn conditions(card: &Card, first: u8) -> Read<Three<Option<ConditionS
 }
 
 /// Three indicators.
-pub(crate) fn indicators(card: &Card, first: u8) -> Read<Three<Option<Indicator>>>
-    requires counted { 1 ≤ first }
-    requires within { first ≤ 75 }
-    ensures { result ≡ (tables.three_indicators first (first + 1) (first + 2) (first + 3) (first + 4) (first + 5)).reading card.now }
+pub(crate) fn indicators(card: &Card, columns: CardColumns<6>) -> Read<Three<Option<Indicator>>>
+    ensures { result ≡ (indicators_from columns.first).reading card.now }
 {
-    if has_only_blanks(card.columns(first, first + 5)) {
-        return Ok(Three {
-            first: None,
-            second: None,
-            third: None,
-        });
+    if has_only_blanks(card.columns(columns)) {
+        return Ok(Three::none());
     }
-    let one = card.optional_indicator(first, first + 1)?;
-    let two = card.optional_indicator(first + 2, first + 3)?;
-    let three = card.optional_indicator(first + 4, first + 5)?;
+    let first = columns.first;
+    let one = card.optional_indicator(CardColumns { first })?;
+    let two = card.optional_indicator(CardColumns { first: first + 2 })?;
+    let three = card.optional_indicator(CardColumns { first: first + 4 })?;
     Ok(Three {
         first: one,
         second: two,

@@ -8,17 +8,16 @@ ghost use Rattle.rpg_sheet_specs.specs.Tables as tables;
 ghost use Rattle.rpg_sheet_specs.specs.Values as values;
 
 use crate::card::{Card, has_only_blanks};
-use crate::columns::at;
-use rpg_sheet_specs::{ColumnFault, ExtensionSpec, TableSpec, Word};
+use rpg_sheet_specs::{ColumnFault, ExtensionSpec, TableSpec, Word, ranges};
 
 pub(crate) fn extension(card: &Card) -> Result<ExtensionSpec, ColumnFault>
     ensures { result ≡ tables.extension.reading card.now }
 {
-    card.blank(7, 26)?;
-    let name = card.name(27, 32)?;
-    let entries_per_card = card.optional_number(33, 35)?;
-    let entries = card.number(36, 39)?;
-    let length = card.number(40, 42)?;
+    card.blank(ranges::BEFORE_TABLE)?;
+    let name = card.name(ranges::TABLE_NAME)?;
+    let entries_per_card = card.optional_number(ranges::ENTRIES_PER_CARD)?;
+    let entries = card.number(ranges::ENTRIES)?;
+    let length = card.number(ranges::ENTRY_LENGTH)?;
     extension_with(card, name, entries_per_card, entries, length)
 }
 
@@ -36,9 +35,9 @@ fn extension_with(
         ⊛ columns.at 45 45 (values.marked (codes "A"))
         ⊛ tables.alternating).reading card.now }
 {
-    card.blank(43, 43)?;
-    let decimals = card.optional_digit(44, 44)?;
-    let ascending = at(45, 45, rpg_sheet_values::marked(b"A", card.columns(45, 45)))?;
+    card.blank(ranges::ENTRY_FORMAT)?;
+    let decimals = card.optional_digit(ranges::ENTRY_DECIMALS)?;
+    let ascending = card.mark(ranges::ENTRY_SEQUENCE, b"A")?;
     let alternating = alternating(card)?;
     Ok(ExtensionSpec {
         table: TableSpec {
@@ -67,8 +66,8 @@ impl Card {
 fn alternating(card: &Card) -> Result<Option<TableSpec>, ColumnFault>
     ensures { result ≡ tables.alternating.reading card.now }
 {
-    if has_only_blanks(card.columns(46, 51)) {
-        card.blank(46, 57)?;
+    if has_only_blanks(card.columns(ranges::ALTERNATING_NAME)) {
+        card.blank(ranges::ALTERNATING)?;
         Ok(None)
     } else {
         Ok(Some(alternating_table(card)?))
@@ -78,11 +77,11 @@ fn alternating(card: &Card) -> Result<Option<TableSpec>, ColumnFault>
 fn alternating_table(card: &Card) -> Result<TableSpec, ColumnFault>
     ensures { result ≡ tables.alternating_table.reading card.now }
 {
-    let name = card.name(46, 51)?;
-    let length = card.number(52, 54)?;
-    card.blank(55, 55)?;
-    let decimals = card.optional_digit(56, 56)?;
-    let ascending = at(57, 57, rpg_sheet_values::marked(b"A", card.columns(57, 57)))?;
+    let name = card.name(ranges::ALTERNATING_NAME)?;
+    let length = card.number(ranges::ALTERNATING_LENGTH)?;
+    card.blank(ranges::ALTERNATING_FORMAT)?;
+    let decimals = card.optional_digit(ranges::ALTERNATING_DECIMALS)?;
+    let ascending = card.mark(ranges::ALTERNATING_SEQUENCE, b"A")?;
     Ok(TableSpec {
         name,
         length,

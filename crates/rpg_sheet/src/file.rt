@@ -10,17 +10,19 @@ ghost use Rattle.rpg_sheet_specs.specs.declared.file.FileRole.TheVariants as rol
 
 use crate::card::Card;
 use crate::columns::{at, optional};
-use rpg_sheet_specs::{ColumnFault, FileRole, FileSpec, Within, Word};
+use rpg_sheet_specs::{ColumnFault, FileRole, FileSpec, Within, Word, ranges};
 
 pub(crate) fn file(card: &Card) -> Result<FileSpec, ColumnFault>
     ensures { result ≡ tables.file.reading card.now }
 {
-    let name = card.name(7, 14)?;
-    at(15, 15, rpg_sheet_values::direction(card.columns(15, 15)))?;
-    let role = at(16, 16, role(card))?;
-    let ends_job = at(17, 17, rpg_sheet_values::marked(b"E", card.columns(17, 17)))?;
-    let ascending = at(18, 18, rpg_sheet_values::marked(b"A", card.columns(18, 18)))?;
-    at(19, 19, rpg_sheet_values::only(b"F", card.columns(19, 19)))?;
+    let name = card.name(ranges::FILE_NAME)?;
+    let text = card.columns(ranges::FILE_TYPE);
+    at(ranges::FILE_TYPE, rpg_sheet_values::direction(text))?;
+    let role = at(ranges::FILE_ROLE, role(card))?;
+    let ends_job = card.mark(ranges::ENDS_JOB, b"E")?;
+    let ascending = card.mark(ranges::FILE_SEQUENCE, b"A")?;
+    let text = card.columns(ranges::RECORD_FORMAT);
+    at(ranges::RECORD_FORMAT, rpg_sheet_values::only(b"F", text))?;
     file_with(card, name, role, ends_job, ascending)
 }
 
@@ -38,10 +40,10 @@ fn file_with(
         ⊛ columns.at 40 46 tables.device_named
         ⊘ columns.blank 47 74).reading card.now }
 {
-    let record_length = card.number(24, 27)?;
+    let record_length = card.number(ranges::RECORD_LENGTH)?;
     let overflow = file_overflow(card)?;
-    let device = rpg_sheet_values::device(card.columns(40, 46));
-    card.blank(47, 74)?;
+    let device = rpg_sheet_values::device(card.columns(ranges::DEVICE));
+    card.blank(ranges::BEHIND_DEVICE)?;
     Ok(FileSpec {
         name,
         role,
@@ -56,9 +58,9 @@ fn file_with(
 fn file_overflow(card: &Card) -> Result<Option<Within<112, 119>>, ColumnFault>
     ensures { result ≡ tables.file_overflow.reading card.now }
 {
-    card.blank(28, 32)?;
+    card.blank(ranges::BEFORE_OVERFLOW)?;
     let overflow = overflow(card)?;
-    card.blank(35, 39)?;
+    card.blank(ranges::BEHIND_OVERFLOW)?;
     Ok(overflow)
 }
 
@@ -66,11 +68,12 @@ fn file_overflow(card: &Card) -> Result<Option<Within<112, 119>>, ColumnFault>
 fn overflow(card: &Card) -> Result<Option<Within<112, 119>>, ColumnFault>
     ensures { result ≡ tables.overflow.reading card.now }
 {
-    if card.columns(15, 15) == b"O".as_slice() {
-        let text = card.columns(33, 34);
-        optional(33, 34, text, rpg_sheet_values::indicator_within(text))
+    let text = card.columns(ranges::OVERFLOW);
+    if card.columns(ranges::FILE_TYPE) == b"O".as_slice() {
+        let value = rpg_sheet_values::indicator_within(text);
+        optional(ranges::OVERFLOW, text, value)
     } else {
-        at(33, 34, rpg_sheet_values::unused(card.columns(33, 34)))?;
+        at(ranges::OVERFLOW, rpg_sheet_values::unused(text))?;
         Ok(None)
     }
 }
@@ -90,8 +93,8 @@ impl Card {
 fn role(card: &Card) -> Option<FileRole>
     ensures { result ≡ tables.role card.now (cols 16 16 card.now) }
 {
-    let is_read = card.columns(15, 15) == b"I".as_slice();
-    role_by(is_read, card.columns(16, 16))
+    let is_read = card.columns(ranges::FILE_TYPE) == b"I".as_slice();
+    role_by(is_read, card.columns(ranges::FILE_ROLE))
 }
 
 /// The role that this spelling gives a file that is read, or one that isn't.

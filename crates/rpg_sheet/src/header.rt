@@ -5,13 +5,13 @@ ghost use Rattle.rpg_sheet_specs.specs.Columns.{IsLeastColumn};
 ghost use Rattle.rpg_sheet_specs.specs.Tables as tables;
 
 use crate::card::Card;
-use rpg_sheet_specs::{ColumnFault, HeaderSpec};
+use rpg_sheet_specs::{ColumnFault, HeaderSpec, ranges};
 
 #[tactic(auto, unfolding(rpg_sheet_specs::specs::Tables::header, rpg_sheet_specs::specs::Columns::values, rpg_sheet_specs::specs::Columns::past, rpg_sheet_specs::specs::Columns::blank))]
 pub(crate) fn header(card: &Card) -> Result<HeaderSpec, ColumnFault>
     ensures { result ≡ tables.header.reading card.now }
 {
-    card.blank(15, 74)?;
+    card.blank(ranges::BEHIND_HEADER)?;
     Ok(HeaderSpec)
 }
 

@@ -10,7 +10,7 @@ ghost use Rattle.rpg_sheet_specs.specs.Values as values;
 use crate::card::{Card, has_only_blanks};
 use crate::columns::{at, indicators};
 use rpg_sheet_specs::{
-    ColumnFault, InputFieldSpec, InputSpec, RecordCode, RecordType, Three, Word,
+    ColumnFault, InputFieldSpec, InputSpec, RecordCode, RecordType, Three, Word, ranges,
 };
 
 pub(crate) fn input_card(card: &Card) -> Result<InputSpec, ColumnFault>
@@ -48,24 +48,26 @@ fn type_or_field_card(card: &Card) -> Result<InputSpec, ColumnFault>
 pub(crate) fn is_and_card(card: &Card) -> bool
     ensures { result ≡ tables.is_and_card card.now }
 {
-    has_only_blanks(card.columns(7, 13)) && card.columns(14, 16) == b"AND".as_slice()
+    has_only_blanks(card.columns(ranges::BEFORE_WORD))
+        && card.columns(ranges::AND_WORD) == b"AND".as_slice()
 }
 
 pub(crate) fn is_field_card(card: &Card) -> bool
     ensures { result ≡ tables.is_field_card card.now }
 {
-    has_only_blanks(card.columns(7, 16))
+    has_only_blanks(card.columns(ranges::TYPE_OR_LINE))
 }
 
 fn type_card(card: &Card) -> Result<RecordType, ColumnFault>
     ensures { result ≡ tables.type_card.reading card.now }
 {
-    let file = card.optional_name(7, 14)?;
-    let sequence = at(15, 16, rpg_sheet_values::letters(card.columns(15, 16)))?;
-    card.blank(17, 18)?;
-    let indicator = card.optional_indicator(19, 20)?;
+    let file = card.optional_name(ranges::TYPE_FILE)?;
+    let text = card.columns(ranges::TYPE_SEQUENCE);
+    let sequence = at(ranges::TYPE_SEQUENCE, rpg_sheet_values::letters(text))?;
+    card.blank(ranges::BEFORE_INDICATOR)?;
+    let indicator = card.optional_indicator(ranges::TYPE_INDICATOR)?;
     let codes = record_codes(card)?;
-    card.blank(42, 74)?;
+    card.blank(ranges::BEHIND_CODES)?;
     Ok(RecordType {
         file,
         sequence,
@@ -77,9 +79,9 @@ fn type_card(card: &Card) -> Result<RecordType, ColumnFault>
 fn type_and_card(card: &Card) -> Result<Three<Option<RecordCode>>, ColumnFault>
     ensures { result ≡ tables.type_and_card.reading card.now }
 {
-    card.blank(17, 20)?;
+    card.blank(ranges::BEFORE_CODES)?;
     let codes = further_codes(card)?;
-    card.blank(42, 74)?;
+    card.blank(ranges::BEHIND_CODES)?;
     Ok(codes)
 }
 
@@ -87,8 +89,8 @@ fn type_and_card(card: &Card) -> Result<Three<Option<RecordCode>>, ColumnFault>
 fn further_codes(card: &Card) -> Result<Three<Option<RecordCode>>, ColumnFault>
     ensures { result ≡ tables.and_codes.reading card.now }
 {
-    if has_only_blanks(card.columns(21, 41)) {
-        at(21, 41, None)
+    if has_only_blanks(card.columns(ranges::CODES)) {
+        at(ranges::CODES, None)
     } else {
         record_codes(card)
     }
@@ -97,9 +99,9 @@ fn further_codes(card: &Card) -> Result<Three<Option<RecordCode>>, ColumnFault>
 fn record_codes(card: &Card) -> Result<Three<Option<RecordCode>>, ColumnFault>
     ensures { result ≡ tables.record_codes.reading card.now }
 {
-    let first = card.optional_record_code(21, 27)?;
-    let second = card.optional_record_code(28, 34)?;
-    let third = card.optional_record_code(35, 41)?;
+    let first = card.optional_record_code(ranges::FIRST_CODE)?;
+    let second = card.optional_record_code(ranges::SECOND_CODE)?;
+    let third = card.optional_record_code(ranges::THIRD_CODE)?;
     Ok(Three {
         first,
         second,
@@ -110,11 +112,11 @@ fn record_codes(card: &Card) -> Result<Three<Option<RecordCode>>, ColumnFault>
 fn field_card(card: &Card) -> Result<InputFieldSpec, ColumnFault>
     ensures { result ≡ tables.field_card.reading card.now }
 {
-    card.blank(17, 43)?;
-    let from = card.number(44, 47)?;
-    let to = card.number(48, 51)?;
-    let decimals = card.optional_digit(52, 52)?;
-    let name = card.name(53, 58)?;
+    card.blank(ranges::BEFORE_FIELD)?;
+    let from = card.number(ranges::FIRST_COLUMN)?;
+    let to = card.number(ranges::LAST_COLUMN)?;
+    let decimals = card.optional_digit(ranges::INPUT_DECIMALS)?;
+    let name = card.name(ranges::INPUT_NAME)?;
     field_with(card, from, to, decimals, name)
 }
 
@@ -133,11 +135,11 @@ fn field_with(
         ⊛ tables.three_indicators 65 66 67 68 69 70
         ⊘ columns.blank 71 74).reading card.now }
 {
-    let level = card.optional_level(b'L', 59, 60)?;
-    let match_level = card.optional_level(b'M', 61, 62)?;
-    card.blank(63, 64)?;
-    let indicators = indicators(card, 65)?;
-    card.blank(71, 74)?;
+    let level = card.optional_level(b'L', ranges::INPUT_LEVEL)?;
+    let match_level = card.optional_level(b'M', ranges::INPUT_MATCH)?;
+    card.blank(ranges::BEHIND_MATCH)?;
+    let indicators = indicators(card, ranges::INPUT_INDICATORS)?;
+    card.blank(ranges::BEHIND_INDICATORS)?;
     Ok(InputFieldSpec {
         from,
         to,

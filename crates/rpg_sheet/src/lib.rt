@@ -6,11 +6,9 @@ mod card;
 mod columns;
 mod extension;
 mod file;
-mod first;
 mod form;
 mod header;
 mod input;
-mod line;
 mod output;
 mod sheet;
 mod source;
@@ -18,7 +16,6 @@ mod spec;
 mod unreadable;
 
 pub use card::Card;
-pub use first::refusal_tells_the_first;
 pub use rpg_sheet_specs::{
     CalculationSpec, ColumnFault, ColumnRange, ConditionSpec, ControlLevel, DataCard, DataSpec,
     Device, EditCode, Entry, EntryIndex, ExtensionSpec, Factor, FileRole, FileSpec, FormType,
@@ -28,4 +25,4 @@ pub use rpg_sheet_specs::{
 };
 pub use sheet::{Cards, SheetCode, SheetFault, sheet_place};
 pub use source::cards;
-pub use unreadable::{UnreadableCard, unreadable_cards};
+pub use unreadable::{UnreadableCard, refusal_tells_the_first, unreadable_cards};

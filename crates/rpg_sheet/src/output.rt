@@ -9,7 +9,7 @@ use crate::card::{Card, has_only_blanks};
 use crate::columns::{at, conditions, optional};
 use crate::input::{is_and_card, is_field_card};
 use rpg_sheet_specs::{
-    ColumnFault, ConditionSpec, Movement, OutputField, OutputRecord, OutputSpec, Three,
+    ColumnFault, ConditionSpec, Movement, OutputField, OutputRecord, OutputSpec, Three, ranges,
 };
 
 pub(crate) fn output_card(card: &Card) -> Result<OutputSpec, ColumnFault>
@@ -37,14 +37,15 @@ impl Card {
 fn is_or_card(card: &Card) -> bool
     ensures { result ≡ tables.is_or_card card.now }
 {
-    has_only_blanks(card.columns(7, 13)) && card.columns(14, 15) == b"OR".as_slice()
+    has_only_blanks(card.columns(ranges::BEFORE_WORD))
+        && card.columns(ranges::OR_WORD) == b"OR".as_slice()
 }
 
 fn line_or_card(card: &Card) -> Result<OutputSpec, ColumnFault>
     ensures { result ≡ tables.line_or_card.reading card.now }
 {
     if is_or_card(card) {
-        card.blank(16, 16)?;
+        card.blank(ranges::BEHIND_TIME)?;
         Ok(OutputSpec::Or(line_conditions(card)?))
     } else {
         line_or_field_card(card)
@@ -64,12 +65,13 @@ fn line_or_field_card(card: &Card) -> Result<OutputSpec, ColumnFault>
 fn record_card(card: &Card) -> Result<OutputRecord, ColumnFault>
     ensures { result ≡ tables.record_card.reading card.now }
 {
-    let file = card.optional_name(7, 14)?;
-    let time = at(15, 15, rpg_sheet_values::line_time(card.columns(15, 15)))?;
-    card.blank(16, 16)?;
+    let file = card.optional_name(ranges::LINE_FILE)?;
+    let text = card.columns(ranges::LINE_TIME);
+    let time = at(ranges::LINE_TIME, rpg_sheet_values::line_time(text))?;
+    card.blank(ranges::BEHIND_TIME)?;
     let movement = movement(card)?;
-    let conditions = conditions(card, 23)?;
-    card.blank(32, 70)?;
+    let conditions = conditions(card, ranges::LINE_CONDITIONS)?;
+    card.blank(ranges::BEHIND_CONDITIONS)?;
     Ok(OutputRecord {
         file,
         time,
@@ -81,10 +83,10 @@ fn record_card(card: &Card) -> Result<OutputRecord, ColumnFault>
 fn movement(card: &Card) -> Result<Movement, ColumnFault>
     ensures { result ≡ tables.movement.reading card.now }
 {
-    let space_before = card.optional_space(17, 17)?;
-    let space_after = card.optional_space(18, 18)?;
-    let skip_before = card.optional_skip(19, 20)?;
-    let skip_after = card.optional_skip(21, 22)?;
+    let space_before = card.optional_space(ranges::SPACE_BEFORE)?;
+    let space_after = card.optional_space(ranges::SPACE_AFTER)?;
+    let skip_before = card.optional_skip(ranges::SKIP_BEFORE)?;
+    let skip_after = card.optional_skip(ranges::SKIP_AFTER)?;
     Ok(Movement {
         space_before,
         space_after,
@@ -97,24 +99,24 @@ fn movement(card: &Card) -> Result<Movement, ColumnFault>
 fn line_conditions(card: &Card) -> Result<Three<Option<ConditionSpec>>, ColumnFault>
     ensures { result ≡ tables.line_conditions.reading card.now }
 {
-    card.blank(17, 22)?;
-    let conditions = conditions(card, 23)?;
-    card.blank(32, 70)?;
+    card.blank(ranges::MOVEMENT)?;
+    let conditions = conditions(card, ranges::LINE_CONDITIONS)?;
+    card.blank(ranges::BEHIND_CONDITIONS)?;
     Ok(conditions)
 }
 
 fn output_field_card(card: &Card) -> Result<OutputField, ColumnFault>
     ensures { result ≡ tables.output_field_card.reading card.now }
 {
-    card.blank(17, 22)?;
-    let conditions = conditions(card, 23)?;
-    let operand = card.optional_entry(32, 37)?;
-    let code = card.columns(38, 38);
-    let code = optional(38, 38, code, rpg_sheet_values::edit_code(code))?;
-    let blank_after = at(39, 39, rpg_sheet_values::marked(b"B", card.columns(39, 39)))?;
-    let end = card.number(40, 43)?;
-    card.blank(44, 44)?;
-    let text = card.optional_text(45, 70)?;
+    card.blank(ranges::MOVEMENT)?;
+    let conditions = conditions(card, ranges::LINE_CONDITIONS)?;
+    let operand = card.optional_entry(ranges::OUTPUT_NAME)?;
+    let code = card.columns(ranges::OUTPUT_CODE);
+    let code = optional(ranges::OUTPUT_CODE, code, rpg_sheet_values::edit_code(code))?;
+    let blank_after = card.mark(ranges::BLANK_AFTER, b"B")?;
+    let end = card.number(ranges::END_POSITION)?;
+    card.blank(ranges::OUTPUT_FORMAT)?;
+    let text = card.optional_text(ranges::OUTPUT_TEXT)?;
     Ok(OutputField {
         conditions,
         operand,

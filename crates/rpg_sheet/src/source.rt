@@ -8,9 +8,8 @@ ghost use Rattle.rpg_sheet.specs.Sheet as sheets;
 ghost use Rattle.rpg_sheet_specs.specs.Cards.{card_of};
 ghost use Rattle.rpg_sheet_specs.specs.Specs.{spec_of, specs_of};
 
-use crate::Card;
+use crate::card::{Card, columns_of};
 use crate::form::{begins_data, ends_source, sheet};
-use crate::line::columns_of;
 use crate::sheet::{CardFault, Cards, SheetCode, SheetFault, read, sheet_place};
 use rpg_sheet_specs::Spec;
 use rpg_text::{first_line, has_only_characters};

@@ -1,13 +1,14 @@
 //! All cards of a source that can't be read.
 
-ghost use Rattle.std.specs.Prelude.{◌≡◌, ℕ, ◌≤◌, ◌++◌, List, IfOk, OnOk};
+ghost use Rattle.std.specs.Prelude.{◌≡◌, ℕ, ◌≤◌, ◌++◌, List, slice_get, IfOk, OnOk};
+ghost use Rattle.std.specs.Option.{option_map};
 ghost use Rattle.rpg_sheet.specs.Seen.{AreLinesSeen};
 ghost use Rattle.rpg_sheet.specs.Sheet as sheets;
 ghost use Rattle.rpg_sheet.specs.Unreadable as every;
 ghost use Rattle.rpg_sheet_specs.specs.Cards.{card_of};
 
+use crate::card::columns_of;
 use crate::form::ends_source;
-use crate::line::columns_of;
 use crate::sheet::{CardFault, SheetCode};
 use crate::source::{CARDS, Earlier, NO_LINES, checked};
 use rpg_sheet_specs::ColumnFault;
@@ -71,3 +72,8 @@ fn put_if_unreadable(
         }
     }
 }
+
+/// A law: of the cards that can't be read, the first is the one that a refusal reports, and there is none where nothing is refused.
+pub fn refusal_tells_the_first(text: &[u8])
+    ensures { sheets.first_sheet_fault (sheets.source text.now) ≡ option_map every.reported_fault (slice_get (every.unreadable_cards (sheets.source text.now)) 0) }
+{}

@@ -11,6 +11,10 @@ cols a b card = slice_range card (a - 1) b
 abbrev pub column_fault : ℕ → ℕ → ColumnFault
 column_fault a b = record { column = a; last = b }
 
+-- a bad value in so many columns from the first on
+abbrev pub fault_from : ℕ → ℕ → ColumnFault
+fault_from first width = column_fault first (first + (width - 1))
+
 -- k is among the columns, and none of them is less
 pub record IsLeastColumn (ks : List ℕ) (k : ℕ) : Type 0 where
   pub rest : List ℕ

@@ -1,10 +1,10 @@
 //! The ranges of columns that a fault can point at.
 
 ghost use Rattle.std.specs.Prelude.{◌≡◌};
-ghost use Rattle.rpg_sheet_specs.specs.Columns.{column_fault};
-ghost use Rattle.rpg_sheet_specs.specs.Ranges as ranges;
+ghost use Rattle.rpg_sheet_specs.specs.Ranges as table;
 
 use crate::column::ColumnFault;
+use crate::ranges;
 
 /// A range of columns, by its contents.
 #[derive(Clone, Copy)]
@@ -85,67 +85,64 @@ impl ColumnRange {
     /// Its first and last column.
     #[tactic(auto, unfolding(crate::specs::Ranges::columns_of))]
     pub fn columns(self) -> ColumnFault
-        ensures { result ≡ ranges.columns_of self }
+        ensures { result ≡ table.columns_of self }
     {
         match self {
-            ColumnRange::FileName | ColumnRange::TypeFile | ColumnRange::LineFile => range(7, 14),
-            ColumnRange::FileType => range(15, 15),
-            ColumnRange::EndsJob => range(17, 17),
-            ColumnRange::RecordLength => range(24, 27),
-            ColumnRange::Device => range(40, 46),
-            ColumnRange::TableName => range(27, 32),
-            ColumnRange::EntriesPerCard => range(33, 35),
-            ColumnRange::Entries => range(36, 39),
-            ColumnRange::EntryLength => range(40, 42),
-            ColumnRange::EntryDecimals => range(44, 44),
-            ColumnRange::AlternatingName => range(46, 51),
-            ColumnRange::AlternatingLength => range(52, 54),
-            ColumnRange::AlternatingDecimals => range(56, 56),
-            ColumnRange::TypeIndicator | ColumnRange::SkipBefore => range(19, 20),
-            ColumnRange::FirstCode => range(21, 27),
-            ColumnRange::SecondCode => range(28, 34),
-            ColumnRange::ThirdCode => range(35, 41),
-            ColumnRange::FirstColumn => range(44, 47),
-            ColumnRange::LastColumn => range(48, 51),
-            ColumnRange::InputName => range(53, 58),
-            ColumnRange::InputLevel => range(59, 60),
-            ColumnRange::InputMatch => range(61, 62),
-            ColumnRange::InputPlus => range(65, 66),
-            ColumnRange::InputMinus => range(67, 68),
-            ColumnRange::InputZero => range(69, 70),
-            ColumnRange::ControlLevel => range(7, 8),
-            ColumnRange::Conditions => range(9, 17),
-            ColumnRange::FirstCondition => range(9, 11),
-            ColumnRange::SecondCondition => range(12, 14),
-            ColumnRange::ThirdCondition => range(15, 17),
-            ColumnRange::FirstFactor => range(18, 27),
-            ColumnRange::Operation => range(28, 32),
-            ColumnRange::SecondFactor => range(33, 42),
-            ColumnRange::ResultName => range(43, 48),
-            ColumnRange::ResultLength => range(49, 51),
-            ColumnRange::ResultDecimals => range(52, 52),
-            ColumnRange::HalfAdjust => range(53, 53),
-            ColumnRange::ResultingIndicators => range(54, 59),
-            ColumnRange::ResultPlus => range(54, 55),
-            ColumnRange::ResultMinus => range(56, 57),
-            ColumnRange::ResultZero => range(58, 59),
-            ColumnRange::SpaceBefore => range(17, 17),
-            ColumnRange::SpaceAfter => range(18, 18),
-            ColumnRange::SkipAfter => range(21, 22),
-            ColumnRange::FirstLineCondition => range(23, 25),
-            ColumnRange::SecondLineCondition => range(26, 28),
-            ColumnRange::ThirdLineCondition => range(29, 31),
-            ColumnRange::OutputName => range(32, 37),
-            ColumnRange::OutputCode => range(38, 38),
-            ColumnRange::BlankAfter => range(39, 39),
-            ColumnRange::EndPosition => range(40, 43),
-            ColumnRange::OutputText => range(45, 70),
+            ColumnRange::FileName => ranges::FILE_NAME.fault(),
+            ColumnRange::TypeFile => ranges::TYPE_FILE.fault(),
+            ColumnRange::LineFile => ranges::LINE_FILE.fault(),
+            ColumnRange::FileType => ranges::FILE_TYPE.fault(),
+            ColumnRange::EndsJob => ranges::ENDS_JOB.fault(),
+            ColumnRange::RecordLength => ranges::RECORD_LENGTH.fault(),
+            ColumnRange::Device => ranges::DEVICE.fault(),
+            ColumnRange::TableName => ranges::TABLE_NAME.fault(),
+            ColumnRange::EntriesPerCard => ranges::ENTRIES_PER_CARD.fault(),
+            ColumnRange::Entries => ranges::ENTRIES.fault(),
+            ColumnRange::EntryLength => ranges::ENTRY_LENGTH.fault(),
+            ColumnRange::EntryDecimals => ranges::ENTRY_DECIMALS.fault(),
+            ColumnRange::AlternatingName => ranges::ALTERNATING_NAME.fault(),
+            ColumnRange::AlternatingLength => ranges::ALTERNATING_LENGTH.fault(),
+            ColumnRange::AlternatingDecimals => ranges::ALTERNATING_DECIMALS.fault(),
+            ColumnRange::TypeIndicator => ranges::TYPE_INDICATOR.fault(),
+            ColumnRange::SkipBefore => ranges::SKIP_BEFORE.fault(),
+            ColumnRange::FirstCode => ranges::FIRST_CODE.fault(),
+            ColumnRange::SecondCode => ranges::SECOND_CODE.fault(),
+            ColumnRange::ThirdCode => ranges::THIRD_CODE.fault(),
+            ColumnRange::FirstColumn => ranges::FIRST_COLUMN.fault(),
+            ColumnRange::LastColumn => ranges::LAST_COLUMN.fault(),
+            ColumnRange::InputName => ranges::INPUT_NAME.fault(),
+            ColumnRange::InputLevel => ranges::INPUT_LEVEL.fault(),
+            ColumnRange::InputMatch => ranges::INPUT_MATCH.fault(),
+            ColumnRange::InputPlus => ranges::INPUT_PLUS.fault(),
+            ColumnRange::InputMinus => ranges::INPUT_MINUS.fault(),
+            ColumnRange::InputZero => ranges::INPUT_ZERO.fault(),
+            ColumnRange::ControlLevel => ranges::CONTROL_LEVEL.fault(),
+            ColumnRange::Conditions => ranges::CONDITIONS.fault(),
+            ColumnRange::FirstCondition => ranges::FIRST_CONDITION.fault(),
+            ColumnRange::SecondCondition => ranges::SECOND_CONDITION.fault(),
+            ColumnRange::ThirdCondition => ranges::THIRD_CONDITION.fault(),
+            ColumnRange::FirstFactor => ranges::FIRST_FACTOR.fault(),
+            ColumnRange::Operation => ranges::OPERATION.fault(),
+            ColumnRange::SecondFactor => ranges::SECOND_FACTOR.fault(),
+            ColumnRange::ResultName => ranges::RESULT_NAME.fault(),
+            ColumnRange::ResultLength => ranges::RESULT_LENGTH.fault(),
+            ColumnRange::ResultDecimals => ranges::RESULT_DECIMALS.fault(),
+            ColumnRange::HalfAdjust => ranges::HALF_ADJUST.fault(),
+            ColumnRange::ResultingIndicators => ranges::RESULTING_INDICATORS.fault(),
+            ColumnRange::ResultPlus => ranges::RESULT_PLUS.fault(),
+            ColumnRange::ResultMinus => ranges::RESULT_MINUS.fault(),
+            ColumnRange::ResultZero => ranges::RESULT_ZERO.fault(),
+            ColumnRange::SpaceBefore => ranges::SPACE_BEFORE.fault(),
+            ColumnRange::SpaceAfter => ranges::SPACE_AFTER.fault(),
+            ColumnRange::SkipAfter => ranges::SKIP_AFTER.fault(),
+            ColumnRange::FirstLineCondition => ranges::FIRST_LINE_CONDITION.fault(),
+            ColumnRange::SecondLineCondition => ranges::SECOND_LINE_CONDITION.fault(),
+            ColumnRange::ThirdLineCondition => ranges::THIRD_LINE_CONDITION.fault(),
+            ColumnRange::OutputName => ranges::OUTPUT_NAME.fault(),
+            ColumnRange::OutputCode => ranges::OUTPUT_CODE.fault(),
+            ColumnRange::BlankAfter => ranges::BLANK_AFTER.fault(),
+            ColumnRange::EndPosition => ranges::END_POSITION.fault(),
+            ColumnRange::OutputText => ranges::OUTPUT_TEXT.fault(),
         }
     }
-}
-
-const fn range(column: u8, last: u8) -> ColumnFault
-    ensures { result ≡ column_fault column last }
-{
-    ColumnFault { column, last }
 }

@@ -64,8 +64,19 @@ impl<T: Copy> Clone for Three<T> {
 }
 
 impl<T: Copy> Three<Option<T>> {
-    ghost use Rattle.std.specs.Prelude.{◌≡◌, ◌≤◌};
+    ghost use Rattle.std.specs.Prelude.{◌≡◌, ◌≤◌, None};
     ghost use Rattle.rpg_sheet_specs.specs.Three.{filled_count};
+
+    /// None of them.
+    pub const fn none() -> Self
+        ensures { result ≡ record { first = None; second = None; third = None } }
+    {
+        Three {
+            first: None,
+            second: None,
+            third: None,
+        }
+    }
 
     /// How many are there.
     pub fn filled(self) -> u64

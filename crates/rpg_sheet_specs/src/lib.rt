@@ -2,6 +2,7 @@
 #![tactic(auto)]
 
 mod calculation;
+mod card_columns;
 mod column;
 mod column_range;
 mod data;
@@ -16,11 +17,13 @@ mod input;
 mod literal;
 mod operations;
 mod output;
+pub mod ranges;
 mod spec;
 mod within;
 mod word;
 
 pub use calculation::{CalculationSpec, ControlLevel, Operation};
+pub use card_columns::CardColumns;
 pub use column::ColumnFault;
 pub use column_range::ColumnRange;
 pub use data::{DataCard, DataSpec};
