@@ -109,7 +109,8 @@ pub(crate) fn kept_with_sign(is_negated: bool, b: Num, target: Target) -> i64
     ensures value { result ≡ stored_number target.half target.dec target.len (with_decimals (acts.assigned is_negated b.value) b.dec) }
     ensures length { unsigned_abs result < 10 ^ target.len }
 {
-    keep(signed(is_negated, b.value), Scale { value: b.dec }, target)
+    let n = i128::from(signed(is_negated, b.value));
+    keep(n, Scale { value: b.dec }, target)
 }
 
 /// The same of a number with the target's decimals.
@@ -119,7 +120,7 @@ pub(crate) fn kept_aligned(is_negated: bool, b: Num, target: Target) -> i64
     ensures value { result ≡ stored_number target.half target.dec target.len (with_decimals (acts.assigned is_negated b.value) b.dec) }
     ensures length { unsigned_abs result < 10 ^ target.len }
 {
-    fit(signed(is_negated, b.value), target.len)
+    fit(i128::from(signed(is_negated, b.value)), target.len)
 }
 
 /// The result of Z-ADD and Z-SUB.
@@ -140,16 +141,12 @@ fn assigned<S: Store + Drop>(
 }
 
 /// The number, with its sign turned where asked.
-fn signed(is_negated: bool, n: i64) -> i128
+fn signed(is_negated: bool, n: i64) -> i64
     requires { unsigned_abs n < 10 ^ 15 }
     ensures value { result ≡ acts.assigned is_negated n }
-    ensures bound { unsigned_abs result < 10 ^ 36 }
+    ensures bound { unsigned_abs result < 10 ^ 15 }
 {
-    if is_negated {
-        -i128::from(n)
-    } else {
-        i128::from(n)
-    }
+    if is_negated { -n } else { n }
 }
 
 /// What a division leaves.

@@ -27,11 +27,7 @@ use std::cmp::Ordering;
 fn same_order(a: Ordering, b: Ordering) -> bool
     ensures { result ≡ of.same_order a b }
 {
-    match a {
-        Ordering::Less => matches!(b, Ordering::Less),
-        Ordering::Equal => matches!(b, Ordering::Equal),
-        Ordering::Greater => matches!(b, Ordering::Greater),
-    }
+    a == b
 }
 
 /// Whether the entry at a position of factor 2 has that order relative to factor 1.
