@@ -1,5 +1,5 @@
 //! A line is assembled: the fields whose conditions hold are laid over blanks, in order.
-ghost use Rattle.std.specs.Prelude.{◌≡◌, ◌≤◌, ◌+◌, length, drop, true, None};
+ghost use Rattle.std.specs.Prelude.{◌≡◌, ◌≤◌, ◌+◌, length, drop, true, None, IfSome};
 ghost use Rattle.rpg_program.specs.Ends.{GoesOn, end_of};
 ghost use Rattle.rpg_program.specs.LineFaults as faults;
 ghost use Rattle.rpg_program.specs.Lines as lines;
@@ -7,38 +7,56 @@ ghost use Rattle.rpg_program.specs.World.{three_hold};
 ghost use Rattle.rpg_machine_lines.specs.Drafts.{assembled_in, drafted_in, with_field_in};
 ghost use Rattle.rpg_machine_lines.specs.Entries.{AreFieldEntries, IsFieldEntry};
 ghost use Rattle.rpg_machine_lines.specs.Plans.{IsFieldPlan, IsFixedField, AreFieldPlans, reach_of};
-ghost use Rattle.rpg_machine_lines.specs.Putting.{CanRemember, ChangesFields, ChangesValues, RemembersOne};
+ghost use Rattle.rpg_machine_lines.specs.Putting.{CanBeRead, CanRemember, ChangesFields, ChangesValues, RemembersOne};
 ghost use Rattle.rpg_program.specs.Constants.{word_at};
-ghost use Rattle.rpg_memory.specs.Memory.{forms_in};
+ghost use Rattle.rpg_memory.specs.Memory.{forms_in, position_in};
 
 use crate::entries::Entries;
 use crate::field::{count_page, lay_fixed_value, lay_value};
 use crate::plan::FieldPlan;
-use crate::reading::position_of;
 use rpg_memory::condition::three_hold;
+use rpg_memory::entry;
 use rpg_memory::memory::Memory;
 use rpg_memory::resolved::FixedEntry;
+use rpg_program::form::FieldForm;
 use rpg_program::forms::form_at;
 use rpg_program::halt::Halt;
 use rpg_program::line::LineField;
+use rpg_program::operation::Operand;
 use rpg_program::outcome::End;
 use rpg_store::store::Store;
+
+/// The position that an operand names, where its index is in range; `form` is that of its field.
+#[tactic(auto, using(crate::proofs::Operands::entries))]
+fn position_of<S: Store + Drop>(
+    memory: &Memory<'_, S>,
+    form: Option<FieldForm>,
+    operand: Operand<u16>,
+) -> Option<u16>
+    requires { CanBeRead memory.now form operand }
+    ensures value { result ≡ position_in memory.now operand }
+    ensures entry { IfSome result (λ e. IsFieldEntry memory.now.program.fields operand.field e) }
+{
+    memory.is_kept();
+    let Some(form) = form else { unreachable!() };
+    entry::position_of(memory, &operand, form)
+}
 
 /// With blank after, the entry that was assembled is to be blanked.
 #[tactic(auto, using(crate::proofs::Entering::entering))]
 fn remember<S: Store + Drop>(
     memory: &Memory<'_, S>,
     to_blank: &mut Entries,
-    is_blanked: bool,
-    entry: (u16, u16),
+    field: &LineField<u16>,
+    entry: u16,
 )
     requires more { CanRemember memory.now.program.fields (length to_blank.old) to_blank.old }
-    requires entry { IsFieldEntry memory.now.program.fields entry.0 entry.1 }
-    ensures items { to_blank.new ≡ lines.remembered is_blanked (entry.0, entry.1) to_blank.old }
+    requires entry { IsFieldEntry memory.now.program.fields field.now.operand.field entry }
+    ensures items { to_blank.new ≡ lines.remembered field.now.is_blanked (field.now.operand.field, entry) to_blank.old }
     ensures one { RemembersOne memory.now.program.fields (length to_blank.old) (length to_blank.new) to_blank.new }
 {
-    if is_blanked {
-        to_blank.push(entry);
+    if field.is_blanked {
+        to_blank.push((field.operand.field, entry));
     }
 }
 
@@ -66,12 +84,7 @@ fn with_field<S: Store + Drop>(
         Some(position) => {
             count_page(memory, field, position);
             lay_value(memory, text, field, form, position);
-            remember(
-                memory,
-                to_blank,
-                field.is_blanked,
-                (operand.field, position),
-            );
+            remember(memory, to_blank, field, position);
             End::GoesOn
         }
     }
@@ -95,12 +108,7 @@ fn with_fixed_field<S: Store + Drop>(
 {
     memory.is_kept();
     lay_fixed_value(memory, text, field, fixed);
-    remember(
-        memory,
-        to_blank,
-        field.is_blanked,
-        (field.operand.field, fixed.resolved.entry.position),
-    );
+    remember(memory, to_blank, field, fixed.resolved.entry.position);
 }
 
 /// One field, where its conditions hold, by what was found of it.
@@ -119,13 +127,10 @@ fn with_planned_field<S: Store + Drop>(
     ensures changes { ChangesFields memory.old memory.new (length to_blank.old) (length to_blank.new) to_blank.new }
 {
     let fixed = match found {
-        FieldPlan::Always(fixed) => fixed,
-        FieldPlan::Conditional(fixed) => {
-            if !three_hold(memory.on(), field.conditions) {
-                return End::GoesOn;
-            }
-            fixed
+        FieldPlan::Conditional(_) if !three_hold(memory.on(), field.conditions) => {
+            return End::GoesOn;
         }
+        FieldPlan::Always(fixed) | FieldPlan::Conditional(fixed) => fixed,
         FieldPlan::Sought => return with_field(memory, text, to_blank, field),
     };
     with_fixed_field(memory, text, to_blank, field, fixed);

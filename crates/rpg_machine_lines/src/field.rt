@@ -55,6 +55,27 @@ fn lay_number(rows: &Rows, text: &mut [u8], field: &LineField<u16>, form: FieldF
     };
 }
 
+/// Copies a text over one that is as long. Up to three characters are put there without a call, which costs less.
+#[inline(always)]
+fn copy_text(to: &mut [u8], from: &[u8])
+    requires { length to.old ≡ length from.now }
+    ensures { to.new ≡ from.now }
+{
+    match from {
+        &[a] => to[0] = a,
+        &[a, b] => {
+            to[0] = a;
+            to[1] = b;
+        }
+        &[a, b, c] => {
+            to[0] = a;
+            to[1] = b;
+            to[2] = c;
+        }
+        _ => to.copy_from_slice(from),
+    }
+}
+
 /// Lays a text over the line, ending at that place.
 #[tactic(auto, unfolding(rpg_program::specs::Lines::laid_over))]
 fn lay_text(text: &mut [u8], end: u16, part: &[u8])
@@ -63,7 +84,7 @@ fn lay_text(text: &mut [u8], end: u16, part: &[u8])
     ensures text { text.new ≡ lines.laid_over text.old end part.now }
 {
     let start = end as usize - part.len();
-    text[start..end as usize].copy_from_slice(part);
+    copy_text(&mut text[start..end as usize], part);
 }
 
 /// Lays the value of an entry over the line; `form` is that of its field.
@@ -116,10 +137,7 @@ pub fn lay_fixed_value<S: Store + Drop>(
             let n = memory.number_in(fixed.place, number, entry);
             lay_number(memory.rows(), text, field, form, n);
         }
-        Kind::Text => {
-            let part = memory.text_in(fixed.place, number, entry);
-            lay_text(text, field.end, part);
-        }
+        Kind::Text => lay_text(text, field.end, memory.text_in(fixed.place, number, entry)),
     }
 }
 

@@ -38,11 +38,7 @@ fn columns_of(text: &[u8], input: InputField<u16>) -> &[u8]
 fn order_of_text(text: &[u8]) -> Option<Ordering>
     ensures { result ≡ order_of_text text.now }
 {
-    if is_blank(text) {
-        Some(Ordering::Equal)
-    } else {
-        None
-    }
+    is_blank(text).then_some(Ordering::Equal)
 }
 
 /// Puts the number that digits spell into a field, if they spell one.
@@ -61,10 +57,9 @@ fn fill_number<S: Store + Drop>(
     match read_zoned(digits) {
         Ok(n) => {
             memory.set_number_in(fixed.place, input.field, 1, n);
-            if fixed.is_silent {
-                return End::GoesOn;
+            if !fixed.is_silent {
+                memory.show(input.shows, n.cmp(&0));
             }
-            memory.show(input.shows, n.cmp(&0));
             End::GoesOn
         }
         Err(_) => End::Halt(Halt::BadDigit),
@@ -83,10 +78,9 @@ fn show_text<S: Store + Drop>(
     requires { is_silent ≡ names_none shows }
     ensures { memory.new ≡ data_put (with_on (shown_if_any shows (order_of_text text.now) memory.old.world.data.on) memory.old.world.data) memory.old }
 {
-    if is_silent {
-        return;
+    if !is_silent {
+        memory.show_if_any(shows, order_of_text(text));
     }
-    memory.show_if_any(shows, order_of_text(text));
 }
 
 /// Puts characters into a field. The indicators are set first, so that fewer values stay live over the call that copies them.

@@ -15,7 +15,6 @@ mod pass_lines;
 mod passage;
 mod plan;
 mod printer;
-mod reading;
 pub mod weights;
 
 pub use bytes::Output;

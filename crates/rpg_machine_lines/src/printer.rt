@@ -50,7 +50,7 @@ fn append_record(disk: &mut Vec<u8>, text: &[u8]) -> Result<(), AllocError>
     ensures front { OnErr result (take (vec_len disk.old) disk.new.items ≡ disk.old.items) }
 {
     disk.extend_from_slice(text)?;
-    disk.push(10)?;
+    disk.push(b'\n')?;
     Ok(())
 }
 
