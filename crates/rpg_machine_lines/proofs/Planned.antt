@@ -1,4 +1,4 @@
--- Fields whose entry was found once.
+-- Fields whose entry was found once, and those whose entry is looked for.
 use Rattle.std.proofs.Common.{◌≡◌, ℕ, ◌<◌, true, false, ◌&&◌, ◌||◌, List, Option, None, Some, refl, sym, ap, ◌∙◌, subst, length, get_or, map, nat_cmp}
 use Rattle.std.proofs.lemmas.List.{get_or-map, length-map}
 use Rattle.std.proofs.lemmas.Slice.Zip.{AllZip-long}
@@ -18,7 +18,7 @@ use Rattle.rpg_program.specs.declared.line.LineField.{LineField}
 use Rattle.rpg_program.specs.declared.operation.Entry.{Entry}
 use Rattle.rpg_machine_lines.proofs.Operands.{AreFit, entry_named}
 use Rattle.rpg_machine_lines.proofs.Pairs.{pair_at}
-use Rattle.rpg_machine_lines.specs.Drafts.{drafted_in, field_text_in, with_field_in}
+use Rattle.rpg_machine_lines.specs.Drafts.{counted_in, drafted_in, field_text_in, with_field_in}
 use Rattle.rpg_machine_lines.specs.Entries.{IsFieldEntry}
 use Rattle.rpg_machine_lines.specs.Plans.{IsFixedField, IsPlanOf, IsPlannedLine}
 use Rattle.rpg_machine_lines.specs.declared.plan.LinePlan.{LinePlan}
@@ -28,7 +28,7 @@ use Rattle.rpg_program.specs.Object.{LineRow, Object, line_row}
 use Rattle.rpg_program.specs.declared.rows.Line as rows
 use Rattle.rpg_store.specs.Contents.{IsEntryAt}
 use Rattle.rpg_memory.specs.Fields.{AreForms}
-use Rattle.rpg_memory.specs.Memory.{Working, forms_in}
+use Rattle.rpg_memory.specs.Memory.{Working, forms_in, position_in}
 use Rattle.rpg_memory.specs.declared.resolved.FixedEntry.{FixedEntry}
 
 nothing_asked : (on : sets.FinSet nat_cmp) (a b c : Option Condition) → (has_condition a || (has_condition b || has_condition c)) ≡ false →
@@ -76,6 +76,26 @@ fixed_laid w text out es more f e i holds right laid kept =
     ap (λ (xs : List (ℕ × ℕ)). drafted_in GoesOn w out xs) kept
     ∙ ap (λ (t : List ℕ). drafted_in GoesOn w t (remembered f.is_blanked (f.operand.field, e.resolved.entry.position) es)) laid
     ∙ sym (fixed_drafted w text es f e i holds right)
+
+-- a field whose entry is looked for: PAGE is made one more, and then the value of that entry is laid over the line
+sought_drafted : (w : Working) (text : List ℕ) (es : List (ℕ × ℕ)) (f : LineField ℕ) (e : ℕ) →
+    three_hold w.world.data.on f.conditions ≡ true → field_fault (forms_in w) (word_at w.program) (length text) f ≡ None → position_in w f.operand ≡ Some e →
+    with_field_in w text es f
+    ≡ drafted_in GoesOn (counted_in w f e) (laid_over text f.end (field_text_in (counted_in w f e) f e)) (remembered f.is_blanked (f.operand.field, e) es)
+unfolding with_field
+sought_drafted w text es f e holds right at = rw (holds, right, at) refl
+
+-- the same of what the code counted, laid and remembered
+pub sought_laid : (w v : Working) (text out : List ℕ) (es more : List (ℕ × ℕ)) (f : LineField ℕ) (e : ℕ) →
+    three_hold w.world.data.on f.conditions ≡ true → field_fault (forms_in w) (word_at w.program) (length text) f ≡ None → position_in w f.operand ≡ Some e →
+    v ≡ counted_in w f e → out ≡ laid_over text f.end (field_text_in v f e) → more ≡ remembered f.is_blanked (f.operand.field, e) es →
+    drafted_in GoesOn v out more ≡ with_field_in w text es f
+sought_laid w v text out es more f e holds right at counted laid kept =
+    ap (λ (x : Working). drafted_in GoesOn x out more) counted
+    ∙ ap (λ (xs : List (ℕ × ℕ)). drafted_in GoesOn (counted_in w f e) out xs) kept
+    ∙ ap (λ (t : List ℕ). drafted_in GoesOn (counted_in w f e) t (remembered f.is_blanked (f.operand.field, e) es))
+      (laid ∙ ap (λ (x : Working). laid_over text f.end (field_text_in x f e)) counted)
+    ∙ sym (sought_drafted w text es f e holds right at)
 
 -- as much was found as there are lines
 pub plans_many : (p : Object) (plan : Plan) (ls : List rows.Line) → IsPlanOf p plan → p.lines ≡ map line_row ls → length plan.lines.items ≡ length ls
