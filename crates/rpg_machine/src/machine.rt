@@ -109,9 +109,9 @@ impl<'a, S: Store + Drop> Machine<'a, S> {
         ensures start { IfOk result (λ m. m ≡ of.started program.now memory.entry.world.data.fields) }
         ensures ready { IfOk result (λ m. IsReady m) }
     {
+        let state = first_state(alloc, memory)?;
         let accepted = Accepted::new(alloc, program)?;
         accepted.is_orderly();
-        let state = first_state(alloc, memory)?;
         Ok(Machine {
             alloc,
             program: accepted,
