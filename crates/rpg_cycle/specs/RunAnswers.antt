@@ -50,6 +50,13 @@ summary_of r = record { ending = r.ending; cycles = r.cycles; most = r.most }
 abbrev pub run_output : Run → Bytes
 run_output r = record { print = r.output.print.items; disk = r.output.disk.items }
 
+-- a job before its first cycle ran over records to its end, and all that it had put out was taken
+pub record RunsToEnd (old : AtWork) (records : Records) (r : Run) : Type 0 where
+  pub at_end : AtWork
+  pub runs : RunsRecords old records (summary_of r) at_end
+  pub print : r.output.print.items ≡ at_end.output.print
+  pub disk : r.output.disk.items ≡ at_end.output.disk
+
 -- the whole run of a program over records, on the date that a text spells and over the first values of its fields
 pub record RunsWhole (p : Object) (date : List ℕ) (records : Records) (r : Run) : Type 0 where
   pub number : ℤ

@@ -1,7 +1,7 @@
 //! Whole runs of a program over records.
-ghost use Rattle.std.specs.Prelude.{◌≡◌, ◌↔◌, ◌≤◌, ◌+◌, None, IfOk, IsErrOf, length};
+ghost use Rattle.std.specs.Prelude.{◌≡◌, ◌↔◌, ◌≤◌, ◌+◌, None, IfErr, IfOk, IsErrOf, length};
 ghost use Rattle.std.specs.Option.{option_map};
-ghost use Rattle.rpg_cycle.specs.RunAnswers.{IsAtStart, RunsRecords, RunsWhole, records_in, texts};
+ghost use Rattle.rpg_cycle.specs.RunAnswers.{IsAtStart, RunsRecords, RunsToEnd, RunsWhole, records_in, texts};
 ghost use Rattle.rpg_cycle.specs.Runs.{next_of, rest_where_needed};
 ghost use Rattle.rpg_cycle.specs.Starting.{date_in};
 ghost use Rattle.rpg_verify.specs.Bound.{bound};
@@ -46,7 +46,22 @@ pub fn run_records(
     ensures bound { IfOk result (λ r. r.most ≤ bound program.now) }
 {
     let mut job = Job::<FlatStore>::start(alloc, program, date)?;
-    let summary = run_on(&mut job, primary, secondary)?;
+    run_to_end(&mut job, primary, secondary)
+}
+
+/// Runs a job that is before its first cycle over records to its end, and takes what it has put out. The only fault is no memory.
+fn run_to_end<S: Store + Drop>(
+    job: &mut Job<S>,
+    primary: &[Vec<u8>],
+    secondary: &[Vec<u8>],
+) -> Result<Run, StartFault>
+    requires { IsAtStart job.old }
+    ensures run { IfOk result (λ r. RunsToEnd job.old (records_in primary.now secondary.now) r) }
+    ensures cycles { IfOk result (λ r. r.cycles ≤ length primary.now + length secondary.now + 1) }
+    ensures bound { IfOk result (λ r. r.most ≤ bound job.old.program) }
+    ensures fault { IfErr result (λ e. e ≡ StartFault.NoMemory) }
+{
+    let summary = run_on(job, primary, secondary)?;
     Ok(Run {
         ending: summary.ending,
         cycles: summary.cycles,
