@@ -3,7 +3,7 @@
 
 ghost use Rattle.std.specs.Prelude.{◌≡◌, ◌≤◌, None, Some, ok_or, option_map, if◌then◌else◌};
 ghost use Rattle.rpg_sheet.specs.Ranges.{conditions_from, indicators_from, line_from};
-ghost use Rattle.rpg_sheet_specs.specs.Columns.{fault_from};
+ghost use Rattle.rpg_sheet_specs.specs.Columns.{column_fault_from};
 ghost use Rattle.rpg_sheet_specs.specs.Tables as tables;
 ghost use Rattle.rpg_sheet_specs.specs.Values as values;
 ghost use Rattle.rpg_text.specs.Texts.{all_blank};
@@ -20,7 +20,7 @@ pub(crate) type Read<T> = Result<T, ColumnFault>;
 
 /// The value of columns.
 pub(crate) fn at<T, const WIDTH: usize>(columns: CardColumns<WIDTH>, value: Option<T>) -> Read<T>
-    ensures { result ≡ ok_or value (fault_from columns.entry.first WIDTH) }
+    ensures { result ≡ ok_or value (column_fault_from columns.entry.first WIDTH) }
 {
     value.ok_or(columns.fault())
 }
@@ -32,7 +32,7 @@ pub(crate) fn optional<T: Drop, const WIDTH: usize>(
     text: &[u8],
     value: Option<T>,
 ) -> Read<Option<T>>
-    ensures { result ≡ ok_or (if all_blank text.now then Some None else option_map Some value) (fault_from columns.entry.first WIDTH) }
+    ensures { result ≡ ok_or (if all_blank text.now then Some None else option_map Some value) (column_fault_from columns.entry.first WIDTH) }
 {
     at(columns, rpg_sheet_values::blank_or(text, value))
 }

@@ -12,8 +12,8 @@ abbrev pub column_fault : ℕ → ℕ → ColumnFault
 column_fault a b = record { column = a; last = b }
 
 -- a bad value in so many columns from the first on
-abbrev pub fault_from : ℕ → ℕ → ColumnFault
-fault_from first width = column_fault first (first + (width - 1))
+abbrev pub column_fault_from : ℕ → ℕ → ColumnFault
+column_fault_from first width = column_fault first (first + (width - 1))
 
 -- k is among the columns, and none of them is less
 pub record IsLeastColumn (ks : List ℕ) (k : ℕ) : Type 0 where

@@ -1,6 +1,6 @@
 -- The cards, one line for each range of columns: `⊛` a range that gives the next member of the spec, `⊘` one that only has to be good.
 -- 1-5 and 75-80 are free on every card, and further columns where a sheet's headline says so.
-use Rattle.std.specs.Prelude.{ℕ, List, [], ◌∷◌, Bool, Option, None, Some, if◌then◌else◌, ◌&&◌, codes}
+use Rattle.std.specs.Prelude.{ℕ, List, [], ◌∷◌, Bool, Option, None, Some, if◌then◌else◌, ◌&&◌, codes, map}
 use Rattle.std.specs.Str.{bytes_eq}
 use Rattle.std.specs.Option.{option_map, option_or}
 use Rattle.rpg_edit_marks.specs.declared.code.EditCode.{EditCode}
@@ -230,14 +230,38 @@ input_card = where_card is_and_card (values input.And ⊛ type_and_card) type_or
 unfoldable pub control_level_in : List ℕ → Option ControlLevel
 control_level_in text = option_or (one_of ((codes "  ", control.Detail) ∷ (codes "SR", control.Subroutine) ∷ (codes "AN", control.And) ∷ (codes "OR", control.Or) ∷ []) text) (option_map control.Total (indicator_within 100 110 text))
 
+-- the letters of an operation, as its columns have them
+abbrev pub letters_of : Operation → List ℕ
+letters_of op.Add = codes "ADD  "
+letters_of op.Subtract = codes "SUB  "
+letters_of op.Multiply = codes "MULT "
+letters_of op.Divide = codes "DIV  "
+letters_of op.MoveRemainder = codes "MVR  "
+letters_of op.ZeroAdd = codes "Z-ADD"
+letters_of op.ZeroSubtract = codes "Z-SUB"
+letters_of op.CrossFoot = codes "XFOOT"
+letters_of op.Compare = codes "COMP "
+letters_of op.LookUp = codes "LOKUP"
+letters_of op.Move = codes "MOVE "
+letters_of op.MoveLeft = codes "MOVEL"
+letters_of op.SetOn = codes "SETON"
+letters_of op.SetOff = codes "SETOF"
+letters_of op.GoTo = codes "GOTO "
+letters_of op.Call = codes "EXSR "
+letters_of op.Label = codes "TAG  "
+letters_of op.BeginSubroutine = codes "BEGSR"
+letters_of op.EndSubroutine = codes "ENDSR"
+letters_of op.Except = codes "EXCPT"
+
+-- all operations of cards
+abbrev pub card_operations : List Operation
+card_operations = op.Add ∷ op.Subtract ∷ op.Multiply ∷ op.Divide ∷ op.MoveRemainder ∷ op.ZeroAdd ∷ op.ZeroSubtract ∷ op.CrossFoot
+    ∷ op.Compare ∷ op.LookUp ∷ op.Move ∷ op.MoveLeft ∷ op.SetOn ∷ op.SetOff ∷ op.GoTo
+    ∷ op.Call ∷ op.Label ∷ op.BeginSubroutine ∷ op.EndSubroutine ∷ op.Except ∷ []
+
 -- an operation by its letters
 unfoldable pub operation : List ℕ → Option Operation
-operation = one_of (
-    (codes "ADD  ", op.Add) ∷ (codes "SUB  ", op.Subtract) ∷ (codes "MULT ", op.Multiply) ∷ (codes "DIV  ", op.Divide) ∷ (codes "MVR  ", op.MoveRemainder)
-    ∷ (codes "Z-ADD", op.ZeroAdd) ∷ (codes "Z-SUB", op.ZeroSubtract) ∷ (codes "XFOOT", op.CrossFoot)
-    ∷ (codes "COMP ", op.Compare) ∷ (codes "LOKUP", op.LookUp) ∷ (codes "MOVE ", op.Move) ∷ (codes "MOVEL", op.MoveLeft)
-    ∷ (codes "SETON", op.SetOn) ∷ (codes "SETOF", op.SetOff) ∷ (codes "GOTO ", op.GoTo) ∷ (codes "EXSR ", op.Call) ∷ (codes "TAG  ", op.Label)
-    ∷ (codes "BEGSR", op.BeginSubroutine) ∷ (codes "ENDSR", op.EndSubroutine) ∷ (codes "EXCPT", op.Except) ∷ [])
+operation = one_of (map (λ o. (letters_of o, o)) card_operations)
 
 -- the columns of a C card, in their order
 abbrev pub calculation_spec : ControlLevel → Three (Option ConditionSpec) → Option Factor → Option Operation → Option Factor → Option Entry → Option ℕ → Option ℕ → Bool → Three (Option ℕ) → CalculationSpec

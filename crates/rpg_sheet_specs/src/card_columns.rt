@@ -15,11 +15,11 @@ pub struct CardColumns<const WIDTH: usize> {
 
 impl<const WIDTH: usize> CardColumns<WIDTH> {
     ghost use Rattle.std.specs.Prelude.{◌≡◌};
-    ghost use Rattle.rpg_sheet_specs.specs.Columns.{fault_from};
+    ghost use Rattle.rpg_sheet_specs.specs.Columns.{column_fault_from};
 
     /// These columns, as a fault points at them.
     pub const fn fault(self) -> ColumnFault
-        ensures { result ≡ fault_from self.entry.first WIDTH }
+        ensures { result ≡ column_fault_from self.entry.first WIDTH }
     {
         ColumnFault {
             column: self.first,

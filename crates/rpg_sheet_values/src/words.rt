@@ -1,11 +1,9 @@
 //! Words that mean one of a few things.
 
-ghost use Rattle.std.specs.Prelude.{◌≡◌, length, Some, [], ◌∷◌, codes};
+ghost use Rattle.std.specs.Prelude.{◌≡◌, length, Some};
 ghost use Rattle.std.specs.Str.{bytes_eq};
 ghost use Rattle.rpg_sheet_specs.specs.Cards as cards;
 ghost use Rattle.rpg_sheet_specs.specs.Tables as tables;
-ghost use Rattle.rpg_sheet_specs.specs.Values as values;
-ghost use Rattle.rpg_sheet_specs.specs.declared.calculation.Operation.TheVariants as op;
 
 use crate::indicators::indicator_within;
 use crate::numbers::digits;
@@ -61,76 +59,12 @@ pub fn device(text: &[u8]) -> Device
 pub fn operation(text: &[u8]) -> Option<Operation>
     ensures { result ≡ tables.operation text.now }
 {
-    if is(text, b"ADD  ") {
-        Some(Operation::Add)
-    } else if is(text, b"SUB  ") {
-        Some(Operation::Subtract)
-    } else if is(text, b"MULT ") {
-        Some(Operation::Multiply)
-    } else if is(text, b"DIV  ") {
-        Some(Operation::Divide)
-    } else if is(text, b"MVR  ") {
-        Some(Operation::MoveRemainder)
-    } else {
-        operation_but_arithmetic(text)
+    for operation in Operation::ALL {
+        if is(text, operation.letters()) {
+            return Some(operation);
+        }
     }
-}
-
-/// An operation that isn't ADD, SUB, MULT, DIV or MVR.
-fn operation_but_arithmetic(text: &[u8]) -> Option<Operation>
-    ensures { result ≡ values.one_of ((codes "Z-ADD", op.ZeroAdd) ∷ (codes "Z-SUB", op.ZeroSubtract) ∷ (codes "XFOOT", op.CrossFoot) ∷ (codes "COMP ", op.Compare) ∷ (codes "LOKUP", op.LookUp) ∷ (codes "MOVE ", op.Move) ∷ (codes "MOVEL", op.MoveLeft) ∷ (codes "SETON", op.SetOn) ∷ (codes "SETOF", op.SetOff) ∷ (codes "GOTO ", op.GoTo) ∷ (codes "EXSR ", op.Call) ∷ (codes "TAG  ", op.Label) ∷ (codes "BEGSR", op.BeginSubroutine) ∷ (codes "ENDSR", op.EndSubroutine) ∷ (codes "EXCPT", op.Except) ∷ []) text.now }
-{
-    if is(text, b"Z-ADD") {
-        Some(Operation::ZeroAdd)
-    } else if is(text, b"Z-SUB") {
-        Some(Operation::ZeroSubtract)
-    } else if is(text, b"XFOOT") {
-        Some(Operation::CrossFoot)
-    } else if is(text, b"COMP ") {
-        Some(Operation::Compare)
-    } else if is(text, b"LOKUP") {
-        Some(Operation::LookUp)
-    } else {
-        operation_but_on_numbers(text)
-    }
-}
-
-/// A move, a setting or a branch, and what follows them in the table.
-fn operation_but_on_numbers(text: &[u8]) -> Option<Operation>
-    ensures { result ≡ values.one_of ((codes "MOVE ", op.Move) ∷ (codes "MOVEL", op.MoveLeft) ∷ (codes "SETON", op.SetOn) ∷ (codes "SETOF", op.SetOff) ∷ (codes "GOTO ", op.GoTo) ∷ (codes "EXSR ", op.Call) ∷ (codes "TAG  ", op.Label) ∷ (codes "BEGSR", op.BeginSubroutine) ∷ (codes "ENDSR", op.EndSubroutine) ∷ (codes "EXCPT", op.Except) ∷ []) text.now }
-{
-    if is(text, b"MOVE ") {
-        Some(Operation::Move)
-    } else if is(text, b"MOVEL") {
-        Some(Operation::MoveLeft)
-    } else if is(text, b"SETON") {
-        Some(Operation::SetOn)
-    } else if is(text, b"SETOF") {
-        Some(Operation::SetOff)
-    } else if is(text, b"GOTO ") {
-        Some(Operation::GoTo)
-    } else {
-        operation_of_control(text)
-    }
-}
-
-/// A label, a subroutine or EXCPT.
-fn operation_of_control(text: &[u8]) -> Option<Operation>
-    ensures { result ≡ values.one_of ((codes "EXSR ", op.Call) ∷ (codes "TAG  ", op.Label) ∷ (codes "BEGSR", op.BeginSubroutine) ∷ (codes "ENDSR", op.EndSubroutine) ∷ (codes "EXCPT", op.Except) ∷ []) text.now }
-{
-    if is(text, b"EXSR ") {
-        Some(Operation::Call)
-    } else if is(text, b"TAG  ") {
-        Some(Operation::Label)
-    } else if is(text, b"BEGSR") {
-        Some(Operation::BeginSubroutine)
-    } else if is(text, b"ENDSR") {
-        Some(Operation::EndSubroutine)
-    } else if is(text, b"EXCPT") {
-        Some(Operation::Except)
-    } else {
-        None
-    }
+    None
 }
 
 /// When a calculation is done.
