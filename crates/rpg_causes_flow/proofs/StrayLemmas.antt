@@ -8,7 +8,7 @@ use Rattle.rpg_cards.specs.declared.spec_card.SpecCard.{SpecCard}
 use Rattle.rpg_causes_flow.proofs.Options.{some_or, unless, unless_some}
 use Rattle.rpg_causes_flow.specs.Strays.{number_before, input_stray_cause, output_stray_cause, stray_cause}
 use Rattle.rpg_causes_flow.specs.declared.strays.StrayCause.TheVariants.{NoLine, NoType, OtherThanLine, OtherThanType}
-use Rattle.rpg_faults_limits.specs.Order.{is_behind_codes, is_behind_conditions, is_stray, is_stray_input, is_stray_output}
+use Rattle.rpg_faults_flow.specs.Strays.{is_behind_codes, is_behind_conditions, is_stray, is_stray_input, is_stray_output}
 use Rattle.rpg_sheet_specs.specs.declared.input.InputSpec.{InputSpec}
 use Rattle.rpg_sheet_specs.specs.declared.input.InputSpec.TheVariants as input
 use Rattle.rpg_sheet_specs.specs.declared.output.OutputSpec.{OutputSpec}

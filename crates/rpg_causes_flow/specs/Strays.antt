@@ -6,7 +6,7 @@ use Rattle.rpg_cards.specs.Groups.{input_role, open_group, output_role}
 use Rattle.rpg_cards.specs.declared.spec_card.SpecCard.{SpecCard}
 use Rattle.rpg_causes_flow.specs.declared.strays.StrayCause.{StrayCause}
 use Rattle.rpg_causes_flow.specs.declared.strays.StrayCause.TheVariants.{NoLine, NoType, OtherThanLine, OtherThanType}
-use Rattle.rpg_faults_limits.specs.Order.{card_right_before, is_behind_codes, is_behind_conditions}
+use Rattle.rpg_faults_flow.specs.Strays.{card_right_before, is_behind_codes, is_behind_conditions}
 use Rattle.rpg_sheet_specs.specs.declared.input.InputSpec.{InputSpec}
 use Rattle.rpg_sheet_specs.specs.declared.input.InputSpec.TheVariants as input
 use Rattle.rpg_sheet_specs.specs.declared.output.OutputSpec.{OutputSpec}

@@ -3,7 +3,7 @@
 ghost use Rattle.std.specs.Prelude.{◌≡◌, is_some};
 ghost use Rattle.rpg_cards.specs.Sheets.{AreSheets};
 ghost use Rattle.rpg_causes_flow.specs.Strays as causes;
-ghost use Rattle.rpg_faults_limits.specs.Order as rules;
+ghost use Rattle.rpg_faults_flow.specs.Strays as rules;
 
 use rpg_cards::{IndexedCards, Sheets, SpecCard};
 use rpg_sheet_specs::{InputSpec, OutputSpec};

@@ -9,7 +9,7 @@ use Rattle.rpg_faults_limits.specs.Files.{breaks_files, lacks_input, moves_disk}
 use Rattle.rpg_faults_operands.specs.Indicators.{bad_indicator}
 use Rattle.rpg_faults_limits.specs.Limits.{passes_limit}
 use Rattle.rpg_faults_limits.specs.Names.{bad_size, redefines}
-use Rattle.rpg_faults_limits.specs.Order.{is_stray}
+use Rattle.rpg_faults_flow.specs.Strays.{is_stray}
 use Rattle.rpg_faults_operands.specs.Columns as operands
 use Rattle.rpg_faults_operands.specs.Editing.{bad_editing}
 use Rattle.rpg_faults_operands.specs.Indexes.{bad_index}

@@ -11,7 +11,7 @@ use Rattle.rpg_faults.specs.declared.code.FaultCode.TheVariants.{F10, F12, F13, 
 use Rattle.rpg_faults_flow.specs.Flow.{calls_itself, goes_apart, goes_nowhere}
 use Rattle.rpg_faults_flow.specs.Order.{breaks_order}
 use Rattle.rpg_faults_flow.specs.Rounding.{bad_rounding}
-use Rattle.rpg_faults_limits.specs.Order.{is_stray}
+use Rattle.rpg_faults_flow.specs.Strays.{is_stray}
 
 module _ (before : List SpecCard) (c : SpecCard) (after : List SpecCard) where
   rule-f10 : goes_nowhere (before ++ c ∷ after) before c after ≡ rule F10 before c after

@@ -1,5 +1,5 @@
 -- The rules for a card, by the group that the card right before belongs to.
-use Rattle.std.specs.Prelude.{◌-◌, List, Bool, false, not, ◌&&◌, ◌||◌, Option, None, Some, is_none, is_some, if◌then◌else◌}
+use Rattle.std.specs.Prelude.{List, Bool, false, not, ◌&&◌, ◌||◌, Option, None, Some, is_none, is_some, if◌then◌else◌}
 use Rattle.std.specs.Option.{option_and_then, option_map, option_map_or}
 use Rattle.rpg_cards.specs.Calculations.{CalculationGroup, calculations, card_ending, depends, goes_on, group_end}
 use Rattle.rpg_cards.specs.Deeds.{Calculation, deed_of}

@@ -5,3 +5,4 @@ pub mod Kept
 pub mod Marks
 pub mod Order
 pub mod Rounding
+pub mod Strays

@@ -3,6 +3,5 @@ pub mod Files
 pub mod Limits
 pub mod Marks
 pub mod Names
-pub mod Order
 pub mod State
 pub mod Totals

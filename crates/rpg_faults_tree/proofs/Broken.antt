@@ -29,15 +29,14 @@ use Rattle.rpg_faults_tree.proofs.Rounds.{rounds-are}
 use Rattle.rpg_faults_tree.proofs.Stepping.{IsTestOf, all_join, back_is, ends-steps, leaves_is, nowhere_is, starts-steps, unpaired_is}
 use Rattle.rpg_faults_tree.proofs.Straying as strays
 use Rattle.rpg_faults_tree.specs.Numbers.{at_operations}
-use Rattle.rpg_faults_tree.specs.Order.{cut_off_in, misplaced_from, passing_numbers, strays_on_input, strays_on_output, is_and, is_and_or, is_input_field, is_unpaired}
+use Rattle.rpg_faults_tree.specs.Order.{cut_off_in, misplaced_from, passing_numbers, strays_on_input, strays_on_output, is_and, is_and_or, is_input_field, is_line_field, is_unpaired}
 use Rattle.rpg_faults_tree.specs.Rules.{calls_back, recursive_cards, step_goes_nowhere, step_leaves_section, leaving_cards, lost_cards, misplaced_cards, wrongly_rounding_cards}
 use Rattle.rpg_faults_flow.specs.Flow as flow
 use Rattle.rpg_faults_flow.specs.Kept.{Rule}
 use Rattle.rpg_faults_flow.specs.Order.{breaks_group, breaks_order, unpaired}
 use Rattle.rpg_faults_flow.specs.Rounding.{bad_rounding, rounds_wrongly}
-use Rattle.rpg_faults_limits.specs.Order as limits
-use Rattle.rpg_faults_limits.specs.Order.{takes_codes, takes_conditions}
-use Rattle.rpg_faults_limits.specs.Limits.{is_output_field}
+use Rattle.rpg_faults_flow.specs.Strays as stray_rules
+use Rattle.rpg_faults_flow.specs.Strays.{takes_codes, takes_conditions}
 use Rattle.rpg_sheet_specs.specs.declared.calculation.CalculationSpec.{CalculationSpec}
 use Rattle.rpg_sheet_specs.specs.declared.input.InputSpec.{InputSpec}
 use Rattle.rpg_sheet_specs.specs.declared.input.InputSpec.TheVariants as input
@@ -88,7 +87,7 @@ input_sheet = record {
     no_field (input.And codes) is = refl
     no_field (input.Field f) is = absurd cc
 
-output_sheet : strays.Sheet output_on spec.Output output_role is_output_line is_and_or takes_conditions is_output_field
+output_sheet : strays.Sheet output_on spec.Output output_role is_output_line is_and_or takes_conditions is_line_field
 output_sheet = record {
   on_sheet = λ x. refl;
   apart = λ s is. ap (role_on output_card_role) is;
@@ -124,7 +123,7 @@ output_sheet = record {
     takes_some (output.Or t) is = refl
     takes_some (output.Field f) is = absurd cc
 
-    no_field : (x : OutputSpec) → is_output_line x ≡ true → is_output_field x ≡ false
+    no_field : (x : OutputSpec) → is_output_line x ≡ true → is_line_field x ≡ false
     no_field (output.Record r) is = refl
     no_field (output.And t) is = refl
     no_field (output.Or t) is = refl
@@ -136,10 +135,10 @@ or_false false = refl
 
 -- what the rule says of an I card and of an O card
 abbrev input_rule : Rule
-input_rule before c after = option_map_or (limits.is_stray_input before) (input_on c.spec) false
+input_rule before c after = option_map_or (stray_rules.is_stray_input before) (input_on c.spec) false
 
 abbrev output_rule : Rule
-output_rule before c after = option_map_or (limits.is_stray_output before) (output_on c.spec) false
+output_rule before c after = option_map_or (stray_rules.is_stray_output before) (output_on c.spec) false
 
 abbrev input_cut : Rule
 input_cut = strays.cut_rule input_on spec.Input input_role is_type is_and takes_codes is_input_field
@@ -148,28 +147,28 @@ abbrev input_field : Rule
 input_field = strays.field_rule input_on spec.Input input_role is_type is_and takes_codes is_input_field
 
 abbrev output_cut : Rule
-output_cut = strays.cut_rule output_on spec.Output output_role is_output_line is_and_or takes_conditions is_output_field
+output_cut = strays.cut_rule output_on spec.Output output_role is_output_line is_and_or takes_conditions is_line_field
 
 abbrev output_field : Rule
-output_field = strays.field_rule output_on spec.Output output_role is_output_line is_and_or takes_conditions is_output_field
+output_field = strays.field_rule output_on spec.Output output_role is_output_line is_and_or takes_conditions is_line_field
 
 input_same : (before : List SpecCard) (c : SpecCard) (after : List SpecCard) → either input_cut input_field before c after ≡ input_rule before c after
 input_same before c after = by (input_on c.spec)
   where
-    by : (o : Option InputSpec) → (option_map_or (λ x. is_and x && not (limits.is_behind_codes before)) o false || option_map_or (λ x. is_input_field x && is_none (open_group input_role before)) o false) ≡ option_map_or (limits.is_stray_input before) o false
+    by : (o : Option InputSpec) → (option_map_or (λ x. is_and x && not (stray_rules.is_behind_codes before)) o false || option_map_or (λ x. is_input_field x && is_none (open_group input_role before)) o false) ≡ option_map_or (stray_rules.is_stray_input before) o false
     by None = refl
     by (Some (input.Type t)) = refl
-    by (Some (input.And codes)) = sym (or_false (not (limits.is_behind_codes before)))
+    by (Some (input.And codes)) = sym (or_false (not (stray_rules.is_behind_codes before)))
     by (Some (input.Field f)) = refl
 
 output_same : (before : List SpecCard) (c : SpecCard) (after : List SpecCard) → either output_cut output_field before c after ≡ output_rule before c after
 output_same before c after = by (output_on c.spec)
   where
-    by : (o : Option OutputSpec) → (option_map_or (λ x. is_and_or x && not (limits.is_behind_conditions before)) o false || option_map_or (λ x. is_output_field x && is_none (open_group output_role before)) o false) ≡ option_map_or (limits.is_stray_output before) o false
+    by : (o : Option OutputSpec) → (option_map_or (λ x. is_and_or x && not (stray_rules.is_behind_conditions before)) o false || option_map_or (λ x. is_line_field x && is_none (open_group output_role before)) o false) ≡ option_map_or (stray_rules.is_stray_output before) o false
     by None = refl
     by (Some (output.Record r)) = refl
-    by (Some (output.And t)) = sym (or_false (not (limits.is_behind_conditions before)))
-    by (Some (output.Or t)) = sym (or_false (not (limits.is_behind_conditions before)))
+    by (Some (output.And t)) = sym (or_false (not (stray_rules.is_behind_conditions before)))
+    by (Some (output.Or t)) = sym (or_false (not (stray_rules.is_behind_conditions before)))
     by (Some (output.Field f)) = refl
 
 -- a rule that says nothing of cards of other sheets
@@ -253,15 +252,15 @@ module _ (cards : List SpecCard) where
       (strays.none_on-append input_on spec.Input input_role is_type is_and takes_codes is_input_field (sheet header_on spec.Header cards) (sheet file_on spec.File cards) (strays.none_on-back input_on spec.Input input_role is_type is_and takes_codes is_input_field spec.Header (λ x. refl) (cards_on header_on cards)) (strays.none_on-back input_on spec.Input input_role is_type is_and takes_codes is_input_field spec.File (λ x. refl) (cards_on file_on cards)))
       (strays.none_on-back input_on spec.Input input_role is_type is_and takes_codes is_input_field spec.Extension (λ x. refl) (cards_on extension_on cards))
 
-  no_output : strays.NoneOn output_on spec.Output output_role is_output_line is_and_or takes_conditions is_output_field (up_to_i ++ c_cards (cards_on calculation_on cards))
+  no_output : strays.NoneOn output_on spec.Output output_role is_output_line is_and_or takes_conditions is_line_field (up_to_i ++ c_cards (cards_on calculation_on cards))
   no_output =
-      strays.none_on-append output_on spec.Output output_role is_output_line is_and_or takes_conditions is_output_field up_to_i (c_cards (cards_on calculation_on cards))
-      (strays.none_on-append output_on spec.Output output_role is_output_line is_and_or takes_conditions is_output_field up_to_e (sheet input_on spec.Input cards)
-      (strays.none_on-append output_on spec.Output output_role is_output_line is_and_or takes_conditions is_output_field (sheet header_on spec.Header cards ++ sheet file_on spec.File cards) (sheet extension_on spec.Extension cards)
-      (strays.none_on-append output_on spec.Output output_role is_output_line is_and_or takes_conditions is_output_field (sheet header_on spec.Header cards) (sheet file_on spec.File cards) (strays.none_on-back output_on spec.Output output_role is_output_line is_and_or takes_conditions is_output_field spec.Header (λ x. refl) (cards_on header_on cards)) (strays.none_on-back output_on spec.Output output_role is_output_line is_and_or takes_conditions is_output_field spec.File (λ x. refl) (cards_on file_on cards)))
-      (strays.none_on-back output_on spec.Output output_role is_output_line is_and_or takes_conditions is_output_field spec.Extension (λ x. refl) (cards_on extension_on cards)))
-      (strays.none_on-back output_on spec.Output output_role is_output_line is_and_or takes_conditions is_output_field spec.Input (λ x. refl) (cards_on input_on cards)))
-      (strays.none_on-back output_on spec.Output output_role is_output_line is_and_or takes_conditions is_output_field spec.Calculation (λ x. refl) (cards_on calculation_on cards))
+      strays.none_on-append output_on spec.Output output_role is_output_line is_and_or takes_conditions is_line_field up_to_i (c_cards (cards_on calculation_on cards))
+      (strays.none_on-append output_on spec.Output output_role is_output_line is_and_or takes_conditions is_line_field up_to_e (sheet input_on spec.Input cards)
+      (strays.none_on-append output_on spec.Output output_role is_output_line is_and_or takes_conditions is_line_field (sheet header_on spec.Header cards ++ sheet file_on spec.File cards) (sheet extension_on spec.Extension cards)
+      (strays.none_on-append output_on spec.Output output_role is_output_line is_and_or takes_conditions is_line_field (sheet header_on spec.Header cards) (sheet file_on spec.File cards) (strays.none_on-back output_on spec.Output output_role is_output_line is_and_or takes_conditions is_line_field spec.Header (λ x. refl) (cards_on header_on cards)) (strays.none_on-back output_on spec.Output output_role is_output_line is_and_or takes_conditions is_line_field spec.File (λ x. refl) (cards_on file_on cards)))
+      (strays.none_on-back output_on spec.Output output_role is_output_line is_and_or takes_conditions is_line_field spec.Extension (λ x. refl) (cards_on extension_on cards)))
+      (strays.none_on-back output_on spec.Output output_role is_output_line is_and_or takes_conditions is_line_field spec.Input (λ x. refl) (cards_on input_on cards)))
+      (strays.none_on-back output_on spec.Output output_role is_output_line is_and_or takes_conditions is_line_field spec.Calculation (λ x. refl) (cards_on calculation_on cards))
 
   off_end : (test : Test) → IsOff (at_end test) calculation_on
   off_end test before c after none =
@@ -362,7 +361,7 @@ module _ (cards : List SpecCard) where
     inputs_broken =
         broken-either input_cut input_field cards _ _
         (by-each input_cut cards (cut_off_in is_and takes_codes (tree cards).types)
-        (flat_cards input_cut ∙ at_i input_cut (λ before c after none. ap (λ o. option_map_or (λ x. is_and x && not (limits.is_behind_codes before)) o false) none)
+        (flat_cards input_cut ∙ at_i input_cut (λ before c after none. ap (λ o. option_map_or (λ x. is_and x && not (stray_rules.is_behind_codes before)) o false) none)
         ∙ strays.cut-are input_on spec.Input input_role is_type is_and takes_codes is_input_field input_sheet up_to_e no_input (cards_on input_on cards) (from_c ++ [])))
         (by-each input_field cards (passing_numbers is_input_field (tree cards).types.strays)
         (flat_cards input_field ∙ at_i input_field (λ before c after none. ap (λ o. option_map_or (λ x. is_input_field x && is_none (open_group input_role before)) o false) none)
@@ -372,23 +371,23 @@ module _ (cards : List SpecCard) where
     outputs_broken =
         broken-either output_cut output_field cards _ _
         (by-each output_cut cards (cut_off_in is_and_or takes_conditions (tree cards).lines)
-        (flat_cards output_cut ∙ at_o output_cut (λ before c after none. ap (λ o. option_map_or (λ x. is_and_or x && not (limits.is_behind_conditions before)) o false) none)
-        ∙ strays.cut-are output_on spec.Output output_role is_output_line is_and_or takes_conditions is_output_field output_sheet (up_to_i ++ c_cards all_c) no_output (cards_on output_on cards) (sheet data_on spec.Data cards ++ [])))
-        (by-each output_field cards (passing_numbers is_output_field (tree cards).lines.strays)
-        (flat_cards output_field ∙ at_o output_field (λ before c after none. ap (λ o. option_map_or (λ x. is_output_field x && is_none (open_group output_role before)) o false) none)
-        ∙ strays.fields-are output_on spec.Output output_role is_output_line is_and_or takes_conditions is_output_field output_sheet (up_to_i ++ c_cards all_c) no_output (cards_on output_on cards) (sheet data_on spec.Data cards ++ [])))
+        (flat_cards output_cut ∙ at_o output_cut (λ before c after none. ap (λ o. option_map_or (λ x. is_and_or x && not (stray_rules.is_behind_conditions before)) o false) none)
+        ∙ strays.cut-are output_on spec.Output output_role is_output_line is_and_or takes_conditions is_line_field output_sheet (up_to_i ++ c_cards all_c) no_output (cards_on output_on cards) (sheet data_on spec.Data cards ++ [])))
+        (by-each output_field cards (passing_numbers is_line_field (tree cards).lines.strays)
+        (flat_cards output_field ∙ at_o output_field (λ before c after none. ap (λ o. option_map_or (λ x. is_line_field x && is_none (open_group output_role before)) o false) none)
+        ∙ strays.fields-are output_on spec.Output output_role is_output_line is_and_or takes_conditions is_line_field output_sheet (up_to_i ++ c_cards all_c) no_output (cards_on output_on cards) (sheet data_on spec.Data cards ++ [])))
 
     abbrev parts : Rule
     parts = either (either at_start (at_end unpaired)) (either (either input_cut input_field) (either output_cut output_field))
 
-    pub order-broken : AreBroken (λ before c after. breaks_order before c after || limits.is_stray before c) cards (misplaced_cards (tree cards))
+    pub order-broken : AreBroken (λ before c after. breaks_order before c after || stray_rules.is_stray before c) cards (misplaced_cards (tree cards))
     order-broken =
         broken-same parts _ cards (misplaced_cards (tree cards)) same
         (broken-either (either at_start (at_end unpaired)) (either (either input_cut input_field) (either output_cut output_field)) cards _ _
         (broken-either at_start (at_end unpaired) cards _ _ starts_broken (ends_broken unpaired is_unpaired unpaired_is))
         (broken-either (either input_cut input_field) (either output_cut output_field) cards _ _ inputs_broken outputs_broken))
       where
-        same : (before : List SpecCard) (c : SpecCard) (after : List SpecCard) → cards ≡ before ++ c ∷ after → parts before c after ≡ (breaks_order before c after || limits.is_stray before c)
+        same : (before : List SpecCard) (c : SpecCard) (after : List SpecCard) → cards ≡ before ++ c ∷ after → parts before c after ≡ (breaks_order before c after || stray_rules.is_stray before c)
         same before c after split =
             ap (λ b. breaks_order before c after || (b || either output_cut output_field before c after)) (input_same before c after)
             ∙ ap (λ b. breaks_order before c after || (input_rule before c after || b)) (output_same before c after)

@@ -14,7 +14,7 @@ use Rattle.rpg_faults_tree.proofs.Each.{each}
 use Rattle.rpg_faults_tree.specs.Numbers.{one_if}
 use Rattle.rpg_faults_tree.specs.Order.{cut_off, cut_off_in, passing_numbers}
 use Rattle.rpg_faults_flow.specs.Kept.{Rule}
-use Rattle.rpg_faults_limits.specs.Order.{card_right_before}
+use Rattle.rpg_faults_flow.specs.Strays.{card_right_before}
 use Rattle.rpg_sheet_specs.specs.declared.spec.Spec.{Spec}
 
 push_get : {X : Type 0} (xs : List X) (x : X) → slice_get (xs ++ x ∷ []) (length xs) ≡ Some x

@@ -9,7 +9,7 @@ use Rattle.rpg_deck.specs.Tree.{Tree, tree}
 use Rattle.rpg_faults_flow.specs.Flow as goals
 use Rattle.rpg_faults_flow.specs.Kept.{Rule}
 use Rattle.rpg_faults_flow.specs.Order as flow
-use Rattle.rpg_faults_limits.specs.Order.{is_stray}
+use Rattle.rpg_faults_flow.specs.Strays.{is_stray}
 use Rattle.rpg_faults_tree.specs.Index.{AreLabelsOf}
 use Rattle.rpg_faults_tree.specs.Rules.{leaving_cards, lost_cards, misplaced_cards, recursive_cards, wrongly_rounding_cards}
 use Rattle.rpg_faults_tree.specs.declared.card_set.CardSet.{CardSet}

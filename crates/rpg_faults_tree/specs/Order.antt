@@ -1,6 +1,7 @@
 -- F12 over a tree: sections out of order, BEGSR and ENDSR that aren't paired, and cards that need one before them.
-use Rattle.std.specs.Prelude.{ℕ, max, nat_lt, List, [], ◌∷◌, ◌++◌, Bool, true, false, not, ◌&&◌, ◌||◌, if◌then◌else◌}
+use Rattle.std.specs.Prelude.{ℕ, max, nat_lt, List, [], ◌∷◌, ◌++◌, Bool, true, false, not, ◌&&◌, ◌||◌, is_some, if◌then◌else◌}
 use Rattle.std.specs.List.{flat_map}
+use Rattle.rpg_cards.specs.Cards.{input_field_in, output_field_in}
 use Rattle.rpg_cards.specs.Groups.{joins}
 use Rattle.rpg_cards.specs.Sections.{is_subroutine}
 use Rattle.rpg_cards.specs.declared.labels.Section.{Section}
@@ -10,8 +11,7 @@ use Rattle.rpg_deck.specs.Steps.{Step, opens_subroutine, control_of, closes_subr
 use Rattle.rpg_deck.specs.declared.card.Card.{Card}
 use Rattle.rpg_faults_tree.specs.Numbers.{at_operations, one_if}
 use Rattle.rpg_faults_flow.specs.Order.{is_bracket, section_rank}
-use Rattle.rpg_faults_limits.specs.Order.{takes_codes, takes_conditions}
-use Rattle.rpg_faults_limits.specs.Limits.{is_output_field}
+use Rattle.rpg_faults_flow.specs.Strays.{takes_codes, takes_conditions}
 use Rattle.rpg_sheet_specs.specs.declared.input.InputSpec.{InputSpec}
 use Rattle.rpg_sheet_specs.specs.declared.input.InputSpec.TheVariants as input
 use Rattle.rpg_sheet_specs.specs.declared.output.OutputSpec.{OutputSpec}
@@ -90,9 +90,7 @@ is_and (input.Field f) = false
 
 -- a field card of a record type
 abbrev pub is_input_field : InputSpec → Bool
-is_input_field (input.Type t) = false
-is_input_field (input.And codes) = false
-is_input_field (input.Field f) = true
+is_input_field x = is_some (input_field_in x)
 
 -- AND cards without codes right before them, and fields of no record type
 abbrev pub strays_on_input : Sheet (Card InputSpec) → List ℕ
@@ -105,9 +103,13 @@ is_and_or (output.And t) = true
 is_and_or (output.Or t) = true
 is_and_or (output.Field f) = false
 
+-- a field card of a line
+abbrev pub is_line_field : OutputSpec → Bool
+is_line_field x = is_some (output_field_in x)
+
 -- AND and OR cards without conditions right before them, and fields of no line
 abbrev pub strays_on_output : Sheet (Card OutputSpec) → List ℕ
-strays_on_output s = strays_in is_and_or takes_conditions is_output_field s
+strays_on_output s = strays_in is_and_or takes_conditions is_line_field s
 
 -- ---- all of them
 

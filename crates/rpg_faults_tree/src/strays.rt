@@ -2,9 +2,8 @@
 
 ghost use Rattle.std.specs.Prelude.{◌≡◌, ◌++◌, Bool, map, OnOk};
 ghost use Rattle.rpg_deck.specs.Seen.{card_in_memory, sheet_in};
-ghost use Rattle.rpg_faults_limits.specs.Order as limits;
+ghost use Rattle.rpg_faults_flow.specs.Strays as rules;
 ghost use Rattle.rpg_faults_tree.specs.Order as order;
-ghost use Rattle.rpg_faults_limits.specs.Limits.{is_output_field};
 
 use crate::numbers::add;
 use rpg_deck::{Card, Sheet};
@@ -35,7 +34,7 @@ pub(crate) trait Joined: Drop {
 impl Joined for InputSpec {
     ghost joins = { order.is_and };
 
-    ghost takes = { limits.takes_codes };
+    ghost takes = { rules.takes_codes };
 
     ghost is_field = { order.is_input_field };
 
@@ -56,9 +55,9 @@ impl Joined for InputSpec {
 impl Joined for OutputSpec {
     ghost joins = { order.is_and_or };
 
-    ghost takes = { limits.takes_conditions };
+    ghost takes = { rules.takes_conditions };
 
-    ghost is_field = { is_output_field };
+    ghost is_field = { order.is_line_field };
 
     fn joins(&self) -> bool {
         matches!(self, OutputSpec::And(_) | OutputSpec::Or(_))
