@@ -1,7 +1,7 @@
 -- The joined lengths that the cards before a card come to, level by level.
 use Rattle.std.specs.Prelude.{◌≡◌, ℕ, ◌+◌, ◌-◌, ◌==◌, Bool, List, slice_index_or, min, map, take, sum_by, Option, None, Some, if◌then◌else◌}
 use Rattle.std.specs.List.{list_any}
-use Rattle.std.specs.Option.{option_map}
+use Rattle.std.specs.Option.{option_map, option_or}
 use Rattle.rpg_cards.specs.Groups.{Group, group_count, groups, input_role, open_group}
 use Rattle.rpg_cards.specs.declared.spec_card.SpecCard.{SpecCard}
 use Rattle.rpg_faults.specs.Places.{first_length, has_bad, input_columns, joined_length, level_length, lengths_differ, levels}
@@ -30,6 +30,10 @@ AreOpenLengths before j = j.open_type ≡ option_map lengths_of (input_specs_in 
 pub record AreJoinedLengths (cards before : List SpecCard) (j : JoinedLengths) : Type 0 where
   pub first : j.first ≡ first_lengths cards before
   pub open_type : AreOpenLengths before j
+
+-- the first lengths, once a type has these fields
+abbrev pub with_lengths : List (Option ℕ) → List InputSpec → List (Option ℕ)
+with_lengths first specs = map (λ level. option_or (slice_index_or first (level - 1) None) (level_length level specs)) levels
 
 -- a level's length isn't that of the first type with the level
 abbrev pub any_differs : List (Option ℕ) → List InputSpec → Bool

@@ -48,6 +48,10 @@ abbrev pub AreWith : List InputFieldSpec → InputFieldSpec → Option (List ℕ
 AreWith fs f (Some lengths) = AreGood (fs ++ f ∷ []) (Some lengths)
 AreWith fs f None = (rest : List InputFieldSpec) → good_matches (fs ++ f ∷ rest) ≡ None
 
+-- one more of that level, with so many columns
+abbrev pub AddsMatch : ℕ → ℕ → Option (List ℕ) → Option (List ℕ) → Type 0
+AddsMatch level columns old new = (fs : List InputFieldSpec) (f : InputFieldSpec) → AreGood fs old → f.match_level ≡ Some level → columns ≡ input_columns f → AreWith fs f new
+
 -- those of the cards up to the next type, with fields that stand before
 abbrev pub matches_up_to : List InputFieldSpec → List SpecCard → Option (List ℕ)
 matches_up_to fs cards = good_matches (fs ++ matched_fields (followers input_role cards))

@@ -1,11 +1,8 @@
 //! F16: columns of records and of lines.
 
-ghost use Rattle.std.specs.Prelude.{◌≡◌, ◌≤◌, ◌∷◌, ◌++◌, List, Option, length};
+ghost use Rattle.std.specs.Prelude.{◌≡◌, ◌≤◌, ◌∷◌, ◌++◌, Option, length};
 ghost use Rattle.std.specs.Option.{option_map};
-ghost use Rattle.rpg_cards.specs.Files.{file_by};
-ghost use Rattle.rpg_cards.specs.Groups.{input_role, open_file};
-ghost use Rattle.rpg_cards.specs.Sheets.{AreSheets, group_file};
-ghost use Rattle.rpg_cards.specs.declared.spec_card.SpecCard.{SpecCard};
+ghost use Rattle.rpg_cards.specs.Sheets.{AreSheets};
 ghost use Rattle.rpg_faults.specs.Places as rules;
 ghost use Rattle.rpg_faults.specs.State.{IsPlaces};
 ghost use Rattle.rpg_sheet_specs.specs.declared.file.FileSpec.{FileSpec};
@@ -47,7 +44,7 @@ pub(crate) fn own_length(
     file: Option<GroupFile>,
     input: &InputSpec,
 ) -> Option<u16>
-    ensures { (before : List SpecCard) → file ≡ option_map group_file (file_by (open_file input_role before) source.now) → result ≡ option_map (λ f. f.record_length) (file_by (rules.own_file before input.now) source.now) }
+    ensures { rules.TellsOwnLength source.now input.now file result }
 {
     match input {
         InputSpec::Type(record_type) => match &record_type.file {

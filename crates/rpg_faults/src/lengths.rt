@@ -1,12 +1,11 @@
 //! The joined lengths of control fields.
 
-ghost use Rattle.std.specs.Prelude.{◌≡◌, ◌≤◌, ◌-◌, [], List, length, map, min, slice_index_or};
-ghost use Rattle.std.specs.Option.{option_or};
+ghost use Rattle.std.specs.Prelude.{◌≡◌, ◌≤◌, [], List, length, min};
 ghost use Rattle.rpg_cards.specs.Groups.{followers, input_role};
 ghost use Rattle.rpg_cards.specs.declared.spec_card.SpecCard.{SpecCard};
 ghost use Rattle.rpg_faults.specs.Before.{AddsCard, AddsField, TellsInput};
 ghost use Rattle.rpg_faults.specs.Places as rules;
-ghost use Rattle.rpg_faults.specs.Lengths.{AreJoinedLengths, AreOpenLengths, any_differs, lengths_of, some_length};
+ghost use Rattle.rpg_faults.specs.Lengths.{AreJoinedLengths, AreOpenLengths, any_differs, lengths_of, some_length, with_lengths};
 
 use rpg_cards::SpecCard;
 use rpg_sheet_specs::{InputFieldSpec, InputSpec};
@@ -110,7 +109,7 @@ impl JoinedLengths {
 /// The first lengths with those of a further type.
 fn with_type(first: [Option<u32>; 9], after: &[SpecCard]) -> [Option<u32>; 9]
     requires { length after.now ≤ 2000 }
-    ensures { result ≡ map (λ level. option_or (slice_index_or first (level - 1) None) (rules.level_length level (followers input_role after.now))) rules.levels }
+    ensures { result ≡ with_lengths first (followers input_role after.now) }
 {
     let mut first = first;
     for level in 1..=9 {

@@ -1,9 +1,9 @@
 //! The match fields of record types.
 
-ghost use Rattle.std.specs.Prelude.{◌≡◌, ◌+◌, ◌-◌, ◌≤◌, [], ◌∷◌, ◌++◌, ◌&&◌, List, Some, false, nat_le, nat_lt, slice_index_or};
+ghost use Rattle.std.specs.Prelude.{◌≡◌, ◌+◌, ◌-◌, ◌≤◌, [], ◌∷◌, ◌++◌, ◌&&◌, List, false, nat_le, nat_lt, slice_index_or};
 ghost use Rattle.rpg_cards.specs.Groups.{followers, input_role};
 ghost use Rattle.rpg_cards.specs.declared.spec_card.SpecCard.{SpecCard};
-ghost use Rattle.rpg_faults.specs.Matches.{AreGood, AreMatches, AreOpenMatches, AreWith, MakesOf, matches_of};
+ghost use Rattle.rpg_faults.specs.Matches.{AddsMatch, AreGood, AreMatches, AreOpenMatches, MakesOf, matches_of};
 ghost use Rattle.rpg_faults.specs.Before.{AddsCard, AddsField, TellsInput};
 ghost use Rattle.rpg_faults.specs.Places as rules;
 ghost use Rattle.rpg_sheet_specs.specs.declared.input.InputFieldSpec.{InputFieldSpec};
@@ -211,7 +211,7 @@ fn matches_on(found: Option<[u16; 9]>, card: &SpecCard) -> Further
 fn lengths_with(found: Option<[u16; 9]>, level: u8, columns: u16) -> Option<[u16; 9]>
     requires low { 1 ≤ level }
     requires high { level ≤ 9 }
-    ensures { (fs : List InputFieldSpec) (f : InputFieldSpec) → AreGood fs found → f.match_level ≡ Some level → columns ≡ rules.input_columns f → AreWith fs f result }
+    ensures { AddsMatch level columns found result }
 {
     let mut lengths = found.unwrap_or([0; 9]);
     let i = level as usize - 1;

@@ -1,14 +1,17 @@
 -- Where the name of each label and subroutine is given first, and the calls that come back.
-use Rattle.std.specs.Prelude.{◌≡◌, ℕ, ◌+◌, ◌<◌, ◌==◌, List, length, get_or, Bool, ◌&&◌, nat_eq, nat_le, nat_lt, ◌-◌}
+use Rattle.std.specs.Prelude.{◌≡◌, ℕ, ◌+◌, ◌<◌, ◌==◌, List, ◌++◌, Contains, length, get_or, slice_index, Bool, ◌&&◌, ◌||◌, nat_eq, nat_le, nat_lt, ◌-◌, Option, None, Some, is_some, if◌then◌else◌}
 use Rattle.std.specs.Cmp.Lexicographic.{pointwise}
 use Rattle.std.specs.Int.{bit_at}
 use Rattle.std.specs.List.{list_any}
 use Rattle.std.specs.Map.{lookup}
+use Rattle.std.specs.Option.{option_map, option_or}
 use Rattle.rpg_cards.specs.Calls.{reaches, reaches_in}
 use Rattle.rpg_cards.specs.Keys.{Name}
+use Rattle.rpg_cards.specs.Labels.{label_named}
 use Rattle.rpg_cards.specs.declared.labels.Label.{Label}
 use Rattle.rpg_cards.specs.Index.{first_at}
 use Rattle.rpg_deck.specs.Steps.{Step, calls_of_steps, labels_of_steps}
+use Rattle.rpg_faults_tree.specs.Rules.{calls_back}
 use Rattle.rpg_faults_tree.specs.declared.labels.FirstLabel.{FirstLabel}
 use Rattle.rpg_faults_tree.specs.declared.labels.Labels.{Labels}
 use Rattle.rpg_faults_tree.specs.declared.labels.Target.{Target}
@@ -31,6 +34,11 @@ first_label i l = record { place = i; target = label_target l }
 abbrev pub IsLabelIndex : List (Name × FirstLabel) → List Label → Type 0
 IsLabelIndex names ls = (name : Name) → lookup (pointwise nat_eq name) names ≡ first_at (is_for name) first_label 0 ls
 
+-- the label is noted at its name, unless the name has one
+abbrev pub NotesLabel : Name → FirstLabel → List (Name × FirstLabel) → List (Name × FirstLabel) → Type 0
+NotesLabel name label old new =
+    (q : Name) → lookup (pointwise nat_eq q) new ≡ option_or (lookup (pointwise nat_eq q) old) (if pointwise nat_eq q name then Some label else None)
+
 -- ---- calls
 
 -- the numbers of the caller and of the callee
@@ -50,6 +58,21 @@ pub record AreLabelsOf (ss : List Step) (l : Labels) : Type 0 where
   pub index : IsLabelIndex l.names.entries (labels_of_steps ss)
   pub cycles : AreCycles l.cycles.items (calls_of_steps ss)
 
+-- ---- what an index is asked
+
+-- the answer is the first label of the name, as a target
+abbrev pub TellsTarget : Labels → Name → Option Target → Type 0
+TellsTarget l name answer = (ss : List Step) → AreLabelsOf ss l → answer ≡ option_map label_target (label_named name (labels_of_steps ss))
+
+-- the answer is whether one of so many labels at the front has the name
+abbrev pub TellsFront : Labels → Name → ℕ → Bool → Type 0
+TellsFront l name count answer =
+    (ss : List Step) → (front behind : List Label) → AreLabelsOf ss l → labels_of_steps ss ≡ front ++ behind → count ≡ length front → answer ≡ is_some (label_named name front)
+
+-- the answer is whether the call of a step leads back to its own subroutine
+abbrev pub TellsRecursion : Labels → Step → Bool → Type 0
+TellsRecursion l s answer = (ss : List Step) → AreLabelsOf ss l → Contains ss s → answer ≡ calls_back (labels_of_steps ss) (calls_of_steps ss) s
+
 -- ---- which subroutines reach which, 64 of them at a time: each is a bit of a word
 
 -- all numbers of callers and callees are below the count
@@ -68,3 +91,17 @@ is_in_word first x = nat_le first x && nat_lt (x - first) 64
 pub record IsReaching (steps : ℕ) (all : List Call) (first count : ℕ) (words : List ℕ) : Type 0 where
   pub each_has : length words ≡ count
   pub reaching : (x i : ℕ) → x < count → i < 64 → has_word_bit (get_or words x 0) i ≡ reaches_in steps all x (first + i)
+
+-- the next words are those for one call more
+abbrev pub ReachesFurther : List Call → ℕ → List ℕ → List ℕ → Type 0
+ReachesFurther all first words next = (steps : ℕ) → IsReaching steps all first (length words) words → IsReaching (steps + 1) all first (length words) next
+
+-- a caller's word also gets the bits of the subroutines that it calls
+abbrev pub Spreads : List Call → List ℕ → List ℕ → List ℕ → Type 0
+Spreads all words old new =
+    (x i : ℕ) → x < length words → has_word_bit (slice_index new x) i ≡ (has_word_bit (slice_index old x) i || list_any (λ p. p.0 == x && has_word_bit (slice_index words p.1) i) all)
+
+-- of the calls by the 64 subroutines those that come back are added
+abbrev pub AddsCycles : ℕ → List Call → List Call → List Call → Type 0
+AddsCycles first all old new =
+    (p : Call) → list_any (same_call p) new ≡ (list_any (same_call p) old || (list_any (same_call p) all && (is_in_word first p.0 && reaches all p.1 p.0)))

@@ -24,7 +24,11 @@ abbrev pub wrong_in : Bool → Card CalculationSpec → List (Card CalculationSp
 wrong_in is_after_division c [] = one_if (breaks_rounding_rule is_after_division c.spec) c.number
 wrong_in is_after_division c (d ∷ ds) = one_if c.spec.half_adjust c.number ++ wrong_in is_after_division d ds
 
+-- those of a group
+abbrev pub wrong_in_group : Bool → CalculationCards → List ℕ
+wrong_in_group is_after_division g = wrong_in is_after_division g.first g.followers
+
 -- groups one after the other
 abbrev pub wrong_from : Bool → List CalculationCards → List ℕ
 wrong_from is_after_division [] = []
-wrong_from is_after_division (g ∷ gs) = wrong_in is_after_division g.first g.followers ++ wrong_from (leaves_remainder (operation_card g).spec) gs
+wrong_from is_after_division (g ∷ gs) = wrong_in_group is_after_division g ++ wrong_from (leaves_remainder (operation_card g).spec) gs

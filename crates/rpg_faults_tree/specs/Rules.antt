@@ -24,9 +24,13 @@ Finds list r = (cards : List SpecCard) → IsInOrder 0 cards → (number : ℕ) 
 abbrev pub step_goes_nowhere : List Label → Step → Bool
 step_goes_nowhere given s = option_map_or (λ n. not (is_given_as given n)) (wants (deed s)) false
 
--- F10: the cards with a GOTO or an EXSR to what isn't given
+-- of these steps, the cards with a GOTO or an EXSR to what isn't given
+abbrev pub lost_among : List Step → List ℕ
+lost_among ss = at_operations (λ s after. step_goes_nowhere (labels_of_steps ss) s) ss
+
+-- F10: those of a tree
 abbrev pub lost_cards : Tree → List ℕ
-lost_cards t = at_operations (λ s after. step_goes_nowhere (labels_of_steps (steps_in t)) s) (steps_in t)
+lost_cards t = lost_among (steps_in t)
 
 -- F12: the cards that begin a misplaced calculation or have an unpaired BEGSR or ENDSR, and I and O cards that need one before them
 abbrev pub misplaced_cards : Tree → List ℕ
@@ -40,17 +44,25 @@ name_leaves given own n = option_map_or (leaves_by own n) (label_named n.name gi
 abbrev pub step_leaves_section : List Label → Step → Bool
 step_leaves_section given s = option_map_or (name_leaves given s.section) (wants (deed s)) false
 
--- F13: the cards with a GOTO to another section
+-- of these steps, the cards with a GOTO to another section
+abbrev pub leaving_among : List Step → List ℕ
+leaving_among ss = at_operations (λ s after. step_leaves_section (labels_of_steps ss) s) ss
+
+-- F13: those of a tree
 abbrev pub leaving_cards : Tree → List ℕ
-leaving_cards t = at_operations (λ s after. step_leaves_section (labels_of_steps (steps_in t)) s) (steps_in t)
+leaving_cards t = leaving_among (steps_in t)
 
 -- a call of a subroutine that reaches the one it is made in
 abbrev pub calls_back : List Label → List (ℕ × ℕ) → Step → Bool
 calls_back given all s = comes_back all (call_of given s)
 
--- F14: the cards with a call that leads back to its own subroutine
+-- of these steps, the cards with a call that leads back to its own subroutine
+abbrev pub recursive_among : List Step → List ℕ
+recursive_among ss = at_operations (λ s after. calls_back (labels_of_steps ss) (calls_of_steps ss) s) ss
+
+-- F14: those of a tree
 abbrev pub recursive_cards : Tree → List ℕ
-recursive_cards t = at_operations (λ s after. calls_back (labels_of_steps (steps_in t)) (calls_of_steps (steps_in t)) s) (steps_in t)
+recursive_cards t = recursive_among (steps_in t)
 
 -- F15: the cards with H where nothing is rounded, or MVR without a division
 abbrev pub wrongly_rounding_cards : Tree → List ℕ

@@ -1,8 +1,7 @@
 //! Calls between subroutines that come back to their caller.
 
-ghost use Rattle.std.specs.Prelude.{◌≡◌, ℕ, ◌+◌, ◌-◌, ◌≤◌, ◌<◌, ◌==◌, ◌&&◌, ◌||◌, length, slice_index, true, List, IfOk, OnOk};
+ghost use Rattle.std.specs.Prelude.{◌≡◌, ℕ, ◌+◌, ◌-◌, ◌≤◌, ◌<◌, ◌==◌, ◌&&◌, length, slice_index, true, List, IfOk, OnOk};
 ghost use Rattle.std.specs.List.{list_any};
-ghost use Rattle.rpg_cards.specs.Calls.{reaches};
 ghost use Rattle.rpg_faults_tree.specs.Index as index;
 
 use std::alloc::{AllocError, Global};
@@ -83,7 +82,7 @@ fn reach_further(first: usize, calls: &[(u16, u16)], words: &[u64], next: &mut [
     requires below { index.AreBelow (length words.now) calls.now }
     requires same { length next.old ≡ length words.now }
     ensures same { length next.new ≡ length words.now }
-    ensures reaching { (steps : ℕ) → index.IsReaching steps calls.now first (length words.now) words.now → index.IsReaching (steps + 1) calls.now first (length words.now) next.new }
+    ensures reaching { index.ReachesFurther calls.now first words.now next.new }
 {
     reach_itself(first, next);
     spread(calls, words, next);
@@ -113,7 +112,7 @@ fn spread(calls: &[(u16, u16)], words: &[u64], next: &mut [u64])
     requires below { index.AreBelow (length words.now) calls.now }
     requires same { length next.old ≡ length words.now }
     ensures same { length next.new ≡ length next.old }
-    ensures bits { (x i : ℕ) → x < length words.now → index.has_word_bit (slice_index next.new x) i ≡ (index.has_word_bit (slice_index next.old x) i || list_any (λ p. p.0 == x && index.has_word_bit (slice_index words.now p.1) i) calls.now) }
+    ensures bits { index.Spreads calls.now words.now next.old next.new }
 {
     for call in calls {
         let (caller, callee) = *call;
@@ -131,7 +130,7 @@ fn push_cycles(
 ) -> Result<(), AllocError>
     requires below { index.AreBelow (length words.now) calls.now }
     requires reaching { index.IsReaching (length calls.now) calls.now first (length words.now) words.now }
-    ensures { OnOk result ((p : index.Call) → list_any (index.same_call p) found.new.items ≡ (list_any (index.same_call p) found.old.items || (list_any (index.same_call p) calls.now && (index.is_in_word first p.0 && reaches calls.now p.1 p.0)))) }
+    ensures { OnOk result (index.AddsCycles first calls.now found.old.items found.new.items) }
 {
     for call in calls {
         if comes_back(first, words, *call) {

@@ -1,17 +1,13 @@
 //! The labels and subroutines of a source, and the calls between them.
 
-ghost use Rattle.std.specs.Prelude.{◌≡◌, ◌≤◌, ◌++◌, Contains, List, length, map, nat_eq, None, Some, is_some, if◌then◌else◌, IfOk, OnOk};
-ghost use Rattle.std.specs.Cmp.Lexicographic.{pointwise};
-ghost use Rattle.std.specs.Map.{lookup};
-ghost use Rattle.std.specs.Option.{option_map, option_or, option_to_list};
+ghost use Rattle.std.specs.Prelude.{◌≡◌, ◌≤◌, ◌++◌, List, length, map, IfOk, OnOk};
+ghost use Rattle.std.specs.Option.{option_map, option_to_list};
 ghost use Rattle.rpg_cards.specs.Calls as calls_of;
-ghost use Rattle.rpg_cards.specs.Keys.{Name};
 ghost use Rattle.rpg_cards.specs.Labels as labels;
 ghost use Rattle.rpg_cards.specs.declared.labels.Label.{Label};
 ghost use Rattle.rpg_deck.specs.Seen.{step_in};
 ghost use Rattle.rpg_deck.specs.Steps as steps_of;
 ghost use Rattle.rpg_faults_tree.specs.Index as index;
-ghost use Rattle.rpg_faults_tree.specs.Rules as rules;
 
 use crate::cycles::{cycles, has_call};
 use rpg_cards::{Named, Section, gives, wants};
@@ -56,14 +52,14 @@ impl Labels {
 
     /// What the first label of a name is.
     pub(crate) fn target(&self, name: &Name) -> Option<Target>
-        ensures { (ss : List steps_of.Step) → index.AreLabelsOf ss self.now → result ≡ option_map index.label_target (labels.label_named name.now (steps_of.labels_of_steps ss)) }
+        ensures { index.TellsTarget self.now name.now result }
     {
         target_in(&self.names, name)
     }
 
     /// Whether a name is given by so many labels at the front.
     pub fn is_given(&self, name: &Name, count: u16) -> bool
-        ensures { (ss : List steps_of.Step) → (front behind : List Label) → index.AreLabelsOf ss self.now → steps_of.labels_of_steps ss ≡ front ++ behind → count ≡ length front → result ≡ is_some (labels.label_named name.now front) }
+        ensures { index.TellsFront self.now name.now count result }
     {
         match self.names.get(name) {
             None => false,
@@ -73,7 +69,7 @@ impl Labels {
 
     /// Whether a step makes a call whose callee reaches its caller.
     pub(crate) fn calls_back(&self, step: &Step) -> bool
-        ensures { (ss : List steps_of.Step) → index.AreLabelsOf ss self.now → Contains ss (step_in step.now) → result ≡ rules.calls_back (steps_of.labels_of_steps ss) (steps_of.calls_of_steps ss) (step_in step.now) }
+        ensures { index.TellsRecursion self.now (step_in step.now) result }
     {
         match call_in(&self.names, step) {
             None => false,
@@ -109,7 +105,7 @@ fn note(
     name: Name,
     label: FirstLabel,
 ) -> Result<(), AllocError>
-    ensures { OnOk result ((q : Name) → lookup (pointwise nat_eq q) names.new.entries ≡ option_or (lookup (pointwise nat_eq q) names.old.entries) (if pointwise nat_eq q name then Some label else None)) }
+    ensures { OnOk result (index.NotesLabel name label names.old.entries names.new.entries) }
 {
     if names.contains_key(&name) {
         return Ok(());

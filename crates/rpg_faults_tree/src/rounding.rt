@@ -1,13 +1,13 @@
 //! F15: H where nothing is rounded, and MVR where no division has left a remainder.
 
 ghost use Rattle.std.specs.Prelude.{◌≡◌, ◌++◌, false, map, IfOk, OnOk};
-ghost use Rattle.rpg_deck.specs.Seen.{group_in, card_in_memory};
+ghost use Rattle.rpg_deck.specs.Seen.{group_in};
 ghost use Rattle.rpg_faults_flow.specs.Rounding as flow;
 ghost use Rattle.rpg_faults_tree.specs.Rounding as rounding;
 
 use crate::numbers::add;
 use rpg_cards::{columns, joins};
-use rpg_deck::{Card, Group, last_card};
+use rpg_deck::{Group, last_card};
 use rpg_sheet_specs::{CalculationSpec, Operation};
 use std::alloc::{AllocError, Global};
 
@@ -21,23 +21,22 @@ pub(crate) fn wrongly_rounding_cards(
     let mut found = Vec::new(alloc);
     let mut is_after_division = false;
     for group in groups {
-        push_wrong(&mut found, is_after_division, group.first, group.followers)?;
+        push_wrong(&mut found, is_after_division, group)?;
         is_after_division = leaves_remainder(last_card(group).spec);
     }
     Ok(found)
 }
 
 /// Those of a group.
-fn push_wrong<'deck, 'source>(
+fn push_wrong(
     found: &mut Vec<u16>,
     is_after_division: bool,
-    first: &'deck Card<&'source CalculationSpec>,
-    followers: &'deck [Card<&'source CalculationSpec>],
+    group: &Group<CalculationSpec>,
 ) -> Result<(), AllocError>
-    ensures { OnOk result (found.new.items ≡ found.old.items ++ rounding.wrong_in is_after_division (card_in_memory first.now) (map card_in_memory followers.now)) }
+    ensures { OnOk result (found.new.items ≡ found.old.items ++ rounding.wrong_in_group is_after_division (group_in group.now)) }
 {
-    let mut card = first;
-    for next in followers {
+    let mut card = group.first;
+    for next in group.followers {
         add(found, card.spec.half_adjust, card.number)?;
         card = next;
     }

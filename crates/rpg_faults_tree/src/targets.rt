@@ -5,7 +5,6 @@ ghost use Rattle.rpg_deck.specs.Seen.{step_in};
 ghost use Rattle.rpg_deck.specs.Steps as steps_of;
 ghost use Rattle.rpg_faults_flow.specs.Flow as flow;
 ghost use Rattle.rpg_faults_tree.specs.Index.{AreLabelsOf};
-ghost use Rattle.rpg_faults_tree.specs.Numbers.{at_operations};
 ghost use Rattle.rpg_faults_tree.specs.Rules as rules;
 
 use crate::labels::Labels;
@@ -21,7 +20,7 @@ pub(crate) fn lost_cards(
     steps: &[Step],
 ) -> Result<Vec<u16>, AllocError>
     requires { AreLabelsOf (map step_in steps.now) labels.now }
-    ensures { IfOk result (λ found. found.items ≡ at_operations (λ s after. rules.step_goes_nowhere (steps_of.labels_of_steps (map step_in steps.now)) s) (map step_in steps.now)) }
+    ensures { IfOk result (λ found. found.items ≡ rules.lost_among (map step_in steps.now)) }
 {
     let mut found = Vec::new(alloc);
     for step in steps {
@@ -38,7 +37,7 @@ pub(crate) fn leaving_cards(
     steps: &[Step],
 ) -> Result<Vec<u16>, AllocError>
     requires { AreLabelsOf (map step_in steps.now) labels.now }
-    ensures { IfOk result (λ found. found.items ≡ at_operations (λ s after. rules.step_leaves_section (steps_of.labels_of_steps (map step_in steps.now)) s) (map step_in steps.now)) }
+    ensures { IfOk result (λ found. found.items ≡ rules.leaving_among (map step_in steps.now)) }
 {
     let mut found = Vec::new(alloc);
     for step in steps {
@@ -55,7 +54,7 @@ pub(crate) fn recursive_cards(
     steps: &[Step],
 ) -> Result<Vec<u16>, AllocError>
     requires { AreLabelsOf (map step_in steps.now) labels.now }
-    ensures { IfOk result (λ found. found.items ≡ at_operations (λ s after. rules.calls_back (steps_of.labels_of_steps (map step_in steps.now)) (steps_of.calls_of_steps (map step_in steps.now)) s) (map step_in steps.now)) }
+    ensures { IfOk result (λ found. found.items ≡ rules.recursive_among (map step_in steps.now)) }
 {
     let mut found = Vec::new(alloc);
     for step in steps {

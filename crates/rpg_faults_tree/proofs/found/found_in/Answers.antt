@@ -1,14 +1,13 @@
 use Rattle.std.proofs.Common.{◌≡◌, ◌∙◌, false, List, ap, arith, length, map, subst}
 use Rattle.std.proofs.lemmas.List.{length-map}
 use Rattle.rpg_deck.specs.Seen.{group_in, sheet_in, step_in, tree_in}
-use Rattle.rpg_deck.specs.Steps.{Step, before_calculations, calls_of_steps, labels_of_steps, steps, steps_in}
+use Rattle.rpg_deck.specs.Steps.{Step, before_calculations, steps, steps_in}
 use Rattle.rpg_faults_tree.proofs.Calling.{count_steps}
 use Rattle.rpg_faults_tree.specs.Index.{AreLabelsOf}
 use Rattle.rpg_faults_tree.specs.Marked.{AreMarked}
-use Rattle.rpg_faults_tree.specs.Numbers.{at_operations}
 use Rattle.rpg_faults_tree.specs.Order.{out_of_order}
 use Rattle.rpg_faults_tree.specs.Rounding.{wrong_from}
-use Rattle.rpg_faults_tree.specs.Rules.{calls_back, step_goes_nowhere, step_leaves_section}
+use Rattle.rpg_faults_tree.specs.Rules.{leaving_among, lost_among, recursive_among}
 use Rattle.rpg_faults_tree.proofs.found.found_in.Goals as goal
 
 pub new-requires : goal.new-requires
@@ -33,11 +32,11 @@ returns c =
     record {
       labels = subst (λ ss. AreLabelsOf ss c.in_ok-labels.labels) all c.in_ok-labels.ensures;
       lost = subst (AreMarked c.in_ok-of.field-0)
-          (c.as_slice.ensures.value ∙ c.in_ok-lost.ensures ∙ ap (λ ss. at_operations (λ s after. step_goes_nowhere (labels_of_steps ss) s) ss) all) c.in_ok-of.ensures;
+          (c.as_slice.ensures.value ∙ c.in_ok-lost.ensures ∙ ap lost_among all) c.in_ok-of.ensures;
       leaving = subst (AreMarked c.in_ok-of-2.field-0)
-          (c.as_slice-2.ensures.value ∙ c.in_ok-leaving.ensures ∙ ap (λ ss. at_operations (λ s after. step_leaves_section (labels_of_steps ss) s) ss) all) c.in_ok-of-2.ensures;
+          (c.as_slice-2.ensures.value ∙ c.in_ok-leaving.ensures ∙ ap leaving_among all) c.in_ok-of-2.ensures;
       recursive = subst (AreMarked c.in_ok-of-3.field-0)
-          (c.as_slice-3.ensures.value ∙ c.in_ok-recursive.ensures ∙ ap (λ ss. at_operations (λ s after. calls_back (labels_of_steps ss) (calls_of_steps ss) s) ss) all) c.in_ok-of-3.ensures;
+          (c.as_slice-3.ensures.value ∙ c.in_ok-recursive.ensures ∙ ap recursive_among all) c.in_ok-of-3.ensures;
       misplaced = subst (AreMarked c.in_ok-of-4.field-0)
           (c.as_slice-4.ensures.value ∙ c.in_ok-misplaced.ensures ∙ ap (λ ss. out_of_order ss (sheet_in tree.types) (sheet_in tree.lines)) all) c.in_ok-of-4.ensures;
       wrongly_rounding = subst (AreMarked c.in_ok-of-5.field-0)
