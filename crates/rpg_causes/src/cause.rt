@@ -1,11 +1,10 @@
 //! The cause of a fault of any code.
 
-ghost use Rattle.std.specs.Prelude.{◌≡◌, ◌≤◌, [], ◌∷◌, ◌++◌, length, is_some};
+ghost use Rattle.std.specs.Prelude.{◌≡◌, [], ◌∷◌, ◌++◌, is_some};
 ghost use Rattle.rpg_causes.specs.Causes as causes;
 ghost use Rattle.rpg_causes.specs.Files as file_causes;
 ghost use Rattle.rpg_faults.specs.Rules as rules;
 ghost use Rattle.rpg_faults.specs.declared.code.FaultCode.TheVariants.{F9, F12, F16};
-ghost use Rattle.rpg_faults_tree.specs.Marked.{AreBreaking};
 ghost use Rattle.rpg_faults_flow.specs.Flow as flow_rules;
 ghost use Rattle.rpg_faults_limits.specs.Causes as limit_causes;
 ghost use Rattle.rpg_faults_limits.specs.Files as file_rules;
@@ -30,7 +29,7 @@ use rpg_causes_operands::{
 use rpg_faults::FaultCode;
 use rpg_faults_data::{DataCause, data_cause};
 use rpg_faults_limits::{LimitCause, limit_cause};
-use rpg_faults_tree::Found;
+use rpg_faults_tree::AnalyzedCards;
 use rpg_symbols::Name;
 
 /// Why a card has a fault.
@@ -82,25 +81,19 @@ pub enum Cause {
     Data(DataCause),
 }
 
-/// Why the first card with a number breaks the rule of a code; nothing where it doesn't. What is found is of the source.
-pub fn fault_cause(
-    source: &IndexedCards,
-    found: &Found,
-    number: u16,
-    code: FaultCode,
-) -> Option<Cause>
-    requires few { length source.now ≤ 2000 }
-    requires found { AreBreaking source.now found.now }
-    ensures cause { result ≡ causes.cause_at [] source.now number code }
-    ensures rule { is_some result ≡ causes.is_broken_at [] source.now number code }
+/// Why the first card with this number breaks the rule of a code; nothing where it doesn't.
+pub fn fault_cause(source: &AnalyzedCards, number: u16, code: FaultCode) -> Option<Cause>
+    ensures cause { result ≡ causes.cause_at [] source.now.cards.now number code }
+    ensures rule { is_some result ≡ causes.is_broken_at [] source.now.cards.now number code }
 {
-    let mut before = no_cards(source);
-    let mut rest = source.as_slice();
+    let cards = source.cards;
+    let mut before = no_cards(cards);
+    let mut rest = cards.as_slice();
     while let Some((card, after)) = rest.split_first() {
         if card.number == number {
-            return cause_of(source, found, before, card, after, code);
+            return cause_of(source, before, card, after, code);
         }
-        before = with_card(source, before, card, after);
+        before = with_card(cards, before, card, after);
         rest = after;
     }
     None
@@ -108,108 +101,98 @@ pub fn fault_cause(
 
 #[tactic(auto, unfolding(crate::specs::Causes::cause_of, rpg_faults::specs::Rules::rule))]
 fn cause_of(
-    source: &IndexedCards,
-    found: &Found,
+    source: &AnalyzedCards,
     before: &[SpecCard],
     card: &SpecCard,
     after: &[SpecCard],
     code: FaultCode,
 ) -> Option<Cause>
-    requires split { source.now ≡ before.now ++ card.now ∷ after.now }
-    requires few { length source.now ≤ 2000 }
-    requires found { AreBreaking source.now found.now }
+    requires { source.now.cards.now ≡ before.now ++ card.now ∷ after.now }
     ensures cause { result ≡ causes.cause_of code before.now card.now after.now }
     ensures rule { is_some result ≡ rules.rule code before.now card.now after.now }
 {
+    let cards = source.cards;
     match code {
-        FaultCode::F1 => Some(Cause::UndefinedName(undefined_name(source, card, after)?)),
-        FaultCode::F2 => Some(Cause::RedefinedName(redefined_name(source, before, card, after)?)),
+        FaultCode::F1 => Some(Cause::UndefinedName(undefined_name(cards, card, after)?)),
+        FaultCode::F2 => Some(Cause::RedefinedName(redefined_name(cards, before, card, after)?)),
         FaultCode::F3 => Some(Cause::Size(size_cause(card)?)),
-        FaultCode::F4 => Some(Cause::Operand(operand_cause(source, card, after)?)),
-        FaultCode::F5 => Some(Cause::Index(index_cause(source, card, after)?)),
+        FaultCode::F4 => Some(Cause::Operand(operand_cause(cards, card, after)?)),
+        FaultCode::F5 => Some(Cause::Index(index_cause(cards, card, after)?)),
         FaultCode::F6 => Some(Cause::Limit(passed_limit(source, before, card, after)?)),
         FaultCode::F7 => Some(Cause::File(wrong_file(source, before, card, after)?)),
-        FaultCode::F8 => Some(Cause::Indicator(indicator_cause(source, card)?)),
-        FaultCode::F9 => missing(source, before, card, after),
-        FaultCode::F10 => Some(Cause::Nowhere(nowhere_cause(source, before, card, after)?)),
-        FaultCode::F11 => Some(Cause::Twice(twice_cause(source, before, card, after)?)),
+        FaultCode::F8 => Some(Cause::Indicator(indicator_cause(cards, card)?)),
+        FaultCode::F9 => missing(cards, before, card, after),
+        FaultCode::F10 => Some(Cause::Nowhere(nowhere_cause(cards, before, card, after)?)),
+        FaultCode::F11 => Some(Cause::Twice(twice_cause(cards, before, card, after)?)),
         FaultCode::F12 => misordered(source, before, card, after),
-        FaultCode::F13 => Some(Cause::Apart(apart_cause(source, before, card, after)?)),
+        FaultCode::F13 => Some(Cause::Apart(apart_cause(cards, before, card, after)?)),
         FaultCode::F14 => {
-            let cause = recursion_cause(source, found, before, card, after);
+            let cause = recursion_cause(source, before, card, after);
             Some(Cause::Recursion(cause?))
         }
         FaultCode::F15 => Some(Cause::Rounding(rounding_cause(before, card, after)?)),
         FaultCode::F16 => misplaced(source, before, card, after),
-        FaultCode::F17 => Some(Cause::Editing(editing_cause(source, card)?)),
-        FaultCode::F18 => Some(Cause::Data(data_cause(source, before, card)?)),
+        FaultCode::F17 => Some(Cause::Editing(editing_cause(cards, card)?)),
+        FaultCode::F18 => Some(Cause::Data(data_cause(cards, before, card)?)),
     }
 }
 
 /// F6: which limit is passed with the card.
 fn passed_limit(
-    source: &IndexedCards,
+    source: &AnalyzedCards,
     before: &[SpecCard],
     card: &SpecCard,
     after: &[SpecCard],
 ) -> Option<LimitCause>
-    requires split { source.now ≡ before.now ++ card.now ∷ after.now }
-    requires few { length source.now ≤ 2000 }
-    ensures cause { result ≡ limit_causes.limit_cause source.now before.now card.now after.now }
-    ensures rule { is_some result ≡ limit_rules.passes_limit source.now before.now card.now after.now }
+    requires { source.now.cards.now ≡ before.now ++ card.now ∷ after.now }
+    ensures cause { result ≡ limit_causes.limit_cause source.now.cards.now before.now card.now after.now }
+    ensures rule { is_some result ≡ limit_rules.passes_limit source.now.cards.now before.now card.now after.now }
 {
     let sheets = sheets_before(source, before, card, after);
     let limits = limits_before(source, before, card, after);
-    limit_cause(source, &sheets, &limits, before, card, after)
+    limit_cause(source.cards, &sheets, &limits, before, card, after)
 }
 
 /// F7: what is wrong with the file of the card.
 fn wrong_file(
-    source: &IndexedCards,
+    source: &AnalyzedCards,
     before: &[SpecCard],
     card: &SpecCard,
     after: &[SpecCard],
 ) -> Option<FileCause>
-    requires split { source.now ≡ before.now ++ card.now ∷ after.now }
-    requires few { length source.now ≤ 2000 }
-    ensures cause { result ≡ file_causes.file_cause source.now before.now card.now }
-    ensures rule { is_some result ≡ file_rules.breaks_files source.now before.now card.now }
+    requires { source.now.cards.now ≡ before.now ++ card.now ∷ after.now }
+    ensures cause { result ≡ file_causes.file_cause source.now.cards.now before.now card.now }
+    ensures rule { is_some result ≡ file_rules.breaks_files source.now.cards.now before.now card.now }
 {
     let sheets = sheets_before(source, before, card, after);
-    file_cause(source, &sheets, before, card)
+    file_cause(source.cards, &sheets, before, card)
 }
 
 /// F14: the subroutine that the calculation calls, if that one leads back.
 fn recursion_cause(
-    source: &IndexedCards,
-    found: &Found,
+    source: &AnalyzedCards,
     before: &[SpecCard],
     card: &SpecCard,
     after: &[SpecCard],
 ) -> Option<Target>
-    requires split { source.now ≡ before.now ++ card.now ∷ after.now }
-    requires few { length source.now ≤ 2000 }
-    requires found { AreBreaking source.now found.now }
+    requires { source.now.cards.now ≡ before.now ++ card.now ∷ after.now }
     ensures cause { result ≡ causes.recursion before.now card.now after.now }
     ensures rule { is_some result ≡ flow_rules.calls_itself (before.now ++ card.now ∷ after.now) before.now card.now after.now }
 {
-    recursion(source, found, before, card, after)
+    recursion(source, before, card, after)
 }
 
 fn recursion(
-    source: &IndexedCards,
-    found: &Found,
+    source: &AnalyzedCards,
     before: &[SpecCard],
     card: &SpecCard,
     after: &[SpecCard],
 ) -> Option<Target>
-    requires split { source.now ≡ before.now ++ card.now ∷ after.now }
-    requires few { length source.now ≤ 2000 }
-    requires found { AreBreaking source.now found.now }
+    requires { source.now.cards.now ≡ before.now ++ card.now ∷ after.now }
     ensures { result ≡ causes.recursion before.now card.now after.now }
 {
-    if found.calls_itself(card) {
-        target_on(source, card, after)
+    if source.calls_itself(card) {
+        target_on(source.cards, card, after)
     } else {
         None
     }
@@ -239,38 +222,36 @@ fn missing(
 /// F12: of a calculation card, or of an I or O card.
 #[tactic(auto, unfolding(rpg_faults::specs::Rules::rule))]
 fn misordered(
-    source: &IndexedCards,
+    source: &AnalyzedCards,
     before: &[SpecCard],
     card: &SpecCard,
     after: &[SpecCard],
 ) -> Option<Cause>
-    requires split { source.now ≡ before.now ++ card.now ∷ after.now }
-    requires few { length source.now ≤ 2000 }
+    requires { source.now.cards.now ≡ before.now ++ card.now ∷ after.now }
     ensures cause { result ≡ causes.misordered before.now card.now after.now }
     ensures rule { is_some result ≡ rules.rule F12 before.now card.now after.now }
 {
-    if let Some(cause) = order_cause(source.as_slice(), before, card, after) {
+    let cards = source.cards;
+    if let Some(cause) = order_cause(cards.as_slice(), before, card, after) {
         return Some(Cause::Order(cause));
     }
     let sheets = sheets_before(source, before, card, after);
-    Some(Cause::Stray(stray_cause(source, &sheets, before, card)?))
+    Some(Cause::Stray(stray_cause(cards, &sheets, before, card)?))
 }
 
 /// F16: of the card's own columns, or of control fields and match fields.
 #[tactic(auto, unfolding(rpg_faults::specs::Rules::rule), using(crate::proofs::JoinRule::misplaces_is))]
 fn misplaced(
-    source: &IndexedCards,
+    source: &AnalyzedCards,
     before: &[SpecCard],
     card: &SpecCard,
     after: &[SpecCard],
 ) -> Option<Cause>
-    requires split { source.now ≡ before.now ++ card.now ∷ after.now }
-    requires few { length before.now ≤ 2000 }
-    requires few_behind { length after.now ≤ 2000 }
+    requires { source.now.cards.now ≡ before.now ++ card.now ∷ after.now }
     ensures cause { result ≡ causes.misplaced_cause before.now card.now after.now }
     ensures rule { is_some result ≡ rules.rule F16 before.now card.now after.now }
 {
-    if let Some(cause) = outside_cause(source, before, card) {
+    if let Some(cause) = outside_cause(source.cards, before, card) {
         return Some(Cause::Outside(cause));
     }
     Some(Cause::Join(join_cause(before, card, after)?))

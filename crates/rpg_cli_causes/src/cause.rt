@@ -56,11 +56,14 @@ pub fn write_cause(
     columns: Option<ColumnFault>,
     code: FaultCode,
 ) -> bool {
-    let Some(spot) = Spot::of(source, line, number, columns) else {
+    if number == 0 {
         out.write_str("no card is a primary file (F card, I in 15, P in 16)");
         return true;
+    }
+    let Some(spot) = Spot::of(source, line, number, columns) else {
+        return false;
     };
-    match source.cause(number, code) {
+    match spot.cause(code) {
         Some(cause) => {
             write_told(out, spot, &cause);
             true

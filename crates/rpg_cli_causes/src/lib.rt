@@ -21,4 +21,5 @@ mod spot;
 
 pub use cause::write_cause;
 pub use root::{Root, root_of};
-pub use spot::{SourceCards, found_in};
+pub use rpg_faults_tree::AnalyzedCards;
+pub use spot::SourceCards;

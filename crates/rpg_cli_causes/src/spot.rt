@@ -1,54 +1,25 @@
 //! A fault's card among the others, and what stands there.
 
-ghost use Rattle.std.specs.Prelude.{◌≤◌, IfOk, length};
-ghost use Rattle.rpg_cli_causes.specs.Props.{AreBreaking-prop};
-ghost use Rattle.rpg_faults_tree.specs.Marked.{AreBreaking};
-
-use rpg_cards::{Defined, IndexedCards, SpecCard};
+use rpg_cards::{Defined, SpecCard};
 use rpg_causes::{Cause, fault_cause};
 use rpg_faults::FaultCode;
-use rpg_faults_tree::{Found, are_in_order};
+use rpg_faults_tree::AnalyzedCards;
 use rpg_program::form::FieldForm;
 use rpg_sheet::{ColumnFault, ColumnRange, DataSpec, Entry, Factor, Word};
 use rpg_text::{first_line, trimmed};
-use std::alloc::{AllocError, Global};
 
-/// No source has more cards.
-const MOST_CARDS: usize = 2000;
-
-/// The cards of a source that break the rules of its tree.
-pub fn found_in(alloc: Global, cards: &IndexedCards) -> Result<Found, AllocError>
-    ensures found { IfOk result (λ found. AreBreaking cards.now found) }
-    ensures few { IfOk result (λ found. length cards.now ≤ 2000) }
-{
-    let cards = cards.as_slice();
-    if cards.len() > MOST_CARDS || !are_in_order(cards) {
-        return Err(AllocError);
-    }
-    Found::new(alloc, cards)
-}
-
-/// The cards of a source that can be read, what its tree breaks and its text. There are no cards where only the card of the fault is known.
+/// A source's text and its cards: none where only the card of the fault is known.
 #[derive(Clone, Copy)]
 pub struct SourceCards<'a> {
-    pub cards: &'a IndexedCards<'a>,
-    pub found: &'a Found,
+    pub cards: Option<&'a AnalyzedCards<'a>>,
     pub text: &'a [u8],
-    pub ghost few: { length cards.now ≤ 2000 },
-    pub ghost broken: { AreBreaking cards.now found.now } by { AreBreaking-prop cards.now found.now },
 }
 
-impl SourceCards<'_> {
-    /// Why a card has a fault.
-    pub(crate) fn cause(self, number: u16, code: FaultCode) -> Option<Cause> {
-        fault_cause(self.cards, self.found, number, code)
-    }
-}
-
-/// A card with a fault.
+/// A card with a fault, among the cards of its source.
 #[derive(Clone, Copy)]
 pub(crate) struct Spot<'a> {
-    pub source: SourceCards<'a>,
+    pub source: &'a AnalyzedCards<'a>,
+    pub text: &'a [u8],
     pub line: &'a [u8],
     pub card: &'a SpecCard,
     /// The columns that the fault is about; none where it is about the card as a whole.
@@ -75,13 +46,21 @@ impl<'a> Spot<'a> {
         number: u16,
         columns: Option<ColumnFault>,
     ) -> Option<Self> {
+        let SourceCards { cards, text } = source;
+        let source = cards?;
         let card = card_at(source.cards.as_slice(), number)?;
         Some(Spot {
             source,
+            text,
             line,
             card,
             columns,
         })
+    }
+
+    /// Why the card has a fault.
+    pub fn cause(self, code: FaultCode) -> Option<Cause> {
+        fault_cause(self.source, self.card.number, code)
     }
 
     /// The first column that the fault is about.
@@ -113,7 +92,7 @@ impl<'a> Spot<'a> {
 
     /// What stands in columns of another card; nothing where the text isn't known.
     pub fn text_of_card(self, number: u16, first: usize, last: usize) -> &'a [u8] {
-        let mut rest = self.source.text;
+        let mut rest = self.text;
         for at in 1..=number {
             if rest.is_empty() {
                 break;

@@ -8,7 +8,7 @@ use crate::records::write_records;
 use crate::tables::write_tables;
 use rpg_cards::IndexedCards;
 use rpg_cli_list_names::{Indicators, Labels, Names, write_constants};
-use rpg_cli_messages::{SourceCards, found_in};
+use rpg_cli_messages::{AnalyzedCards, SourceCards};
 use rpg_cli_text::TextWriter;
 use rpg_deck::{Deck, Tree};
 use rpg_faults::{CardFault, source_faults};
@@ -75,10 +75,9 @@ fn cards_text(
     let source = IndexedCards::new(alloc, &read.cards)?;
     let mut out = TextWriter::new(alloc);
     write_head(&mut out, path, read.lines.len(), faults);
-    let found = found_in(alloc, &source)?;
+    let analyzed = AnalyzedCards::if_in_order(alloc, &source)?;
     let known = SourceCards {
-        cards: &source,
-        found: &found,
+        cards: analyzed.as_ref(),
         text,
     };
     write_cards(&mut out, &read.lines, known, faults);

@@ -15,4 +15,4 @@ pub use card_lines::CardLines;
 pub use message::{card_message, source_messages, write_place, write_told};
 pub use note::write_note;
 pub use picture::{write_first, write_picture};
-pub use rpg_cli_causes::{SourceCards, found_in};
+pub use rpg_cli_causes::{AnalyzedCards, SourceCards};

@@ -7,7 +7,7 @@ use crate::order::{LaterCard, later_card, write_order};
 use crate::picture::write_picture;
 use crate::unmarked::write_unmarked;
 use rpg_cards::IndexedCards;
-use rpg_cli_causes::{Root, SourceCards, found_in, root_of, write_cause};
+use rpg_cli_causes::{AnalyzedCards, Root, SourceCards, root_of, write_cause};
 use rpg_cli_columns::{character_at, write_bad_columns, write_form_type};
 use rpg_cli_text::TextWriter;
 use rpg_faults::{CardFault, SourceCode};
@@ -26,10 +26,9 @@ pub fn source_messages(
 ) -> Result<String, AllocError> {
     let cards = readable_cards(alloc, source, faults)?;
     let cards = IndexedCards::new(alloc, &cards)?;
-    let found = found_in(alloc, &cards)?;
+    let analyzed = AnalyzedCards::if_in_order(alloc, &cards)?;
     let known = SourceCards {
-        cards: &cards,
-        found: &found,
+        cards: analyzed.as_ref(),
         text: source,
     };
     let mut out = TextWriter::new(alloc);
@@ -47,12 +46,8 @@ pub fn card_message(
     source: &[u8],
     fault: CardFault,
 ) -> Result<String, AllocError> {
-    let no_cards = Vec::new(alloc);
-    let cards = IndexedCards::new(alloc, &no_cards)?;
-    let found = found_in(alloc, &cards)?;
     let known = SourceCards {
-        cards: &cards,
-        found: &found,
+        cards: None,
         text: source,
     };
     let mut out = TextWriter::new(alloc);

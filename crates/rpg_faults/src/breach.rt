@@ -5,12 +5,11 @@ ghost use Rattle.std.specs.Bool.{OnTrue};
 ghost use Rattle.rpg_faults.specs.Rules as rules;
 ghost use Rattle.rpg_faults.specs.Seen.{AreCardsSeen};
 ghost use Rattle.rpg_faults_operands.specs.Good.{HasGoodOperands};
-ghost use Rattle.rpg_faults_tree.specs.Marked.{AreBreaking};
 
 use crate::code::FaultCode;
 use crate::seen::Seen;
-use rpg_cards::{IndexedCards, SpecCard};
-use rpg_faults_tree::Found;
+use rpg_cards::SpecCard;
+use rpg_faults_tree::AnalyzedCards;
 
 /// Whether a card breaks the rule of a code. Each card is asked for each code, so it is compiled in place. Where its operands are known to
 /// be good, the rules on them aren't asked.
@@ -18,56 +17,50 @@ use rpg_faults_tree::Found;
 #[tactic(auto, unfolding(crate::specs::Rules::rule))]
 pub(crate) fn breaks(
     code: FaultCode,
-    source: &IndexedCards,
-    found: &Found,
+    source: &AnalyzedCards,
     seen: &Seen,
     has_good_operands: bool,
     card: &SpecCard,
     after: &[SpecCard],
 ) -> bool
-    requires found { AreBreaking source.now found.now }
-    requires seen { AreCardsSeen source.now (card.now ∷ after.now) seen.now }
-    requires good { OnTrue has_good_operands (HasGoodOperands source.now card.now after.now) }
+    requires seen { AreCardsSeen source.now.cards.now (card.now ∷ after.now) seen.now }
+    requires good { OnTrue has_good_operands (HasGoodOperands source.now.cards.now card.now after.now) }
     ensures { result ≡ rules.rule code seen.now.before.now card.now after.now }
 {
+    let cards = source.cards;
     let before = seen.before;
     match code {
         FaultCode::F1 => {
-            !has_good_operands && rpg_faults_operands::lacks_name(source, card, after)
+            !has_good_operands && rpg_faults_operands::lacks_name(cards, card, after)
         }
-        FaultCode::F2 => rpg_faults_limits::redefines(source, &seen.limits, before, card, after),
+        FaultCode::F2 => rpg_faults_limits::redefines(cards, &seen.limits, before, card, after),
         FaultCode::F3 => rpg_faults_limits::bad_size(card),
         FaultCode::F4 => {
-            !has_good_operands && rpg_faults_operands::wrong_operand(source, card, after)
+            !has_good_operands && rpg_faults_operands::wrong_operand(cards, card, after)
         }
         FaultCode::F5 => {
-            !has_good_operands && rpg_faults_operands::bad_index(source, card, after)
+            !has_good_operands && rpg_faults_operands::bad_index(cards, card, after)
         }
         FaultCode::F6 => {
-            rpg_faults_limits::passes_limit(source, &seen.sheets, &seen.limits, before, card, after)
+            rpg_faults_limits::passes_limit(cards, &seen.sheets, &seen.limits, before, card, after)
         }
-        FaultCode::F7 => rpg_faults_limits::breaks_files(source, &seen.sheets, before, card),
-        FaultCode::F8 => rpg_faults_operands::bad_indicator(source, card),
+        FaultCode::F7 => rpg_faults_limits::breaks_files(cards, &seen.sheets, before, card),
+        FaultCode::F8 => rpg_faults_operands::bad_indicator(cards, card),
         FaultCode::F9 => {
             rpg_faults_flow::bad_columns(before, card, after)
-                || rpg_faults_operands::bad_columns(source, card, after)
-                || rpg_faults_limits::moves_disk(source, &seen.sheets, before, card)
+                || rpg_faults_operands::bad_columns(cards, card, after)
+                || rpg_faults_limits::moves_disk(cards, &seen.sheets, before, card)
         }
-        FaultCode::F10 => found.goes_nowhere(card),
-        FaultCode::F11 => rpg_faults_tree::names_twice(
-            source,
-            found,
-            &seen.counts,
-            before,
-            card,
-            after,
-        ),
-        FaultCode::F12 => found.breaks_order(card),
-        FaultCode::F13 => found.goes_apart(card),
-        FaultCode::F14 => found.calls_itself(card),
-        FaultCode::F15 => found.rounds_wrongly(card),
-        FaultCode::F16 => crate::misplaces(source, &seen.sheets, &seen.places, before, card, after),
-        FaultCode::F17 => rpg_faults_operands::bad_editing(source, card),
-        FaultCode::F18 => rpg_faults_data::breaks_data(source, &seen.places.decks, before, card),
+        FaultCode::F10 => source.goes_nowhere(card),
+        FaultCode::F11 => {
+            rpg_faults_tree::names_twice(source, &seen.counts, before, card, after)
+        }
+        FaultCode::F12 => source.breaks_order(card),
+        FaultCode::F13 => source.goes_apart(card),
+        FaultCode::F14 => source.calls_itself(card),
+        FaultCode::F15 => source.rounds_wrongly(card),
+        FaultCode::F16 => crate::misplaces(cards, &seen.sheets, &seen.places, before, card, after),
+        FaultCode::F17 => rpg_faults_operands::bad_editing(cards, card),
+        FaultCode::F18 => rpg_faults_data::breaks_data(cards, &seen.places.decks, before, card),
     }
 }

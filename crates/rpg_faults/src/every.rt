@@ -1,14 +1,11 @@
 //! All faults.
 
-ghost use Rattle.std.specs.Prelude.{◌≡◌, [], ◌++◌, ◌∷◌, ◌≤◌, length, IfOk, OnOk};
-ghost use Rattle.rpg_cards.specs.Cards.{Numbered};
-ghost use Rattle.rpg_deck.specs.Flat.{IsInOrder};
+ghost use Rattle.std.specs.Prelude.{◌≡◌, [], ◌++◌, ◌∷◌, IfOk, OnOk};
 ghost use Rattle.rpg_faults.specs.Seen.{AreCardsSeen};
 ghost use Rattle.rpg_faults.specs.Told as told;
-ghost use Rattle.rpg_faults_tree.specs.Marked.{AreBreaking};
 
-use crate::Places;
 use crate::breach::breaks;
+use crate::cards::OrderedCards;
 use crate::code::FaultCode;
 use crate::marks::fault_columns;
 use crate::seen::Seen;
@@ -16,33 +13,24 @@ use crate::source_fault::{CardFault, SourceCode};
 use rpg_cards::{IndexedCards, SpecCard};
 use rpg_faults_limits::lacks_input;
 use rpg_faults_operands::has_good_operands;
-use rpg_faults_tree::Found;
+use rpg_faults_tree::AnalyzedCards;
 use std::alloc::{AllocError, Global};
 
 /// All faults by card, then by code, each with the columns that it speaks of, found in one pass over the cards. There are none exactly where
 /// `first_fault` finds none. An error is for want of memory.
-pub(crate) fn all_faults(alloc: Global, cards: &[SpecCard]) -> Result<Vec<CardFault>, AllocError>
-    requires numbered { Numbered 1 cards.now }
-    requires ordered { IsInOrder 0 cards.now }
-    requires few { length cards.now ≤ 2000 }
-    ensures { IfOk result (λ faults. told.AreFaultsOf cards.now faults.items) }
+pub(crate) fn all_faults(alloc: Global, cards: &OrderedCards) -> Result<Vec<CardFault>, AllocError>
+    ensures { IfOk result (λ faults. told.AreFaultsOf cards.now.cards.items faults.items) }
 {
-    let source = IndexedCards::new(alloc, cards)?;
-    let found = Found::new(alloc, cards)?;
-    faults_in(alloc, &source, &found)
+    let source = IndexedCards::new(alloc, &cards.cards)?;
+    let source = AnalyzedCards::new(alloc, &source)?;
+    faults_in(alloc, &source)
 }
 
-fn faults_in(
-    alloc: Global,
-    source: &IndexedCards,
-    found: &Found,
-) -> Result<Vec<CardFault>, AllocError>
-    requires found { AreBreaking source.now found.now }
-    requires few { length source.now ≤ 2000 }
-    ensures { IfOk result (λ faults. faults.items ≡ told.told_faults source.now) }
+fn faults_in(alloc: Global, source: &AnalyzedCards) -> Result<Vec<CardFault>, AllocError>
+    ensures { IfOk result (λ faults. faults.items ≡ told.told_faults source.now.cards.now) }
 {
-    let mut faults = faults_of_whole(alloc, source)?;
-    put_faults(&mut faults, source, found)?;
+    let mut faults = faults_of_whole(alloc, source.cards)?;
+    put_faults(&mut faults, source)?;
     Ok(faults)
 }
 
@@ -62,21 +50,15 @@ fn faults_of_whole(alloc: Global, source: &IndexedCards) -> Result<Vec<CardFault
 }
 
 /// Appends what the cards break, card by card.
-fn put_faults(
-    faults: &mut Vec<CardFault>,
-    source: &IndexedCards,
-    found: &Found,
-) -> Result<(), AllocError>
-    requires found { AreBreaking source.now found.now }
-    requires few { length source.now ≤ 2000 }
-    ensures { OnOk result (faults.new.items ≡ faults.old.items ++ told.told_from [] source.now) }
+fn put_faults(faults: &mut Vec<CardFault>, source: &AnalyzedCards) -> Result<(), AllocError>
+    ensures { OnOk result (faults.new.items ≡ faults.old.items ++ told.told_from [] source.now.cards.now) }
 {
-    let places = Places::nothing(source);
-    let mut seen = Seen::nothing(source, places);
-    let mut rest = source.as_slice();
+    let cards = source.cards;
+    let mut seen = Seen::nothing(source);
+    let mut rest = cards.as_slice();
     while let Some((card, after)) = rest.split_first() {
-        put_faults_on(faults, source, found, &seen, card, after)?;
-        seen.pass(source, card, after);
+        put_faults_on(faults, source, &seen, card, after)?;
+        seen.pass(cards, card, after);
         rest = after;
     }
     Ok(())
@@ -85,23 +67,21 @@ fn put_faults(
 /// Appends what a card breaks, code by code.
 fn put_faults_on(
     faults: &mut Vec<CardFault>,
-    source: &IndexedCards,
-    found: &Found,
+    source: &AnalyzedCards,
     seen: &Seen,
     card: &SpecCard,
     after: &[SpecCard],
 ) -> Result<(), AllocError>
-    requires found { AreBreaking source.now found.now }
-    requires seen { AreCardsSeen source.now (card.now ∷ after.now) seen.now }
+    requires { AreCardsSeen source.now.cards.now (card.now ∷ after.now) seen.now }
     ensures { OnOk result (faults.new.items ≡ faults.old.items ++ told.told_on seen.now.before.now card.now after.now) }
 {
-    let is_good = has_good_operands(source, card, after);
+    let is_good = has_good_operands(source.cards, card, after);
     for code in FaultCode::all() {
-        if breaks(code, source, found, seen, is_good, card, after) {
+        if breaks(code, source, seen, is_good, card, after) {
             faults.push(CardFault {
                 card: card.number,
                 code: SourceCode::Fault(code),
-                columns: fault_columns(code, source, found, seen, card, after),
+                columns: fault_columns(code, source, seen, card, after),
             })?;
         }
     }

@@ -6,7 +6,6 @@ ghost use Rattle.rpg_cards.specs.Sheets.{AreSheets};
 ghost use Rattle.rpg_faults.specs.Marks as marks;
 ghost use Rattle.rpg_faults.specs.Seen.{AreCardsSeen};
 ghost use Rattle.rpg_faults.specs.State.{IsPlaces};
-ghost use Rattle.rpg_faults_tree.specs.Marked.{AreBreaking};
 ghost use Rattle.rpg_sheet_specs.specs.declared.file.FileSpec.{FileSpec};
 
 use crate::code::FaultCode;
@@ -15,63 +14,56 @@ use crate::lengths::JoinedLengths;
 use crate::seen::Seen;
 use crate::state::Places;
 use rpg_cards::{IndexedCards, Sheets, SpecCard};
-use rpg_faults_tree::Found;
+use rpg_faults_tree::AnalyzedCards;
 use rpg_sheet_specs::{ColumnFault, ColumnRange, InputFieldSpec, InputSpec, RecordCode, Three};
 
 /// The columns that a fault of a card speaks of: none where the card as a whole is meant.
 pub(crate) fn fault_columns(
     code: FaultCode,
-    source: &IndexedCards,
-    found: &Found,
+    source: &AnalyzedCards,
     seen: &Seen,
     card: &SpecCard,
     after: &[SpecCard],
 ) -> Option<ColumnFault>
-    requires found { AreBreaking source.now found.now }
-    requires seen { AreCardsSeen source.now (card.now ∷ after.now) seen.now }
+    requires { AreCardsSeen source.now.cards.now (card.now ∷ after.now) seen.now }
     ensures { result ≡ marks.fault_columns code seen.now.before.now card.now after.now }
 {
-    Some(fault_range(code, source, found, seen, card, after)?.columns())
+    Some(fault_range(code, source, seen, card, after)?.columns())
 }
 
 #[tactic(auto, unfolding(crate::specs::Marks::fault_range))]
 fn fault_range(
     code: FaultCode,
-    source: &IndexedCards,
-    found: &Found,
+    source: &AnalyzedCards,
     seen: &Seen,
     card: &SpecCard,
     after: &[SpecCard],
 ) -> Option<ColumnRange>
-    requires found { AreBreaking source.now found.now }
-    requires seen { AreCardsSeen source.now (card.now ∷ after.now) seen.now }
+    requires { AreCardsSeen source.now.cards.now (card.now ∷ after.now) seen.now }
     ensures { result ≡ marks.fault_range code seen.now.before.now card.now after.now }
 {
+    let cards = source.cards;
     let before = seen.before;
     match code {
-        FaultCode::F1 => Some(rpg_faults_operands::unknown_name(source, card, after)),
+        FaultCode::F1 => Some(rpg_faults_operands::unknown_name(cards, card, after)),
         FaultCode::F2 => {
-            rpg_faults_limits::redefined_columns(source, &seen.limits, before, card, after)
+            rpg_faults_limits::redefined_columns(cards, &seen.limits, before, card, after)
         }
         FaultCode::F3 => rpg_faults_limits::size_columns(card),
-        FaultCode::F4 => rpg_faults_operands::wrong_columns(source, card, after),
-        FaultCode::F5 => Some(rpg_faults_operands::wrong_index(source, card, after)),
+        FaultCode::F4 => rpg_faults_operands::wrong_columns(cards, card, after),
+        FaultCode::F5 => Some(rpg_faults_operands::wrong_index(cards, card, after)),
         FaultCode::F6 => rpg_faults_limits::limit_columns(card),
         FaultCode::F7 => rpg_faults_limits::file_columns(before, card),
-        FaultCode::F8 => rpg_faults_operands::indicator_columns(source, card),
-        FaultCode::F9 => missing_columns(source, seen, card, after),
+        FaultCode::F8 => rpg_faults_operands::indicator_columns(cards, card),
+        FaultCode::F9 => missing_columns(cards, seen, card, after),
         FaultCode::F10 | FaultCode::F13 | FaultCode::F14 => Some(rpg_faults_flow::target_range()),
-        FaultCode::F11 => Some(rpg_faults_tree::twice_range(
-            source,
-            found,
-            &seen.counts,
-            before,
-            card,
-            after,
-        )),
+        FaultCode::F11 => {
+            let counts = &seen.counts;
+            Some(rpg_faults_tree::twice_range(source, counts, before, card, after))
+        }
         FaultCode::F12 => order_columns(card),
         FaultCode::F15 => rpg_faults_flow::rounding_columns(card, after),
-        FaultCode::F16 => place_columns(source, &seen.sheets, &seen.places, before, card),
+        FaultCode::F16 => place_columns(cards, &seen.sheets, &seen.places, before, card),
         FaultCode::F17 => rpg_faults_operands::editing_columns(card),
         FaultCode::F18 => deck_columns(card),
     }

@@ -1,13 +1,12 @@
 //! What the cards before a card come to.
 
-ghost use Rattle.std.specs.Prelude.{◌≡◌, [], ◌∷◌, ◌++◌, ◌≤◌, length};
+ghost use Rattle.std.specs.Prelude.{◌≡◌, [], ◌∷◌, ◌++◌};
 ghost use Rattle.rpg_faults.specs.Seen.{AreCardsSeen};
-ghost use Rattle.rpg_faults.specs.State.{IsPlaces};
 
 use crate::Places;
 use rpg_cards::{IndexedCards, Sheets, SpecCard};
 use rpg_faults_limits::Limits;
-use rpg_faults_tree::Counts;
+use rpg_faults_tree::{AnalyzedCards, Counts};
 
 /// The cards before a card, with what they come to.
 #[derive(Clone, Copy)]
@@ -21,18 +20,17 @@ pub(crate) struct Seen<'a> {
 
 impl<'a> Seen<'a> {
     /// Before the first card.
-    pub fn nothing(source: &IndexedCards<'a>, places: Places<'a>) -> Self
-        requires places { IsPlaces source.now [] places }
-        requires few { length source.now ≤ 2000 }
+    pub fn nothing(source: &AnalyzedCards<'a>) -> Self
         ensures before { result.before.now ≡ [] }
-        ensures seen { AreCardsSeen source.now source.now result }
+        ensures seen { AreCardsSeen source.now.cards.now source.now.cards.now result }
     {
+        let cards = source.cards;
         Seen {
-            before: &source.as_slice()[..0],
+            before: &cards.as_slice()[..0],
             sheets: Sheets::none(),
-            limits: Limits::nothing(source),
+            limits: Limits::nothing(cards),
             counts: Counts::nothing(),
-            places,
+            places: Places::nothing(cards),
         }
     }
 

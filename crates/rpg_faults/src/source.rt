@@ -22,6 +22,6 @@ pub fn faultless_cards(alloc: Global, text: &[u8]) -> Result<Vec<SpecCard>, Sour
             code: SourceCode::Fault(fault.code),
             columns: None,
         }),
-        None => Ok(cards),
+        None => Ok(cards.cards),
     }
 }

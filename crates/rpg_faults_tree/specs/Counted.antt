@@ -7,9 +7,7 @@ use Rattle.rpg_cards.specs.Keys.{Name}
 use Rattle.rpg_cards.specs.Labels.{gives, label_named, labels}
 use Rattle.rpg_cards.specs.Names.{definitions}
 use Rattle.rpg_cards.specs.declared.spec_card.SpecCard.{SpecCard}
-use Rattle.rpg_faults_tree.specs.Marked.{AreBreaking}
 use Rattle.rpg_faults_tree.specs.declared.counts.Counts.{Counts}
-use Rattle.rpg_faults_tree.specs.declared.found.Found.{Found}
 
 -- those of the cards before, with the cards from the card on
 pub record AreCounts (before rest : List SpecCard) (c : Counts) : Type 0 where
@@ -20,8 +18,8 @@ pub record AreCounts (before rest : List SpecCard) (c : Counts) : Type 0 where
 abbrev pub is_label_at : SpecCard → List SpecCard → Bool
 is_label_at c after = option_map_or (λ k. is_some (gives (deed_of k))) (card_ending c after) false
 
--- whether a label or a subroutine before a card has the name, where this is found of its source and counted before it
-abbrev pub TellsGiven : Found → Counts → Name → Bool → Type 0
-TellsGiven f n name answer =
-    (cards before after : List SpecCard) → (c : SpecCard) → AreBreaking cards f → cards ≡ before ++ c ∷ after → AreCounts before (c ∷ after) n
+-- the answer is whether a label or a subroutine before a card of a source has the name, where this many are before it
+abbrev pub TellsGiven : List SpecCard → Counts → Name → Bool → Type 0
+TellsGiven cards n name answer =
+    (before after : List SpecCard) → (c : SpecCard) → cards ≡ before ++ c ∷ after → AreCounts before (c ∷ after) n
     → answer ≡ is_some (label_named name (labels (calculations_before before (c ∷ after))))

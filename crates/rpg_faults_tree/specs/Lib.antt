@@ -4,5 +4,6 @@ pub mod Index
 pub mod Marked
 pub mod Numbers
 pub mod Order
+pub mod Props
 pub mod Rounding
 pub mod Rules

@@ -19,8 +19,8 @@ use Rattle.rpg_faults_tree.specs.declared.found.Found.{Found}
 abbrev pub AreMarked : CardSet → List ℕ → Type 0
 AreMarked set numbers = (n : ℕ) → get_or set.marks.items n false ≡ list_any (nat_eq n) numbers
 
--- just the cards of a tree that break each rule
-pub record AreBreakingIn (t : Tree) (f : Found) : Type 0 where
+-- for each rule, exactly the cards of a tree that break it are found
+pub record IsFoundInTree (t : Tree) (f : Found) : Type 0 where
   pub labels : AreLabelsOf (steps_in t) f.labels
   pub lost : AreMarked f.lost (lost_cards t)
   pub misplaced : AreMarked f.misplaced (misplaced_cards t)
@@ -28,15 +28,15 @@ pub record AreBreakingIn (t : Tree) (f : Found) : Type 0 where
   pub recursive : AreMarked f.recursive (recursive_cards t)
   pub wrongly_rounding : AreMarked f.wrongly_rounding (wrongly_rounding_cards t)
 
--- just the cards of a source that break each rule
-pub record AreBreaking (cards : List SpecCard) (f : Found) : Type 0 where
+-- the cards of a source are in order, and for each rule exactly those that break it are found
+pub record IsFoundIn (cards : List SpecCard) (f : Found) : Type 0 where
   pub numbered : Numbered 1 cards
   pub ordered : IsInOrder 0 cards
-  pub found : AreBreakingIn (tree cards) f
+  pub found : IsFoundInTree (tree cards) f
 
--- whether the card breaks the rule, where this is found of its source
-abbrev pub Tells : Rule → Found → SpecCard → Bool → Type 0
-Tells r f c answer = (cards before after : List SpecCard) → AreBreaking cards f → cards ≡ before ++ c ∷ after → answer ≡ r before c after
+-- the answer is whether a card of a source breaks the rule, seen with the cards before and after it
+abbrev pub TellsBreach : Rule → List SpecCard → SpecCard → Bool → Type 0
+TellsBreach r cards c answer = (before after : List SpecCard) → cards ≡ before ++ c ∷ after → answer ≡ r before c after
 
 -- F12 of C cards, and of I and O cards
 abbrev pub breaks_any_order : Rule

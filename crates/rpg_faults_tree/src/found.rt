@@ -4,9 +4,7 @@ ghost use Rattle.std.specs.Prelude.{◌≤◌, length, IfOk};
 ghost use Rattle.rpg_cards.specs.Cards.{Numbered};
 ghost use Rattle.rpg_deck.specs.Flat.{IsInOrder};
 ghost use Rattle.rpg_deck.specs.Seen.{tree_in};
-ghost use Rattle.rpg_faults_flow.specs.Rounding.{bad_rounding};
-ghost use Rattle.rpg_faults_tree.specs.Marked as marked;
-ghost use Rattle.rpg_faults_tree.specs.Marked.{AreBreaking, AreBreakingIn};
+ghost use Rattle.rpg_faults_tree.specs.Marked.{IsFoundIn, IsFoundInTree};
 
 use crate::card_set::CardSet;
 use crate::labels::Labels;
@@ -29,56 +27,21 @@ pub struct Found {
 }
 
 impl Found {
-    pub fn new(alloc: Global, cards: &[SpecCard]) -> Result<Self, AllocError>
+    pub(crate) fn new(alloc: Global, cards: &[SpecCard]) -> Result<Self, AllocError>
         requires numbered { Numbered 1 cards.now }
         requires ordered { IsInOrder 0 cards.now }
         requires few { length cards.now ≤ 2000 }
-        ensures { IfOk result (λ found. AreBreaking cards.now found) }
+        ensures { IfOk result (λ found. IsFoundIn cards.now found) }
     {
         let deck = Deck::new(alloc, cards)?;
         let tree = Tree::of(alloc, &deck)?;
         found_in(alloc, &tree)
     }
-
-    /// F10.
-    pub fn goes_nowhere(&self, card: &SpecCard) -> bool
-        ensures { marked.Tells marked.goes_nowhere_in_source self.now card.now result }
-    {
-        self.lost.has(card.number)
-    }
-
-    /// F12.
-    pub fn breaks_order(&self, card: &SpecCard) -> bool
-        ensures { marked.Tells marked.breaks_any_order self.now card.now result }
-    {
-        self.misplaced.has(card.number)
-    }
-
-    /// F13.
-    pub fn goes_apart(&self, card: &SpecCard) -> bool
-        ensures { marked.Tells marked.goes_apart_in_source self.now card.now result }
-    {
-        self.leaving.has(card.number)
-    }
-
-    /// F14.
-    pub fn calls_itself(&self, card: &SpecCard) -> bool
-        ensures { marked.Tells marked.calls_itself_in_source self.now card.now result }
-    {
-        self.recursive.has(card.number)
-    }
-
-    /// F15.
-    pub fn rounds_wrongly(&self, card: &SpecCard) -> bool
-        ensures { marked.Tells bad_rounding self.now card.now result }
-    {
-        self.wrongly_rounding.has(card.number)
-    }
 }
 
 fn found_in(alloc: Global, tree: &Tree) -> Result<Found, AllocError>
     requires { length tree.now.calculations.items ≤ 2000 }
-    ensures { IfOk result (λ found. AreBreakingIn (tree_in tree.now) found) }
+    ensures { IfOk result (λ found. IsFoundInTree (tree_in tree.now) found) }
 {
     let groups = tree.calculations.as_slice();
     let steps = steps_of(alloc, groups)?;

@@ -9,7 +9,7 @@ use rpg_cards::SpecCard;
 use rpg_sheet_specs::Spec;
 
 /// Whether cards are numbered in order, and in the order of the sheets.
-pub fn are_in_order(cards: &[SpecCard]) -> bool
+pub(crate) fn are_in_order(cards: &[SpecCard]) -> bool
     ensures numbered { result ≡ true → Numbered 1 cards.now }
     ensures ordered { result ≡ true → IsInOrder 0 cards.now }
 {

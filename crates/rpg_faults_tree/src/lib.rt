@@ -1,6 +1,7 @@
 //! Rules of faults over the tree of the cards: which cards break them.
 #![tactic(auto)]
 
+mod analyzed;
 mod card_set;
 mod counts;
 mod cycles;
@@ -14,8 +15,6 @@ mod rounding;
 mod strays;
 mod targets;
 
-pub use card_set::CardSet;
+pub use analyzed::AnalyzedCards;
 pub use counts::Counts;
-pub use found::Found;
-pub use in_order::are_in_order;
 pub use names::{names_twice, twice_range};

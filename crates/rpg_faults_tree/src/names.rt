@@ -8,47 +8,42 @@ ghost use Rattle.rpg_cards.specs.Labels as labels_of;
 ghost use Rattle.rpg_faults_flow.specs.Flow as spec;
 ghost use Rattle.rpg_faults_flow.specs.Marks as marks;
 ghost use Rattle.rpg_faults_tree.specs.Counted.{AreCounts, TellsGiven};
-ghost use Rattle.rpg_faults_tree.specs.Marked.{AreBreaking};
 
+use crate::analyzed::AnalyzedCards;
 use crate::counts::Counts;
-use crate::found::Found;
-use rpg_cards::{IndexedCards, Named, SpecCard, gives, last_card};
+use rpg_cards::{Named, SpecCard, gives, last_card};
 use rpg_sheet_specs::ColumnRange;
 use rpg_symbols::Name;
 
 /// F11, at the later of the two cards.
 pub fn names_twice(
-    source: &IndexedCards,
-    found: &Found,
+    source: &AnalyzedCards,
     counts: &Counts,
     before: &[SpecCard],
     card: &SpecCard,
     after: &[SpecCard],
 ) -> bool
-    requires split { source.now ≡ before.now ++ card.now ∷ after.now }
-    requires found { AreBreaking source.now found.now }
+    requires split { source.now.cards.now ≡ before.now ++ card.now ∷ after.now }
     requires counts { AreCounts before.now (card.now ∷ after.now) counts.now }
     ensures { result ≡ spec.names_twice before.now card.now after.now }
 {
-    gives_again(source, found, counts, before, card, after)
-        || defines_label(source, found, counts, before, card, after)
+    gives_again(source, counts, before, card, after)
+        || defines_label(source, counts, before, card, after)
 }
 
 /// F11: the name of the label or the subroutine, or of the field.
 pub fn twice_range(
-    source: &IndexedCards,
-    found: &Found,
+    source: &AnalyzedCards,
     counts: &Counts,
     before: &[SpecCard],
     card: &SpecCard,
     after: &[SpecCard],
 ) -> ColumnRange
-    requires split { source.now ≡ before.now ++ card.now ∷ after.now }
-    requires found { AreBreaking source.now found.now }
+    requires split { source.now.cards.now ≡ before.now ++ card.now ∷ after.now }
     requires counts { AreCounts before.now (card.now ∷ after.now) counts.now }
     ensures { result ≡ marks.twice_range before.now card.now after.now }
 {
-    if gives_again(source, found, counts, before, card, after) {
+    if gives_again(source, counts, before, card, after) {
         ColumnRange::FirstFactor
     } else {
         ColumnRange::ResultName
@@ -57,15 +52,13 @@ pub fn twice_range(
 
 /// Whether a label or a subroutine has a name that is given before, or that is a field's by then.
 fn gives_again(
-    source: &IndexedCards,
-    found: &Found,
+    source: &AnalyzedCards,
     counts: &Counts,
     before: &[SpecCard],
     card: &SpecCard,
     after: &[SpecCard],
 ) -> bool
-    requires split { source.now ≡ before.now ++ card.now ∷ after.now }
-    requires found { AreBreaking source.now found.now }
+    requires split { source.now.cards.now ≡ before.now ++ card.now ∷ after.now }
     requires counts { AreCounts before.now (card.now ∷ after.now) counts.now }
     ensures { result ≡ option_map_or (spec.gives_again before.now card.now after.now) (calculations.calculation_ending before.now card.now after.now) false }
 {
@@ -73,16 +66,17 @@ fn gives_again(
         None => false,
         Some(given) => {
             let definitions = usize::from(counts.definitions) + card.definitions().len();
-            is_given(found, counts, &given.name) || !source.is_new_name(definitions, &given.name)
+            is_given(source, counts, &given.name)
+                || !source.cards.is_new_name(definitions, &given.name)
         }
     }
 }
 
 /// Whether a name is given to a label or a subroutine before a card.
-fn is_given(found: &Found, counts: &Counts, name: &Name) -> bool
-    ensures { TellsGiven found.now counts.now name.now result }
+fn is_given(source: &AnalyzedCards, counts: &Counts, name: &Name) -> bool
+    ensures { TellsGiven source.now.cards.now counts.now name.now result }
 {
-    found.labels.is_given(name, counts.labels)
+    source.found.labels.is_given(name, counts.labels)
 }
 
 /// The name of the label or the subroutine that is given on a card.
@@ -94,21 +88,19 @@ fn name_given(card: &SpecCard, after: &[SpecCard]) -> Option<Named>
 
 /// Whether a card defines a field whose name is given before.
 fn defines_label(
-    source: &IndexedCards,
-    found: &Found,
+    source: &AnalyzedCards,
     counts: &Counts,
     before: &[SpecCard],
     card: &SpecCard,
     after: &[SpecCard],
 ) -> bool
-    requires split { source.now ≡ before.now ++ card.now ∷ after.now }
-    requires found { AreBreaking source.now found.now }
+    requires split { source.now.cards.now ≡ before.now ++ card.now ∷ after.now }
     requires counts { AreCounts before.now (card.now ∷ after.now) counts.now }
     ensures { result ≡ spec.defines_label (labels_of.labels (calculations.calculations_before before.now (card.now ∷ after.now))) card.now }
 {
     let definitions = card.definitions();
     for definition in definitions.as_slice() {
-        if is_given(found, counts, &definition.name) {
+        if is_given(source, counts, &definition.name) {
             return true;
         }
     }

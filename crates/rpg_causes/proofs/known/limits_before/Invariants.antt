@@ -4,9 +4,9 @@ use Rattle.rpg_causes.proofs.known.limits_before.Given as goal
 
 abbrev pub invariant-loop-next : goal.invariant-loop-next
 invariant-loop-next l = record {
-  split : l.source ≡ l.seen ++ l.rest;
+  split : l.source.cards.now ≡ l.seen ++ l.rest;
   few : length l.seen ≤ length l.before;
-  limits : AreLimits l.source l.seen l.rest l.limits;
+  limits : AreLimits l.source.cards.now l.seen l.rest l.limits;
 }
 
 abbrev pub decreases-loop-next : goal.decreases-loop-next

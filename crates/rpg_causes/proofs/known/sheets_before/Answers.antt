@@ -6,7 +6,7 @@ use Rattle.rpg_causes.proofs.known.sheets_before.Goals as goal
 
 pub loop-next-init : goal.loop-next-init
 loop-next-init c =
-    let source = c.args.source.now in
+    let source = c.args.source.now.cards.now in
     let rest = c.as_slice-rest.result.now in
     let none = c.no_cards-seen.ensures in
     let all = c.as_slice-rest.ensures in
@@ -19,23 +19,23 @@ loop-next-preserved c =
     let seen = c.loop-next.seen.now in
     let next = c.in-Some.next.now in
     let behind = c.in-Some.behind.now in
-    let here : c.args.source.now ≡ seen ++ next ∷ behind = c.loop-next.invariant.split ∙ ap (λ rest. seen ++ rest) c.in-Some.ensures.cases.0 in
+    let here : c.args.source.now.cards.now ≡ seen ++ next ∷ behind = c.loop-next.invariant.split ∙ ap (λ rest. seen ++ rest) c.in-Some.ensures.cases.0 in
     let front : c.with_card-seen.result.now ≡ seen ++ next ∷ [] = c.with_card-seen.ensures in
     let longer : length c.with_card-seen.result.now ≡ length seen + 1 = ap (λ cs. length cs) front ∙ length_push seen next in
     record {
       split = here ∙ sym (append_assoc seen (next ∷ []) behind) ∙ ap (λ b. b ++ behind) (sym front);
       few = omega (arith, longer, c.if-place-count.false, c.loop-next.invariant.few);
-      sheets = subst (λ b. AreSheets c.args.source.now b c.with-sheets.result) (sym front) c.with-sheets.ensures;
+      sheets = subst (λ b. AreSheets c.args.source.now.cards.now b c.with-sheets.result) (sym front) c.with-sheets.ensures;
     }
 
 pub returns-then-place-count : goal.returns-then-place-count
 returns-then-place-count c =
     let same : length c.loop-next.seen.now ≡ length c.args.before.now = omega (arith, c.if-place-count.true) in
-    subst (λ b. AreSheets c.args.source.now b c.loop-next.sheets) (same_front _ _ c.loop-next.rest.now _ _ c.loop-next.invariant.split c.requires.split same) c.loop-next.invariant.sheets
+    subst (λ b. AreSheets c.args.source.now.cards.now b c.loop-next.sheets) (same_front _ _ c.loop-next.rest.now _ _ c.loop-next.invariant.split c.requires same) c.loop-next.invariant.sheets
 
 pub returns : goal.returns
 returns c =
     let nothing = nothing_left c.loop-next.rest.now c.in_default.ensures.cases in
     absurd
-    (not_all c.args.source.now c.loop-next.seen.now c.args.before.now c.args.card.now c.args.after.now
-    (c.loop-next.invariant.split ∙ ap (λ r. c.loop-next.seen.now ++ r) nothing) c.requires.split c.loop-next.invariant.few)
+    (not_all c.args.source.now.cards.now c.loop-next.seen.now c.args.before.now c.args.card.now c.args.after.now
+    (c.loop-next.invariant.split ∙ ap (λ r. c.loop-next.seen.now ++ r) nothing) c.requires c.loop-next.invariant.few)

@@ -4,4 +4,4 @@ use Rattle.rpg_faults.specs.declared.source_fault.CardFault.{CardFault}
 use Rattle.rpg_faults.proofs.every.faults_in.Goals as goal
 
 pub returns : goal.returns
-returns c = c.in_ok-put_faults.ensures ∙ ap (λ (faults : List CardFault). faults ++ told_from [] c.args.source.now) c.in_ok-faults.ensures
+returns c = c.in_ok-put_faults.ensures ∙ ap (λ (faults : List CardFault). faults ++ told_from [] c.args.source.now.cards.now) c.in_ok-faults.ensures

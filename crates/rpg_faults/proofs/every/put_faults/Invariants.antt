@@ -5,8 +5,8 @@ use Rattle.rpg_faults.proofs.every.put_faults.Given as goal
 
 abbrev pub invariant-loop-card : goal.invariant-loop-card
 invariant-loop-card l = record {
-  seen : AreCardsSeen l.source l.rest l.seen;
-  so_far : l.faults.items ++ told_from l.seen.before.now l.rest ≡ l.initial.faults.items ++ told_from [] l.source;
+  seen : AreCardsSeen l.source.cards.now l.rest l.seen;
+  so_far : l.faults.items ++ told_from l.seen.before.now l.rest ≡ l.initial.faults.items ++ told_from [] l.source.cards.now;
 }
 
 abbrev pub decreases-loop-card : goal.decreases-loop-card

@@ -1,19 +1,14 @@
 use Rattle.std.proofs.Common.{◌∙◌, refl, sym, ap, subst}
-use Rattle.rpg_cards.specs.Cards.{Numbered}
 use Rattle.rpg_deck.specs.Flat.{IsInOrder}
 use Rattle.rpg_faults.proofs.Ordering.{sources-are}
 use Rattle.rpg_faults.specs.Faults.{IsLeastFault}
 use Rattle.rpg_faults.specs.Cards.{numbered_cards}
 use Rattle.rpg_faults.proofs.source.faultless_cards.Goals as goal
 
-pub first_fault-requires-clause-numbered : goal.first_fault-requires-clause-numbered
-first_fault-requires-clause-numbered c = subst (Numbered 1) (sym c.deref.ensures.value) c.in_ok-cards-2.ensures.numbered
-
-pub first_fault-requires-clause-ordered : goal.first_fault-requires-clause-ordered
-first_fault-requires-clause-ordered c =
-    subst (IsInOrder 0) (sym (c.deref.ensures.value ∙ c.in_ok-cards-2.ensures.cards ∙ ap (numbered_cards 1) c.in_ok-cards.ensures.cards)) (sources-are c.args.text.now c.in_ok-cards.ensures.faultless)
+pub spec_cards-requires : goal.spec_cards-requires
+spec_cards-requires c = subst (IsInOrder 0) (sym (ap (numbered_cards 1) c.in_ok-cards.ensures.cards)) (sources-are c.args.text.now c.in_ok-cards.ensures.faultless)
 
 pub returns-in-Some-clause-err : goal.returns-in-Some-clause-err
 returns-in-Some-clause-err c =
-    let cards = c.deref.ensures.value ∙ c.in_ok-cards-2.ensures.cards ∙ ap (numbered_cards 1) c.in_ok-cards.ensures.cards in
+    let cards = c.in_ok-cards-2.ensures ∙ ap (numbered_cards 1) c.in_ok-cards.ensures.cards in
     (c.in_ok-cards.ensures.faultless, subst (λ cs. IsLeastFault cs c.in-Some.fault) cards (rw c.in-Some.is at c.in_ok-fault.ensures), refl)

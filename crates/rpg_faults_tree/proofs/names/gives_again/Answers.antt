@@ -19,7 +19,7 @@ or_no false b e = refl
 
 pub returns-then-is_given : goal.returns-then-is_given
 returns-then-is_given c =
-    let given = c.is_given.ensures c.args.source.now c.args.before.now c.args.after.now c.args.card.now c.requires.found c.requires.split c.requires.counts in
+    let given = c.is_given.ensures c.args.before.now c.args.after.now c.args.card.now c.requires.split c.requires.counts in
     given ∙ or_yes _ _ (sym given ∙ c.if-is_given.true)
     ∙ ap (λ x. option_map_or (is_again c.args.before.now c.args.card.now c.args.after.now) x false) (sym c.in-Some.is ∙ c.name_given.ensures)
     ∙ sym (again-is c.args.before.now c.args.card.now c.args.after.now)
@@ -30,9 +30,9 @@ returns-else-is_given c =
     let card = c.args.card.now in
     let after = c.args.after.now in
     let name = c.in-Some.given.name in
-    let given = c.is_given.ensures c.args.source.now before after card c.requires.found c.requires.split c.requires.counts in
-    ap not (c.is_new_name.ensures ∙ ap (λ n. is_new_name name (take (n + c.len.result) (definitions c.args.source.now))) c.from.ensures)
-    ∙ defined-is before card after c.args.counts.now c.requires.counts c.args.source.now c.len.result name c.requires.split (c.len.ensures.value ∙ ap length c.definitions.ensures)
+    let given = c.is_given.ensures before after card c.requires.split c.requires.counts in
+    ap not (c.is_new_name.ensures ∙ ap (λ n. is_new_name name (take (n + c.len.result) (definitions c.args.source.now.cards.now))) c.from.ensures)
+    ∙ defined-is before card after c.args.counts.now c.requires.counts c.args.source.now.cards.now c.len.result name c.requires.split (c.len.ensures.value ∙ ap length c.definitions.ensures)
     ∙ or_no _ _ (sym given ∙ c.if-is_given.false)
     ∙ ap (λ x. option_map_or (is_again before card after) x false) (sym c.in-Some.is ∙ c.name_given.ensures)
     ∙ sym (again-is before card after)

@@ -6,5 +6,7 @@ use Rattle.rpg_cards.specs.Labels.{labels}
 use Rattle.rpg_faults_tree.proofs.names.is_given.Goals as goal
 
 pub returns : goal.returns
-returns c = λ cards before after card found split counts.
-    c.is_given.ensures (steps_in (tree cards)) (labels (front before card after)) (labels_behind_front before card after) found.found.labels (labels_of_steps cards before card after found.ordered split) counts.labels
+returns c = λ before after card split counts.
+    let cards = c.args.source.now.cards.now in
+    let exact = c.args.source.now.exact in
+    c.is_given.ensures (steps_in (tree cards)) (labels (front before card after)) (labels_behind_front before card after) exact.found.labels (labels_of_steps cards before card after exact.ordered split) counts.labels

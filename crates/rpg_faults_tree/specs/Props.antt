@@ -1,4 +1,4 @@
--- There is one proof at most of what is found of cards, so a struct can keep the fact.
+-- Each of these facts has at most one proof, so a struct can keep it.
 use Rattle.std.proofs.Props.{props}
 use Rattle.std.specs.Prelude.{ℕ, ◌+◌, ◌≤◌, List, [], ◌∷◌}
 use mathlib.Core.HLevel.{×_prop, Unit-prop}
@@ -6,16 +6,16 @@ use mathlib.Core.Sum.{⊎_set}
 use Rattle.rpg_cards.specs.Cards.{Numbered}
 use Rattle.rpg_cards.specs.declared.spec_card.SpecCard.{SpecCard}
 use Rattle.rpg_deck.specs.Flat.{IsInOrder, place}
-use Rattle.rpg_faults_tree.specs.Marked.{AreBreaking}
+use Rattle.rpg_faults_tree.specs.Marked.{IsFoundIn}
 use Rattle.rpg_faults_tree.specs.declared.found.Found.{Found}
 
-Numbered-prop : (low : ℕ) (cards : List SpecCard) → IsProp (Numbered low cards)
+pub Numbered-prop : (low : ℕ) (cards : List SpecCard) → IsProp (Numbered low cards)
 Numbered-prop low [] = Unit-prop
 Numbered-prop low (c ∷ cs) = let first : IsProp (low ≤ c.number) = hlevel props in ×_prop first (Numbered-prop (c.number + 1) cs)
 
-IsInOrder-prop : (low : ℕ) (cards : List SpecCard) → IsProp (IsInOrder low cards)
+pub IsInOrder-prop : (low : ℕ) (cards : List SpecCard) → IsProp (IsInOrder low cards)
 IsInOrder-prop low [] = Unit-prop
 IsInOrder-prop low (c ∷ cs) = let first : IsProp (low ≤ place c.spec) = hlevel props in ×_prop first (IsInOrder-prop (place c.spec) cs)
 
-pub AreBreaking-prop : (cards : List SpecCard) (f : Found) → IsProp (AreBreaking cards f)
-AreBreaking-prop cards f = hlevel (props, ⊎_set, Numbered-prop, IsInOrder-prop)
+pub IsFoundIn-prop : (cards : List SpecCard) (f : Found) → IsProp (IsFoundIn cards f)
+IsFoundIn-prop cards f = hlevel (props, ⊎_set, Numbered-prop, IsInOrder-prop)

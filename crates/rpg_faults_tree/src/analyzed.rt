@@ -1,0 +1,88 @@
+//! The cards of a source, with what the rules of their tree find.
+
+ghost use Rattle.std.specs.Prelude.{◌≡◌, ◌≤◌, length, IfOk, IfSome};
+ghost use Rattle.rpg_cards.specs.Cards.{Numbered};
+ghost use Rattle.rpg_deck.specs.Flat.{IsInOrder};
+ghost use Rattle.rpg_faults_flow.specs.Rounding.{bad_rounding};
+ghost use Rattle.rpg_faults_tree.specs.Marked as marked;
+ghost use Rattle.rpg_faults_tree.specs.Marked.{IsFoundIn, TellsBreach};
+ghost use Rattle.rpg_faults_tree.specs.Props.{IsFoundIn-prop};
+
+use crate::found::Found;
+use crate::in_order::are_in_order;
+use rpg_cards::{IndexedCards, SpecCard};
+use std::alloc::{AllocError, Global};
+
+/// No source has more cards.
+const MOST_CARDS: usize = 2000;
+
+/// The cards of a source, and which of them break F10 and F12 to F15.
+#[derive(Drop)]
+pub struct AnalyzedCards<'a> {
+    pub cards: &'a IndexedCards<'a>,
+    pub(crate) found: Found,
+    pub ghost few: { length cards.now ≤ 2000 },
+    pub ghost exact: { IsFoundIn cards.now found } by { IsFoundIn-prop cards.now found },
+}
+
+impl<'a> AnalyzedCards<'a> {
+    /// Finds the cards that break the rules. An error is for want of memory.
+    pub fn new(alloc: Global, cards: &'a IndexedCards<'a>) -> Result<Self, AllocError>
+        requires numbered { Numbered 1 cards.now }
+        requires ordered { IsInOrder 0 cards.now }
+        requires few { length cards.now ≤ 2000 }
+        ensures { IfOk result (λ analyzed. analyzed.cards.now ≡ cards.now) }
+    {
+        let found = Found::new(alloc, cards.as_slice())?;
+        Ok(AnalyzedCards { cards, found })
+    }
+
+    /// Of cards that may be no source's: nothing if they are out of order, or more than 2,000.
+    pub fn if_in_order(
+        alloc: Global,
+        cards: &'a IndexedCards<'a>,
+    ) -> Result<Option<Self>, AllocError>
+        ensures { IfOk result (λ found. IfSome found (λ analyzed. analyzed.cards.now ≡ cards.now)) }
+    {
+        let listed = cards.as_slice();
+        if listed.len() > MOST_CARDS || !are_in_order(listed) {
+            return Ok(None);
+        }
+        Ok(Some(AnalyzedCards::new(alloc, cards)?))
+    }
+
+    /// F10.
+    pub fn goes_nowhere(&self, card: &SpecCard) -> bool
+        ensures { TellsBreach marked.goes_nowhere_in_source self.now.cards.now card.now result }
+    {
+        self.found.lost.has(card.number)
+    }
+
+    /// F12.
+    pub fn breaks_order(&self, card: &SpecCard) -> bool
+        ensures { TellsBreach marked.breaks_any_order self.now.cards.now card.now result }
+    {
+        self.found.misplaced.has(card.number)
+    }
+
+    /// F13.
+    pub fn goes_apart(&self, card: &SpecCard) -> bool
+        ensures { TellsBreach marked.goes_apart_in_source self.now.cards.now card.now result }
+    {
+        self.found.leaving.has(card.number)
+    }
+
+    /// F14.
+    pub fn calls_itself(&self, card: &SpecCard) -> bool
+        ensures { TellsBreach marked.calls_itself_in_source self.now.cards.now card.now result }
+    {
+        self.found.recursive.has(card.number)
+    }
+
+    /// F15.
+    pub fn rounds_wrongly(&self, card: &SpecCard) -> bool
+        ensures { TellsBreach bad_rounding self.now.cards.now card.now result }
+    {
+        self.found.wrongly_rounding.has(card.number)
+    }
+}
