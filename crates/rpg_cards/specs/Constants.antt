@@ -15,6 +15,7 @@ use Rattle.rpg_cards.specs.declared.spec_card.SpecCard.{SpecCard}
 use Rattle.rpg_program.specs.declared.form.Class.TheVariants as class
 use Rattle.rpg_program.specs.declared.form.FieldForm.{FieldForm}
 use Rattle.rpg_program.specs.declared.form.Kind.TheVariants as kind
+use Rattle.rpg_sheet_specs.specs.declared.calculation.CalculationSpec.{CalculationSpec}
 use Rattle.rpg_sheet_specs.specs.declared.literal.Factor.{Factor}
 use Rattle.rpg_sheet_specs.specs.declared.literal.Factor.TheVariants as factor
 use Rattle.rpg_sheet_specs.specs.declared.literal.Literal.{Literal}
@@ -55,6 +56,10 @@ is_same (Text s) (Text t) = pointwise nat_eq s t
 -- the constant or edit word of an output field
 abbrev pub text_constant : OutputField → Option Constant
 text_constant f = if is_none f.code then option_map Text f.text else None
+
+-- the constants in the two factors of a calculation
+abbrev pub factor_constants : CalculationSpec → List Constant
+factor_constants k = option_to_list (option_and_then factor_constant k.factor_1) ++ option_to_list (option_and_then factor_constant k.factor_2)
 
 -- the constants on a card
 abbrev pub constants_on : Spec → List Constant

@@ -1,9 +1,9 @@
 //! The constants that stand on the cards themselves.
 
-ghost use Rattle.std.specs.Prelude.{◌≡◌, ◌≤◌, [], ◌++◌, None, length, IsTrue};
+ghost use Rattle.std.specs.Prelude.{◌≡◌, ◌≤◌, [], None, length, IsTrue};
 ghost use Rattle.std.specs.Bool.{OnFalse};
 ghost use Rattle.std.specs.List.{list_all};
-ghost use Rattle.std.specs.Option.{option_and_then, option_to_list};
+ghost use Rattle.std.specs.Option.{option_and_then};
 ghost use Rattle.rpg_text.specs.Texts.{is_character};
 ghost use Rattle.std.specs.Cmp.{partial_equiv_from_equiv};
 ghost use Rattle.rpg_cards.specs.Constants as constants;
@@ -220,7 +220,7 @@ fn is_literal(factor: &Option<Factor>) -> bool
 }
 
 fn of_factors(calculation: &CalculationSpec) -> Few<Constant>
-    ensures { result ≡ option_to_list (option_and_then constants.factor_constant calculation.now.factor_1) ++ option_to_list (option_and_then constants.factor_constant calculation.now.factor_2) }
+    ensures { result ≡ constants.factor_constants calculation.now }
 {
     let mut constants = Few::of(of_factor(&calculation.factor_1));
     if let Some(constant) = of_factor(&calculation.factor_2) {

@@ -1,14 +1,17 @@
 -- Operands that are surely good: none of F1, F4 and F5 is broken.
 use Rattle.std.specs.Prelude.{◌≡◌, List, Bool, false, Option, Some}
 use Rattle.std.specs.List.{list_any}
-use Rattle.std.specs.Option.{option_map_or}
+use Rattle.std.specs.Option.{option_and_then, option_map_or}
 use Rattle.rpg_cards.specs.declared.spec_card.SpecCard.{SpecCard}
 use Rattle.rpg_program.specs.declared.form.FieldForm.{FieldForm}
 use Rattle.rpg_faults_operands.specs.Indexes.{bad_index, bad_index_of}
 use Rattle.rpg_faults_operands.specs.Kinds.{wrong_in_calculation, wrong_operand}
 use Rattle.rpg_faults_operands.specs.Names.{lacks_name, names_nothing}
-use Rattle.rpg_faults_operands.specs.Operands.{Operand, operands_listed, operands_of}
+use Rattle.rpg_faults_operands.specs.Operands.{Operand, factor_entry, factor_form, operand_in, operands_listed, operands_of, result_form}
 use Rattle.rpg_sheet_specs.specs.declared.calculation.CalculationSpec.{CalculationSpec}
+use Rattle.rpg_sheet_specs.specs.declared.entry.Entry.{Entry}
+use Rattle.rpg_sheet_specs.specs.declared.literal.Factor.{Factor}
+use Rattle.rpg_sheet_specs.specs.declared.operations.Column.{Column}
 
 -- an operand, if there is one, is defined and well indexed
 pub record IsGoodOperand (cards : List SpecCard) (o : Option Operand) : Type 0 where
@@ -19,6 +22,14 @@ pub record IsGoodOperand (cards : List SpecCard) (o : Option Operand) : Type 0 w
 pub record IsGoodForm (cards : List SpecCard) (o : Option Operand) (known found : Option FieldForm) : Type 0 where
   pub operand : IsGoodOperand cards o
   pub form : found ≡ known
+
+-- what is in a factor of such a column is so, and this form is found
+abbrev pub IsGoodFactor : List SpecCard → Column → Option Factor → Option FieldForm → Type 0
+IsGoodFactor cards column f found = IsGoodForm cards (operand_in column (option_and_then factor_entry f)) (factor_form cards column f) found
+
+-- the same of a result field
+abbrev pub IsGoodResult : List SpecCard → Column → Option Entry → Option FieldForm → Type 0
+IsGoodResult cards column e found = IsGoodForm cards (operand_in column e) (result_form cards column e) found
 
 -- all operands of a calculation are good
 pub record IsGoodCalculation (cards : List SpecCard) (k : CalculationSpec) : Type 0 where

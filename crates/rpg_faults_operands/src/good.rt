@@ -1,11 +1,11 @@
 //! Cards whose operands are surely good, so that F1, F4 and F5 need not be asked one by one: each name is looked up once.
 
-ghost use Rattle.std.specs.Prelude.{◌≡◌, false, Some, option_and_then, IfSome};
+ghost use Rattle.std.specs.Prelude.{◌≡◌, false, Some, IfSome};
 ghost use Rattle.std.specs.Bool.{OnTrue};
 ghost use Rattle.std.specs.Option.{option_map_or};
 ghost use Rattle.rpg_cards.specs.Calculations.{card_ending};
 ghost use Rattle.rpg_cards.specs.Cards.{output_field_on};
-ghost use Rattle.rpg_faults_operands.specs.Good.{HasGoodOperands, IsGoodCalculation, IsGoodForm, IsGoodOperand};
+ghost use Rattle.rpg_faults_operands.specs.Good.{HasGoodOperands, IsGoodCalculation, IsGoodFactor, IsGoodOperand, IsGoodResult};
 ghost use Rattle.rpg_faults_operands.specs.Indexes as indexes;
 ghost use Rattle.rpg_faults_operands.specs.Kinds as kinds;
 ghost use Rattle.rpg_faults_operands.specs.Operands as operands;
@@ -60,7 +60,7 @@ fn good_factor(
     column: Column,
     factor: &Option<Factor>,
 ) -> Option<Option<FieldForm>>
-    ensures { IfSome result (IsGoodForm source.now (operands.operand_in column (option_and_then operands.factor_entry factor.now)) (operands.factor_form source.now column factor.now)) }
+    ensures { IfSome result (IsGoodFactor source.now column factor.now) }
 {
     let Some(content) = field_content(column) else {
         return Some(None);
@@ -80,7 +80,7 @@ fn good_result(
     column: Column,
     field: &Option<Entry>,
 ) -> Option<Option<FieldForm>>
-    ensures { IfSome result (IsGoodForm source.now (operands.operand_in column field.now) (operands.result_form source.now column field.now)) }
+    ensures { IfSome result (IsGoodResult source.now column field.now) }
 {
     let Some(content) = field_content(column) else {
         return Some(None);
