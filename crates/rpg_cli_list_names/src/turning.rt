@@ -2,7 +2,6 @@
 
 use rpg_cli_text::{Piece, TextWriter};
 use rpg_sheet_specs::Operation;
-use rpg_sheet_values::operation;
 use rpg_text::trimmed;
 
 /// What turns an indicator on or off: a card, in a sentence with a word or a number.
@@ -29,20 +28,6 @@ impl Turning {
     }
 }
 
-/// How the operations are written in their columns, a line each.
-const LETTERS: &str =
-    "ADD  \nSUB  \nMULT \nDIV  \nMVR  \nZ-ADD\nZ-SUB\nXFOOT\nCOMP \nLOKUP\nMOVE \nMOVEL\nSETON\nSETOF\nGOTO \nEXSR \nTAG  \nBEGSR\nENDSR\nEXCPT";
-
-/// An operation as it is written on cards.
-fn letters(wanted: Operation) -> &'static [u8] {
-    for word in LETTERS.lines() {
-        if operation(word.as_bytes()) == Some(wanted) {
-            return trimmed(word.as_bytes());
-        }
-    }
-    &[]
-}
-
 /// How a calculation turns on or off each of its resulting indicators, with the operation; none where the card has no operation.
 pub(crate) fn results_of(wanted: Option<Operation>) -> ([&'static str; 3], Piece<'static>) {
     let sentences = match wanted {
@@ -54,7 +39,7 @@ pub(crate) fn results_of(wanted: Option<Operation>) -> ([&'static str; 3], Piece
     };
     let word = match wanted {
         None => Piece::Word(""),
-        Some(wanted) => Piece::Outside(letters(wanted)),
+        Some(wanted) => Piece::Outside(trimmed(wanted.letters())),
     };
     (sentences, word)
 }
