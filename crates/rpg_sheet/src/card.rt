@@ -66,7 +66,6 @@ impl Card {
     }
 
     /// What stands in columns.
-    #[inline(always)]
     pub(crate) fn columns<const WIDTH: usize>(&self, columns: CardColumns<WIDTH>) -> &[u8]
         ensures value { result.now ≡ cols_from columns.entry.first WIDTH self.now }
         ensures len { length result.now ≡ WIDTH }
@@ -85,14 +84,12 @@ impl Card {
         if has_only_blanks(text) {
             return Ok(());
         }
-        match first_filled(text) {
-            None => Ok(()),
-            Some(i) => {
-                let column = columns.first + i as u8;
-                let last = column;
-                Err(ColumnFault { column, last })
-            }
-        }
+        let Some(i) = first_filled(text) else {
+            return Ok(());
+        };
+        let column = columns.first + i as u8;
+        let last = column;
+        Err(ColumnFault { column, last })
     }
 }
 

@@ -42,22 +42,18 @@ impl Card {
     pub(crate) fn name<const N: usize>(&self, columns: CardColumns<N>) -> Read<Word<N>>
         ensures { result ≡ (line_from columns.entry.first N (values.name N)).reading self.now }
     {
-        let value = rpg_sheet_values::name(self.columns(columns));
-        at(columns, value)
+        at(columns, rpg_sheet_values::name(self.columns(columns)))
     }
 
     /// Blank or a name.
-    pub(crate) fn optional_name<const N: usize>(
-        &self,
-        columns: CardColumns<N>,
-    ) -> Read<Option<Word<N>>>
-        ensures { result ≡ (line_from columns.entry.first N (values.blank_or (values.name N))).reading self.now }
+    pub(crate) fn optional_name(&self, columns: CardColumns<8>) -> Read<Option<Word<8>>>
+        ensures { result ≡ (line_from columns.first 8 (values.blank_or (values.name 8))).reading self.now }
     {
         let text = self.columns(columns);
         if is_blank(text) {
             return Ok(None);
         }
-        at(columns, rpg_sheet_values::name(text).map(Some))
+        Ok(Some(at(columns, rpg_sheet_values::name(text))?))
     }
 
     /// Blank or a factor.
@@ -68,7 +64,7 @@ impl Card {
         if is_blank(text) {
             return Ok(None);
         }
-        at(columns, rpg_sheet_values::factor_of(text).map(Some))
+        Ok(Some(at(columns, rpg_sheet_values::factor_of(text))?))
     }
 
     /// Right-aligned digits after blanks.
@@ -76,8 +72,7 @@ impl Card {
         requires short { WIDTH ≤ 4 }
         ensures { result ≡ (line_from columns.entry.first WIDTH values.number).reading self.now }
     {
-        let value = rpg_sheet_values::number(self.columns(columns));
-        at(columns, value)
+        at(columns, rpg_sheet_values::number(self.columns(columns)))
     }
 
     /// Blank or a number.
@@ -136,7 +131,7 @@ impl Card {
         if is_blank(text) {
             return Ok(None);
         }
-        at(columns, rpg_sheet_values::entry(text).map(Some))
+        Ok(Some(at(columns, rpg_sheet_values::entry(text))?))
     }
 
     /// Blank or a level after its letter.
@@ -183,7 +178,7 @@ impl Card {
         if is_blank(text) {
             return Ok(None);
         }
-        at(columns, rpg_sheet_values::quoted(text).map(Some))
+        Ok(Some(at(columns, rpg_sheet_values::quoted(text))?))
     }
 }
 

@@ -10,6 +10,7 @@ ghost use Rattle.rpg_sheet_specs.specs.Values as values;
 use crate::card::{Card, has_only_blanks};
 use rpg_sheet_specs::{ColumnFault, ExtensionSpec, TableSpec, Word, ranges};
 
+#[inline(never)]
 pub(crate) fn extension(card: &Card) -> Result<ExtensionSpec, ColumnFault>
     ensures { result ≡ tables.extension.reading card.now }
 {

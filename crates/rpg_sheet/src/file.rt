@@ -12,6 +12,7 @@ use crate::card::Card;
 use crate::columns::{at, optional};
 use rpg_sheet_specs::{ColumnFault, FileRole, FileSpec, Within, Word, ranges};
 
+#[inline(never)]
 pub(crate) fn file(card: &Card) -> Result<FileSpec, ColumnFault>
     ensures { result ≡ tables.file.reading card.now }
 {

@@ -13,6 +13,7 @@ use rpg_sheet_specs::{
     ColumnFault, InputFieldSpec, InputSpec, RecordCode, RecordType, Three, Word, ranges,
 };
 
+#[inline(never)]
 pub(crate) fn input_card(card: &Card) -> Result<InputSpec, ColumnFault>
     ensures { result ≡ tables.input_card.reading card.now }
 {

@@ -6,6 +6,7 @@ ghost use Rattle.rpg_sheet_specs.specs.Specs.{data_spec_of, spec_of};
 ghost use Rattle.rpg_sheet.specs.Codes as codes;
 ghost use Rattle.rpg_sheet.specs.Seen.{sheet_code};
 ghost use Rattle.rpg_sheet.specs.Sheet.{sheet_fault_columns};
+ghost use Rattle.rpg_sheet.specs.declared.sheet.SheetCode.TheVariants.{S5};
 ghost use Rattle.rpg_sheet.specs.declared.sheet.SheetFault.TheVariants.{NoMemory};
 
 use crate::Card;
@@ -93,10 +94,18 @@ impl From<SheetCode> for CardFault {
     ghost from_gives = { λ code fault. (fault.code ≡ code) × (fault.columns ≡ None) };
 
     fn from(code: SheetCode) -> Self {
-        CardFault {
-            code,
-            columns: None,
-        }
+        let columns = None;
+        CardFault { code, columns }
+    }
+}
+
+impl From<ColumnFault> for CardFault {
+    ghost from_gives = { λ columns fault. (fault.code ≡ S5) × (fault.columns ≡ Some columns) };
+
+    fn from(columns: ColumnFault) -> Self {
+        let code = SheetCode::S5;
+        let columns = Some(columns);
+        CardFault { code, columns }
     }
 }
 
@@ -167,13 +176,7 @@ pub(crate) fn read(card: &Card, latest: u8, behind: bool) -> Result<Option<Spec>
     if sheet_place(sheet) < latest {
         return Err(SheetCode::S4.into());
     }
-    match card.read(sheet) {
-        Ok(spec) => Ok(Some(spec)),
-        Err(bad) => Err(CardFault {
-            code: SheetCode::S5,
-            columns: Some(bad),
-        }),
-    }
+    Ok(Some(card.read(sheet)?))
 }
 
 /// What a card that is on no sheet means.

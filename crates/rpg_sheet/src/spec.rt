@@ -15,13 +15,13 @@ impl Card {
         ensures good { OnOk result ((card_on sheet).bad self.now ≡ []) }
         ensures least { IfErr result (λ fault. IsLeastColumn ((card_on sheet).bad self.now) fault.column) }
     {
-        Ok(match sheet {
-            FormType::Header => Spec::Header(self.h()?),
-            FormType::File => Spec::File(self.f()?),
-            FormType::Extension => Spec::Extension(self.e()?),
-            FormType::Input => Spec::Input(self.i()?),
-            FormType::Calculation => Spec::Calculation(self.c()?),
-            FormType::Output => Spec::Output(self.o()?),
-        })
+        match sheet {
+            FormType::Header => Ok(Spec::Header(self.h()?)),
+            FormType::File => Ok(Spec::File(self.f()?)),
+            FormType::Extension => Ok(Spec::Extension(self.e()?)),
+            FormType::Input => Ok(Spec::Input(self.i()?)),
+            FormType::Calculation => Ok(Spec::Calculation(self.c()?)),
+            FormType::Output => Ok(Spec::Output(self.o()?)),
+        }
     }
 }
