@@ -27,16 +27,16 @@ action_in (Ends l) = None
 action_in Nothing = None
 
 -- ADD, SUB and MULT of a card
-abbrev pub computation : Operator → CalculationSpec → Action (Operand Key)
-computation o k = Compute o k.half_adjust (first_or_result k) (factor_2_operand k) (result_operand k) (resulting_shows k)
+abbrev pub computed_action : Operator → CalculationSpec → Action (Operand Key)
+computed_action o k = Compute o k.half_adjust (first_or_result k) (factor_2_operand k) (result_operand k) (resulting_shows k)
 
 -- Z-ADD and Z-SUB of a card
-abbrev pub assignment : Bool → CalculationSpec → Action (Operand Key)
-assignment is_negated k = Assign is_negated k.half_adjust (factor_2_operand k) (result_operand k) (resulting_shows k)
+abbrev pub assigned_action : Bool → CalculationSpec → Action (Operand Key)
+assigned_action is_negated k = Assign is_negated k.half_adjust (factor_2_operand k) (result_operand k) (resulting_shows k)
 
 -- MOVE and MOVEL of a card
-abbrev pub movement : Side → CalculationSpec → Action (Operand Key)
-movement side k = Move side (factor_2_operand k) (result_operand k)
+abbrev pub moved_action : Side → CalculationSpec → Action (Operand Key)
+moved_action side k = Move side (factor_2_operand k) (result_operand k)
 
 -- the instructions of a group of cards, which end in that one
 abbrev pub code_of_group : ℕ → CalculationSpec → List SpecCard → Instruction ℕ → List (Instruction ℕ)

@@ -84,7 +84,7 @@ fn compute(
     table: &FieldTable,
     calculation: &CalculationSpec,
 ) -> Action<Operand<u16>>
-    ensures value { result ≡ renamed_action (key_number table.now) (steps.computation operator calculation.now) }
+    ensures value { result ≡ renamed_action (key_number table.now) (steps.computed_action operator calculation.now) }
     ensures kept { IsMarkedAction result }
 {
     Action::Compute {
@@ -103,7 +103,7 @@ fn assign(
     table: &FieldTable,
     calculation: &CalculationSpec,
 ) -> Action<Operand<u16>>
-    ensures value { result ≡ renamed_action (key_number table.now) (steps.assignment is_negated calculation.now) }
+    ensures value { result ≡ renamed_action (key_number table.now) (steps.assigned_action is_negated calculation.now) }
     ensures kept { IsMarkedAction result }
 {
     Action::Assign {
@@ -117,7 +117,7 @@ fn assign(
 
 /// MOVE and MOVEL.
 fn moved(side: Side, table: &FieldTable, calculation: &CalculationSpec) -> Action<Operand<u16>>
-    ensures value { result ≡ renamed_action (key_number table.now) (steps.movement side calculation.now) }
+    ensures value { result ≡ renamed_action (key_number table.now) (steps.moved_action side calculation.now) }
     ensures kept { IsMarkedAction result }
 {
     Action::Move {
