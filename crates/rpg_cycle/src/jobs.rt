@@ -140,9 +140,9 @@ impl<'a, S: Store + Drop> Job<'a, S> {
         requires first { memory ≡ first_working program.now memory.world.data.fields }
         ensures { IfOk result (λ j. j ≡ of.job_started program.now date.value memory.entry.world.data.fields) }
     {
+        let kept = Kept::new(alloc, program)?;
         put_date(&mut memory, date.value);
         let machine = Machine::new(alloc, program, memory)?;
-        let kept = Kept::new(alloc, program)?;
         Ok(Job {
             program,
             machine,
