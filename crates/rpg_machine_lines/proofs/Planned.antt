@@ -94,7 +94,7 @@ sought_laid w v text out es more f e holds right at counted laid kept =
     ap (λ (x : Working). drafted_in GoesOn x out more) counted
     ∙ ap (λ (xs : List (ℕ × ℕ)). drafted_in GoesOn (counted_in w f e) out xs) kept
     ∙ ap (λ (t : List ℕ). drafted_in GoesOn (counted_in w f e) t (remembered f.is_blanked (f.operand.field, e) es))
-      (laid ∙ ap (λ (x : Working). laid_over text f.end (field_text_in x f e)) counted)
+    (laid ∙ ap (λ (x : Working). laid_over text f.end (field_text_in x f e)) counted)
     ∙ sym (sought_drafted w text es f e holds right at)
 
 -- as much was found as there are lines
