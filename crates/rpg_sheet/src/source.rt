@@ -91,7 +91,7 @@ pub fn cards(alloc: Global, text: &[u8]) -> Result<Cards, SheetFault>
     Ok(Cards::new(specs))
 }
 
-/// For how many cards there is room at once: cards of 40 characters need no more. A card takes 264 bytes there, so moving them costs.
+/// For how many cards there is room at once: cards of 40 characters need no more. A card takes 240 bytes there, so moving them costs.
 fn room_for(text: &[u8]) -> usize {
     (text.len() / 40).min(usize::from(CARDS))
 }
