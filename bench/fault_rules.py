@@ -236,9 +236,9 @@ class Rules:
         for at, c in enumerate(self.calculations):
             first = first if c.joins() and first else c
             self.first_of[c.number] = first
-            behind = self.calculations[at + 1 :]
+            following = self.calculations[at + 1 :]
             last = c
-            for d in behind:
+            for d in following:
                 if not d.joins():
                     break
                 last = d

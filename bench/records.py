@@ -111,7 +111,7 @@ def encoded(text, page):
 
 
 def field_by_chance(field, page):
-    """The bytes of a field, the characters of its columns, its digits behind them, and the bytes that these go back to."""
+    """The bytes of a field, the characters of its columns, its digits after them, and the bytes that these go back to."""
     size = field.end - field.start
     if field.kind == "text":
         text = "".join(RANDOM.choices(PLAIN, k=size))

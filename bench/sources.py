@@ -218,7 +218,7 @@ def extension(kind, cards):
     return list(tables(cards)) if kind == "data" else []
 
 
-def behind_sheets(kind, cards):
+def after_sheets(kind, cards):
     """The data of a source."""
     if kind == "decks":
         return list(decks(cards))
@@ -244,8 +244,8 @@ def source(kind, cards):
     yield from before
     yield card("I", (7, "INPUT"), (15, "AA"), (19, "01"))
     yield card("I", (44, "   1"), (48, "   5"), (52, "0"), (53, "COUNT"))
-    behind = behind_sheets(kind, cards)
-    left = cards - 4 - len(before) - len(behind)
+    following = after_sheets(kind, cards)
+    left = cards - 4 - len(before) - len(following)
     if kind == "names":
         fields = (left - left // 2 // FIELDS_OF_A_LINE - left // 2 // FIELDS_OF_A_TYPE) // 2
         for number in range(fields):
@@ -270,7 +270,7 @@ def source(kind, cards):
             yield output_field(kind, number)
             number += 1
         left -= fields + 1
-    yield from behind
+    yield from following
 
 
 def main():

@@ -16,7 +16,7 @@ ESCAPED = {"n": "\n", "f": "\f", "r": "\r", "u": "\x1f", "o": "\xff"}
 
 @dataclass(frozen=True)
 class Call:
-    """A line of a file: its words, and what it says behind ` = `."""
+    """A line of a file: its words, and what it has after ` = `."""
 
     place: str
     line: str

@@ -90,10 +90,10 @@ def came_of_entry(desk: Desk, call: Call) -> str:
 def came_of_control(desk: Desk, call: Call) -> str:
     """`control`: where columns 7 and 8 of a C card put a calculation: alone, after a card with a condition, or in a subroutine."""
     move = with_text(with_text(MOVE, 33, "'A'"), 49, "  1")
-    behind = [card("C", _9=" 01"), with_text(with_text(move, 7, call.words[1]), 9, "N02")]
+    following = [card("C", _9=" 01"), with_text(with_text(move, 7, call.words[1]), 9, "N02")]
     inside = [card("C", _7="SR", _18="S", _28="BEGSR"), with_text(move, 7, call.words[1]), card("C", _7="SR", _28="ENDSR")]
     shown = ""
-    for cards in ([with_text(move, 7, call.words[1])], behind, inside):
+    for cards in ([with_text(move, 7, call.words[1])], following, inside):
         shown = shown or desk.shown([INPUT, PRINT, TYPE, *cards])
     detail, _, rest = shown.partition("TOTAL CALCULATIONS")
     total, _, subroutines = rest.partition("SUBROUTINES")

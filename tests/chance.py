@@ -37,9 +37,9 @@ class Maker:
         """Adds a text of a rule: words between `<` and `>` are instructions, and the rest is copied."""
         text = self.chance.choice(self.rules.texts[name.replace("^", self.part)])
         while text:
-            front, _, behind = text.partition("<")
+            front, _, following = text.partition("<")
             self.put(front)
-            word, _, text = behind.partition(">")
+            word, _, text = following.partition(">")
             if word:
                 self.say(word)
 

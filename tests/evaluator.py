@@ -253,9 +253,9 @@ class Evaluator:
     def step(self, here: Place, back: list[Place]) -> Place:
         """Does a calculation, and returns which is next."""
         it = self.source.parts[here.part][here.next]
-        behind = Place(here.part, here.next + 1)
+        following = Place(here.part, here.next + 1)
         if it.level and it.level not in self.on or not self.is_done(it.alternatives):
-            return behind
+            return following
         if it.operation == "GOTO":
             labels = [other.label for other in self.source.parts[here.part]]
             target = Place(here.part, labels.index(it.second.name))
@@ -264,12 +264,12 @@ class Evaluator:
             return target
         if it.operation == "EXSR":
             self.spend()
-            back.append(behind)
+            back.append(following)
             return Place(it.second.name)
         if it.operation == "ENDSR":
             return back.pop()
         self.operate(it)
-        return behind
+        return following
 
     def calculate(self, part: str) -> None:
         """The calculations of a part, with the subroutines that they execute."""

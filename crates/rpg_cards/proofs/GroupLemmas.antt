@@ -5,7 +5,7 @@ use Rattle.std.proofs.lemmas.List.Sums.{fold-append}
 use Rattle.std.specs.List.{last_or}
 use Rattle.std.specs.Option.{option_map, option_or, option_to_list}
 use Rattle.std.specs.Prelude.{fold}
-use Rattle.rpg_cards.specs.Groups.{Role, Heading, Follower, Apart, Group, following, opening, followers, groups_from, groups, open_group, file_of_group, with_followers, with_card}
+use Rattle.rpg_cards.specs.Groups.{Role, Heading, Follower, Apart, Group, followers_with, opening, followers, groups_from, groups, open_group, file_of_group, with_followers, with_card}
 use Rattle.rpg_cards.specs.declared.spec_card.SpecCard.{SpecCard}
 use Rattle.rpg_sheet_specs.specs.declared.spec.Spec.{Spec}
 
@@ -40,7 +40,7 @@ module _ {H F : Type 0} (role : Spec → Role H F) where
   pub groups_on-card : (o : Option (Group H F)) (c : SpecCard) (cs : List SpecCard) → groups_on o (c ∷ cs) ≡ closing (role c.spec) o ++ groups_on (one_more o c) cs
   groups_on-card o c cs = by_role (role c.spec) o
     where
-      by_role : (r : Role H F) (o : Option (Group H F)) → option_to_list (option_map (with_followers (following r (followers role cs))) o) ++ opening r (file_of_group o) (followers role cs) (λ own. groups_from role own cs)
+      by_role : (r : Role H F) (o : Option (Group H F)) → option_to_list (option_map (with_followers (followers_with r (followers role cs))) o) ++ opening r (file_of_group o) (followers role cs) (λ own. groups_from role own cs)
           ≡ closing r o ++ groups_on (with_card o r) cs
       by_role (Heading h name) None = refl
       by_role (Heading h name) (Some g) = ap (λ x. x ∷ groups_on (with_card (Some g) (Heading h name)) cs) (no_more_followers g)
@@ -89,7 +89,7 @@ module _ {H F : Type 0} (role : Spec → Role H F) where
       → groups role (before ++ c ∷ after) ≡ closed None before ++ with_followers (f ∷ followers role after) g ∷ groups_from role g.file after
   follower-belongs before c after f g is opened =
       groups-append before (c ∷ after) ∙ ap (λ o. closed None before ++ groups_on o (c ∷ after)) opened
-      ∙ ap (λ (r : Role H F). closed None before ++ with_followers (following r (followers role after)) g ∷ opening r g.file (followers role after) (λ own. groups_from role own after)) is
+      ∙ ap (λ (r : Role H F). closed None before ++ with_followers (followers_with r (followers role after)) g ∷ opening r g.file (followers role after) (λ own. groups_from role own after)) is
 
   -- ---- how many groups there are
 
@@ -114,23 +114,23 @@ module _ {H F : Type 0} (role : Spec → Role H F) where
   -- ---- the groups before a heading are whole
 
   -- the file of the last group
-  abbrev pub file_behind : Option (List ℕ) → List SpecCard → Option (List ℕ)
-  file_behind file [] = file
-  file_behind file (d ∷ ds) = file_behind (file_with file (role d.spec)) ds
+  abbrev pub file_after : Option (List ℕ) → List SpecCard → Option (List ℕ)
+  file_after file [] = file
+  file_after file (d ∷ ds) = file_after (file_with file (role d.spec)) ds
 
   pub followers-heading : (front : List SpecCard) (c : SpecCard) (after : List SpecCard) (h : H) (name : Option (List ℕ)) → role c.spec ≡ Heading h name → followers role (front ++ c ∷ after) ≡ followers role front
-  followers-heading [] c after h name e = ap (λ (r : Role H F). following r (followers role after)) e
-  followers-heading (d ∷ ds) c after h name e = ap (following (role d.spec)) (followers-heading ds c after h name e)
+  followers-heading [] c after h name e = ap (λ (r : Role H F). followers_with r (followers role after)) e
+  followers-heading (d ∷ ds) c after h name e = ap (followers_with (role d.spec)) (followers-heading ds c after h name e)
 
   pub groups-heading : (file : Option (List ℕ)) (front : List SpecCard) (c : SpecCard) (after : List SpecCard) (h : H) (name : Option (List ℕ)) → role c.spec ≡ Heading h name
-      → groups_from role file (front ++ c ∷ after) ≡ groups_from role file front ++ groups_from role (file_behind file front) (c ∷ after)
+      → groups_from role file (front ++ c ∷ after) ≡ groups_from role file front ++ groups_from role (file_after file front) (c ∷ after)
   groups-heading file [] c after h name e = refl
   groups-heading file (d ∷ ds) c after h name e =
       ap (λ fs. opening (role d.spec) file fs (λ own. groups_from role own (ds ++ c ∷ after))) (followers-heading ds c after h name e)
       ∙ by_role (role d.spec) (λ own. groups-heading own ds c after h name e)
     where
-      by_role : (r : Role H F) → ((own : Option (List ℕ)) → groups_from role own (ds ++ c ∷ after) ≡ groups_from role own ds ++ groups_from role (file_behind own ds) (c ∷ after))
-          → opening r file (followers role ds) (λ own. groups_from role own (ds ++ c ∷ after)) ≡ opening r file (followers role ds) (λ own. groups_from role own ds) ++ groups_from role (file_behind (file_with file r) ds) (c ∷ after)
+      by_role : (r : Role H F) → ((own : Option (List ℕ)) → groups_from role own (ds ++ c ∷ after) ≡ groups_from role own ds ++ groups_from role (file_after own ds) (c ∷ after))
+          → opening r file (followers role ds) (λ own. groups_from role own (ds ++ c ∷ after)) ≡ opening r file (followers role ds) (λ own. groups_from role own ds) ++ groups_from role (file_after (file_with file r) ds) (c ∷ after)
       by_role (Heading g n) rest = ap (λ gs. record { heading = g; followers = followers role ds; file = option_or n file } ∷ gs) (rest (option_or n file))
       by_role (Follower f) rest = rest file
       by_role Apart rest = rest file
@@ -139,7 +139,7 @@ module _ {H F : Type 0} (role : Spec → Role H F) where
   pub groups-taken : (before : List SpecCard) (c : SpecCard) (after : List SpecCard) (h : H) (name : Option (List ℕ)) → role c.spec ≡ Heading h name
       → take (length (groups role before)) (groups role (before ++ c ∷ after)) ≡ groups role before
   groups-taken before c after h name e =
-      ap (take (length (groups role before))) (groups-heading None before c after h name e) ∙ take-append_seam (groups role before) (groups_from role (file_behind None before) (c ∷ after))
+      ap (take (length (groups role before))) (groups-heading None before c after h name e) ∙ take-append_seam (groups role before) (groups_from role (file_after None before) (c ∷ after))
 
   -- ---- rows that don't name the file
 
@@ -150,6 +150,6 @@ module _ {H F : Type 0} (role : Spec → Role H F) where
     where
       by_role : (r : Role H F) → ((x y : Option (List ℕ)) → map row (groups_from role x cs) ≡ map row (groups_from role y cs))
           → map row (opening r a (followers role cs) (λ own. groups_from role own cs)) ≡ map row (opening r b (followers role cs) (λ own. groups_from role own cs))
-      by_role (Heading h name) rest = let first = alike h (followers role cs) (option_or name a) (option_or name b) in let behind = rest (option_or name a) (option_or name b) in cc
+      by_role (Heading h name) rest = let first = alike h (followers role cs) (option_or name a) (option_or name b) in let following = rest (option_or name a) (option_or name b) in cc
       by_role (Follower f) rest = rest a b
       by_role Apart rest = rest a b

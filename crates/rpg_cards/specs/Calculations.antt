@@ -104,13 +104,13 @@ abbrev pub open_with : Option CalculationGroup → Spec → Option CalculationGr
 open_with o s = option_map (group_with o) (calculation_on s)
 
 -- the open group once all these cards have been read
-abbrev pub open_behind : Option CalculationGroup → List SpecCard → Option CalculationGroup
-open_behind o [] = o
-open_behind o (c ∷ cs) = open_behind (open_with o c.spec) cs
+abbrev pub open_after : Option CalculationGroup → List SpecCard → Option CalculationGroup
+open_after o [] = o
+open_after o (c ∷ cs) = open_after (open_with o c.spec) cs
 
 -- the group that the last C card belongs to
 abbrev pub open_calculation_group : List SpecCard → Option CalculationGroup
-open_calculation_group before = open_behind None before
+open_calculation_group before = open_after None before
 
 -- an AN or OR card comes right after
 abbrev pub goes_on : List SpecCard → Bool

@@ -26,13 +26,13 @@ abbrev pub call_at : List Label → List (Calculation Key) → Calculation Key �
 call_at given before g = option_and_then (λ caller. option_map (λ callee. (caller, callee)) (option_and_then (called_subroutine given) (wants g.deed))) (subroutine_in (section_of before g))
 
 -- the calls in calculations that come after these, in their order
-abbrev pub calls_behind : List Label → List (Calculation Key) → List (Calculation Key) → List (ℕ × ℕ)
-calls_behind given before [] = []
-calls_behind given before (g ∷ gs) = option_to_list (call_at given before g) ++ calls_behind given (before ++ g ∷ []) gs
+abbrev pub calls_after : List Label → List (Calculation Key) → List (Calculation Key) → List (ℕ × ℕ)
+calls_after given before [] = []
+calls_after given before (g ∷ gs) = option_to_list (call_at given before g) ++ calls_after given (before ++ g ∷ []) gs
 
 -- all calls of subroutines by subroutines
 abbrev pub calls : List (Calculation Key) → List (ℕ × ℕ)
-calls gs = calls_behind (labels gs) [] gs
+calls gs = calls_after (labels gs) [] gs
 
 -- a chain of at most so many calls leads from one to the other
 abbrev pub reaches_in : ℕ → List (ℕ × ℕ) → ℕ → ℕ → Bool

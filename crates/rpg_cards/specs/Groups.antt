@@ -31,16 +31,16 @@ pub record Group (H F : Type 0) : Type 0 where
 -- ---- from the front
 
 -- the followers, once one more card stands in front of them
-abbrev pub following : {H F : Type 0} → Role H F → List F → List F
-following (Heading h name) fs = []
-following (Follower f) fs = f ∷ fs
-following Apart fs = fs
+abbrev pub followers_with : {H F : Type 0} → Role H F → List F → List F
+followers_with (Heading h name) fs = []
+followers_with (Follower f) fs = f ∷ fs
+followers_with Apart fs = fs
 
 -- a heading opens a group with those that follow it, before the later groups, which are given the file
 abbrev pub opening : {H F : Type 0} → Role H F → Option (List ℕ) → List F → (Option (List ℕ) → List (Group H F)) → List (Group H F)
-opening (Heading h name) file fs behind = record { heading = h; followers = fs; file = option_or name file } ∷ behind (option_or name file)
-opening (Follower f) file fs behind = behind file
-opening Apart file fs behind = behind file
+opening (Heading h name) file fs following = record { heading = h; followers = fs; file = option_or name file } ∷ following (option_or name file)
+opening (Follower f) file fs following = following file
+opening Apart file fs following = following file
 
 -- the file of a group: the one that its heading names, or the one named last before it
 abbrev pub file_of_group : {H F : Type 0} → Option (Group H F) → Option (List ℕ)
@@ -50,7 +50,7 @@ module _ {H F : Type 0} (role : Spec → Role H F) where
   -- those at the front, up to the next heading; cards apart are passed over
   abbrev pub followers : List SpecCard → List F
   followers [] = []
-  followers (c ∷ cs) = following (role c.spec) (followers cs)
+  followers (c ∷ cs) = followers_with (role c.spec) (followers cs)
 
   -- after a group of that file
   abbrev pub groups_from : Option (List ℕ) → List SpecCard → List (Group H F)

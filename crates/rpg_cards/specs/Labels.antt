@@ -115,13 +115,13 @@ abbrev pub label_at : List (Calculation Key) → Calculation Key → Option Labe
 label_at before g = option_map (λ n. record { named = n; section = section_of before g }) (gives g.deed)
 
 -- the labels that calculations give which come after these
-abbrev pub labels_behind : List (Calculation Key) → List (Calculation Key) → List Label
-labels_behind before [] = []
-labels_behind before (g ∷ gs) = option_to_list (label_at before g) ++ labels_behind (before ++ g ∷ []) gs
+abbrev pub labels_after : List (Calculation Key) → List (Calculation Key) → List Label
+labels_after before [] = []
+labels_after before (g ∷ gs) = option_to_list (label_at before g) ++ labels_after (before ++ g ∷ []) gs
 
 -- the labels and subroutines of a source, in the order of their cards
 abbrev pub labels : List (Calculation Key) → List Label
-labels gs = labels_behind [] gs
+labels gs = labels_after [] gs
 
 -- a name that is given twice counts where it stands first
 abbrev pub label_named : Name → List Label → Option Label

@@ -34,14 +34,14 @@ pub fn goes_on(after: &[SpecCard]) -> bool
 pub fn group_end<'a>(card: &'a CalculationSpec, after: &'a [SpecCard]) -> &'a CalculationSpec
     ensures { result.now ≡ calculations.group_end card.now after.now }
 {
-    let Some((next, behind)) = after.split_first() else {
+    let Some((next, following)) = after.split_first() else {
         return card;
     };
     match next.calculation() {
         None => card,
         Some(next) => {
             if joins(next) {
-                group_end(next, behind)
+                group_end(next, following)
             } else {
                 card
             }

@@ -185,11 +185,11 @@ fn from_first_file(cards: &[SpecCard]) -> &[SpecCard]
     ensures { HasSameFiles result.now cards.now }
 {
     let mut rest = cards;
-    while let Some((card, behind)) = rest.split_first() {
+    while let Some((card, following)) = rest.split_first() {
         if card.file().is_some() {
             return rest;
         }
-        rest = behind;
+        rest = following;
     }
     rest
 }

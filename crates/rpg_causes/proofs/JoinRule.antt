@@ -6,12 +6,12 @@ use Rattle.std.specs.Option.{is_some, option_and_then, option_map, option_map_or
 use Rattle.std.specs.Prelude.{nat_eq, nat_le, nat_lt, sum_by}
 use Rattle.rpg_cards.specs.Cards.{input_field_in, input_on, output_field_on, type_in}
 use Rattle.rpg_cards.specs.Files.{file_by}
-use Rattle.rpg_cards.specs.Groups.{Group, followers, following, groups, groups_from, input_card_role, input_role, open_file, opening, output_role, role_on}
+use Rattle.rpg_cards.specs.Groups.{Group, followers, followers_with, groups, groups_from, input_card_role, input_role, open_file, opening, output_role, role_on}
 use Rattle.rpg_cards.specs.Levels.{is_at, match_level}
 use Rattle.rpg_cards.specs.declared.spec_card.SpecCard.{SpecCard}
 use Rattle.rpg_faults_limits.proofs.LimitRule.{if_some, or_some}
 use Rattle.rpg_causes.specs.JoinSums.{any_bad, good_lengths}
-use Rattle.rpg_causes.specs.Joins.{first_difference, behind_last, first_cause_in_list, first_matched, first_on, join_cause, length_on_card, level_cause, long_level, long_matches, match_level_cause, matched, matched_on, matches_on_card, of_lengths, of_level, of_match, of_matches, input_join_cause, open_cards, other_length, other_matches}
+use Rattle.rpg_causes.specs.Joins.{first_difference, after_last, first_cause_in_list, first_matched, first_on, join_cause, length_on_card, level_cause, long_level, long_matches, match_level_cause, matched, matched_on, matches_on_card, of_lengths, of_level, of_match, of_matches, input_join_cause, open_cards, other_length, other_matches}
 use Rattle.rpg_causes.specs.Places.{is_outside}
 use Rattle.rpg_causes.specs.declared.joins.FirstLength.{FirstLength}
 use Rattle.rpg_causes.specs.declared.joins.FirstMatched.{FirstMatched}
@@ -35,23 +35,23 @@ unless_some false x = refl
 abbrev specs_of : Option (Group RecordType InputSpec) → List InputSpec
 specs_of o = option_map_or (λ g. g.followers) o []
 
-behind_is : (o : Option (Group RecordType InputSpec)) (own : List SpecCard) (file : Option (List ℕ)) (cards : List SpecCard) → specs_of o ≡ followers input_role own
-    → specs_of (last_or o (groups_from input_role file cards)) ≡ followers input_role (behind_last own cards)
-behind_is o own file [] e = e
-behind_is o own file (c ∷ cs) e = by (input_on c.spec) (λ k mine next same. behind_is k mine next cs same)
+following_is : (o : Option (Group RecordType InputSpec)) (own : List SpecCard) (file : Option (List ℕ)) (cards : List SpecCard) → specs_of o ≡ followers input_role own
+    → specs_of (last_or o (groups_from input_role file cards)) ≡ followers input_role (after_last own cards)
+following_is o own file [] e = e
+following_is o own file (c ∷ cs) e = by (input_on c.spec) (λ k mine next same. following_is k mine next cs same)
   where
     by : (x : Option InputSpec)
         → ((k : Option (Group RecordType InputSpec)) (mine : List SpecCard) (next : Option (List ℕ)) → specs_of k ≡ followers input_role mine
-        → specs_of (last_or k (groups_from input_role next cs)) ≡ followers input_role (behind_last mine cs))
+        → specs_of (last_or k (groups_from input_role next cs)) ≡ followers input_role (after_last mine cs))
         → specs_of (last_or o (opening (role_on input_card_role x) file (followers input_role cs) (λ next. groups_from input_role next cs)))
-        ≡ followers input_role (cond (is_some (option_and_then type_in x)) (behind_last cs cs) (behind_last own cs))
+        ≡ followers input_role (cond (is_some (option_and_then type_in x)) (after_last cs cs) (after_last own cs))
     by None rest = rest o own file e
     by (Some (input.Type t)) rest = rest (Some (record { heading = t; followers = followers input_role cs; file = option_or t.file file })) cs (option_or t.file file) refl
     by (Some (input.And codes)) rest = rest o own file e
     by (Some (input.Field f)) rest = rest o own file e
 
 open_is : (before : List SpecCard) → open_specs before ≡ followers input_role (open_cards before)
-open_is before = behind_is None [] None before refl
+open_is before = following_is None [] None before refl
 
 -- ---- the first types
 
@@ -140,7 +140,7 @@ matched_on_some level (c ∷ cs) = by (input_on c.spec) (matched_on_some level c
     kept f (Some n) e = refl
 
     by : (x : Option InputSpec) → is_some (matched_on level cs) ≡ list_any (is_at match_level level) (matched cs) → is_some (cond (is_some (option_and_then type_in x)) None (option_or (option_and_then (λ f. cond (is_at match_level level f) (Some c.number) None) (option_and_then input_field_in x)) (matched_on level cs)))
-        ≡ list_any (is_at match_level level) (matched_fields (following (role_on input_card_role x) (followers input_role cs)))
+        ≡ list_any (is_at match_level level) (matched_fields (followers_with (role_on input_card_role x) (followers input_role cs)))
     by None rest = rest
     by (Some (input.Type t)) rest = refl
     by (Some (input.And codes)) rest = rest

@@ -72,8 +72,8 @@ of_named cards who fits name = option_map_or (of_known who fits) (file_of_name n
 
 -- of a card that names a file, or leaves it out after another card of its kind
 abbrev pub of_user : List SpecCard → FileUser → (FileUse → Bool) → Bool → Option (List ℕ) → Option FileCause
-of_user cards who fits is_behind None = if is_behind then None else Some (Unnamed who)
-of_user cards who fits is_behind (Some name) = of_named cards who fits name
+of_user cards who fits is_following None = if is_following then None else Some (Unnamed who)
+of_user cards who fits is_following (Some name) = of_named cards who fits name
 
 -- F7 of a card
 abbrev pub file_cause : List SpecCard → List SpecCard → SpecCard → Option FileCause

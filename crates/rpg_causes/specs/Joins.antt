@@ -19,12 +19,12 @@ abbrev pub opens_type : SpecCard → Bool
 opens_type c = is_some (type_on c.spec)
 
 -- the cards after the last type among these: those of the open type
-abbrev pub behind_last : List SpecCard → List SpecCard → List SpecCard
-behind_last own [] = own
-behind_last own (c ∷ cs) = if opens_type c then behind_last cs cs else behind_last own cs
+abbrev pub after_last : List SpecCard → List SpecCard → List SpecCard
+after_last own [] = own
+after_last own (c ∷ cs) = if opens_type c then after_last cs cs else after_last own cs
 
 abbrev pub open_cards : List SpecCard → List SpecCard
-open_cards before = behind_last [] before
+open_cards before = after_last [] before
 
 -- the first cause of a list
 abbrev pub first_cause_in_list : {X C : Type 0} → (X → Option C) → List X → Option C

@@ -173,13 +173,13 @@ fn is_input(serves_as: FileUse) -> bool
     }
 }
 
-fn of_type(source: &IndexedCards, is_behind: bool, name: &Option<Word<8>>) -> Option<FileCause>
-    ensures cause { result ≡ causes.of_user source.now user.RecordType known.is_input is_behind name.now }
-    ensures rule { is_some result ≡ rules.lacks_file source.now known.is_input is_behind name.now }
+fn of_type(source: &IndexedCards, is_following: bool, name: &Option<Word<8>>) -> Option<FileCause>
+    ensures cause { result ≡ causes.of_user source.now user.RecordType known.is_input is_following name.now }
+    ensures rule { is_some result ≡ rules.lacks_file source.now known.is_input is_following name.now }
 {
     let user = FileUser::RecordType;
     match name {
-        None if is_behind => None,
+        None if is_following => None,
         None => Some(FileCause::Unnamed(user)),
         Some(name) => match file_of_name(name, source.as_slice()) {
             None => Some(unknown(user, name)),
@@ -189,13 +189,13 @@ fn of_type(source: &IndexedCards, is_behind: bool, name: &Option<Word<8>>) -> Op
     }
 }
 
-fn of_line(source: &IndexedCards, is_behind: bool, name: &Option<Word<8>>) -> Option<FileCause>
-    ensures cause { result ≡ causes.of_user source.now user.Line known.is_output is_behind name.now }
-    ensures rule { is_some result ≡ rules.lacks_file source.now known.is_output is_behind name.now }
+fn of_line(source: &IndexedCards, is_following: bool, name: &Option<Word<8>>) -> Option<FileCause>
+    ensures cause { result ≡ causes.of_user source.now user.Line known.is_output is_following name.now }
+    ensures rule { is_some result ≡ rules.lacks_file source.now known.is_output is_following name.now }
 {
     let user = FileUser::Line;
     match name {
-        None if is_behind => None,
+        None if is_following => None,
         None => Some(FileCause::Unnamed(user)),
         Some(name) => match file_of_name(name, source.as_slice()) {
             None => Some(unknown(user, name)),

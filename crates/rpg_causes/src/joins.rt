@@ -70,7 +70,7 @@ pub(crate) fn join_cause(
     after: &[SpecCard],
 ) -> Option<JoinCause>
     requires few { length before.now ≤ 2000 }
-    requires few_behind { length after.now ≤ 2000 }
+    requires few_after { length after.now ≤ 2000 }
     ensures cause { result ≡ causes.join_cause before.now card.now after.now }
     ensures rule { is_some result ≡ option_map_or (rules.joins_badly before.now after.now) (input_on card.now.spec) false }
 {
@@ -80,7 +80,7 @@ pub(crate) fn join_cause(
 #[tactic(auto, unfolding(crate::specs::Joins::join_cause))]
 fn on_card(before: &[SpecCard], card: &SpecCard, after: &[SpecCard]) -> Option<JoinCause>
     requires few { length before.now ≤ 2000 }
-    requires few_behind { length after.now ≤ 2000 }
+    requires few_after { length after.now ≤ 2000 }
     ensures { result ≡ causes.join_cause before.now card.now after.now }
 {
     match card.input()? {
@@ -114,11 +114,11 @@ fn open_cards(before: &[SpecCard]) -> &[SpecCard]
 {
     let mut own = &before[..0];
     let mut rest = before;
-    while let Some((card, behind)) = rest.split_first() {
+    while let Some((card, following)) = rest.split_first() {
         if card.record_type().is_some() {
-            own = behind;
+            own = following;
         }
-        rest = behind;
+        rest = following;
     }
     own
 }
@@ -179,14 +179,14 @@ fn first_on(level: u8, cards: &[SpecCard]) -> Option<FirstLength>
     ensures { result ≡ causes.first_on level cards.now }
 {
     let mut rest = cards;
-    while let Some((card, behind)) = rest.split_first() {
+    while let Some((card, following)) = rest.split_first() {
         if card.record_type().is_some() {
-            if let Some(length) = level_length(level, behind) {
+            if let Some(length) = level_length(level, following) {
                 let card = card.number;
                 return Some(FirstLength { card, length });
             }
         }
-        rest = behind;
+        rest = following;
     }
     None
 }
@@ -194,7 +194,7 @@ fn first_on(level: u8, cards: &[SpecCard]) -> Option<FirstLength>
 /// A level of a type, where its joined length isn't the first one.
 fn of_level(before: &[SpecCard], after: &[SpecCard], level: u8) -> Option<JoinCause>
     requires few { length before.now ≤ 2000 }
-    requires few_behind { length after.now ≤ 2000 }
+    requires few_after { length after.now ≤ 2000 }
     ensures { result ≡ causes.of_level before.now after.now level }
 {
     let first = first_on(level, before)?;
@@ -214,7 +214,7 @@ fn of_level(before: &[SpecCard], after: &[SpecCard], level: u8) -> Option<JoinCa
 #[tactic(auto, using(crate::proofs::Ranges::level_from))]
 fn other_length(before: &[SpecCard], after: &[SpecCard]) -> Option<JoinCause>
     requires few { length before.now ≤ 2000 }
-    requires few_behind { length after.now ≤ 2000 }
+    requires few_after { length after.now ≤ 2000 }
     ensures { result ≡ causes.other_length before.now after.now }
 {
     for level in 1..=9 {
@@ -336,12 +336,12 @@ fn has_matches(cards: &[SpecCard]) -> bool
 
 /// Whether a field is a match field without columns, or one whose level stands on the cards after it.
 #[tactic(auto, using(crate::proofs::JoinRule::matched_on_some))]
-fn is_bad_match(field: &InputFieldSpec, behind: &[SpecCard]) -> bool
-    ensures { result ≡ sums.is_bad_match field.now (causes.matched behind.now) }
+fn is_bad_match(field: &InputFieldSpec, following: &[SpecCard]) -> bool
+    ensures { result ≡ sums.is_bad_match field.now (causes.matched following.now) }
 {
     match field.match_level {
         None => false,
-        Some(level) => columns_of(field) == 0 || matched_on(level.number(), behind).is_some(),
+        Some(level) => columns_of(field) == 0 || matched_on(level.number(), following).is_some(),
     }
 }
 
@@ -350,13 +350,13 @@ fn has_bad_match(cards: &[SpecCard]) -> bool
     ensures { result ≡ sums.any_bad (causes.matched cards.now) }
 {
     let mut rest = cards;
-    while let Some((card, behind)) = rest.split_first() {
+    while let Some((card, following)) = rest.split_first() {
         match card.input() {
             Some(InputSpec::Type(_)) => return false,
-            Some(InputSpec::Field(field)) if is_bad_match(field, behind) => return true,
+            Some(InputSpec::Field(field)) if is_bad_match(field, following) => return true,
             _ => {}
         }
-        rest = behind;
+        rest = following;
     }
     false
 }
@@ -414,14 +414,14 @@ fn first_matched(cards: &[SpecCard]) -> Option<FirstMatched>
     ensures { result ≡ causes.first_matched cards.now }
 {
     let mut rest = cards;
-    while let Some((card, behind)) = rest.split_first() {
+    while let Some((card, following)) = rest.split_first() {
         if card.record_type().is_some() {
-            if let Some(lengths) = good_matches(behind) {
+            if let Some(lengths) = good_matches(following) {
                 let card = card.number;
                 return Some(FirstMatched { card, lengths });
             }
         }
-        rest = behind;
+        rest = following;
     }
     None
 }
@@ -447,7 +447,7 @@ fn apart(first: FirstMatched, own: &[u32; 9]) -> Option<JoinCause>
 /// A level of other match fields than in the first type with some.
 fn other_matches(before: &[SpecCard], after: &[SpecCard]) -> Option<JoinCause>
     requires few { length before.now ≤ 2000 }
-    requires few_behind { length after.now ≤ 2000 }
+    requires few_after { length after.now ≤ 2000 }
     ensures { result ≡ causes.other_matches before.now after.now }
 {
     let first = first_matched(before)?;

@@ -31,14 +31,14 @@ pub(crate) fn sheets_before(
     let mut sheets = Sheets::none();
     let mut seen = no_cards(cards);
     let mut rest = cards.as_slice();
-    while let Some((next, behind)) = rest.split_first() {
+    while let Some((next, following)) = rest.split_first() {
         let place = seen.len();
         if place == count {
             return sheets;
         }
         sheets = sheets.with(cards, seen, next);
-        seen = with_card(cards, seen, next, behind);
-        rest = behind;
+        seen = with_card(cards, seen, next, following);
+        rest = following;
     }
     sheets
 }
@@ -58,14 +58,14 @@ pub(crate) fn limits_before(
     let mut limits = Limits::nothing(cards);
     let mut seen = no_cards(cards);
     let mut rest = cards.as_slice();
-    while let Some((next, behind)) = rest.split_first() {
+    while let Some((next, following)) = rest.split_first() {
         let place = seen.len();
         if place == count {
             return limits;
         }
-        limits = limits.with(cards, seen, next, behind);
-        seen = with_card(cards, seen, next, behind);
-        rest = behind;
+        limits = limits.with(cards, seen, next, following);
+        seen = with_card(cards, seen, next, following);
+        rest = following;
     }
     limits
 }

@@ -66,12 +66,12 @@ closed_with gs (Some g) = by (begins_subroutine g || ends g)
     by true = refl
     by false = refl
 
-pub closed_step : (o : Option CalculationGroup) (c : SpecCard) (behind : List SpecCard)
-    → is_closed (brackets (calculations_from o (c ∷ behind) [])) ≡ closed_by (bracket_at (level_of_group o) c behind) (is_closed (brackets (calculations_from (open_with o c.spec) behind [])))
-closed_step o c behind =
-    ap (λ (cs : List SpecCard). is_closed (brackets (option_to_list (option_map calculation_of (group_at o c cs)) ++ calculations_from (open_with o c.spec) behind []))) (append-nil behind)
-    ∙ closed_with (calculations_from (open_with o c.spec) behind []) (option_map calculation_of (group_at o c behind))
-    ∙ ap (λ b. closed_by b (is_closed (brackets (calculations_from (open_with o c.spec) behind [])))) (bracket_at-is o c behind)
+pub closed_step : (o : Option CalculationGroup) (c : SpecCard) (following : List SpecCard)
+    → is_closed (brackets (calculations_from o (c ∷ following) [])) ≡ closed_by (bracket_at (level_of_group o) c following) (is_closed (brackets (calculations_from (open_with o c.spec) following [])))
+closed_step o c following =
+    ap (λ (cs : List SpecCard). is_closed (brackets (option_to_list (option_map calculation_of (group_at o c cs)) ++ calculations_from (open_with o c.spec) following []))) (append-nil following)
+    ∙ closed_with (calculations_from (open_with o c.spec) following []) (option_map calculation_of (group_at o c following))
+    ∙ ap (λ b. closed_by b (is_closed (brackets (calculations_from (open_with o c.spec) following [])))) (bracket_at-is o c following)
 
 -- ---- F10
 

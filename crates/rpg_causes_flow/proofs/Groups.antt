@@ -7,31 +7,31 @@ use Rattle.rpg_cards.specs.Calculations.{group_with, last_card, open_calculation
 use Rattle.rpg_cards.specs.Cards.{calculation_on}
 use Rattle.rpg_cards.specs.declared.spec_card.SpecCard.{SpecCard}
 use Rattle.rpg_faults_flow.proofs.Facts.{last_with}
-use Rattle.rpg_faults_flow.proofs.Walk.{open_behind-push}
-use Rattle.rpg_faults_flow.specs.Rounding.{is_behind_division, leaves_remainder}
+use Rattle.rpg_faults_flow.proofs.Walk.{open_after-push}
+use Rattle.rpg_faults_flow.specs.Rounding.{follows_division, leaves_remainder}
 use Rattle.rpg_sheet_specs.specs.declared.calculation.CalculationSpec.{CalculationSpec}
 
 -- a group is open after a C card
 pub is_open-push : (before : List SpecCard) (c : SpecCard) → is_some (open_calculation_group (before ++ c ∷ [])) ≡ is_some (calculation_on c.spec)
-is_open-push before c = ap is_some (open_behind-push None before c) ∙ by (calculation_on c.spec)
+is_open-push before c = ap is_some (open_after-push None before c) ∙ by (calculation_on c.spec)
   where
     by : (o : Option CalculationSpec) → is_some (option_map (group_with (open_calculation_group before)) o) ≡ is_some o
     by None = refl
     by (Some k) = refl
 
-pub is_open_behind : (before rest : List SpecCard) (c : SpecCard) → before ≡ rest ++ c ∷ [] → is_some (open_calculation_group before) ≡ is_some (calculation_on c.spec)
-is_open_behind before rest c e = ap (λ cs. is_some (open_calculation_group cs)) e ∙ is_open-push rest c
+pub is_open_after : (before rest : List SpecCard) (c : SpecCard) → before ≡ rest ++ c ∷ [] → is_some (open_calculation_group before) ≡ is_some (calculation_on c.spec)
+is_open_after before rest c e = ap (λ cs. is_some (open_calculation_group cs)) e ∙ is_open-push rest c
 
 -- a division without H is right before where its card is
-pub is_behind_division-push : (before : List SpecCard) (c : SpecCard) → is_behind_division (before ++ c ∷ []) ≡ option_map_or leaves_remainder (calculation_on c.spec) false
-is_behind_division-push before c = ap (λ o. option_map_or (λ g. leaves_remainder (last_card g)) o false) (open_behind-push None before c) ∙ by (calculation_on c.spec)
+pub follows_division-push : (before : List SpecCard) (c : SpecCard) → follows_division (before ++ c ∷ []) ≡ option_map_or leaves_remainder (calculation_on c.spec) false
+follows_division-push before c = ap (λ o. option_map_or (λ g. leaves_remainder (last_card g)) o false) (open_after-push None before c) ∙ by (calculation_on c.spec)
   where
     by : (o : Option CalculationSpec) → option_map_or (λ g. leaves_remainder (last_card g)) (option_map (group_with (open_calculation_group before)) o) false ≡ option_map_or leaves_remainder o false
     by None = refl
     by (Some k) = ap leaves_remainder (last_with (open_calculation_group before) k)
 
-pub is_division_behind : (before rest : List SpecCard) (c : SpecCard) → before ≡ rest ++ c ∷ [] → is_behind_division before ≡ option_map_or leaves_remainder (calculation_on c.spec) false
-is_division_behind before rest c e = ap is_behind_division e ∙ is_behind_division-push rest c
+pub is_division_after : (before rest : List SpecCard) (c : SpecCard) → before ≡ rest ++ c ∷ [] → follows_division before ≡ option_map_or leaves_remainder (calculation_on c.spec) false
+is_division_after before rest c e = ap follows_division e ∙ follows_division-push rest c
 
 -- one more card of these
 pub taken : (cards : List SpecCard) (i : ℕ) (c : SpecCard) → i < length cards → c ≡ get_or cards i c → take (i + 1) cards ≡ take i cards ++ c ∷ []

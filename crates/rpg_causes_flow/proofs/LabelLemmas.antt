@@ -8,7 +8,7 @@ use Rattle.std.proofs.lemmas.List.Folds.{list_any-append}
 use Rattle.rpg_cards.specs.Calculations.{CalculationGroup, calculation_ending, calculation_of, calculations, calculations_before, calculations_from, card_ending, group_with, open_calculation_group, open_with}
 use Rattle.rpg_cards.specs.Deeds.{Calculation, deed_of}
 use Rattle.rpg_cards.specs.Keys.{Key, Name}
-use Rattle.rpg_cards.specs.Labels.{gives, label_named, labels, labels_behind, section_of, wants}
+use Rattle.rpg_cards.specs.Labels.{gives, label_named, labels, labels_after, section_of, wants}
 use Rattle.rpg_cards.specs.Names.{definitions, definitions_on, given_names, is_of}
 use Rattle.rpg_cards.specs.declared.labels.Label.{Label}
 use Rattle.rpg_cards.specs.declared.labels.Named.{Named}
@@ -34,8 +34,8 @@ of_giver g = option_map (λ (x : Giver). x.is_subroutine) g
 module _ (name : Name) where
   -- one more card, whose operation that is, if it ends a group
   step : (acc : List (Calculation Key)) (o : Option CalculationGroup) (c : SpecCard) (cs after : List SpecCard) (rest : List (Calculation Key))
-      → ((a : List (Calculation Key)) → of_label (label_named name (labels_behind a rest)) ≡ of_giver (giver name cs after)) → (x : Option CalculationSpec)
-      → of_label (label_named name (labels_behind acc (option_to_list (option_map calculation_of (option_map (group_with o) x)) ++ rest)))
+      → ((a : List (Calculation Key)) → of_label (label_named name (labels_after a rest)) ≡ of_giver (giver name cs after)) → (x : Option CalculationSpec)
+      → of_label (label_named name (labels_after acc (option_to_list (option_map calculation_of (option_map (group_with o) x)) ++ rest)))
       ≡ of_giver (option_or (option_and_then (giver_if name c.number) (option_and_then (λ k. gives (deed_of k)) x)) (giver name cs after))
   step acc o c cs after rest known None = known acc
   step acc o c cs after rest known (Some k) =
@@ -46,7 +46,7 @@ module _ (name : Name) where
       label n = record { named = n; section = section_of acc (calculation_of (group_with o k)) }
 
       more : List Label
-      more = labels_behind (acc ++ calculation_of (group_with o k) ∷ []) rest
+      more = labels_after (acc ++ calculation_of (group_with o k) ∷ []) rest
 
       test : (n : Named) (b : Bool)
           → of_label (cond b (Some (label n)) (label_named name more))
@@ -61,10 +61,10 @@ module _ (name : Name) where
       named (Some n) = test n (pointwise nat_eq name n.name)
 
   from : (acc : List (Calculation Key)) (o : Option CalculationGroup) (before after : List SpecCard)
-      → of_label (label_named name (labels_behind acc (calculations_from o before after))) ≡ of_giver (giver name before after)
+      → of_label (label_named name (labels_after acc (calculations_from o before after))) ≡ of_giver (giver name before after)
   from acc o [] after = refl
   from acc o (c ∷ cs) after =
-      ap (λ x. of_label (label_named name (labels_behind acc (option_to_list (option_map calculation_of x) ++ calculations_from (open_with o c.spec) cs after)))) (group_at-is o c (cs ++ after))
+      ap (λ x. of_label (label_named name (labels_after acc (option_to_list (option_map calculation_of x) ++ calculations_from (open_with o c.spec) cs after)))) (group_at-is o c (cs ++ after))
       ∙ step acc o c cs after (calculations_from (open_with o c.spec) cs after) (λ a. from a (open_with o c.spec) cs after) (card_ending c (cs ++ after))
 
 -- the first label of a name, and the first card that gives it

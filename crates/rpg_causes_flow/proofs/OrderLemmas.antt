@@ -70,14 +70,14 @@ inside_from o d (c ∷ cs) after =
     later : Option Bracket
     later = last_bracket (level_with (level_of_group o) c) cs after
 
-    behind : (g : Calculation Key) (b : Option Bracket) → begins_subroutine g ≡ not (ends g)
+    following : (g : Calculation Key) (b : Option Bracket) → begins_subroutine g ≡ not (ends g)
         → open_by b (begins_subroutine g) ≡ open_by (option_or b (Some (mark c (ends g)))) (begun d)
-    behind g None e = e
-    behind g (Some x) e = refl
+    following g None e = e
+    following g (Some x) e = refl
 
     by : ((e : Option (Calculation Key)) → begun (last_or e (brackets rest)) ≡ open_by later (begun e)) → (g : Calculation Key) (t : Bool) → (begins_subroutine g || ends g) ≡ t
         → begun (last_or d (cond t (g ∷ brackets rest) (brackets rest))) ≡ open_by (option_or later (option_map (mark c) (cond t (Some (ends g)) None))) (begun d)
-    by known g true e = known (Some g) ∙ behind g later (one_of_two (is_subroutine g.control) (is_begsr g.deed) (is_endsr g.deed) (never_both g.deed) e)
+    by known g true e = known (Some g) ∙ following g later (one_of_two (is_subroutine g.control) (is_begsr g.deed) (is_endsr g.deed) (never_both g.deed) e)
     by known g false e = known d ∙ ap (λ b. open_by b (begun d)) (sym (or_none later))
 
     step : ((e : Option (Calculation Key)) → begun (last_or e (brackets rest)) ≡ open_by later (begun e)) → (x : Option (Calculation Key))

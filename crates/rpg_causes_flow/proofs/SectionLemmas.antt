@@ -7,7 +7,7 @@ use Rattle.rpg_cards.specs.Calculations.{CalculationGroup, calculation_of, calcu
 use Rattle.rpg_cards.specs.Deeds.{Calculation, deed_of}
 use Rattle.rpg_cards.specs.Keys.{Key, Name}
 use Rattle.rpg_cards.specs.Labels as labels_of
-use Rattle.rpg_cards.specs.Labels.{begun_count, gives, is_begsr, is_inside_subroutine, label_named, labels, labels_behind, section_of, wants}
+use Rattle.rpg_cards.specs.Labels.{begun_count, gives, is_begsr, is_inside_subroutine, label_named, labels, labels_after, section_of, wants}
 use Rattle.rpg_cards.specs.Sections.{is_subroutine}
 use Rattle.rpg_cards.specs.declared.labels.Label.{Label}
 use Rattle.rpg_cards.specs.declared.labels.Named.{Named}
@@ -20,7 +20,7 @@ use Rattle.rpg_causes_flow.specs.declared.labels.Target.{Target}
 use Rattle.rpg_causes_flow.specs.declared.sections.LabelOnCard.{LabelOnCard}
 use Rattle.rpg_faults_flow.proofs.Ending.{asked, group_at-is, pushed}
 use Rattle.rpg_faults_flow.proofs.Facts.{last_with}
-use Rattle.rpg_faults_flow.proofs.Walk.{open_behind-push}
+use Rattle.rpg_faults_flow.proofs.Walk.{open_after-push}
 use Rattle.rpg_faults_flow.specs.ByCard.{calculation_level}
 use Rattle.rpg_faults_flow.specs.Flow.{are_apart, goes_apart, leaves_by, leaves_section}
 use Rattle.rpg_faults_flow.specs.ByCard.{level_of_group}
@@ -65,13 +65,13 @@ module _ (name : Name) where
   -- what is left to compare after a card
   abbrev Same : List SpecCard → List SpecCard → Type 0
   Same front cards =
-      of_label (label_named name (labels_behind (calculations_before front cards) (calculations_from (open_calculation_group front) cards []))) ≡ of_found (first_label_on_cards name front cards)
+      of_label (label_named name (labels_after (calculations_before front cards) (calculations_from (open_calculation_group front) cards []))) ≡ of_found (first_label_on_cards name front cards)
 
   step : (front : List SpecCard) (c : SpecCard) (cs : List SpecCard) (rest : List (Calculation Key)) (x : Option CalculationSpec)
-      → of_label (label_named name (labels_behind (calculations_before front (c ∷ cs) ++ option_to_list (option_map calculation_of (option_map (group_with (open_calculation_group front)) x))) rest)) ≡ of_found (first_label_on_cards name (front ++ c ∷ []) cs)
-      → of_label (label_named name (labels_behind (calculations_before front (c ∷ cs)) (option_to_list (option_map calculation_of (option_map (group_with (open_calculation_group front)) x)) ++ rest)))
+      → of_label (label_named name (labels_after (calculations_before front (c ∷ cs) ++ option_to_list (option_map calculation_of (option_map (group_with (open_calculation_group front)) x))) rest)) ≡ of_found (first_label_on_cards name (front ++ c ∷ []) cs)
+      → of_label (label_named name (labels_after (calculations_before front (c ∷ cs)) (option_to_list (option_map calculation_of (option_map (group_with (open_calculation_group front)) x)) ++ rest)))
       ≡ of_found (option_or (option_and_then (label_by name front c cs) x) (first_label_on_cards name (front ++ c ∷ []) cs))
-  step front c cs rest None known = ap (λ (acc : List (Calculation Key)). of_label (label_named name (labels_behind acc rest))) (sym (append-nil (calculations_before front (c ∷ cs)))) ∙ known
+  step front c cs rest None known = ap (λ (acc : List (Calculation Key)). of_label (label_named name (labels_after acc rest))) (sym (append-nil (calculations_before front (c ∷ cs)))) ∙ known
   step front c cs rest (Some k) known =
       ap (λ d. of_label (label_named name (option_to_list (option_map label (gives (deed_of d))) ++ more))) (last_with (open_calculation_group front) k)
       ∙ named (gives (deed_of k))
@@ -86,7 +86,7 @@ module _ (name : Name) where
       label n = record { named = n; section = section_of acc g }
 
       more : List Label
-      more = labels_behind (acc ++ g ∷ []) rest
+      more = labels_after (acc ++ g ∷ []) rest
 
       test : (n : Named) (b : Bool)
           → of_label (cond b (Some (label n)) (label_named name more))
@@ -103,12 +103,12 @@ module _ (name : Name) where
   from : (front cards : List SpecCard) → Same front cards
   from front [] = refl
   from front (c ∷ cs) =
-      ap (λ (after : List SpecCard). of_label (label_named name (labels_behind (calculations_before front (c ∷ cs)) (option_to_list (option_map calculation_of (group_at (open_calculation_group front) c after)) ++ calculations_from (open_with (open_calculation_group front) c.spec) cs [])))) (append-nil cs)
-      ∙ ap (λ x. of_label (label_named name (labels_behind (calculations_before front (c ∷ cs)) (option_to_list (option_map calculation_of x) ++ calculations_from (open_with (open_calculation_group front) c.spec) cs [])))) (group_at-is (open_calculation_group front) c cs)
+      ap (λ (after : List SpecCard). of_label (label_named name (labels_after (calculations_before front (c ∷ cs)) (option_to_list (option_map calculation_of (group_at (open_calculation_group front) c after)) ++ calculations_from (open_with (open_calculation_group front) c.spec) cs [])))) (append-nil cs)
+      ∙ ap (λ x. of_label (label_named name (labels_after (calculations_before front (c ∷ cs)) (option_to_list (option_map calculation_of x) ++ calculations_from (open_with (open_calculation_group front) c.spec) cs [])))) (group_at-is (open_calculation_group front) c cs)
       ∙ step front c cs (calculations_from (open_with (open_calculation_group front) c.spec) cs []) (card_ending c cs)
-      (ap (λ x. of_label (label_named name (labels_behind (calculations_before front (c ∷ cs) ++ option_to_list (option_map calculation_of x)) (calculations_from (open_with (open_calculation_group front) c.spec) cs [])))) (sym (group_at-is (open_calculation_group front) c cs))
-      ∙ ap (λ (acc : List (Calculation Key)). of_label (label_named name (labels_behind acc (calculations_from (open_with (open_calculation_group front) c.spec) cs [])))) (sym (pushed front c cs))
-      ∙ ap (λ o. of_label (label_named name (labels_behind (calculations_before (front ++ c ∷ []) cs) (calculations_from o cs [])))) (sym (open_behind-push None front c))
+      (ap (λ x. of_label (label_named name (labels_after (calculations_before front (c ∷ cs) ++ option_to_list (option_map calculation_of x)) (calculations_from (open_with (open_calculation_group front) c.spec) cs [])))) (sym (group_at-is (open_calculation_group front) c cs))
+      ∙ ap (λ (acc : List (Calculation Key)). of_label (label_named name (labels_after acc (calculations_from (open_with (open_calculation_group front) c.spec) cs [])))) (sym (pushed front c cs))
+      ∙ ap (λ o. of_label (label_named name (labels_after (calculations_before (front ++ c ∷ []) cs) (calculations_from o cs [])))) (sym (open_after-push None front c))
       ∙ from (front ++ c ∷ []) cs)
 
 first_is : (name : Name) (cards : List SpecCard) → of_label (label_named name (labels (calculations cards))) ≡ of_found (first_label_on_cards name [] cards)

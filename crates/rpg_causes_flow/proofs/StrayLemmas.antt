@@ -8,7 +8,7 @@ use Rattle.rpg_cards.specs.declared.spec_card.SpecCard.{SpecCard}
 use Rattle.rpg_causes_flow.proofs.Options.{some_or, unless, unless_some}
 use Rattle.rpg_causes_flow.specs.Strays.{number_before, input_stray_cause, output_stray_cause, stray_cause}
 use Rattle.rpg_causes_flow.specs.declared.strays.StrayCause.TheVariants.{NoLine, NoType, OtherThanLine, OtherThanType}
-use Rattle.rpg_faults_flow.specs.Strays.{is_behind_codes, is_behind_conditions, is_stray, is_stray_input, is_stray_output}
+use Rattle.rpg_faults_flow.specs.Strays.{follows_codes, follows_conditions, is_stray, is_stray_input, is_stray_output}
 use Rattle.rpg_sheet_specs.specs.declared.input.InputSpec.{InputSpec}
 use Rattle.rpg_sheet_specs.specs.declared.input.InputSpec.TheVariants as input
 use Rattle.rpg_sheet_specs.specs.declared.output.OutputSpec.{OutputSpec}
@@ -18,14 +18,14 @@ module _ (before : List SpecCard) where
   input_is : (o : Option InputSpec) → is_some (option_and_then (input_stray_cause (is_some (open_group input_role before)) before) o) ≡ option_map_or (is_stray_input before) o false
   input_is None = refl
   input_is (Some (input.Type t)) = refl
-  input_is (Some (input.And codes)) = unless (OtherThanType (number_before before)) (is_behind_codes before)
+  input_is (Some (input.And codes)) = unless (OtherThanType (number_before before)) (follows_codes before)
   input_is (Some (input.Field f)) = unless_some NoType (open_group input_role before)
 
   output_is : (o : Option OutputSpec) → is_some (option_and_then (output_stray_cause (is_some (open_group output_role before)) before) o) ≡ option_map_or (is_stray_output before) o false
   output_is None = refl
   output_is (Some (output.Record r)) = refl
-  output_is (Some (output.And t)) = unless (OtherThanLine (number_before before)) (is_behind_conditions before)
-  output_is (Some (output.Or t)) = unless (OtherThanLine (number_before before)) (is_behind_conditions before)
+  output_is (Some (output.And t)) = unless (OtherThanLine (number_before before)) (follows_conditions before)
+  output_is (Some (output.Or t)) = unless (OtherThanLine (number_before before)) (follows_conditions before)
   output_is (Some (output.Field f)) = unless_some NoLine (open_group output_role before)
 
   pub stray_rule : (c : SpecCard) → is_some (stray_cause before c) ≡ is_stray before c

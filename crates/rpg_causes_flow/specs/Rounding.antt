@@ -7,7 +7,7 @@ use Rattle.rpg_cards.specs.Groups.{joins}
 use Rattle.rpg_cards.specs.declared.spec_card.SpecCard.{SpecCard}
 use Rattle.rpg_causes_flow.specs.declared.rounding.RoundingCause.{RoundingCause}
 use Rattle.rpg_causes_flow.specs.declared.rounding.RoundingCause.TheVariants.{LastCardAlone, NoDivision, NoOperation, NotRounded, SeveralCards}
-use Rattle.rpg_faults_flow.specs.Rounding.{is_behind_division, is_remainder, may_half_adjust, operation_passes}
+use Rattle.rpg_faults_flow.specs.Rounding.{follows_division, is_remainder, may_half_adjust, operation_passes}
 use Rattle.rpg_sheet_specs.specs.declared.calculation.CalculationSpec.{CalculationSpec}
 use Rattle.rpg_sheet_specs.specs.declared.calculation.Operation.{Operation}
 
@@ -27,14 +27,14 @@ of_half_adjust k last = if k.half_adjust then of_last last else None
 
 -- MVR in a group of several cards, or where no division without H comes right before
 abbrev pub unless_after_division : Bool → Bool → Option RoundingCause
-unless_after_division true behind = Some SeveralCards
-unless_after_division false behind = if behind then None else Some NoDivision
+unless_after_division true following = Some SeveralCards
+unless_after_division false following = if following then None else Some NoDivision
 
 -- MVR that has no remainder
 abbrev pub of_remainder : List SpecCard → CalculationSpec → Option CalculationSpec → Option RoundingCause
 of_remainder before k last =
     if option_map_or (operation_passes is_remainder) last false
-    then unless_after_division (joins k.control_level) (is_behind_division before) else None
+    then unless_after_division (joins k.control_level) (follows_division before) else None
 
 -- F15 of a calculation card
 abbrev pub of_calculation : List SpecCard → CalculationSpec → Option CalculationSpec → Option RoundingCause

@@ -6,7 +6,7 @@ use Rattle.rpg_cards.specs.Groups.{input_role, open_group, output_role}
 use Rattle.rpg_cards.specs.declared.spec_card.SpecCard.{SpecCard}
 use Rattle.rpg_causes_flow.specs.declared.strays.StrayCause.{StrayCause}
 use Rattle.rpg_causes_flow.specs.declared.strays.StrayCause.TheVariants.{NoLine, NoType, OtherThanLine, OtherThanType}
-use Rattle.rpg_faults_flow.specs.Strays.{card_right_before, is_behind_codes, is_behind_conditions}
+use Rattle.rpg_faults_flow.specs.Strays.{card_right_before, follows_codes, follows_conditions}
 use Rattle.rpg_sheet_specs.specs.declared.input.InputSpec.{InputSpec}
 use Rattle.rpg_sheet_specs.specs.declared.input.InputSpec.TheVariants as input
 use Rattle.rpg_sheet_specs.specs.declared.output.OutputSpec.{OutputSpec}
@@ -19,12 +19,12 @@ number_before before = option_map (λ (c : SpecCard). c.number) (card_right_befo
 -- an AND card that continues no type, or a field where none is open
 abbrev pub input_stray_cause : Bool → List SpecCard → InputSpec → Option StrayCause
 input_stray_cause is_open before (input.Type t) = None
-input_stray_cause is_open before (input.And codes) = if is_behind_codes before then None else Some (OtherThanType (number_before before))
+input_stray_cause is_open before (input.And codes) = if follows_codes before then None else Some (OtherThanType (number_before before))
 input_stray_cause is_open before (input.Field f) = if is_open then None else Some NoType
 
 -- an AND or OR card that continues no line
 abbrev pub unless_after_conditions : List SpecCard → Option StrayCause
-unless_after_conditions before = if is_behind_conditions before then None else Some (OtherThanLine (number_before before))
+unless_after_conditions before = if follows_conditions before then None else Some (OtherThanLine (number_before before))
 
 -- such a card, or a field where no line is open
 abbrev pub output_stray_cause : Bool → List SpecCard → OutputSpec → Option StrayCause

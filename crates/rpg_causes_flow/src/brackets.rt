@@ -81,12 +81,12 @@ fn bracket_on(group: &Option<ControlLevel>, card: &SpecCard, after: &[SpecCard])
 }
 
 /// The cards after the first.
-fn behind_first(cards: &[SpecCard]) -> &[SpecCard]
+fn following_first(cards: &[SpecCard]) -> &[SpecCard]
     ensures { (c : SpecCard) (cs : List SpecCard) → cards.now ≡ c ∷ cs → result.now ≡ cs }
 {
     match cards.split_first() {
         None => cards,
-        Some((_, behind)) => behind,
+        Some((_, following)) => following,
     }
 }
 
@@ -99,11 +99,11 @@ pub(crate) fn last_bracket(front: &[SpecCard], cards: &[SpecCard]) -> Option<Bra
     let mut front = front;
     let mut cards = cards;
     while let Some((card, left)) = front.split_first() {
-        let behind = behind_first(cards);
-        found = bracket_on(&group, card, behind).or(found);
+        let following = following_first(cards);
+        found = bracket_on(&group, card, following).or(found);
         group = level_with(&group, card);
         front = left;
-        cards = behind;
+        cards = following;
     }
     found
 }
@@ -114,13 +114,13 @@ pub(crate) fn next_bracket(level: &ControlLevel, after: &[SpecCard]) -> Option<B
 {
     let mut group = Some(*level);
     let mut rest = after;
-    while let Some((card, behind)) = rest.split_first() {
-        let found = bracket_on(&group, card, behind);
+    while let Some((card, following)) = rest.split_first() {
+        let found = bracket_on(&group, card, following);
         if found.is_some() {
             return found;
         }
         group = level_with(&group, card);
-        rest = behind;
+        rest = following;
     }
     None
 }
@@ -137,11 +137,11 @@ pub fn count_begun(front: &[SpecCard], cards: &[SpecCard]) -> u16
     let mut front = front;
     let mut cards = cards;
     while let Some((card, left)) = front.split_first() {
-        let behind = behind_first(cards);
-        count += one_if(opens(bracket_on(&group, card, behind)));
+        let following = following_first(cards);
+        count += one_if(opens(bracket_on(&group, card, following)));
         group = level_with(&group, card);
         front = left;
-        cards = behind;
+        cards = following;
     }
     count
 }

@@ -59,7 +59,7 @@ pub fn on_calculation(
 }
 
 /// Whether a C card stands right before.
-#[tactic(auto, using(crate::proofs::Groups::is_open_behind))]
+#[tactic(auto, using(crate::proofs::Groups::is_open_after))]
 pub(crate) fn is_in_group(before: &[SpecCard]) -> bool
     ensures { result ≡ is_some (open_calculation_group before.now) }
 {

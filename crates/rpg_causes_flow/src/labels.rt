@@ -78,13 +78,13 @@ fn first_giver(name: &Name, front: &[SpecCard], cards: &[SpecCard]) -> Option<Gi
     let mut front = front;
     let mut cards = cards;
     while let Some((card, left)) = front.split_first() {
-        let (_, behind) = cards.split_first()?;
-        let found = giver_on(name, card, behind);
+        let (_, following) = cards.split_first()?;
+        let found = giver_on(name, card, following);
         if found.is_some() {
             return found;
         }
         front = left;
-        cards = behind;
+        cards = following;
     }
     None
 }

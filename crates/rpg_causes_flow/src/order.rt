@@ -131,12 +131,12 @@ fn first_later(own: &ControlLevel, before: &[SpecCard]) -> Option<OrderCause>
     ensures { result ≡ causes.first_later own.now before.now }
 {
     let mut rest = before;
-    while let Some((card, behind)) = rest.split_first() {
+    while let Some((card, following)) = rest.split_first() {
         let found = if_later(own, card);
         if found.is_some() {
             return found;
         }
-        rest = behind;
+        rest = following;
     }
     None
 }

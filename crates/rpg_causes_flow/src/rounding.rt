@@ -74,7 +74,7 @@ fn of_remainder(
         None
     } else if joins(calculation) {
         Some(RoundingCause::SeveralCards)
-    } else if is_behind_division(before) {
+    } else if follows_division(before) {
         None
     } else {
         Some(RoundingCause::NoDivision)
@@ -82,9 +82,9 @@ fn of_remainder(
 }
 
 /// Whether the card right before is the last one of a division without H.
-#[tactic(auto, using(crate::proofs::Groups::is_division_behind))]
-fn is_behind_division(before: &[SpecCard]) -> bool
-    ensures { result ≡ rules.is_behind_division before.now }
+#[tactic(auto, using(crate::proofs::Groups::is_division_after))]
+fn follows_division(before: &[SpecCard]) -> bool
+    ensures { result ≡ rules.follows_division before.now }
 {
     match before.split_last() {
         None => false,

@@ -98,13 +98,13 @@ fn first_label(name: &Name, source: &IndexedCards) -> Option<LabelOnCard>
 {
     let mut front = &source.as_slice()[..0];
     let mut rest = source.as_slice();
-    while let Some((card, behind)) = rest.split_first() {
-        let found = label_on(name, source, front, card, behind);
+    while let Some((card, following)) = rest.split_first() {
+        let found = label_on(name, source, front, card, following);
         if found.is_some() {
             return found;
         }
-        front = with_card(source, front, card, behind);
-        rest = behind;
+        front = with_card(source, front, card, following);
+        rest = following;
     }
     None
 }

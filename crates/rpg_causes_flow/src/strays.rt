@@ -55,7 +55,7 @@ fn on_input(is_open: bool, before: &[SpecCard], input: &InputSpec) -> Option<Str
 {
     match input {
         InputSpec::Type(_) => None,
-        InputSpec::And(_) if is_behind_codes(before) => None,
+        InputSpec::And(_) if follows_codes(before) => None,
         InputSpec::And(_) => Some(StrayCause::OtherThanType(number_before(before))),
         InputSpec::Field(_) if is_open => None,
         InputSpec::Field(_) => Some(StrayCause::NoType),
@@ -67,7 +67,7 @@ fn on_output(is_open: bool, before: &[SpecCard], output: &OutputSpec) -> Option<
 {
     match output {
         OutputSpec::Record(_) => None,
-        OutputSpec::And(_) | OutputSpec::Or(_) if is_behind_conditions(before) => None,
+        OutputSpec::And(_) | OutputSpec::Or(_) if follows_conditions(before) => None,
         OutputSpec::And(_) | OutputSpec::Or(_) => {
             Some(StrayCause::OtherThanLine(number_before(before)))
         }
@@ -82,8 +82,8 @@ fn number_before(before: &[SpecCard]) -> Option<u16>
     Some(before.last()?.number)
 }
 
-fn is_behind_codes(before: &[SpecCard]) -> bool
-    ensures { result ≡ rules.is_behind_codes before.now }
+fn follows_codes(before: &[SpecCard]) -> bool
+    ensures { result ≡ rules.follows_codes before.now }
 {
     let Some(card) = before.last() else {
         return false;
@@ -91,8 +91,8 @@ fn is_behind_codes(before: &[SpecCard]) -> bool
     matches!(card.input(), Some(InputSpec::Type(_) | InputSpec::And(_)))
 }
 
-fn is_behind_conditions(before: &[SpecCard]) -> bool
-    ensures { result ≡ rules.is_behind_conditions before.now }
+fn follows_conditions(before: &[SpecCard]) -> bool
+    ensures { result ≡ rules.follows_conditions before.now }
 {
     let Some(card) = before.last() else {
         return false;

@@ -31,11 +31,11 @@ pub(crate) fn is_near(one: &[u8], other: &[u8]) -> bool {
     }
     let same = common(one, other);
     let next = same.saturating_add(1);
-    let behind = next.saturating_add(1);
+    let following = next.saturating_add(1);
     rest_of(one, next) == rest_of(other, next)
         || rest_of(one, next) == rest_of(other, same)
         || rest_of(one, same) == rest_of(other, next)
-        || (rest_of(one, behind) == rest_of(other, behind)
+        || (rest_of(one, following) == rest_of(other, following)
             && one.get(same) == other.get(next)
             && one.get(next) == other.get(same))
 }

@@ -97,11 +97,11 @@ impl<'a> Spot<'a> {
             if rest.is_empty() {
                 break;
             }
-            let (line, behind) = first_line(rest);
+            let (line, following) = first_line(rest);
             if at == number {
                 return text_at(line, first, last);
             }
-            rest = behind;
+            rest = following;
         }
         &[]
     }

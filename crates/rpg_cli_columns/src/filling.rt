@@ -71,12 +71,12 @@ impl Columns {
             if is_blank(rest) {
                 return Ok(());
             }
-            let Some((column, behind)) = column_at(rest) else {
+            let Some((column, following)) = column_at(rest) else {
                 return Err(LineFault::NoColumn);
             };
-            let (text, behind) = cut(behind);
+            let (text, following) = cut(following);
             self.put_text(column, text)?;
-            rest = behind;
+            rest = following;
         }
         if is_blank(rest) {
             Ok(())

@@ -15,8 +15,8 @@ fn digit(character: u8) -> Option<u8>
 /// A column of one or two digits with its equals sign, and what follows.
 pub(crate) fn column_at(text: &[u8]) -> Option<(u8, &[u8])> {
     match text {
-        [ones, b'=', behind @ ..] => Some((digit(*ones)?, behind)),
-        [tens, ones, b'=', behind @ ..] => Some((digit(*tens)? * 10 + digit(*ones)?, behind)),
+        [ones, b'=', following @ ..] => Some((digit(*ones)?, following)),
+        [tens, ones, b'=', following @ ..] => Some((digit(*tens)? * 10 + digit(*ones)?, following)),
         _ => None,
     }
 }
@@ -24,9 +24,9 @@ pub(crate) fn column_at(text: &[u8]) -> Option<(u8, &[u8])> {
 /// The text of an item, and what follows it from the next item on.
 pub(crate) fn cut(text: &[u8]) -> (&[u8], &[u8]) {
     for (place, character) in text.iter().enumerate() {
-        let behind = text.get(place.saturating_add(1)..).unwrap_or(&[]);
-        if *character == b' ' && column_at(behind).is_some() {
-            return (text.get(..place).unwrap_or(text), behind);
+        let following = text.get(place.saturating_add(1)..).unwrap_or(&[]);
+        if *character == b' ' && column_at(following).is_some() {
+            return (text.get(..place).unwrap_or(text), following);
         }
     }
     (text, &[])

@@ -33,7 +33,7 @@ fn part_of(text: &'static str, separator: char, number: usize) -> &'static str {
     let mut rest = text;
     for _ in 0..number {
         match rest.split_once(separator) {
-            Some((_, behind)) => rest = behind,
+            Some((_, following)) => rest = following,
             None => return "",
         }
     }

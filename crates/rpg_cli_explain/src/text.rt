@@ -61,7 +61,7 @@ fn write_page(out: &mut TextWriter, topic: Topic) {
     write_examples(out, page.keeps);
     out.fill(
         "\nWhat to do: {}.\n\nThen: {}.\n",
-        &[page.advice.into(), topic.behind().into()],
+        &[page.advice.into(), topic.following().into()],
     );
 }
 

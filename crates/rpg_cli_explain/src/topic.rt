@@ -97,7 +97,7 @@ impl Topic {
     }
 
     /// What happens then: when it is reported, what becomes of the work, and the exit status.
-    pub(crate) const fn behind(self) -> &'static str {
+    pub(crate) const fn following(self) -> &'static str {
         match self {
             Topic::Sheet(_) => {
                 "F codes are checked once no card has an S code. Nothing is written; status 3"
@@ -125,7 +125,7 @@ impl Topic {
 }
 
 /// The number after a family's letters, whatever their case: 16 of `f16` for `F`, 4 of `Halt 4` for `halt`.
-fn number_behind(code: &str, letters: &str) -> Option<usize> {
+fn number_following(code: &str, letters: &str) -> Option<usize> {
     let given = code.get(..letters.len())?;
     if !given.eq_ignore_ascii_case(letters) {
         return None;
@@ -136,7 +136,7 @@ fn number_behind(code: &str, letters: &str) -> Option<usize> {
 /// What the code of a person is about, as `F16`, `s5` or `halt 4`.
 pub fn topic_of(code: &str) -> Option<Topic> {
     for family in FAMILIES {
-        if let Some(number) = number_behind(code, family.letters()) {
+        if let Some(number) = number_following(code, family.letters()) {
             return family.sibling_if_any(number);
         }
     }

@@ -10,7 +10,7 @@ use rpg_sheet_specs::{
 use std::alloc::{AllocError, Global};
 
 /// One more than the greatest number of an indicator.
-const BEHIND: usize = 130;
+const AFTER: usize = 130;
 
 /// The number of MR.
 const MATCHING: u8 = 129;
@@ -57,8 +57,8 @@ pub struct Indicators {
 }
 
 fn unused(alloc: Global) -> Result<Indicators, AllocError> {
-    let mut uses = Vec::with_capacity(alloc, BEHIND)?;
-    for _ in 0..BEHIND {
+    let mut uses = Vec::with_capacity(alloc, AFTER)?;
+    for _ in 0..AFTER {
         uses.push(IndicatorUses {
             turned: Vec::new(alloc),
             asked: Vec::new(alloc),

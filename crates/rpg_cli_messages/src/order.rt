@@ -29,7 +29,7 @@ pub(crate) fn later_card(text: &[u8], number: u16, line: &[u8]) -> Option<LaterC
         if rest.is_empty() {
             return None;
         }
-        let (other, behind) = first_line(rest);
+        let (other, following) = first_line(rest);
         match place_of(other) {
             Some(place) if place > own => {
                 return Some(LaterCard {
@@ -37,7 +37,7 @@ pub(crate) fn later_card(text: &[u8], number: u16, line: &[u8]) -> Option<LaterC
                     form: character_at(other, 6),
                 });
             }
-            _ => rest = behind,
+            _ => rest = following,
         }
     }
     None

@@ -54,12 +54,12 @@ impl Tally {
             if rest.is_empty() {
                 break;
             }
-            let (line, behind) = first_line(rest);
+            let (line, following) = first_line(rest);
             if ends_source(line) {
                 break;
             }
             tally.note(card, line);
-            rest = behind;
+            rest = following;
         }
         tally
     }

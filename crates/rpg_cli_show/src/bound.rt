@@ -3,7 +3,7 @@
 ghost use Rattle.std.specs.Prelude.{◌≡◌, ◌+◌, ◌≤◌, length};
 ghost use Rattle.rpg_program.specs.Kept.{IsProgram};
 ghost use Rattle.rpg_program.specs.Object.{seen};
-ghost use Rattle.rpg_program.specs.Sections.{first_place, place_behind};
+ghost use Rattle.rpg_program.specs.Sections.{first_place, place_after};
 
 use rpg_cli_text::TextWriter;
 use rpg_program::line::Time;
@@ -23,7 +23,7 @@ fn push_section(
 ) -> Result<(), AllocError>
     requires few { first + count ≤ 8192 }
     requires first { first ≡ first_place verified.now section }
-    requires end { first + count ≡ place_behind verified.now section }
+    requires end { first + count ≡ place_after verified.now section }
 {
     for place in first..first + count {
         let number = place as u16;
@@ -55,7 +55,7 @@ fn push_subroutines(
 }
 
 /// The path costs of the places of an accepted program.
-#[tactic(auto, unfolding(rpg_program::specs::Sections::first_place, rpg_program::specs::Sections::place_behind))]
+#[tactic(auto, unfolding(rpg_program::specs::Sections::first_place, rpg_program::specs::Sections::place_after))]
 pub(crate) fn path_costs(alloc: Global, verified: &Verified) -> Result<Vec<u64>, AllocError> {
     let rows = verified.program().rows();
     let detail = rows.detail.len();

@@ -8,20 +8,20 @@ use Rattle.rpg_program.specs.declared.condition.Conditions.{Conditions}
 use Rattle.rpg_program.specs.declared.operation.Instruction.{Instruction}
 use Rattle.rpg_compile.specs.Tests.{alternatives_from, alternatives_in, begins_alternative, tests_at, tests_in}
 
-tests_more : (place operation behind : ℕ) (cs so_far : List Conditions) (ks : List SpecCard) →
-    tests_code place operation behind (cs ∷ alternatives_from so_far ks) ≡ alternative_code (place + length cs) operation cs ++ tests_code (place + length cs) operation behind (alternatives_from so_far ks)
-tests_more place operation behind cs so_far [] = refl
-tests_more place operation behind cs so_far (k ∷ ks) = by_or (begins_alternative k) (tests_more place operation behind cs (so_far ++ tests_at k) ks)
+tests_more : (place operation following : ℕ) (cs so_far : List Conditions) (ks : List SpecCard) →
+    tests_code place operation following (cs ∷ alternatives_from so_far ks) ≡ alternative_code (place + length cs) operation cs ++ tests_code (place + length cs) operation following (alternatives_from so_far ks)
+tests_more place operation following cs so_far [] = refl
+tests_more place operation following cs so_far (k ∷ ks) = by_or (begins_alternative k) (tests_more place operation following cs (so_far ++ tests_at k) ks)
   where
-    by_or : (b : Bool) → tests_code place operation behind (cs ∷ alternatives_from (so_far ++ tests_at k) ks) ≡ alternative_code (place + length cs) operation cs ++ tests_code (place + length cs) operation behind (alternatives_from (so_far ++ tests_at k) ks)
-        → tests_code place operation behind (cs ∷ cond b (so_far ∷ alternatives_from (tests_at k) ks) (alternatives_from (so_far ++ tests_at k) ks)) ≡ alternative_code (place + length cs) operation cs ++ tests_code (place + length cs) operation behind (cond b (so_far ∷ alternatives_from (tests_at k) ks) (alternatives_from (so_far ++ tests_at k) ks))
+    by_or : (b : Bool) → tests_code place operation following (cs ∷ alternatives_from (so_far ++ tests_at k) ks) ≡ alternative_code (place + length cs) operation cs ++ tests_code (place + length cs) operation following (alternatives_from (so_far ++ tests_at k) ks)
+        → tests_code place operation following (cs ∷ cond b (so_far ∷ alternatives_from (tests_at k) ks) (alternatives_from (so_far ++ tests_at k) ks)) ≡ alternative_code (place + length cs) operation cs ++ tests_code (place + length cs) operation following (cond b (so_far ∷ alternatives_from (tests_at k) ks) (alternatives_from (so_far ++ tests_at k) ks))
     by_or true r = refl
     by_or false r = r
 
-pub tests_step : (place operation behind : ℕ) (cs : List Conditions) (ks : List SpecCard) → 0 < length ks →
-    tests_code place operation behind (cs ∷ alternatives_in ks) ≡ alternative_code (place + length cs) operation cs ++ tests_code (place + length cs) operation behind (alternatives_in ks)
-tests_step place operation behind cs [] some = absurd (omega arith)
-tests_step place operation behind cs (k ∷ ks) some = tests_more place operation behind cs (tests_at k) ks
+pub tests_step : (place operation following : ℕ) (cs : List Conditions) (ks : List SpecCard) → 0 < length ks →
+    tests_code place operation following (cs ∷ alternatives_in ks) ≡ alternative_code (place + length cs) operation cs ++ tests_code (place + length cs) operation following (alternatives_in ks)
+tests_step place operation following cs [] some = absurd (omega arith)
+tests_step place operation following cs (k ∷ ks) some = tests_more place operation following cs (tests_at k) ks
 
 -- ---- one card more
 
@@ -59,12 +59,12 @@ split_tests cards n =
     ap (λ cs. length (tests_in cs)) (sym (take-append-drop n cards)) ∙ ap length (tests_append (take n cards) (drop n cards)) ∙ length-append (tests_in (take n cards)) (tests_in (drop n cards))
 
 -- an alternative is put after the code, and the others are left
-pub pushed : (now new target : List (Instruction ℕ)) (at count operation behind : ℕ) (rest alt others : List SpecCard)
-    → now ++ tests_code at operation behind (alternatives_in rest) ≡ target → alternatives_in rest ≡ tests_in alt ∷ alternatives_in others → 0 < length others → count ≡ length (tests_in alt)
-    → new ≡ now ++ alternative_code (at + count) operation (tests_in alt) → new ++ tests_code (at + count) operation behind (alternatives_in others) ≡ target
-pushed now new target at count operation behind rest alt others so_far split some counted made =
-    ap (λ xs. xs ++ tests_code (at + count) operation behind (alternatives_in others)) made
-    ∙ append_assoc now (alternative_code (at + count) operation (tests_in alt)) (tests_code (at + count) operation behind (alternatives_in others))
-    ∙ ap (λ k. now ++ (alternative_code (at + k) operation (tests_in alt) ++ tests_code (at + k) operation behind (alternatives_in others))) counted
-    ∙ ap (λ xs. now ++ xs) (sym (tests_step at operation behind (tests_in alt) others some))
-    ∙ ap (λ alts. now ++ tests_code at operation behind alts) (sym split) ∙ so_far
+pub pushed : (now new target : List (Instruction ℕ)) (at count operation following : ℕ) (rest alt others : List SpecCard)
+    → now ++ tests_code at operation following (alternatives_in rest) ≡ target → alternatives_in rest ≡ tests_in alt ∷ alternatives_in others → 0 < length others → count ≡ length (tests_in alt)
+    → new ≡ now ++ alternative_code (at + count) operation (tests_in alt) → new ++ tests_code (at + count) operation following (alternatives_in others) ≡ target
+pushed now new target at count operation following rest alt others so_far split some counted made =
+    ap (λ xs. xs ++ tests_code (at + count) operation following (alternatives_in others)) made
+    ∙ append_assoc now (alternative_code (at + count) operation (tests_in alt)) (tests_code (at + count) operation following (alternatives_in others))
+    ∙ ap (λ k. now ++ (alternative_code (at + k) operation (tests_in alt) ++ tests_code (at + k) operation following (alternatives_in others))) counted
+    ∙ ap (λ xs. now ++ xs) (sym (tests_step at operation following (tests_in alt) others some))
+    ∙ ap (λ alts. now ++ tests_code at operation following alts) (sym split) ∙ so_far

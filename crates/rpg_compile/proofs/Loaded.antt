@@ -9,7 +9,7 @@ use Rattle.std.specs.Option.{ForSome, option_map_or}
 use Rattle.std.specs.Prelude.{is_some, ◌==◌, nat_lt}
 use Rattle.rpg_cards.specs.Plain.{Each}
 use Rattle.rpg_cards.specs.Cards.{data_on, extension_on}
-use Rattle.rpg_cards.specs.Groups.{Group, data_card_role, data_role, followers, following, groups, groups_from, opening, role_on}
+use Rattle.rpg_cards.specs.Groups.{Group, data_card_role, data_role, followers, followers_with, groups, groups_from, opening, role_on}
 use Rattle.rpg_cards.specs.Names.{definition_in, definitions_on, form_of_name, table_form, tables_on}
 use Rattle.rpg_cards.specs.declared.names.Defined.TheVariants.{Good}
 use Rattle.rpg_cards.specs.declared.names.Definition.{Definition}
@@ -53,7 +53,7 @@ texts_fit : (cards : List SpecCard) → AreCards cards → Each IsDataText (foll
 texts_fit [] h = tt
 texts_fit (c ∷ cs) h = by (data_on c.spec) (data_fits c.spec h.0) (texts_fit cs h.1)
   where
-    by : (o : Option DataSpec) → ForSome o IsData → Each IsDataText (followers data_role cs) → Each IsDataText (following (role_on data_card_role o) (followers data_role cs))
+    by : (o : Option DataSpec) → ForSome o IsData → Each IsDataText (followers data_role cs) → Each IsDataText (followers_with (role_on data_card_role o) (followers data_role cs))
     by None h later = later
     by (Some deck.Begin) h later = tt
     by (Some (deck.Card text)) h later = (h (deck.Card text) refl, later)
@@ -214,9 +214,9 @@ module _ (cards : List SpecCard) (spelled : FitsText) (ranges : AreCards cards)
           let wants : wants_data c ≡ true = ap (λ o. option_map_or (λ (e : ExtensionSpec). is_some e.entries_per_card) o false) is ∙ ap (λ (o : Option ℕ). is_some o) some in
           let next : wanted (before ++ c ∷ []) ≡ suc (wanted before) = one_more before c wants ∙ add-one (wanted before) in
           let here : Each (IsLoaded cards) (tables_loaded e per_card takes.texts 0 (tables_on e)) = tables_fit cards spelled e per_card takes.texts 0 (tables_on e) takes.good of_name (omega arith) in
-          let behind = subst (λ n. Each (IsLoaded cards) (all_loaded (extensions after) (drop n (decks cards)))) next later in
+          let following = subst (λ n. Each (IsLoaded cards) (all_loaded (extensions after) (drop n (decks cards)))) next later in
           subst (λ ds. Each (IsLoaded cards) (with_deck e (Some per_card) ds (λ rest. all_loaded (extensions after) rest))) (sym (drop_got (wanted before) (decks cards) takes.texts takes.is))
-          (each_append (IsLoaded cards) (tables_loaded e per_card takes.texts 0 (tables_on e)) (all_loaded (extensions after) (drop (suc (wanted before)) (decks cards))) here behind)
+          (each_append (IsLoaded cards) (tables_loaded e per_card takes.texts 0 (tables_on e)) (all_loaded (extensions after) (drop (suc (wanted before)) (decks cards))) here following)
 
       by_card : (o : Option ExtensionSpec) → extension_on c.spec ≡ o → Each (IsLoaded cards) (all_loaded (cons_option o (extensions after)) (drop (wanted before) (decks cards)))
       by_card None is = passed (ap (λ o. option_map_or (λ (e : ExtensionSpec). is_some e.entries_per_card) o false) is)

@@ -42,37 +42,37 @@ stops Detail g gs e = absurd cc
 stops Total g gs e = absurd cc
 stops Body g gs e = begun_stops g.deed (g ∷ up_to_begin gs) e
 
-module _ (g : Calculation Key) (rest behind : List SpecCard) (split : calculations rest ≡ g ∷ calculations behind) where
-  pub section_other : (part : Part) → belongs part g.control ≡ false → section_in part rest ≡ section_in part behind
+module _ (g : Calculation Key) (rest following : List SpecCard) (split : calculations rest ≡ g ∷ calculations following) where
+  pub section_other : (part : Part) → belongs part g.control ≡ false → section_in part rest ≡ section_in part following
   section_other part other =
       ap (λ gs. part_cards part (of_control (belongs part) gs)) split
-      ∙ ap (λ b. part_cards part (cond b (g ∷ of_control (belongs part) (calculations behind)) (of_control (belongs part) (calculations behind)))) other
+      ∙ ap (λ b. part_cards part (cond b (g ∷ of_control (belongs part) (calculations following)) (of_control (belongs part) (calculations following)))) other
 
-  in_section : (part : Part) → belongs part g.control ≡ true → section_in part rest ≡ part_cards part (g ∷ of_control (belongs part) (calculations behind))
+  in_section : (part : Part) → belongs part g.control ≡ true → section_in part rest ≡ part_cards part (g ∷ of_control (belongs part) (calculations following))
   in_section part own =
       ap (λ gs. part_cards part (of_control (belongs part) gs)) split
-      ∙ ap (λ b. part_cards part (cond b (g ∷ of_control (belongs part) (calculations behind)) (of_control (belongs part) (calculations behind)))) own
+      ∙ ap (λ b. part_cards part (cond b (g ∷ of_control (belongs part) (calculations following)) (of_control (belongs part) (calculations following)))) own
 
-  pub section_next : (part : Part) → belongs part g.control ≡ true → ends_before part g.deed ≡ false → section_in part rest ≡ g ∷ section_in part behind
-  section_next part own more = in_section part own ∙ goes_on part g (of_control (belongs part) (calculations behind)) more
+  pub section_next : (part : Part) → belongs part g.control ≡ true → ends_before part g.deed ≡ false → section_in part rest ≡ g ∷ section_in part following
+  section_next part own more = in_section part own ∙ goes_on part g (of_control (belongs part) (calculations following)) more
 
   pub section_end : (part : Part) → belongs part g.control ≡ true → ends_before part g.deed ≡ true → section_in part rest ≡ []
-  section_end part own end = in_section part own ∙ stops part g (of_control (belongs part) (calculations behind)) end
+  section_end part own end = in_section part own ∙ stops part g (of_control (belongs part) (calculations following)) end
 
   -- ---- subroutines
 
-  pub subroutines_other : is_subroutine g.control ≡ false → subroutines_in rest ≡ subroutines_in behind
+  pub subroutines_other : is_subroutine g.control ≡ false → subroutines_in rest ≡ subroutines_in following
   subroutines_other other =
       ap (λ gs. subroutines_of (of_control is_subroutine gs)) split
-      ∙ ap (λ b. subroutines_of (cond b (g ∷ of_control is_subroutine (calculations behind)) (of_control is_subroutine (calculations behind)))) other
+      ∙ ap (λ b. subroutines_of (cond b (g ∷ of_control is_subroutine (calculations following)) (of_control is_subroutine (calculations following)))) other
 
-  in_subroutines : is_subroutine g.control ≡ true → subroutines_in rest ≡ with_begun (begun_by g.deed) (section_in Body behind) (subroutines_in behind)
+  in_subroutines : is_subroutine g.control ≡ true → subroutines_in rest ≡ with_begun (begun_by g.deed) (section_in Body following) (subroutines_in following)
   in_subroutines own =
       ap (λ gs. subroutines_of (of_control is_subroutine gs)) split
-      ∙ ap (λ b. subroutines_of (cond b (g ∷ of_control is_subroutine (calculations behind)) (of_control is_subroutine (calculations behind)))) own
+      ∙ ap (λ b. subroutines_of (cond b (g ∷ of_control is_subroutine (calculations following)) (of_control is_subroutine (calculations following)))) own
 
-  pub subroutines_within : is_subroutine g.control ≡ true → is_begsr g.deed ≡ false → subroutines_in rest ≡ subroutines_in behind
-  subroutines_within own within = in_subroutines own ∙ ap (λ o. with_begun o (section_in Body behind) (subroutines_in behind)) (not_begun g.deed within)
+  pub subroutines_within : is_subroutine g.control ≡ true → is_begsr g.deed ≡ false → subroutines_in rest ≡ subroutines_in following
+  subroutines_within own within = in_subroutines own ∙ ap (λ o. with_begun o (section_in Body following) (subroutines_in following)) (not_begun g.deed within)
 
-  pub subroutines_next : (name : Option Name) → is_subroutine g.control ≡ true → g.deed ≡ Begins name → subroutines_in rest ≡ record { name = name; body = section_in Body behind } ∷ subroutines_in behind
-  subroutines_next name own begins = in_subroutines own ∙ ap (λ d. with_begun (begun_by d) (section_in Body behind) (subroutines_in behind)) begins
+  pub subroutines_next : (name : Option Name) → is_subroutine g.control ≡ true → g.deed ≡ Begins name → subroutines_in rest ≡ record { name = name; body = section_in Body following } ∷ subroutines_in following
+  subroutines_next name own begins = in_subroutines own ∙ ap (λ d. with_begun (begun_by d) (section_in Body following) (subroutines_in following)) begins

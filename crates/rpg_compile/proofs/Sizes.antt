@@ -13,7 +13,7 @@ use Rattle.rpg_cards.specs.declared.spec_card.SpecCard.{SpecCard}
 use Rattle.rpg_compile_program.specs.Code.{size, sizes, waits}
 use Rattle.rpg_program.specs.Control.{has_conditions}
 use Rattle.rpg_program.specs.declared.condition.Conditions.{Conditions}
-use Rattle.rpg_compile.proofs.Walk.{behind_group, closed, opened}
+use Rattle.rpg_compile.proofs.Walk.{after_group, closed, opened}
 use Rattle.rpg_compile.specs.Numbers.{body_sizes}
 use Rattle.rpg_compile.specs.Walk.{section_in, subroutines_in}
 use Rattle.rpg_compile.specs.declared.part.Part.TheVariants.{Detail, Total}
@@ -87,12 +87,12 @@ abbrev emitted : CalculationGroup → List SpecCard → Bool → List (Calculati
 emitted h cs b = option_to_list (option_map calculation_of (cond b None (Some h))) ++ calculations_from (Some h) cs []
 
 by_group : (h : CalculationGroup) (cs : List SpecCard) (b : Bool) (pend : ℕ) → goes_on cs ≡ b → tests_of h ≤ pend + 1 → sizes (calculations_from (Some h) cs []) ≤ 3 * length cs + cond b (tests_of h) 0
-    → sizes (behind_group h cs) ≤ 3 * suc (length cs) + pend
+    → sizes (after_group h cs) ≤ 3 * suc (length cs) + pend
 by_group h cs true pend goes few rest =
-    let same : sizes (behind_group h cs) ≡ sizes (calculations_from (Some h) cs []) = ap (λ b. sizes (emitted h cs b)) goes in
+    let same : sizes (after_group h cs) ≡ sizes (calculations_from (Some h) cs []) = ap (λ b. sizes (emitted h cs b)) goes in
     omega (arith, same, few, rest)
 by_group h cs false pend goes few rest =
-    let same : sizes (behind_group h cs) ≡ size (calculation_of h) + sizes (calculations_from (Some h) cs []) = ap (λ b. sizes (emitted h cs b)) goes in
+    let same : sizes (after_group h cs) ≡ size (calculation_of h) + sizes (calculations_from (Some h) cs []) = ap (λ b. sizes (emitted h cs b)) goes in
     let here = small h in
     omega (arith, same, few, rest, here)
 

@@ -91,12 +91,12 @@ module _ (number : Key → ℕ) (place_of callee_of : Option Name → ℕ) (own 
   -- ---- sections
 
   -- a group is put after the code, and the others are left
-  pub one_more : (now new all : List (Instruction ℕ)) (place : ℕ) (g : Calculation Key) (rest behind : List (Calculation Key)) → rest ≡ g ∷ behind → new ≡ now ++ group_code number place_of callee_of own place g
-      → now ++ code_from number place_of callee_of own place rest ≡ all → new ++ code_from number place_of callee_of own (place + size g) behind ≡ all
+  pub one_more : (now new all : List (Instruction ℕ)) (place : ℕ) (g : Calculation Key) (rest following : List (Calculation Key)) → rest ≡ g ∷ following → new ≡ now ++ group_code number place_of callee_of own place g
+      → now ++ code_from number place_of callee_of own place rest ≡ all → new ++ code_from number place_of callee_of own (place + size g) following ≡ all
   unfolding code_from
-  one_more now new all place g rest behind split made so_far =
-      ap (λ is. is ++ code_from number place_of callee_of own (place + size g) behind) made
-      ∙ append_assoc now (group_code number place_of callee_of own place g) (code_from number place_of callee_of own (place + size g) behind)
+  one_more now new all place g rest following split made so_far =
+      ap (λ is. is ++ code_from number place_of callee_of own (place + size g) following) made
+      ∙ append_assoc now (group_code number place_of callee_of own place g) (code_from number place_of callee_of own (place + size g) following)
       ∙ ap (λ gs. now ++ code_from number place_of callee_of own place gs) (sym split) ∙ so_far
 
   pub none_left : (now all : List (Instruction ℕ)) (place : ℕ) (rest : List (Calculation Key)) → rest ≡ [] → now ++ code_from number place_of callee_of own place rest ≡ all → now ≡ all

@@ -16,10 +16,10 @@ use Rattle.rpg_sheet_specs.specs.declared.calculation.CalculationSpec.{Calculati
 -- ---- one card
 
 -- the calculations after a card that leaves a group open
-abbrev pub behind_group : CalculationGroup → List SpecCard → List (Calculation Key)
-behind_group g cs = option_to_list (option_map calculation_of (cond (goes_on cs) None (Some g))) ++ calculations_from (Some g) cs []
+abbrev pub after_group : CalculationGroup → List SpecCard → List (Calculation Key)
+after_group g cs = option_to_list (option_map calculation_of (cond (goes_on cs) None (Some g))) ++ calculations_from (Some g) cs []
 
-pub opened : (o : Option CalculationGroup) (c : SpecCard) (cs : List SpecCard) (g : CalculationGroup) → open_with o c.spec ≡ Some g → calculations_from o (c ∷ cs) [] ≡ behind_group g cs
+pub opened : (o : Option CalculationGroup) (c : SpecCard) (cs : List SpecCard) (g : CalculationGroup) → open_with o c.spec ≡ Some g → calculations_from o (c ∷ cs) [] ≡ after_group g cs
 opened o c cs g is =
     ap (λ after. option_to_list (option_map calculation_of (group_at o c after)) ++ calculations_from (open_with o c.spec) cs []) (append-nil cs)
     ∙ ap (λ p. option_to_list (option_map calculation_of (cond (goes_on cs) None p)) ++ calculations_from p cs []) is
@@ -47,7 +47,7 @@ goes_by c cs o is = ap (λ p. option_map_or (λ k. joins k.control_level) p fals
 
 -- no AN or OR card stands after the group
 ends_here : (g : CalculationGroup) (c : SpecCard) (cs : List SpecCard) → goes_on (c ∷ cs) ≡ false → calculations_from (Some g) (c ∷ cs) [] ≡ calculations (c ∷ cs) → completed g (c ∷ cs) ≡ g
-    → behind_group g (c ∷ cs) ≡ calculation_of (completed g (c ∷ cs)) ∷ calculations (drop (joining (c ∷ cs)) (c ∷ cs))
+    → after_group g (c ∷ cs) ≡ calculation_of (completed g (c ∷ cs)) ∷ calculations (drop (joining (c ∷ cs)) (c ∷ cs))
 ends_here g c cs no_more same whole =
     ap (λ b. option_to_list (option_map calculation_of (cond b None (Some g))) ++ calculations_from (Some g) (c ∷ cs) []) no_more
     ∙ ap (λ gs. calculation_of g ∷ gs) same
@@ -56,21 +56,21 @@ ends_here g c cs no_more same whole =
 
 -- one does
 goes_further : (g h : CalculationGroup) (c : SpecCard) (cs : List SpecCard) → goes_on (c ∷ cs) ≡ true → open_with (Some g) c.spec ≡ Some h → completed g (c ∷ cs) ≡ completed h cs
-    → behind_group h cs ≡ calculation_of (completed h cs) ∷ calculations (drop (joining cs) cs)
-    → behind_group g (c ∷ cs) ≡ calculation_of (completed g (c ∷ cs)) ∷ calculations (drop (joining (c ∷ cs)) (c ∷ cs))
+    → after_group h cs ≡ calculation_of (completed h cs) ∷ calculations (drop (joining cs) cs)
+    → after_group g (c ∷ cs) ≡ calculation_of (completed g (c ∷ cs)) ∷ calculations (drop (joining (c ∷ cs)) (c ∷ cs))
 goes_further g h c cs goes is whole rest =
     ap (λ b. option_to_list (option_map calculation_of (cond b None (Some g))) ++ calculations_from (Some g) (c ∷ cs) []) goes
     ∙ opened (Some g) c cs h is ∙ rest
     ∙ ap (λ n. calculation_of (completed h cs) ∷ calculations (drop n (c ∷ cs))) (sym (joining_one c cs goes))
     ∙ ap (λ f. calculation_of f ∷ calculations (drop (joining (c ∷ cs)) (c ∷ cs))) (sym whole)
 
-from_group : (g : CalculationGroup) (cs : List SpecCard) → behind_group g cs ≡ calculation_of (completed g cs) ∷ calculations (drop (joining cs) cs)
+from_group : (g : CalculationGroup) (cs : List SpecCard) → after_group g cs ≡ calculation_of (completed g cs) ∷ calculations (drop (joining cs) cs)
 from_group g [] = refl
 from_group g (c ∷ cs) = by_card (calculation_on c.spec) refl (λ h. from_group h cs)
   where
     by_joins : (k : CalculationSpec) (b : Bool) → calculation_on c.spec ≡ Some k → joins k.control_level ≡ b
-        → ((h : CalculationGroup) → behind_group h cs ≡ calculation_of (completed h cs) ∷ calculations (drop (joining cs) cs))
-        → behind_group g (c ∷ cs) ≡ calculation_of (completed g (c ∷ cs)) ∷ calculations (drop (joining (c ∷ cs)) (c ∷ cs))
+        → ((h : CalculationGroup) → after_group h cs ≡ calculation_of (completed h cs) ∷ calculations (drop (joining cs) cs))
+        → after_group g (c ∷ cs) ≡ calculation_of (completed g (c ∷ cs)) ∷ calculations (drop (joining (c ∷ cs)) (c ∷ cs))
     by_joins k true is joins_it rest =
         goes_further g (joined_group g k) c cs (goes_by c cs (Some k) is ∙ joins_it)
         (ap (option_map (group_with (Some g))) is ∙ ap (λ b. Some (cond b (joined_group g k) (alone k))) joins_it)
@@ -83,8 +83,8 @@ from_group g (c ∷ cs) = by_card (calculation_on c.spec) refl (λ h. from_group
         (ap (λ o. option_map_or (λ k. cond (joins k.control_level) (completed (joined_group g k) cs) g) o g) is ∙ ap (λ b. cond b (completed (joined_group g k) cs) g) apart)
 
     by_card : (o : Option CalculationSpec) → calculation_on c.spec ≡ o
-        → ((h : CalculationGroup) → behind_group h cs ≡ calculation_of (completed h cs) ∷ calculations (drop (joining cs) cs))
-        → behind_group g (c ∷ cs) ≡ calculation_of (completed g (c ∷ cs)) ∷ calculations (drop (joining (c ∷ cs)) (c ∷ cs))
+        → ((h : CalculationGroup) → after_group h cs ≡ calculation_of (completed h cs) ∷ calculations (drop (joining cs) cs))
+        → after_group g (c ∷ cs) ≡ calculation_of (completed g (c ∷ cs)) ∷ calculations (drop (joining (c ∷ cs)) (c ∷ cs))
     by_card None is rest =
         ends_here g c cs (goes_by c cs None is)
         (closed (Some g) c cs (ap (option_map (group_with (Some g))) is) ∙ sym (closed None c cs (ap (option_map (group_with None)) is)))

@@ -11,16 +11,16 @@ module _ (number : Key → ℕ) (called : Option Name → ℕ) (level : ℕ → 
   abbrev pub row_of : ℕ → ℕ → Subroutine Key → SubroutineRow
   row_of own first s = record { level = level own; instructions = section_code number called own first s.body }
 
-  pub one_row_more : (now new : List row.Subroutine) (made : row.Subroutine) (all : List SubroutineRow) (own place behind : ℕ) (s : Subroutine Key) (rest later : List (Subroutine Key)) → rest ≡ s ∷ later → new ≡ now ++ made ∷ []
-      → subroutine_row made ≡ row_of own place s → behind ≡ place + sizes s.body
-      → map subroutine_row now ++ subroutines_code number called level own place rest ≡ all → map subroutine_row new ++ subroutines_code number called level (own + 1) behind later ≡ all
+  pub one_row_more : (now new : List row.Subroutine) (made : row.Subroutine) (all : List SubroutineRow) (own place following : ℕ) (s : Subroutine Key) (rest later : List (Subroutine Key)) → rest ≡ s ∷ later → new ≡ now ++ made ∷ []
+      → subroutine_row made ≡ row_of own place s → following ≡ place + sizes s.body
+      → map subroutine_row now ++ subroutines_code number called level own place rest ≡ all → map subroutine_row new ++ subroutines_code number called level (own + 1) following later ≡ all
   unfolding subroutines_code
-  one_row_more now new made all own place behind s rest later split pushed is ends so_far =
-      ap (λ rows. map subroutine_row rows ++ subroutines_code number called level (own + 1) behind later) pushed
-      ∙ ap (λ rows. rows ++ subroutines_code number called level (own + 1) behind later) (map-append subroutine_row now (made ∷ []))
-      ∙ append_assoc (map subroutine_row now) (subroutine_row made ∷ []) (subroutines_code number called level (own + 1) behind later)
-      ∙ ap (λ r. map subroutine_row now ++ (r ∷ subroutines_code number called level (own + 1) behind later)) is
-      ∙ ap (λ n. map subroutine_row now ++ (row_of own place s ∷ subroutines_code number called level n behind later)) (add-one own)
+  one_row_more now new made all own place following s rest later split pushed is ends so_far =
+      ap (λ rows. map subroutine_row rows ++ subroutines_code number called level (own + 1) following later) pushed
+      ∙ ap (λ rows. rows ++ subroutines_code number called level (own + 1) following later) (map-append subroutine_row now (made ∷ []))
+      ∙ append_assoc (map subroutine_row now) (subroutine_row made ∷ []) (subroutines_code number called level (own + 1) following later)
+      ∙ ap (λ r. map subroutine_row now ++ (r ∷ subroutines_code number called level (own + 1) following later)) is
+      ∙ ap (λ n. map subroutine_row now ++ (row_of own place s ∷ subroutines_code number called level n following later)) (add-one own)
       ∙ ap (λ n. map subroutine_row now ++ (row_of own place s ∷ subroutines_code number called level (suc own) n later)) ends
       ∙ ap (λ ss. map subroutine_row now ++ subroutines_code number called level own place ss) (sym split) ∙ so_far
 

@@ -51,10 +51,10 @@ fn calls_of(
     let mut calls = Vec::new(alloc);
     let mut caller = 0;
     let mut rest = cards;
-    while let Some((_, behind)) = next_subroutine(rest) {
-        push_calls(&mut calls, subroutines, caller, behind)?;
+    while let Some((_, following)) = next_subroutine(rest) {
+        push_calls(&mut calls, subroutines, caller, following)?;
         caller += 1;
-        rest = behind;
+        rest = following;
     }
     Ok((caller, calls))
 }
@@ -69,11 +69,11 @@ fn push_calls(
     ensures { OnOk result (calls.new.items ≡ calls.old.items ++ called.numbered_calls_in (number_by subroutines.now) caller (section_in parts.Body cards.now)) }
 {
     let mut rest = cards;
-    while let Some((group, behind)) = next_in(Part::Body, rest) {
+    while let Some((group, following)) = next_in(Part::Body, rest) {
         if let Some(callee) = callee_of(subroutines, group.last()) {
             calls.push((caller, callee))?;
         }
-        rest = behind;
+        rest = following;
     }
     Ok(())
 }

@@ -83,11 +83,11 @@ pub(crate) fn next_group(cards: &[SpecCard]) -> Option<(CardGroup<'_>, &[SpecCar
         (λ r. (calculations.calculations cards.now ≡ calculations.calculation_of r.0 ∷ calculations.calculations r.1.now) × (length r.1.now < length cards.now)) }
 {
     let mut rest = cards;
-    while let Some((card, behind)) = rest.split_first() {
+    while let Some((card, following)) = rest.split_first() {
         if let Some(first) = card.calculation() {
-            return Some(group_at(first, rest, behind));
+            return Some(group_at(first, rest, following));
         }
-        rest = behind;
+        rest = following;
     }
     None
 }
@@ -96,14 +96,14 @@ pub(crate) fn next_group(cards: &[SpecCard]) -> Option<(CardGroup<'_>, &[SpecCar
 fn group_at<'a>(
     first: &'a CalculationSpec,
     cards: &'a [SpecCard],
-    behind: &'a [SpecCard],
+    following: &'a [SpecCard],
 ) -> (CardGroup<'a>, &'a [SpecCard])
     requires first { walk.first_calculation cards.now ≡ Some first.now }
-    requires behind { behind.now ≡ drop 1 cards.now }
+    requires following { following.now ≡ drop 1 cards.now }
     ensures groups { calculations.calculations cards.now ≡ calculations.calculation_of result.0 ∷ calculations.calculations result.1.now }
-    ensures shorter { length result.1.now ≤ length behind.now }
+    ensures shorter { length result.1.now ≤ length following.now }
 {
-    let (count, last) = followers_of(first, behind);
+    let (count, last) = followers_of(first, following);
     let (cards, rest) = cards.split_at(count + 1);
     (CardGroup { first, last, cards }, rest)
 }
@@ -112,14 +112,14 @@ fn group_at<'a>(
 #[tactic(auto, using(crate::proofs::Walk::joining_more, crate::proofs::Walk::joining_apart, crate::proofs::Walk::joining_other, crate::proofs::Walk::last_more))]
 fn followers_of<'a>(
     first: &'a CalculationSpec,
-    behind: &'a [SpecCard],
+    following: &'a [SpecCard],
 ) -> (usize, &'a CalculationSpec)
-    ensures count { result.0 ≡ walk.joining behind.now }
-    ensures within { result.0 ≤ length behind.now }
-    ensures last { result.1.now ≡ unwrap_or (last_or None (calculation_specs_in (take (walk.joining behind.now) behind.now))) first.now }
+    ensures count { result.0 ≡ walk.joining following.now }
+    ensures within { result.0 ≤ length following.now }
+    ensures last { result.1.now ≡ unwrap_or (last_or None (calculation_specs_in (take (walk.joining following.now) following.now))) first.now }
 {
     let mut last = first;
-    for (i, card) in behind.iter().enumerate() {
+    for (i, card) in following.iter().enumerate() {
         let Some(calculation) = card.calculation() else {
             return (i, last);
         };
@@ -128,5 +128,5 @@ fn followers_of<'a>(
         }
         last = calculation;
     }
-    (behind.len(), last)
+    (following.len(), last)
 }

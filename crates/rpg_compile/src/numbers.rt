@@ -84,10 +84,10 @@ fn note_labels(
 {
     let mut place = first;
     let mut rest = cards;
-    while let Some((group, behind)) = next_in(part, rest) {
+    while let Some((group, following)) = next_in(part, rest) {
         note(places, label_on(group.last()), place)?;
         place += group.size();
-        rest = behind;
+        rest = following;
     }
     Ok(place)
 }
@@ -103,10 +103,10 @@ fn note_subroutines(
 {
     let mut count = 0;
     let mut rest = cards;
-    while let Some((name, behind)) = next_subroutine(rest) {
+    while let Some((name, following)) = next_subroutine(rest) {
         note(numbers, name, count)?;
         count += 1;
-        rest = behind;
+        rest = following;
     }
     Ok(count)
 }

@@ -50,14 +50,14 @@ pub(crate) fn next_in(part: Part, cards: &[SpecCard]) -> Option<(CardGroup<'_>, 
         (λ r. (walk.section_in part cards.now ≡ calculation_of r.0 ∷ walk.section_in part r.1.now) × (length r.1.now < length cards.now)) }
 {
     let mut rest = cards;
-    while let Some((group, behind)) = next_group(rest) {
+    while let Some((group, following)) = next_group(rest) {
         if part.has(group.first().control_level) {
             if part.ends_before(group.last()) {
                 return None;
             }
-            return Some((group, behind));
+            return Some((group, following));
         }
-        rest = behind;
+        rest = following;
     }
     None
 }
@@ -68,12 +68,12 @@ pub(crate) fn next_subroutine(cards: &[SpecCard]) -> Option<(Option<&Name>, &[Sp
         (λ r. (walk.subroutines_in cards.now ≡ record { name = option_copied r.0; body = walk.section_in parts.Body r.1.now } ∷ walk.subroutines_in r.1.now) × (length r.1.now < length cards.now)) }
 {
     let mut rest = cards;
-    while let Some((group, behind)) = next_group(rest) {
+    while let Some((group, following)) = next_group(rest) {
         let begin = group.last();
         if is_subroutine(group.first().control_level) && begins_subroutine(begin) {
-            return Some((given_name(begin), behind));
+            return Some((given_name(begin), following));
         }
-        rest = behind;
+        rest = following;
     }
     None
 }

@@ -122,8 +122,8 @@ impl Writer<'_> {
         let mut own = 0;
         let mut place = first;
         let mut rest = cards;
-        while let Some((_, behind)) = next_subroutine(rest) {
-            let (instructions, end) = self.section(own, Part::Body, behind, place)?;
+        while let Some((_, following)) = next_subroutine(rest) {
+            let (instructions, end) = self.section(own, Part::Body, following, place)?;
             let level = levels[own as usize];
             rows.push(Subroutine {
                 level,
@@ -131,7 +131,7 @@ impl Writer<'_> {
             })?;
             own += 1;
             place = end;
-            rest = behind;
+            rest = following;
         }
         Ok(rows)
     }

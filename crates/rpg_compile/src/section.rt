@@ -34,10 +34,10 @@ pub(crate) fn push_section(
 {
     let mut place = first;
     let mut rest = cards;
-    while let Some((group, behind)) = next_in(part, rest) {
+    while let Some((group, following)) = next_in(part, rest) {
         push_group(code, section, &group, place)?;
         place += group.size();
-        rest = behind;
+        rest = following;
     }
     Ok(())
 }
@@ -79,9 +79,9 @@ fn push_cards(
 }
 
 /// A SKIP past the group, where it waits for an indicator.
-fn push_level(code: &mut Code, level: Option<u8>, behind: u16) -> Result<(), AllocError>
+fn push_level(code: &mut Code, level: Option<u8>, following: u16) -> Result<(), AllocError>
     requires { ForSome level IsIndicator }
-    ensures { OnOk result (code.new ≡ code.old ++ code_of.level_code behind level) }
+    ensures { OnOk result (code.new ≡ code.old ++ code_of.level_code following level) }
 {
     let Some(indicator) = level else {
         return Ok(());
@@ -96,6 +96,6 @@ fn push_level(code: &mut Code, level: Option<u8>, behind: u16) -> Result<(), All
             second: None,
             third: None,
         },
-        target: behind,
+        target: following,
     })
 }

@@ -35,15 +35,15 @@ pub(crate) fn count_tests(cards: &[SpecCard]) -> u16
 }
 
 /// The tests of the last alternative: each SKIPs past the group.
-fn push_last(code: &mut Code, cards: &[SpecCard], behind: u16) -> Result<(), AllocError>
-    ensures { OnOk result (code.new ≡ code.old ++ map (code_of.skip_code behind) (tests.tests_in cards.now)) }
+fn push_last(code: &mut Code, cards: &[SpecCard], following: u16) -> Result<(), AllocError>
+    ensures { OnOk result (code.new ≡ code.old ++ map (code_of.skip_code following) (tests.tests_in cards.now)) }
 {
     for card in cards {
         if let Some(conditions) = test_at(card) {
             code.push(Instruction::Branch {
                 is_taken_where: false,
                 conditions,
-                target: behind,
+                target: following,
             })?;
         }
     }
@@ -101,18 +101,18 @@ fn next_alternative(cards: &[SpecCard]) -> Option<usize>
     None
 }
 
-/// The tests of a group's cards, from a place on. `behind` is the place after the group.
+/// The tests of a group's cards, from a place on. `following` is the place after the group.
 #[tactic(auto, using(crate::proofs::Alternatives::tests_step))]
 pub(crate) fn push_tests(
     code: &mut Code,
     cards: &[SpecCard],
     place: u16,
     operation: u16,
-    behind: u16,
+    following: u16,
 ) -> Result<(), AllocError>
     requires some { 0 < length cards.now }
     requires places { place + length (tests.tests_in cards.now) < 65536 }
-    ensures { OnOk result (code.new ≡ code.old ++ code_of.tests_code place operation behind (tests.alternatives_in cards.now)) }
+    ensures { OnOk result (code.new ≡ code.old ++ code_of.tests_code place operation following (tests.alternatives_in cards.now)) }
 {
     let mut at = place;
     let mut rest = cards;
@@ -123,5 +123,5 @@ pub(crate) fn push_tests(
         at += count;
         rest = others;
     }
-    push_last(code, rest, behind)
+    push_last(code, rest, following)
 }

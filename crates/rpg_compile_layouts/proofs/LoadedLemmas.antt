@@ -14,7 +14,7 @@ use Rattle.rpg_cards.specs.Groups.{data_role, followers}
 use Rattle.rpg_cards.specs.declared.spec_card.SpecCard.{SpecCard}
 use Rattle.rpg_program.specs.Values.{Value}
 use Rattle.rpg_program.specs.declared.form.FieldForm.{FieldForm}
-use Rattle.rpg_compile_layouts.specs.Loaded.{HasSameData, TakesDeck, loaded_values, tables_behind}
+use Rattle.rpg_compile_layouts.specs.Loaded.{HasSameData, TakesDeck, loaded_values, tables_after}
 use Rattle.rpg_compile_layouts.specs.Tables.{values_on}
 use Rattle.rpg_compile_layouts.specs.declared.tables.TableData.{TableData}
 use Rattle.rpg_faults_flow.specs.Kept.{KeepsRule}
@@ -35,8 +35,8 @@ lookup-append test (x ∷ xs) ys = by_test (test x.0) (lookup-append test xs ys)
     by_test true rest = refl
     by_test false rest = rest
 
-pub same_behind : (xs ys zs : List Loaded) → HasSameData xs ys → HasSameData (xs ++ zs) (ys ++ zs)
-same_behind xs ys zs same name =
+pub same_after : (xs ys zs : List Loaded) → HasSameData xs ys → HasSameData (xs ++ zs) (ys ++ zs)
+same_after xs ys zs same name =
     lookup-append (pointwise nat_eq name) xs zs ∙ ap (λ o. option_or o (loaded_values name zs)) (same name) ∙ sym (lookup-append (pointwise nat_eq name) ys zs)
 
 -- each field holds the same by them
@@ -115,26 +115,26 @@ module _ (e : ExtensionSpec) (per_card : ℕ) (deck : List SpecCard) where
   table_data t width from = (t.name, map (entry_value t) (data_entries e.entries per_card width from t.length (followers data_role deck)))
 
   pub one_table : (width : ℕ) (old new : List Loaded) → width ≡ data_columns e → e.alternating ≡ None → HasSameData new (old ++ table_data e.table width 0 ∷ [])
-      → HasSameData new (old ++ tables_behind e per_card deck)
+      → HasSameData new (old ++ tables_after e per_card deck)
   one_table width old new columns none same name =
       same name
       ∙ ap (λ w. loaded_values name (old ++ table_data e.table w 0 ∷ [])) columns
       ∙ ap (λ (o : Option TableSpec). loaded_values name (old ++ tables_loaded e per_card (followers data_role deck) 0 (e.table ∷ option_to_list o))) (sym none)
 
   pub two_tables : (t : TableSpec) (width : ℕ) (old first new : List Loaded) → width ≡ data_columns e → e.alternating ≡ Some t → HasSameData first (old ++ table_data e.table width 0 ∷ [])
-      → HasSameData new (first ++ table_data t width e.table.length ∷ []) → HasSameData new (old ++ tables_behind e per_card deck)
+      → HasSameData new (first ++ table_data t width e.table.length ∷ []) → HasSameData new (old ++ tables_after e per_card deck)
   two_tables t width old first new columns alternating same_first same name =
       let from : e.table.length ≡ 0 + e.table.length = omega arith in
-      same name ∙ same_behind first (old ++ table_data e.table width 0 ∷ []) (table_data t width e.table.length ∷ []) same_first name
+      same name ∙ same_after first (old ++ table_data e.table width 0 ∷ []) (table_data t width e.table.length ∷ []) same_first name
       ∙ ap (loaded_values name) (append_assoc old (table_data e.table width 0 ∷ []) (table_data t width e.table.length ∷ []))
       ∙ ap (λ w. loaded_values name (old ++ table_data e.table w 0 ∷ table_data t w e.table.length ∷ [])) columns
       ∙ ap (λ k. loaded_values name (old ++ table_data e.table (data_columns e) 0 ∷ table_data t (data_columns e) k ∷ [])) from
       ∙ ap (λ (o : Option TableSpec). loaded_values name (old ++ tables_loaded e per_card (followers data_role deck) 0 (e.table ∷ option_to_list o))) (sym alternating)
 
   pub takes_deck : (cards : List SpecCard) (old new : List Loaded) → e.entries_per_card ≡ Some per_card → decks cards ≡ followers data_role deck ∷ decks deck
-      → HasSameData new (old ++ tables_behind e per_card deck) → TakesDeck e old cards new deck
+      → HasSameData new (old ++ tables_after e per_card deck) → TakesDeck e old cards new deck
   takes_deck cards old new wants first same es name =
       ap (λ ds. loaded_values name (old ++ with_deck e e.entries_per_card ds (λ rest. all_loaded es rest))) first
       ∙ ap (λ o. loaded_values name (old ++ with_deck e o (followers data_role deck ∷ decks deck) (λ rest. all_loaded es rest))) wants
-      ∙ ap (loaded_values name) (sym (append_assoc old (tables_behind e per_card deck) (all_loaded es (decks deck))))
-      ∙ sym (same_behind new (old ++ tables_behind e per_card deck) (all_loaded es (decks deck)) same name)
+      ∙ ap (loaded_values name) (sym (append_assoc old (tables_after e per_card deck) (all_loaded es (decks deck))))
+      ∙ sym (same_after new (old ++ tables_after e per_card deck) (all_loaded es (decks deck)) same name)

@@ -4,7 +4,7 @@ use Rattle.std.proofs.lemmas.List.{append_assoc, append-nil, map-append}
 use Rattle.std.proofs.lemmas.List.FromFn.{map-range_with_len_more}
 use Rattle.std.specs.List.{range_with_len}
 use Rattle.rpg_cards.specs.Cards.{data_on}
-use Rattle.rpg_cards.specs.Groups.{data_card_role, data_role, followers, following, role_on}
+use Rattle.rpg_cards.specs.Groups.{data_card_role, data_role, followers, followers_with, role_on}
 use Rattle.rpg_cards.specs.declared.spec_card.SpecCard.{SpecCard}
 use Rattle.rpg_program.specs.Values.{Value}
 use Rattle.rpg_compile_layouts.specs.Tables.{values_on_card}
@@ -22,13 +22,13 @@ map-map g f (x ∷ xs) = ap (λ rest. g (f x) ∷ rest) (map-map g f xs)
 -- ---- the texts of a deck
 
 texts_at : (cards : List SpecCard) (i : ℕ) (c : SpecCard) → i < length cards → c ≡ get_or cards i c
-    → followers data_role (drop i cards) ≡ following (data_role c.spec) (followers data_role (drop (i + 1) cards))
+    → followers data_role (drop i cards) ≡ followers_with (data_role c.spec) (followers data_role (drop (i + 1) cards))
 texts_at cards i c less is =
     ap (followers data_role) (drop-cons cards i c less) ∙ ap (λ (d : SpecCard). followers data_role (d ∷ drop (suc i) cards)) (sym is)
-    ∙ ap (λ k. following (data_role c.spec) (followers data_role (drop k cards))) (sym (add-one i))
+    ∙ ap (λ k. followers_with (data_role c.spec) (followers data_role (drop k cards))) (sym (add-one i))
 
 pub texts-begin : (cards : List SpecCard) (i : ℕ) (c : SpecCard) → i < length cards → c ≡ get_or cards i c → data_on c.spec ≡ Some deck.Begin → followers data_role (drop i cards) ≡ []
-texts-begin cards i c less is on = texts_at cards i c less is ∙ ap (λ (d : Option DataSpec). following (role_on data_card_role d) (followers data_role (drop (i + 1) cards))) on
+texts-begin cards i c less is on = texts_at cards i c less is ∙ ap (λ (d : Option DataSpec). followers_with (role_on data_card_role d) (followers data_role (drop (i + 1) cards))) on
 
 -- ---- the values of a table, card by card
 

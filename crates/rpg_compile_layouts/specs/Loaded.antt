@@ -18,8 +18,8 @@ abbrev pub HasSameData : List Loaded → List Loaded → Type 0
 HasSameData xs ys = (name : List ℕ) → loaded_values name xs ≡ loaded_values name ys
 
 -- the tables of an E card, on the deck at the front of these cards
-abbrev pub tables_behind : ExtensionSpec → ℕ → List SpecCard → List Loaded
-tables_behind e per_card deck = tables_loaded e per_card (followers data_role deck) 0 (tables_on e)
+abbrev pub tables_after : ExtensionSpec → ℕ → List SpecCard → List Loaded
+tables_after e per_card deck = tables_loaded e per_card (followers data_role deck) 0 (tables_on e)
 
 -- what an E card takes goes over from the data that are still to come
 abbrev pub TakesDeck : ExtensionSpec → List Loaded → List SpecCard → List Loaded → List SpecCard → Type 0

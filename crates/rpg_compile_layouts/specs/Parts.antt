@@ -20,21 +20,21 @@ types_from source name cards = map (card_type source) (groups_from input_role na
 -- ---- a type by its heading and the cards after it
 
 -- the record type that begins with a card, with the cards after it
-abbrev pub type_behind : InputFile → RecordType → List SpecCard → TypeRow Key
-type_behind file t cards = type_of_file file (record { heading = t; followers = followers input_role cards; file = None })
+abbrev pub type_following : InputFile → RecordType → List SpecCard → TypeRow Key
+type_following file t cards = type_of_file file (record { heading = t; followers = followers input_role cards; file = None })
 
 -- the record codes on the AND cards after a type
-abbrev pub codes_behind : List SpecCard → List RecordCode
-codes_behind cards = flat_map and_card_codes (followers input_role cards)
+abbrev pub codes_after : List SpecCard → List RecordCode
+codes_after cards = flat_map and_card_codes (followers input_role cards)
 
 -- the fields on the cards after a type
-abbrev pub fields_behind : List SpecCard → List InputFieldSpec
-fields_behind cards = input_fields_in (followers input_role cards)
+abbrev pub fields_after : List SpecCard → List InputFieldSpec
+fields_after cards = input_fields_in (followers input_role cards)
 
 -- where they have a level of that choice
-abbrev pub levels_behind : (InputFieldSpec → Option ℕ) → List SpecCard → List ControlField
-levels_behind level_of cards = filter_map (field_at_level level_of) (fields_behind cards)
+abbrev pub levels_after : (InputFieldSpec → Option ℕ) → List SpecCard → List ControlField
+levels_after level_of cards = filter_map (field_at_level level_of) (fields_after cards)
 
 -- the input fields of a program, from the cards after a type
-abbrev pub inputs_behind : List SpecCard → List (row.InputField Key)
-inputs_behind cards = map input_row (fields_behind cards)
+abbrev pub inputs_after : List SpecCard → List (row.InputField Key)
+inputs_after cards = map input_row (fields_after cards)

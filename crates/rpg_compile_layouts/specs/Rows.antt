@@ -30,17 +30,17 @@ rows_of t source = map (row_in_table t) (lines_on source)
 -- ---- a line by its heading and the cards after it
 
 -- the line that begins with a card, with the cards after it
-abbrev pub row_behind : Table → File → OutputRecord → List SpecCard → LineRow
-row_behind t file r cards = row_in_table t (line_of_file file 0 (record { heading = r; followers = followers output_role cards; file = None }))
+abbrev pub row_after : Table → File → OutputRecord → List SpecCard → LineRow
+row_after t file r cards = row_in_table t (line_of_file file 0 (record { heading = r; followers = followers output_role cards; file = None }))
 
 -- the conditions of a line, with those on the AND and OR cards after it
-abbrev pub alternatives_behind : List Condition → List SpecCard → List (List Condition)
-alternatives_behind so_far cards = line_alternatives so_far (followers output_role cards)
+abbrev pub alternatives_after : List Condition → List SpecCard → List (List Condition)
+alternatives_after so_far cards = line_alternatives so_far (followers output_role cards)
 
 -- an output field with its name as a number
 abbrev pub field_row : Table → OutputField → LineField ℕ
 field_row t f = renamed_field (key_number t) (line_field_of f)
 
 -- the output fields on the cards after a line
-abbrev pub output_rows_behind : Table → List SpecCard → List (LineField ℕ)
-output_rows_behind t cards = map (renamed_field (key_number t)) (map line_field_of (output_fields_in (followers output_role cards)))
+abbrev pub output_rows_after : Table → List SpecCard → List (LineField ℕ)
+output_rows_after t cards = map (renamed_field (key_number t)) (map line_field_of (output_fields_in (followers output_role cards)))

@@ -3,7 +3,7 @@
 ghost use Rattle.std.specs.Prelude.{◌≡◌, ◌++◌, All, map, IfOk, OnOk};
 ghost use Rattle.std.specs.Option.{option_map, option_to_list};
 ghost use Rattle.rpg_cards.specs.Calculations as calculations;
-ghost use Rattle.rpg_compile_layouts.specs.Rows.{alternatives_behind};
+ghost use Rattle.rpg_compile_layouts.specs.Rows.{alternatives_after};
 ghost use Rattle.rpg_program.specs.Kept.{IsConditionRow};
 
 use rpg_cards::{SpecCard, condition_of};
@@ -15,13 +15,13 @@ use std::alloc::{AllocError, Global};
 pub(crate) fn alternatives_of(
     alloc: Global,
     first: Three<Option<rpg_sheet_specs::ConditionSpec>>,
-    behind: &[SpecCard],
+    following: &[SpecCard],
 ) -> Result<Vec<Vec<Condition>>, AllocError>
-    ensures alternatives { IfOk result (λ v. map (λ a. a.items) v.items ≡ alternatives_behind (calculations.standing first) behind.now) }
+    ensures alternatives { IfOk result (λ v. map (λ a. a.items) v.items ≡ alternatives_after (calculations.standing first) following.now) }
     ensures kept { IfOk result (λ v. All (λ a. All IsConditionRow a.items) v.items) }
 {
     let open = standing(alloc, first)?;
-    alternatives_from(alloc, open, behind)
+    alternatives_from(alloc, open, following)
 }
 
 /// The alternatives from one on that has these conditions so far.
@@ -29,15 +29,15 @@ pub(crate) fn alternatives_of(
 fn alternatives_from(
     alloc: Global,
     so_far: Vec<Condition>,
-    behind: &[SpecCard],
+    following: &[SpecCard],
 ) -> Result<Vec<Vec<Condition>>, AllocError>
     requires { All IsConditionRow so_far.items }
-    ensures alternatives { IfOk result (λ v. map (λ a. a.items) v.items ≡ alternatives_behind so_far.items behind.now) }
+    ensures alternatives { IfOk result (λ v. map (λ a. a.items) v.items ≡ alternatives_after so_far.items following.now) }
     ensures kept { IfOk result (λ v. All (λ a. All IsConditionRow a.items) v.items) }
 {
     let mut alternatives = Vec::new(alloc);
     let mut open = so_far;
-    for card in behind {
+    for card in following {
         match card.output() {
             Some(OutputSpec::Record(_)) => break,
             Some(OutputSpec::And(more)) => push_conditions(&mut open, *more)?,

@@ -2,7 +2,7 @@
 
 ghost use Rattle.std.specs.Prelude.{◌≡◌, ◌++◌, [], ◌∷◌, All, IfOk, OnOk};
 ghost use Rattle.std.specs.Option.{option_map, option_to_list};
-ghost use Rattle.rpg_compile_layouts.specs.Parts.{codes_behind};
+ghost use Rattle.rpg_compile_layouts.specs.Parts.{codes_after};
 ghost use Rattle.rpg_program.specs.Kept.{IsCodeRow};
 ghost use Rattle.rpg_compile_program.specs.Types as types;
 
@@ -15,25 +15,25 @@ use std::alloc::{AllocError, Global};
 pub(crate) fn codes_of(
     alloc: Global,
     first: Three<Option<rpg_sheet_specs::RecordCode>>,
-    behind: &[SpecCard],
+    following: &[SpecCard],
 ) -> Result<Vec<RecordCode>, AllocError>
-    ensures codes { IfOk result (λ v. v.items ≡ types.codes_of first ++ codes_behind behind.now) }
+    ensures codes { IfOk result (λ v. v.items ≡ types.codes_of first ++ codes_after following.now) }
     ensures kept { IfOk result (λ v. All IsCodeRow v.items) }
 {
     let mut codes = Vec::new(alloc);
     push_codes(&mut codes, first)?;
-    push_further(&mut codes, behind)?;
+    push_further(&mut codes, following)?;
     Ok(codes)
 }
 
 /// Puts the codes of AND cards after the others, up to the next type card.
 #[tactic(auto, using(crate::proofs::Followers::next_input))]
-fn push_further(codes: &mut Vec<RecordCode>, behind: &[SpecCard]) -> Result<(), AllocError>
+fn push_further(codes: &mut Vec<RecordCode>, following: &[SpecCard]) -> Result<(), AllocError>
     requires { All IsCodeRow codes.old.items }
-    ensures codes { OnOk result (codes.new.items ≡ codes.old.items ++ codes_behind behind.now) }
+    ensures codes { OnOk result (codes.new.items ≡ codes.old.items ++ codes_after following.now) }
     ensures kept { OnOk result (All IsCodeRow codes.new.items) }
 {
-    for card in behind {
+    for card in following {
         let further = match card.input() {
             Some(InputSpec::Type(_)) => return Ok(()),
             Some(InputSpec::And(further)) => further,

@@ -49,11 +49,11 @@ pub(crate) fn add_constants(
     ensures kept { OnOk result (All known.IsConstant constants.now) }
 {
     let mut rest = constants;
-    while let Some((constant, behind)) = rest.split_first() {
+    while let Some((constant, following)) = rest.split_first() {
         constant.keeps_limits();
         forms.push(constant.form())?;
         values.push(values_of(alloc, constant)?)?;
-        rest = behind;
+        rest = following;
     }
     Ok(())
 }

@@ -3,7 +3,7 @@
 ghost use Rattle.std.specs.Prelude.{◌≡◌, ◌++◌, All, IfOk, IfSome, OnOk};
 ghost use Rattle.std.specs.Option.{option_to_list};
 ghost use Rattle.rpg_cards.specs.Levels.{control_level, match_level};
-ghost use Rattle.rpg_compile_layouts.specs.Parts.{levels_behind};
+ghost use Rattle.rpg_compile_layouts.specs.Parts.{levels_after};
 ghost use Rattle.rpg_program.specs.Kept.{IsControlRow};
 ghost use Rattle.rpg_compile_program.specs.Types as types;
 
@@ -14,12 +14,15 @@ use std::alloc::{AllocError, Global};
 
 /// A control field for each field card with a control level, up to the next type card.
 #[tactic(auto, using(crate::proofs::Followers::next_input))]
-pub(crate) fn levels_of(alloc: Global, behind: &[SpecCard]) -> Result<Vec<ControlField>, AllocError>
-    ensures levels { IfOk result (λ v. v.items ≡ levels_behind control_level behind.now) }
+pub(crate) fn levels_of(
+    alloc: Global,
+    following: &[SpecCard],
+) -> Result<Vec<ControlField>, AllocError>
+    ensures levels { IfOk result (λ v. v.items ≡ levels_after control_level following.now) }
     ensures kept { IfOk result (λ v. All IsControlRow v.items) }
 {
     let mut levels = Vec::new(alloc);
-    for card in behind {
+    for card in following {
         let field = match card.input() {
             Some(InputSpec::Type(_)) => return Ok(levels),
             Some(InputSpec::Field(field)) => field,
@@ -34,13 +37,13 @@ pub(crate) fn levels_of(alloc: Global, behind: &[SpecCard]) -> Result<Vec<Contro
 #[tactic(auto, using(crate::proofs::Followers::next_input))]
 pub(crate) fn matches_of(
     alloc: Global,
-    behind: &[SpecCard],
+    following: &[SpecCard],
 ) -> Result<Vec<ControlField>, AllocError>
-    ensures matches { IfOk result (λ v. v.items ≡ levels_behind match_level behind.now) }
+    ensures matches { IfOk result (λ v. v.items ≡ levels_after match_level following.now) }
     ensures kept { IfOk result (λ v. All IsControlRow v.items) }
 {
     let mut matches = Vec::new(alloc);
-    for card in behind {
+    for card in following {
         let field = match card.input() {
             Some(InputSpec::Type(_)) => return Ok(matches),
             Some(InputSpec::Field(field)) => field,

@@ -1,7 +1,7 @@
 //! Lines, from the groups of O cards.
 
 ghost use Rattle.std.specs.Prelude.{◌≡◌, All, map, IfOk};
-ghost use Rattle.rpg_compile_layouts.specs.Rows.{row_behind, rows_of};
+ghost use Rattle.rpg_compile_layouts.specs.Rows.{row_after, rows_of};
 ghost use Rattle.rpg_compile_layouts.specs.Within.{IsLineWithin};
 ghost use Rattle.rpg_program.specs.Kept.{IsLineRow};
 ghost use Rattle.rpg_program.specs.Object.{line_row};
@@ -32,13 +32,13 @@ pub fn lines_of(
     let nameless = None;
     let mut name = &nameless;
     let mut rest = cards;
-    while let Some((card, behind)) = rest.split_first() {
+    while let Some((card, following)) = rest.split_first() {
         if let Some(heading) = card.line() {
             name = own_or(&heading.file, name);
             let file = put_on(cards, name);
-            lines.push(line_of(alloc, table, file, heading, behind)?)?;
+            lines.push(line_of(alloc, table, file, heading, following)?)?;
         }
-        rest = behind;
+        rest = following;
     }
     Ok(lines)
 }
@@ -49,17 +49,17 @@ fn line_of(
     table: &FieldTable,
     file: File,
     heading: &OutputRecord,
-    behind: &[SpecCard],
+    following: &[SpecCard],
 ) -> Result<Line, AllocError>
-    requires { IsLineWithin (row_behind table.now file heading.now behind.now) }
-    ensures row { IfOk result (λ l. line_row l ≡ row_behind table.now file heading.now behind.now) }
+    requires { IsLineWithin (row_after table.now file heading.now following.now) }
+    ensures row { IfOk result (λ l. line_row l ≡ row_after table.now file heading.now following.now) }
     ensures kept { IfOk result (λ l. IsLineRow (line_row l)) }
 {
     Ok(Line {
         file,
         time: time_of(heading.time),
         spacing: spacing_of(file, &heading.movement),
-        alternatives: alternatives_of(alloc, heading.conditions, behind)?,
-        fields: fields_of(alloc, table, behind)?,
+        alternatives: alternatives_of(alloc, heading.conditions, following)?,
+        fields: fields_of(alloc, table, following)?,
     })
 }

@@ -2,7 +2,7 @@
 
 ghost use Rattle.std.specs.Prelude.{◌≡◌, [], ◌∷◌, ◌++◌, map, false, IfOk, OnOk, MatchOption};
 ghost use Rattle.rpg_program.specs.Values.{held};
-ghost use Rattle.rpg_compile_layouts.specs.Loaded.{HasSameData, TakesDeck, tables_behind};
+ghost use Rattle.rpg_compile_layouts.specs.Loaded.{HasSameData, TakesDeck, tables_after};
 ghost use Rattle.rpg_compile_layouts.specs.Tables.{values_on};
 ghost use Rattle.rpg_faults_flow.specs.Kept.{KeepsRule};
 ghost use Rattle.rpg_faults_limits.specs.Names.{bad_size, bad_size_of_tables};
@@ -12,7 +12,7 @@ use crate::tables::TableData;
 use crate::values::empty_values;
 use indexmap::IndexMap;
 use rpg_cards::SpecCard;
-use rpg_faults_data::{behind_next, data_columns};
+use rpg_faults_data::{after_next, data_columns};
 use rpg_program::form::FieldForm;
 use rpg_program::value::Value;
 use rpg_sheet_specs::ExtensionSpec;
@@ -66,7 +66,7 @@ impl<'a> Loaded<'a> {
         let Some(per_card) = extension.entries_per_card else {
             return Ok(decks);
         };
-        let Some(deck) = behind_next(decks) else {
+        let Some(deck) = after_next(decks) else {
             return Ok(&[]);
         };
         self.add_tables(extension, per_card, deck)?;
@@ -80,7 +80,7 @@ impl<'a> Loaded<'a> {
         deck: &'a [SpecCard],
     ) -> Result<(), AllocError>
         requires { bad_size_of_tables extension.now ≡ false }
-        ensures { OnOk result (HasSameData self.new (self.old ++ tables_behind extension.now per_card deck.now)) }
+        ensures { OnOk result (HasSameData self.new (self.old ++ tables_after extension.now per_card deck.now)) }
     {
         let width = data_columns(extension);
         let first = TableData {

@@ -5,7 +5,7 @@ ghost use Rattle.rpg_cards.specs.Keys.{Fixed};
 ghost use Rattle.rpg_cards.specs.declared.constants.Constant.TheVariants.{Text};
 ghost use Rattle.rpg_program.specs.declared.line.Editing.TheVariants as editings;
 ghost use Rattle.rpg_program.specs.declared.line.Source.TheVariants as sources;
-ghost use Rattle.rpg_compile_layouts.specs.Rows.{field_row, output_rows_behind};
+ghost use Rattle.rpg_compile_layouts.specs.Rows.{field_row, output_rows_after};
 ghost use Rattle.rpg_compile_layouts.specs.Within.{HasIndexRow};
 ghost use Rattle.rpg_edit_marks.specs.declared.code.Fill.TheVariants as fills;
 ghost use Rattle.rpg_program.specs.Kept.{AreConditions, IsEditingRow, IsIndexRow, IsLineFieldRow};
@@ -27,14 +27,14 @@ use std::alloc::{AllocError, Global};
 pub(crate) fn fields_of(
     alloc: Global,
     table: &FieldTable,
-    behind: &[SpecCard],
+    following: &[SpecCard],
 ) -> Result<Vec<LineField<u16>>, AllocError>
-    requires { All HasIndexRow (output_rows_behind table.now behind.now) }
-    ensures fields { IfOk result (λ v. v.items ≡ output_rows_behind table.now behind.now) }
+    requires { All HasIndexRow (output_rows_after table.now following.now) }
+    ensures fields { IfOk result (λ v. v.items ≡ output_rows_after table.now following.now) }
     ensures kept { IfOk result (λ v. All IsLineFieldRow v.items) }
 {
     let mut fields = Vec::new(alloc);
-    for card in behind {
+    for card in following {
         let field = match card.output() {
             Some(OutputSpec::Record(_)) => return Ok(fields),
             Some(OutputSpec::Field(field)) => field,

@@ -84,8 +84,8 @@ fn part(text: &[u8], start: usize, count: usize) -> &[u8]
     ensures value { result.now ≡ slice_range text.now start (start + count) }
     ensures length { length result.now ≤ count }
 {
-    let behind = &text[start.min(text.len())..];
-    &behind[..count.min(behind.len())]
+    let following = &text[start.min(text.len())..];
+    &following[..count.min(following.len())]
 }
 
 /// What an entry of a table holds: zero where it should be a number, and is none.

@@ -1,7 +1,7 @@
 //! Record types, from the groups of I cards.
 
 ghost use Rattle.std.specs.Prelude.{◌≡◌, All, map, IfOk};
-ghost use Rattle.rpg_compile_layouts.specs.Parts.{inputs_behind, type_behind};
+ghost use Rattle.rpg_compile_layouts.specs.Parts.{inputs_after, type_following};
 ghost use Rattle.rpg_compile_layouts.specs.Within.{IsTypeWithin};
 ghost use Rattle.rpg_program.specs.Kept.{AreIndicators, IsInputRow, IsTypeRow};
 ghost use Rattle.rpg_program.specs.Object.{type_row};
@@ -35,13 +35,13 @@ pub fn types_of(
     let nameless = None;
     let mut name = &nameless;
     let mut rest = cards;
-    while let Some((card, behind)) = rest.split_first() {
+    while let Some((card, following)) = rest.split_first() {
         if let Some(record_type) = card.record_type() {
             name = own_or(&record_type.file, name);
             let file = read_from(cards, name);
-            types.push(type_of(alloc, table, file, record_type, behind)?)?;
+            types.push(type_of(alloc, table, file, record_type, following)?)?;
         }
-        rest = behind;
+        rest = following;
     }
     Ok(types)
 }
@@ -52,19 +52,19 @@ fn type_of(
     table: &FieldTable,
     file: InputFile,
     record_type: &rpg_sheet_specs::RecordType,
-    behind: &[SpecCard],
+    following: &[SpecCard],
 ) -> Result<RecordType, AllocError>
-    requires { IsTypeWithin (type_behind file record_type.now behind.now) }
-    ensures row { IfOk result (λ t. type_row t ≡ renamed_type (key_number table.now) (type_behind file record_type.now behind.now)) }
+    requires { IsTypeWithin (type_following file record_type.now following.now) }
+    ensures row { IfOk result (λ t. type_row t ≡ renamed_type (key_number table.now) (type_following file record_type.now following.now)) }
     ensures kept { IfOk result (λ t. IsTypeRow (type_row t)) }
 {
     Ok(RecordType {
         file,
         indicator: number_of(record_type.indicator),
-        codes: codes_of(alloc, record_type.codes, behind)?,
-        levels: levels_of(alloc, behind)?,
-        inputs: inputs_of(alloc, table, behind)?,
-        matches: matches_of(alloc, behind)?,
+        codes: codes_of(alloc, record_type.codes, following)?,
+        levels: levels_of(alloc, following)?,
+        inputs: inputs_of(alloc, table, following)?,
+        matches: matches_of(alloc, following)?,
     })
 }
 
@@ -73,13 +73,13 @@ fn type_of(
 fn inputs_of(
     alloc: Global,
     table: &FieldTable,
-    behind: &[SpecCard],
+    following: &[SpecCard],
 ) -> Result<Vec<InputField<u16>>, AllocError>
-    ensures inputs { IfOk result (λ v. v.items ≡ map (renamed_input (key_number table.now)) (inputs_behind behind.now)) }
+    ensures inputs { IfOk result (λ v. v.items ≡ map (renamed_input (key_number table.now)) (inputs_after following.now)) }
     ensures kept { IfOk result (λ v. All IsInputRow v.items) }
 {
     let mut inputs = Vec::new(alloc);
-    for card in behind {
+    for card in following {
         let field = match card.input() {
             Some(InputSpec::Type(_)) => return Ok(inputs),
             Some(InputSpec::Field(field)) => field,

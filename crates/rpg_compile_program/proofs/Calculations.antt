@@ -50,7 +50,7 @@ use Rattle.rpg_compile_program.specs.Program.{key_numbers, program_of, sections,
 use Rattle.rpg_compile_program.specs.Ranges.{AreCards, IsCalculation, IsCard, IsControl, IsInRange}
 use Rattle.rpg_compile_program.specs.Table.{key_form, table_of}
 use Rattle.rpg_compile_program.proofs.Lists.{none_first}
-use Rattle.rpg_compile_program.proofs.Names.{behind, constant_there, in_front, stands_in}
+use Rattle.rpg_compile_program.proofs.Names.{following, constant_there, in_front, stands_in}
 
 -- ---- what stands on a calculation card
 
@@ -127,7 +127,7 @@ module _ (cards : List SpecCard) (allowance : ℕ) where
       second_literal : ForSome k.factor_2 HasForm
       unfolding firsts seconds texts
       second_literal x e = has_form x (λ l constant.
-          in_front l (firsts ++ seconds) texts (behind l firsts seconds
+          in_front l (firsts ++ seconds) texts (following l firsts seconds
           (stands_in l _ (ap (option_and_then (λ (k : CalculationSpec). option_and_then factor_constant k.factor_2)) is ∙ ap (option_and_then factor_constant) e ∙ constant))))
 
       module _ (ends : goes_on after ≡ false) where

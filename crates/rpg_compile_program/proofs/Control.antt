@@ -6,7 +6,7 @@ use Rattle.rpg_program.specs.declared.condition.Conditions.{Conditions}
 use Rattle.rpg_program.specs.declared.operation.Instruction.{Instruction}
 use Rattle.rpg_program.specs.declared.operation.Instruction.TheVariants as made
 use Rattle.rpg_program.specs.Object.{Object}
-use Rattle.rpg_program.specs.Sections.{first_place, has_end, is_place, place_behind}
+use Rattle.rpg_program.specs.Sections.{first_place, has_end, is_place, place_after}
 use Rattle.rpg_program.specs.declared.section.Section.{Section}
 use Rattle.rpg_verify_rules.specs.PlaceRules.{calls_higher, is_own, is_return, stays_inside}
 use Rattle.rpg_compile_program.proofs.Counts.{Within}
@@ -33,9 +33,9 @@ pub record IsTest (i : Instruction ℕ) : Type 0 where
 branch_test : (where_ : Bool) (cs : Conditions) (t : ℕ) → IsTest (made.Branch where_ cs t)
 branch_test where_ cs t = record { returns = refl; own = λ n. refl; calls = λ p s. refl }
 
-level_tests : (behind : ℕ) (o : Option ℕ) → Each IsTest (level_code behind o)
-level_tests behind None = tt
-level_tests behind (Some n) = (branch_test false _ behind, tt)
+level_tests : (following : ℕ) (o : Option ℕ) → Each IsTest (level_code following o)
+level_tests following None = tt
+level_tests following (Some n) = (branch_test false _ following, tt)
 
 skip_tests : (target : ℕ) (cs : List Conditions) → Each IsTest (map (skip_code target) cs)
 skip_tests target [] = tt
@@ -46,10 +46,10 @@ alternative_tests next operation [] = tt
 alternative_tests next operation (c ∷ []) = (branch_test true c operation, tt)
 alternative_tests next operation (c ∷ d ∷ rest) = (branch_test false c next, alternative_tests next operation (d ∷ rest))
 
-all_tests : (place operation behind : ℕ) (alts : List (List Conditions)) → Each IsTest (tests_code place operation behind alts)
-all_tests place operation behind [] = tt
-all_tests place operation behind (cs ∷ []) = skip_tests behind cs
-all_tests place operation behind (cs ∷ ds ∷ rest) = each_append IsTest (alternative_code (place + length cs) operation cs) (tests_code (place + length cs) operation behind (ds ∷ rest)) (alternative_tests (place + length cs) operation cs) (all_tests (place + length cs) operation behind (ds ∷ rest))
+all_tests : (place operation following : ℕ) (alts : List (List Conditions)) → Each IsTest (tests_code place operation following alts)
+all_tests place operation following [] = tt
+all_tests place operation following (cs ∷ []) = skip_tests following cs
+all_tests place operation following (cs ∷ ds ∷ rest) = each_append IsTest (alternative_code (place + length cs) operation cs) (tests_code (place + length cs) operation following (ds ∷ rest)) (alternative_tests (place + length cs) operation cs) (all_tests (place + length cs) operation following (ds ∷ rest))
 
 module _ (number : Key → ℕ) (place_of callee_of : Option Name → ℕ) (own : ℕ) (P : Instruction ℕ → Type 0) (of_test : (i : Instruction ℕ) → IsTest i → P i) where
   -- what holds of all tests and of the instruction of each step holds of the code
@@ -113,18 +113,18 @@ module _ (number : Key → ℕ) (place_of callee_of : Option Name → ℕ) (own 
       ∙ ap (λ xs. xs ++ (tests_code (place + waits g.level) (place + waits g.level + tests g.alternatives) (place + size g) g.alternatives ++ made.Return own ∷ [])) b
       ∙ ap (λ xs. xs ++ made.Return own ∷ []) a
     where
-      no_tests : (place operation behind : ℕ) (alts : List (List Conditions)) → tests alts ≡ 0 → tests_code place operation behind alts ≡ []
-      no_tests place operation behind [] e = refl
-      no_tests place operation behind ([] ∷ []) e = refl
-      no_tests place operation behind ((c ∷ cs) ∷ []) e = absurd (omega arith)
-      no_tests place operation behind ([] ∷ ds ∷ rest) e = no_tests (place + 0) operation behind (ds ∷ rest) (omega arith)
-      no_tests place operation behind ((c ∷ cs) ∷ ds ∷ rest) e = absurd (omega arith)
+      no_tests : (place operation following : ℕ) (alts : List (List Conditions)) → tests alts ≡ 0 → tests_code place operation following alts ≡ []
+      no_tests place operation following [] e = refl
+      no_tests place operation following ([] ∷ []) e = refl
+      no_tests place operation following ((c ∷ cs) ∷ []) e = absurd (omega arith)
+      no_tests place operation following ([] ∷ ds ∷ rest) e = no_tests (place + 0) operation following (ds ∷ rest) (omega arith)
+      no_tests place operation following ((c ∷ cs) ∷ ds ∷ rest) e = absurd (omega arith)
 
 -- ---- places
 
 module _ (p : Object) where
   -- a place of detail or total, or its end
-  pub stays : (s : Section) (first end : ℕ) (i : Instruction ℕ) → first_place p s ≡ first → place_behind p s ≡ end → has_end s ≡ true → Within first end i → stays_inside p s i ≡ true
+  pub stays : (s : Section) (first end : ℕ) (i : Instruction ℕ) → first_place p s ≡ first → place_after p s ≡ end → has_end s ≡ true → Within first end i → stays_inside p s i ≡ true
   unfolding is_place
   stays s first end (made.Act a) f e h w = refl
   stays s first end made.Except f e h w = refl
@@ -132,15 +132,15 @@ module _ (p : Object) where
   stays s first end (made.Return n) f e h w = refl
   stays s first end (made.Branch where_ cs t) f e h w =
       let low : first_place p s ≤ t = subst (λ n. n ≤ t) (sym f) w.0 in
-      let high : t ≤ place_behind p s = subst (λ n. t ≤ n) (sym e) w.1 in
-      and_from (nat_le (first_place p s) t) (nat_lt t (place_behind p s) || (has_end s && t == place_behind p s)) (le-leb (first_place p s) t low) (by_end (nat_lt t (place_behind p s)) refl high)
+      let high : t ≤ place_after p s = subst (λ n. t ≤ n) (sym e) w.1 in
+      and_from (nat_le (first_place p s) t) (nat_lt t (place_after p s) || (has_end s && t == place_after p s)) (le-leb (first_place p s) t low) (by_end (nat_lt t (place_after p s)) refl high)
     where
-      by_end : (b : Bool) → nat_lt t (place_behind p s) ≡ b → t ≤ place_behind p s → (b || (has_end s && t == place_behind p s)) ≡ true
+      by_end : (b : Bool) → nat_lt t (place_after p s) ≡ b → t ≤ place_after p s → (b || (has_end s && t == place_after p s)) ≡ true
       by_end true g high = refl
-      by_end false g high = and_from (has_end s) (t == place_behind p s) h (eq-eqb t (place_behind p s) (let low = ltb-false t (place_behind p s) g in omega arith))
+      by_end false g high = and_from (has_end s) (t == place_after p s) h (eq-eqb t (place_after p s) (let low = ltb-false t (place_after p s) g in omega arith))
 
   -- a place of any section
-  pub stays_before : (s : Section) (first high : ℕ) (i : Instruction ℕ) → first_place p s ≡ first → high < place_behind p s → Within first high i → stays_inside p s i ≡ true
+  pub stays_before : (s : Section) (first high : ℕ) (i : Instruction ℕ) → first_place p s ≡ first → high < place_after p s → Within first high i → stays_inside p s i ≡ true
   unfolding is_place
   stays_before s first high (made.Act a) f e w = refl
   stays_before s first high made.Except f e w = refl
@@ -149,7 +149,7 @@ module _ (p : Object) where
   stays_before s first high (made.Branch where_ cs t) f e w =
       let low : first_place p s ≤ t = subst (λ n. n ≤ t) (sym f) w.0 in
       let h = w.1 in
-      and_from (nat_le (first_place p s) t) (nat_lt t (place_behind p s) || (has_end s && t == place_behind p s)) (le-leb (first_place p s) t low) (or_true (nat_lt t (place_behind p s)) (has_end s && t == place_behind p s) (lt-ltb t (place_behind p s) (omega arith)))
+      and_from (nat_le (first_place p s) t) (nat_lt t (place_after p s) || (has_end s && t == place_after p s)) (le-leb (first_place p s) t low) (or_true (nat_lt t (place_after p s)) (has_end s && t == place_after p s) (lt-ltb t (place_after p s) (omega arith)))
     where
       or_true : (a b : Bool) → a ≡ true → (a || b) ≡ true
       or_true true b e = refl

@@ -18,18 +18,18 @@ alternative_length next operation [] = refl
 alternative_length next operation (c ∷ []) = refl
 alternative_length next operation (c ∷ d ∷ rest) = ap suc (alternative_length next operation (d ∷ rest))
 
-pub tests_length : (place operation behind : ℕ) (alts : List (List Conditions)) → length (tests_code place operation behind alts) ≡ tests alts
-tests_length place operation behind [] = refl
-tests_length place operation behind (cs ∷ []) = let e = length-map cs (skip_code behind) in omega arith
-tests_length place operation behind (cs ∷ ds ∷ rest) =
-    let e = length-append (alternative_code (place + length cs) operation cs) (tests_code (place + length cs) operation behind (ds ∷ rest)) in
+pub tests_length : (place operation following : ℕ) (alts : List (List Conditions)) → length (tests_code place operation following alts) ≡ tests alts
+tests_length place operation following [] = refl
+tests_length place operation following (cs ∷ []) = let e = length-map cs (skip_code following) in omega arith
+tests_length place operation following (cs ∷ ds ∷ rest) =
+    let e = length-append (alternative_code (place + length cs) operation cs) (tests_code (place + length cs) operation following (ds ∷ rest)) in
     let a = alternative_length (place + length cs) operation cs in
-    let b = tests_length (place + length cs) operation behind (ds ∷ rest) in
+    let b = tests_length (place + length cs) operation following (ds ∷ rest) in
     omega arith
 
-pub level_length : (behind : ℕ) (o : Option ℕ) → length (level_code behind o) ≡ waits o
-level_length behind None = refl
-level_length behind (Some n) = refl
+pub level_length : (following : ℕ) (o : Option ℕ) → length (level_code following o) ≡ waits o
+level_length following None = refl
+level_length following (Some n) = refl
 
 -- ---- branches
 
@@ -41,9 +41,9 @@ Within low high made.Except = Unit {0}
 Within low high (made.Call n) = Unit {0}
 Within low high (made.Return n) = Unit {0}
 
-level_within : (low high behind : ℕ) (o : Option ℕ) → low ≤ behind → behind ≤ high → Each (Within low high) (level_code behind o)
-level_within low high behind None a b = tt
-level_within low high behind (Some n) a b = ((a, b), tt)
+level_within : (low high following : ℕ) (o : Option ℕ) → low ≤ following → following ≤ high → Each (Within low high) (level_code following o)
+level_within low high following None a b = tt
+level_within low high following (Some n) a b = ((a, b), tt)
 
 skips_within : (low high target : ℕ) (cs : List Conditions) → low ≤ target → target ≤ high → Each (Within low high) (map (skip_code target) cs)
 skips_within low high target [] a b = tt
@@ -54,14 +54,14 @@ alternative_within low high next operation [] a b c d = tt
 alternative_within low high next operation (x ∷ []) a b c d = ((c, d), tt)
 alternative_within low high next operation (x ∷ y ∷ rest) a b c d = ((a, b), alternative_within low high next operation (y ∷ rest) a b c d)
 
-tests_within : (low high place operation behind : ℕ) (alts : List (List Conditions)) → low ≤ place → place + tests alts ≤ high → low ≤ operation → operation ≤ high → low ≤ behind → behind ≤ high
-    → Each (Within low high) (tests_code place operation behind alts)
-tests_within low high place operation behind [] a b c d e f = tt
-tests_within low high place operation behind (cs ∷ []) a b c d e f = skips_within low high behind cs e f
-tests_within low high place operation behind (cs ∷ ds ∷ rest) a b c d e f =
-    each_append (Within low high) (alternative_code (place + length cs) operation cs) (tests_code (place + length cs) operation behind (ds ∷ rest))
+tests_within : (low high place operation following : ℕ) (alts : List (List Conditions)) → low ≤ place → place + tests alts ≤ high → low ≤ operation → operation ≤ high → low ≤ following → following ≤ high
+    → Each (Within low high) (tests_code place operation following alts)
+tests_within low high place operation following [] a b c d e f = tt
+tests_within low high place operation following (cs ∷ []) a b c d e f = skips_within low high following cs e f
+tests_within low high place operation following (cs ∷ ds ∷ rest) a b c d e f =
+    each_append (Within low high) (alternative_code (place + length cs) operation cs) (tests_code (place + length cs) operation following (ds ∷ rest))
     (alternative_within low high (place + length cs) operation cs (omega arith) (omega arith) c d)
-    (tests_within low high (place + length cs) operation behind (ds ∷ rest) (omega arith) (omega arith) c d e f)
+    (tests_within low high (place + length cs) operation following (ds ∷ rest) (omega arith) (omega arith) c d e f)
 
 module _ (number : Key → ℕ) (place_of callee_of : Option Name → ℕ) (own : ℕ) where
   step_length : (s : Deed Key) → has_instruction s ≡ true → length (step_code number place_of callee_of own s) ≡ 1

@@ -4,7 +4,7 @@ use Rattle.std.specs.Option.{option_or}
 use Rattle.std.specs.Prelude.{is_some}
 use Rattle.rpg_cards.specs.Plain.{Each}
 use Rattle.rpg_cards.proofs.GroupLemmas.{open_group-push}
-use Rattle.rpg_cards.specs.Groups.{Apart, Follower, Group, Heading, Role, file_of_group, followers, following, groups, groups_from, open_file, open_group, opening, with_card}
+use Rattle.rpg_cards.specs.Groups.{Apart, Follower, Group, Heading, Role, file_of_group, followers, followers_with, groups, groups_from, open_file, open_group, opening, with_card}
 use Rattle.rpg_cards.specs.declared.spec_card.SpecCard.{SpecCard}
 use Rattle.rpg_sheet_specs.specs.declared.spec.Spec.{Spec}
 
@@ -37,7 +37,7 @@ module _ {H F : Type 0} (cards : List SpecCard) (role : Spec → Role H F) (Know
     each_follower before (c ∷ cs) file split is =
         by_role (λ e. each_follower (before ++ c ∷ []) cs file (split ∙ sym (append_assoc before (c ∷ []) cs)) e) (role c.spec) refl
       where
-        by_role : (open_file role (before ++ c ∷ []) ≡ file → Each (Q file) (followers role cs)) → (r : Role H F) → role c.spec ≡ r → Each (Q file) (following r (followers role cs))
+        by_role : (open_file role (before ++ c ∷ []) ≡ file → Each (Q file) (followers role cs)) → (r : Role H F) → role c.spec ≡ r → Each (Q file) (followers_with r (followers role cs))
         by_role rest (Heading h name) e = tt
         by_role rest (Follower f) e =
             (subst (λ (o : Option (List ℕ)). Q o f) is (follows before c cs f split e), rest (ap file_of_group (pushed before c (Follower f) e) ∙ same_file (open_group role before) f ∙ is))

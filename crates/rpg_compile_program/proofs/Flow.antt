@@ -28,7 +28,7 @@ use Rattle.rpg_compile_program.specs.Rules.{KeepsCardRules}
 
 -- one that isn't the hundred and first
 abbrev IsNoMore : List (Calculation Key) → Calculation Key → List (Calculation Key) → Type 0
-IsNoMore before g behind = (begun_count before == 100 && begins_subroutine g) ≡ false
+IsNoMore before g following = (begun_count before == 100 && begins_subroutine g) ≡ false
 
 one_more : (before : List (Calculation Key)) (g : Calculation Key) → begun_count (before ++ g ∷ []) ≡ begun_count before + cond (begins_subroutine g) 1 0
 one_more [] g = by (begins_subroutine g)
@@ -42,8 +42,8 @@ one_more (x ∷ xs) g = by (begins_subroutine x) (one_more xs g)
     by true r = omega arith
     by false r = r
 
-stays_few : (before : List (Calculation Key)) (g : Calculation Key) (behind : List (Calculation Key)) → IsNoMore before g behind → begun_count before ≤ 100 → begun_count (before ++ g ∷ []) ≤ 100
-stays_few before g behind other few = by (begins_subroutine g) other (one_more before g)
+stays_few : (before : List (Calculation Key)) (g : Calculation Key) (following : List (Calculation Key)) → IsNoMore before g following → begun_count before ≤ 100 → begun_count (before ++ g ∷ []) ≤ 100
+stays_few before g following other few = by (begins_subroutine g) other (one_more before g)
   where
     by : (b : Bool) → (begun_count before == 100 && b) ≡ false → begun_count (before ++ g ∷ []) ≡ begun_count before + cond b 1 0 → begun_count (before ++ g ∷ []) ≤ 100
     by false not_it more = omega arith

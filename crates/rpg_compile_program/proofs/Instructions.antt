@@ -32,7 +32,7 @@ use Rattle.rpg_program.specs.declared.rows.Version.{Version}
 use Rattle.rpg_verify_rules.proofs.Columns.{columns_same, kinds_same, written_same}
 use Rattle.rpg_verify_rules.proofs.Kept.{NoneTrue}
 use Rattle.rpg_verify_rules.specs.Indicators.{all_asked}
-use Rattle.rpg_verify_rules.specs.PlaceRules.{are_marked, columns_of_kind, holds_found, is_ascending, is_form_ascending, is_ordered, is_searched_well, judged_behind_detail, place_breaks, places_judged, section_judged, subroutines_judged}
+use Rattle.rpg_verify_rules.specs.PlaceRules.{are_marked, columns_of_kind, holds_found, is_ascending, is_form_ascending, is_ordered, is_searched_well, judged_after_detail, place_breaks, places_judged, section_judged, subroutines_judged}
 use Rattle.rpg_verify_rules.specs.declared.rule.PlaceRule.{PlaceRule}
 use Rattle.rpg_verify_rules.specs.declared.rule.PlaceRule.TheVariants.{V16, V17, V18, V19, V20, V21, V22}
 use Rattle.rpg_compile_program.proofs.Conditions.{IsTested, may_ask_low}
@@ -171,16 +171,16 @@ module _ (p : Object) (forms : Key → Option FieldForm) (number : Key → ℕ) 
   alternative_kept next operation (c ∷ []) h = (branch_kept true c operation h.0.asked refl, tt)
   alternative_kept next operation (c ∷ d ∷ rest) h = (branch_kept false c next h.0.asked h.0.some, alternative_kept next operation (d ∷ rest) h.1)
 
-  tests_kept : (place operation behind : ℕ) (alts : List (List Conditions)) → Each (Each (IsTested p.version)) alts → Each IsKept (tests_code place operation behind alts)
-  tests_kept place operation behind [] h = tt
-  tests_kept place operation behind (cs ∷ []) h = skips_kept behind cs h.0
-  tests_kept place operation behind (cs ∷ ds ∷ rest) h =
-      each_append IsKept (alternative_code (place + length cs) operation cs) (tests_code (place + length cs) operation behind (ds ∷ rest)) (alternative_kept (place + length cs) operation cs h.0)
-      (tests_kept (place + length cs) operation behind (ds ∷ rest) h.1)
+  tests_kept : (place operation following : ℕ) (alts : List (List Conditions)) → Each (Each (IsTested p.version)) alts → Each IsKept (tests_code place operation following alts)
+  tests_kept place operation following [] h = tt
+  tests_kept place operation following (cs ∷ []) h = skips_kept following cs h.0
+  tests_kept place operation following (cs ∷ ds ∷ rest) h =
+      each_append IsKept (alternative_code (place + length cs) operation cs) (tests_code (place + length cs) operation following (ds ∷ rest)) (alternative_kept (place + length cs) operation cs h.0)
+      (tests_kept (place + length cs) operation following (ds ∷ rest) h.1)
 
-  level_kept : (behind : ℕ) (o : Option ℕ) → ForSome o (λ n. n ≤ 110) → Each IsKept (level_code behind o)
-  level_kept behind None h = tt
-  level_kept behind (Some n) h = let within = h n refl in (branch_kept false (on_level n) behind (and_from _ _ (may_ask_low p.version n (omega arith)) refl) refl, tt)
+  level_kept : (following : ℕ) (o : Option ℕ) → ForSome o (λ n. n ≤ 110) → Each IsKept (level_code following o)
+  level_kept following None h = tt
+  level_kept following (Some n) h = let within = h n refl in (branch_kept false (on_level n) following (and_from _ _ (may_ask_low p.version n (omega arith)) refl) refl, tt)
 
   when_kept : (b : Bool) (code : List (Instruction ℕ)) → Each IsKept code → Each IsKept (cond b code [])
   when_kept true code h = h
@@ -240,7 +240,7 @@ module _ (p : Object) (forms : Key → Option FieldForm) (number : Key → ℕ) 
 
     pub places_kept : NoneTrue (places_judged r p)
     places_kept =
-        none_in_both (section_judged r p section.Detail) (judged_behind_detail r p)
+        none_in_both (section_judged r p section.Detail) (judged_after_detail r p)
         (subst (λ is. NoneTrue (map (place_breaks r p section.Detail) is)) (sym code.detail) (none_of_section section.Detail r of (section_code number (called_number s) 0 0 s.detail) (section_kept (called_number s) 0 0 s.detail h.detail)))
         (none_in_both (section_judged r p section.Total) (subroutines_judged r p 0 p.subroutines)
         (subst (λ is. NoneTrue (map (place_breaks r p section.Total) is)) (sym code.total)

@@ -117,30 +117,30 @@ first_same cards number level (g ∷ gs) h =
 
 -- ---- a type among others
 
-first_behind : (level : ℕ) (front behind : List (Group RecordType InputSpec)) → first_joined level (front ++ behind) ≡ cond (first_joined level front == 0) (first_joined level behind) (first_joined level front)
-first_behind level [] behind = refl
-first_behind level (g ∷ gs) behind = by (Joined level g == 0) refl (first_behind level gs behind)
+first_after : (level : ℕ) (front following : List (Group RecordType InputSpec)) → first_joined level (front ++ following) ≡ cond (first_joined level front == 0) (first_joined level following) (first_joined level front)
+first_after level [] following = refl
+first_after level (g ∷ gs) following = by (Joined level g == 0) refl (first_after level gs following)
   where
-    by : (b : Bool) → (Joined level g == 0) ≡ b → first_joined level (gs ++ behind) ≡ cond (first_joined level gs == 0) (first_joined level behind) (first_joined level gs)
-        → cond b (first_joined level (gs ++ behind)) (Joined level g) ≡ cond (cond b (first_joined level gs) (Joined level g) == 0) (first_joined level behind) (cond b (first_joined level gs) (Joined level g))
+    by : (b : Bool) → (Joined level g == 0) ≡ b → first_joined level (gs ++ following) ≡ cond (first_joined level gs == 0) (first_joined level following) (first_joined level gs)
+        → cond b (first_joined level (gs ++ following)) (Joined level g) ≡ cond (cond b (first_joined level gs) (Joined level g) == 0) (first_joined level following) (cond b (first_joined level gs) (Joined level g))
     by true e r = r
-    by false e r = sym (ap (λ b. cond b (first_joined level behind) (Joined level g)) e)
+    by false e r = sym (ap (λ b. cond b (first_joined level following) (Joined level g)) e)
 
 -- as long as in the first type with the level, and 256 at most
-pub measured : (level : ℕ) (front : List (Group RecordType InputSpec)) (g : Group RecordType InputSpec) (behind : List (Group RecordType InputSpec)) → Each InGroup front → InGroup g → Joined level g ≤ 256
-    → lengths_differ (first_length level front) (level_length level g.followers) ≡ false → is_measured (first_joined level (front ++ g ∷ behind)) (Joined level g) ≡ true
-measured level front g behind h good few same = by (Joined level g == 0) refl
+pub measured : (level : ℕ) (front : List (Group RecordType InputSpec)) (g : Group RecordType InputSpec) (following : List (Group RecordType InputSpec)) → Each InGroup front → InGroup g → Joined level g ≤ 256
+    → lengths_differ (first_length level front) (level_length level g.followers) ≡ false → is_measured (first_joined level (front ++ g ∷ following)) (Joined level g) ≡ true
+measured level front g following h good few same = by (Joined level g == 0) refl
   where
     alike : lengths_differ (some_if (first_joined level front)) (some_if (Joined level g)) ≡ false
     alike = sym (λ i. lengths_differ (first_is level front h i) (level_is level g good i)) ∙ same
 
-    own : (b : Bool) → (first_joined level front == 0) ≡ b → (Joined level g == 0) ≡ false → (Joined level g == first_joined level (front ++ g ∷ behind)) ≡ true
-    own true f e = eq-eqb (Joined level g) _ (sym (first_behind level front (g ∷ behind) ∙ ap (λ b. cond b (first_joined level (g ∷ behind)) (first_joined level front)) f ∙ ap (λ b. cond b (first_joined level behind) (Joined level g)) e))
+    own : (b : Bool) → (first_joined level front == 0) ≡ b → (Joined level g == 0) ≡ false → (Joined level g == first_joined level (front ++ g ∷ following)) ≡ true
+    own true f e = eq-eqb (Joined level g) _ (sym (first_after level front (g ∷ following) ∙ ap (λ b. cond b (first_joined level (g ∷ following)) (first_joined level front)) f ∙ ap (λ b. cond b (first_joined level following) (Joined level g)) e))
     own false f e =
         let equal : (first_joined level front == Joined level g) ≡ true = not-false _ (sym (λ i. lengths_differ (cond (f i) None (Some (first_joined level front))) (cond (e i) None (Some (Joined level g)))) ∙ alike) in
-        eq-eqb (Joined level g) _ (sym (eqb-true (first_joined level front) (Joined level g) equal) ∙ sym (first_behind level front (g ∷ behind) ∙ ap (λ b. cond b (first_joined level (g ∷ behind)) (first_joined level front)) f))
+        eq-eqb (Joined level g) _ (sym (eqb-true (first_joined level front) (Joined level g) equal) ∙ sym (first_after level front (g ∷ following) ∙ ap (λ b. cond b (first_joined level (g ∷ following)) (first_joined level front)) f))
 
-    by : (b : Bool) → (Joined level g == 0) ≡ b → (b || (nat_le (Joined level g) 256 && (Joined level g == first_joined level (front ++ g ∷ behind)))) ≡ true
+    by : (b : Bool) → (Joined level g == 0) ≡ b → (b || (nat_le (Joined level g) 256 && (Joined level g == first_joined level (front ++ g ∷ following)))) ≡ true
     by true e = refl
     by false e = and_from _ _ (le-leb (Joined level g) 256 few) (own (first_joined level front == 0) refl e)
 

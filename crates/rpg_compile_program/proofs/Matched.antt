@@ -204,19 +204,19 @@ first_rows cards number (g ∷ gs) = ap (λ cs. cond (length (Matches g) == 0) c
 
 -- ---- a type among others
 
-firsts_behind : (front behind : List (Group RecordType InputSpec)) → firsts (front ++ behind) ≡ cond (length (firsts front) == 0) (firsts behind) (firsts front)
-firsts_behind [] behind = refl
-firsts_behind (g ∷ gs) behind = by (length (Matches g) == 0) refl (firsts_behind gs behind)
+firsts_after : (front following : List (Group RecordType InputSpec)) → firsts (front ++ following) ≡ cond (length (firsts front) == 0) (firsts following) (firsts front)
+firsts_after [] following = refl
+firsts_after (g ∷ gs) following = by (length (Matches g) == 0) refl (firsts_after gs following)
   where
-    by : (b : Bool) → (length (Matches g) == 0) ≡ b → firsts (gs ++ behind) ≡ cond (length (firsts gs) == 0) (firsts behind) (firsts gs)
-        → cond b (firsts (gs ++ behind)) (Matches g) ≡ cond (length (cond b (firsts gs) (Matches g)) == 0) (firsts behind) (cond b (firsts gs) (Matches g))
+    by : (b : Bool) → (length (Matches g) == 0) ≡ b → firsts (gs ++ following) ≡ cond (length (firsts gs) == 0) (firsts following) (firsts gs)
+        → cond b (firsts (gs ++ following)) (Matches g) ≡ cond (length (cond b (firsts gs) (Matches g)) == 0) (firsts following) (cond b (firsts gs) (Matches g))
     by true e r = r
-    by false e r = sym (ap (λ b. cond b (firsts behind) (Matches g)) e)
+    by false e r = sym (ap (λ b. cond b (firsts following) (Matches g)) e)
 
 -- the same lengths as in the first type that has match fields
-pub matched : (front : List (Group RecordType InputSpec)) (g : Group RecordType InputSpec) (behind : List (Group RecordType InputSpec)) → Each InGroup front → Each IsOnce front → InGroup g → IsOnce g
-    → matches_differ (first_good_matches front) (good_matches (matched_fields g.followers)) ≡ false → are_joined_as (joined_widths (firsts (front ++ g ∷ behind))) (Matches g) ≡ true
-matched front g behind h once good single same = by (length (Matches g) == 0) refl
+pub matched : (front : List (Group RecordType InputSpec)) (g : Group RecordType InputSpec) (following : List (Group RecordType InputSpec)) → Each InGroup front → Each IsOnce front → InGroup g → IsOnce g
+    → matches_differ (first_good_matches front) (good_matches (matched_fields g.followers)) ≡ false → are_joined_as (joined_widths (firsts (front ++ g ∷ following))) (Matches g) ≡ true
+matched front g following h once good single same = by (length (Matches g) == 0) refl
   where
     alike : matches_differ (unless_none (firsts front)) (unless_none (Matches g)) ≡ false
     alike = sym (λ i. matches_differ (first_are front h once i) (good_are (input_fields_in g.followers) good single i)) ∙ same
@@ -224,16 +224,16 @@ matched front g behind h once good single same = by (length (Matches g) == 0) re
     equal : (xs ys : List ℕ) → xs ≡ ys → pointwise ◌==◌ ys xs ≡ true
     equal xs ys e = (bytes_eq-Decides ys xs).1 (sym e)
 
-    own : (b : Bool) → (length (firsts front) == 0) ≡ b → (length (Matches g) == 0) ≡ false → pointwise ◌==◌ (joined_widths (Matches g)) (joined_widths (firsts (front ++ g ∷ behind))) ≡ true
+    own : (b : Bool) → (length (firsts front) == 0) ≡ b → (length (Matches g) == 0) ≡ false → pointwise ◌==◌ (joined_widths (Matches g)) (joined_widths (firsts (front ++ g ∷ following))) ≡ true
     own true f e =
-        equal (joined_widths (firsts (front ++ g ∷ behind))) (joined_widths (Matches g)) (ap joined_widths (firsts_behind front (g ∷ behind) ∙ ap (λ b. cond b (firsts (g ∷ behind)) (firsts front)) f ∙ ap (λ b. cond b (firsts behind) (Matches g)) e))
+        equal (joined_widths (firsts (front ++ g ∷ following))) (joined_widths (Matches g)) (ap joined_widths (firsts_after front (g ∷ following) ∙ ap (λ b. cond b (firsts (g ∷ following)) (firsts front)) f ∙ ap (λ b. cond b (firsts following) (Matches g)) e))
     own false f e =
         let differ : not (pointwise nat_eq (joined_widths (firsts front)) (joined_widths (Matches g))) ≡ false =
         sym (λ i. matches_differ (cond (f i) None (Some (joined_widths (firsts front)))) (cond (e i) None (Some (joined_widths (Matches g))))) ∙ alike in
-        equal (joined_widths (firsts (front ++ g ∷ behind))) (joined_widths (Matches g))
-        (ap joined_widths (firsts_behind front (g ∷ behind) ∙ ap (λ b. cond b (firsts (g ∷ behind)) (firsts front)) f)
+        equal (joined_widths (firsts (front ++ g ∷ following))) (joined_widths (Matches g))
+        (ap joined_widths (firsts_after front (g ∷ following) ∙ ap (λ b. cond b (firsts (g ∷ following)) (firsts front)) f)
         ∙ (bytes_eq-Decides (joined_widths (firsts front)) (joined_widths (Matches g))).0 (not-false _ differ))
 
-    by : (b : Bool) → (length (Matches g) == 0) ≡ b → (b || pointwise ◌==◌ (joined_widths (Matches g)) (joined_widths (firsts (front ++ g ∷ behind)))) ≡ true
+    by : (b : Bool) → (length (Matches g) == 0) ≡ b → (b || pointwise ◌==◌ (joined_widths (Matches g)) (joined_widths (firsts (front ++ g ∷ following)))) ≡ true
     by true e = refl
     by false e = own (length (firsts front) == 0) refl e

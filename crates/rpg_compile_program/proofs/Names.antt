@@ -105,13 +105,13 @@ stands_in x o e = ap (λ (p : Option Constant). list_any (is_same x) (option_to_
 pub in_front : (x : Constant) (xs ys : List Constant) → list_any (is_same x) xs ≡ true → list_any (is_same x) (xs ++ ys) ≡ true
 in_front x xs ys e = list_any-append (is_same x) xs ys ∙ or_left _ _ e
 
-pub behind : (x : Constant) (xs ys : List Constant) → list_any (is_same x) ys ≡ true → list_any (is_same x) (xs ++ ys) ≡ true
-behind x xs ys e = list_any-append (is_same x) xs ys ∙ or_right (list_any (is_same x) xs) _ e
+pub following : (x : Constant) (xs ys : List Constant) → list_any (is_same x) ys ≡ true → list_any (is_same x) (xs ++ ys) ≡ true
+following x xs ys e = list_any-append (is_same x) xs ys ∙ or_right (list_any (is_same x) xs) _ e
 
 pub constant_there : (cards before : List SpecCard) (c : SpecCard) (after : List SpecCard) (x : Constant) → cards ≡ before ++ c ∷ after → list_any (is_same x) (constants_on c.spec) ≡ true
     → key_form (table_of cards) (Fixed x) ≡ Some (constant_form x)
 constant_there cards before c after x split e =
     let here : list_any (is_same x) (constants_in cards) ≡ true =
     ap (λ cs. list_any (is_same x) (constants_in cs)) split ∙ ap (list_any (is_same x)) (constants_in-append before (c ∷ after))
-    ∙ behind x (constants_in before) (constants_in (c ∷ after)) (in_front x (constants_on c.spec) (constants_in after) e) in
+    ∙ following x (constants_in before) (constants_in (c ∷ after)) (in_front x (constants_on c.spec) (constants_in after) e) in
     ap (λ b. cond b (Some (constant_form x)) None) (among is_same is_same_equiv x [] (constants_in cards) ∙ here)

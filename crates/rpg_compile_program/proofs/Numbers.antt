@@ -92,10 +92,10 @@ get_front [] ys i x e = cc
 get_front (y ∷ xs) ys zero x e = e
 get_front (y ∷ xs) ys (suc i) x e = get_front xs ys i x e
 
-pub get_behind : {X : Type 0} (xs ys : List X) (i n : ℕ) → n ≡ length xs → slice_get (xs ++ ys) (n + i) ≡ slice_get ys i
-get_behind [] ys i n e = let same : n + i ≡ i = omega arith in ap (slice_get ys) same
-get_behind (x ∷ xs) ys i zero e = absurd (omega arith)
-get_behind (x ∷ xs) ys i (suc n) e = let same : suc n + i ≡ suc (n + i) = omega arith in ap (slice_get (x ∷ xs ++ ys)) same ∙ get_behind xs ys i n (omega arith)
+pub get_after : {X : Type 0} (xs ys : List X) (i n : ℕ) → n ≡ length xs → slice_get (xs ++ ys) (n + i) ≡ slice_get ys i
+get_after [] ys i n e = let same : n + i ≡ i = omega arith in ap (slice_get ys) same
+get_after (x ∷ xs) ys i zero e = absurd (omega arith)
+get_after (x ∷ xs) ys i (suc n) e = let same : suc n + i ≡ suc (n + i) = omega arith in ap (slice_get (x ∷ xs ++ ys)) same ∙ get_after xs ys i n (omega arith)
 
 pub length_map : {X Y : Type 0} (f : X → Y) (xs : List X) → length (map f xs) ≡ length xs
 length_map f [] = refl
@@ -135,8 +135,8 @@ constant_at t x e =
     record {
       place = length t.names + r.0;
       number = ap (λ o. unwrap_or (option_map (λ i. length t.names + i + 1) o) 0) (place_position (is_same x) t.constants r.0 r.1);
-      key = get_behind (map Named (keys_of t.names)) (map Fixed t.constants) r.0 (length t.names) long ∙ slice_get-map Fixed t.constants r.0 ∙ ap (option_map Fixed) r.2;
-      form = get_behind (name_forms t.names) (map constant_form t.constants) r.0 (length t.names) wide ∙ slice_get-map constant_form t.constants r.0 ∙ ap (option_map constant_form) r.2
+      key = get_after (map Named (keys_of t.names)) (map Fixed t.constants) r.0 (length t.names) long ∙ slice_get-map Fixed t.constants r.0 ∙ ap (option_map Fixed) r.2;
+      form = get_after (name_forms t.names) (map constant_form t.constants) r.0 (length t.names) wide ∙ slice_get-map constant_form t.constants r.0 ∙ ap (option_map constant_form) r.2
           ∙ ap (λ b. cond b (Some (constant_form x)) None) (sym e);
     }
 

@@ -2,8 +2,8 @@
 use Rattle.std.proofs.Common.{◌≡◌, ℕ, List, [], ◌∷◌, ◌++◌, Option, None, Some, refl, sym, ap, ◌∙◌, subst, append_assoc, append-nil}
 use Rattle.std.specs.Option.{option_or}
 use Rattle.rpg_cards.specs.Plain.{Each}
-use Rattle.rpg_cards.proofs.GroupLemmas.{closing, file_behind, file_with, groups-heading, groups_on, groups_on-card, open_group-push}
-use Rattle.rpg_cards.specs.Groups.{Apart, Follower, Group, Heading, Role, followers, following, groups, groups_from, open_group, opening, with_card, with_followers}
+use Rattle.rpg_cards.proofs.GroupLemmas.{closing, file_after, file_with, groups-heading, groups_on, groups_on-card, open_group-push}
+use Rattle.rpg_cards.specs.Groups.{Apart, Follower, Group, Heading, Role, followers, followers_with, groups, groups_from, open_group, opening, with_card, with_followers}
 use Rattle.rpg_cards.specs.declared.spec_card.SpecCard.{SpecCard}
 use Rattle.rpg_compile_program.proofs.Each.{each_append}
 use Rattle.rpg_sheet_specs.specs.declared.spec.Spec.{Spec}
@@ -14,32 +14,32 @@ module _ {H F : Type 0} (role : Spec → Role H F) (cards : List SpecCard) where
   -- a group with those in front of it and after it
   pub record IsAmong (P : List (Group H F) → Group H F → Type 0) (g : Group H F) : Type 0 where
     pub front : List (Group H F)
-    pub behind : List (Group H F)
-    pub split : groups role cards ≡ front ++ g ∷ behind
+    pub following : List (Group H F)
+    pub split : groups role cards ≡ front ++ g ∷ following
     pub holds : P front g
 
-  file_push : (file : Option (List ℕ)) (before : List SpecCard) (c : SpecCard) → file_behind role file (before ++ c ∷ []) ≡ file_with (file_behind role file before) (role c.spec)
+  file_push : (file : Option (List ℕ)) (before : List SpecCard) (c : SpecCard) → file_after role file (before ++ c ∷ []) ≡ file_with (file_after role file before) (role c.spec)
   file_push file [] c = refl
   file_push file (d ∷ ds) c = file_push (file_with file (role d.spec)) ds c
 
   abbrev begun : List SpecCard → H → Option (List ℕ) → List SpecCard → Group H F
-  begun before h name after = record { heading = h; followers = followers role after; file = option_or name (file_behind role None before) }
+  begun before h name after = record { heading = h; followers = followers role after; file = option_or name (file_after role None before) }
 
   module _ (P : List (Group H F) → Group H F → Type 0)
       (heads : (before : List SpecCard) (c : SpecCard) (after : List SpecCard) (h : H) (name : Option (List ℕ)) → cards ≡ before ++ c ∷ after → role c.spec ≡ Heading h name → P (groups role before) (begun before h name after)) where
-    among_from : (before rest : List SpecCard) → cards ≡ before ++ rest → Each (IsAmong P) (groups_from role (file_behind role None before) rest)
+    among_from : (before rest : List SpecCard) → cards ≡ before ++ rest → Each (IsAmong P) (groups_from role (file_after role None before) rest)
     among_from before [] split = tt
     among_from before (c ∷ cs) split = by (role c.spec) refl (λ own e. subst (λ file. Each (IsAmong P) (groups_from role file cs)) e (among_from (before ++ c ∷ []) cs (split ∙ sym (append_assoc before (c ∷ []) cs))))
       where
         file : Option (List ℕ)
-        file = file_behind role None before
+        file = file_after role None before
 
-        by : (r : Role H F) → role c.spec ≡ r → ((own : Option (List ℕ)) → file_behind role None (before ++ c ∷ []) ≡ own → Each (IsAmong P) (groups_from role own cs)) → Each (IsAmong P) (opening r file (followers role cs) (λ own. groups_from role own cs))
+        by : (r : Role H F) → role c.spec ≡ r → ((own : Option (List ℕ)) → file_after role None (before ++ c ∷ []) ≡ own → Each (IsAmong P) (groups_from role own cs)) → Each (IsAmong P) (opening r file (followers role cs) (λ own. groups_from role own cs))
         by (Heading h name) is rest =
             let here : groups_from role file (c ∷ cs) ≡ begun before h name cs ∷ groups_from role (option_or name file) cs = ap (λ (r : Role H F). opening r file (followers role cs) (λ own. groups_from role own cs)) is in (
               record {
                 front = groups role before;
-                behind = groups_from role (option_or name file) cs;
+                following = groups_from role (option_or name file) cs;
                 split = ap (groups role) split ∙ groups-heading role None before c cs h name is ∙ ap (λ gs. groups role before ++ gs) here;
                 holds = heads before c cs h name split is;
               },
@@ -71,10 +71,10 @@ module _ {H F : Type 0} (role : Spec → Role H F) (cards : List SpecCard) where
     open_from before [] split = last_one (open_group role before) (opened before [] split)
     open_from before (c ∷ cs) split =
         let o = open_group role before in
-        let behind = open_from (before ++ c ∷ []) cs (split ∙ sym (append_assoc before (c ∷ []) cs)) in
+        let following = open_from (before ++ c ∷ []) cs (split ∙ sym (append_assoc before (c ∷ []) cs)) in
         subst (Each P) (sym (groups_on-card role o c cs))
         (each_append P (closing (role c.spec) o) (groups_on role (with_card o (role c.spec)) cs) (closed_one (role c.spec) o (opened before (c ∷ cs) split))
-        (subst (λ p. Each P (groups_on role p cs)) (open_group-push role before c) behind))
+        (subst (λ p. Each P (groups_on role p cs)) (open_group-push role before c) following))
 
     pub each_open : Each P (groups role cards)
     each_open = open_from [] cards refl
@@ -92,7 +92,7 @@ module _ {H F : Type 0} (role : Spec → Role H F) (Q : F → Type 0) where
   followers_good [] h = tt
   followers_good (c ∷ cs) h = by (role c.spec) (h.0) (followers_good cs h.1)
     where
-      by : (r : Role H F) → ((f : F) → r ≡ Follower f → Q f) → Each Q (followers role cs) → Each Q (following r (followers role cs))
+      by : (r : Role H F) → ((f : F) → r ≡ Follower f → Q f) → Each Q (followers role cs) → Each Q (followers_with r (followers role cs))
       by (Heading x name) here rest = tt
       by (Follower f) here rest = (here f refl, rest)
       by Apart here rest = rest

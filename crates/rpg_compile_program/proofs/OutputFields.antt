@@ -128,7 +128,7 @@ module _ (cards : List SpecCard) (forms : Key → Option FieldForm) (words : Key
       by_fill (Some fill) at h =
           let same : hows.Code code fill ≡ how = cc in
           subst (λ (h : How (List ℕ)). IsEdited d (with_entry cs e (Some code) b n (Some x)) h) same
-            (by_code cs e code b n (Some x) d fill (ap (λ (o : Option Fill). unwrap_or o fills.Blank) at) (subst (λ (h : How (List ℕ)). suits d h ≡ true) (sym same) fit))
+          (by_code cs e code b n (Some x) d fill (ap (λ (o : Option Fill). unwrap_or o fills.Blank) at) (subst (λ (h : How (List ℕ)). suits d h ≡ true) (sym same) fit))
 
   unfilled : (cs : Three (Option ConditionSpec)) (e : Entry) (b : Bool) (n : ℕ) (text : Option (List ℕ)) (d : FieldForm) (how : How (List ℕ)) → card_entry_form cards e ≡ Some d →
       IsListed None text → how_by None text ≡ Some how → suits d how ≡ true → IsEdited d (with_entry cs e None b n text) how

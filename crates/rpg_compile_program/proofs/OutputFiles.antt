@@ -79,7 +79,7 @@ module _ (cards : List SpecCard)
   named_fit test name (Some f) e h = (f, e, not-false (test (file_use f)) h, named_is name f e)
 
   -- a heading names a file of that use, or comes after another
-  pub named_or_before : (test : FileUse → Bool) (is_behind : Bool) (name last : Option (List ℕ)) → lacks_file cards test is_behind name ≡ false → (is_behind ≡ true → HasFile test last) →
+  pub named_or_before : (test : FileUse → Bool) (is_following : Bool) (name last : Option (List ℕ)) → lacks_file cards test is_following name ≡ false → (is_following ≡ true → HasFile test last) →
       HasFile test (option_or name last)
-  named_or_before test is_behind None last h known = known (not-false is_behind h)
-  named_or_before test is_behind (Some name) last h known = named_fit test name (file_named name cards) refl h
+  named_or_before test is_following None last h known = known (not-false is_following h)
+  named_or_before test is_following (Some name) last h known = named_fit test name (file_named name cards) refl h

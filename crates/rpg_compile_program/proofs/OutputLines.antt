@@ -119,8 +119,8 @@ indicators_on cards (spec.Calculation x) o e good = cc
 indicators_on cards (spec.Data x) o e good = cc
 indicators_on cards (spec.Output p) o e good = let same : p ≡ o = cc in subst (λ x. bad_on_output cards x ≡ false) same good
 
-behind_all : {X : Type 0} (test : X → Bool) (xs : List X) (o : Option X) → list_any test (xs ++ option_to_list o) ≡ false → option_map_or test o false ≡ false
-behind_all test xs o e = none_in_option test o ((or_parts _ _ (sym (list_any-append test xs (option_to_list o)) ∙ e)).1)
+after_all : {X : Type 0} (test : X → Bool) (xs : List X) (o : Option X) → list_any test (xs ++ option_to_list o) ≡ false → option_map_or test o false ≡ false
+after_all test xs o e = none_in_option test o ((or_parts _ _ (sym (list_any-append test xs (option_to_list o)) ∙ e)).1)
 
 -- an output field of a card is outside its line
 abbrev pub ends_outside : List SpecCard → List SpecCard → SpecCard → Bool
@@ -354,9 +354,9 @@ module _ (cards : List SpecCard) (allowance : ℕ) where
         let one = or_parts (is_past (file_by (open_file output_role before) cards) f.end) _ two.1 in
         let fit : (len : ℕ) → f.end ≤ len → fields.IsFieldFit cards forms texts h.named h.good spelled f len = λ len within. record {
           columns = of_field before c after f on_field columns.bad_output_field (or_parts _ _ (h.columns before c after split)).1;
-          defined = of_operand c f on_field (names_nothing cards) (behind_all (names_nothing cards) (operands_listed (operands_ending c after)) (output_operand_on c) (h.names before c after split));
+          defined = of_operand c f on_field (names_nothing cards) (after_all (names_nothing cards) (operands_listed (operands_ending c after)) (output_operand_on c) (h.names before c after split));
           kinds = of_field before c after f on_field (wrong_in_output cards) (or_parts _ _ (h.kinds before c after split)).1;
-          index = of_operand c f on_field (bad_index_of cards) (behind_all (bad_index_of cards) (operands_listed (operands_ending c after)) (output_operand_on c) (h.indexes before c after split));
+          index = of_operand c f on_field (bad_index_of cards) (after_all (bad_index_of cards) (operands_listed (operands_ending c after)) (output_operand_on c) (h.indexes before c after split));
           editing = of_field before c after f on_field (edits_badly cards) (h.editing before c after split);
           narrow = one.1;
           inside = within;

@@ -374,21 +374,21 @@ module _ (cards : List SpecCard) (rules : KeepsCardRules cards) (ranges : AreCar
           ap (λ ts. is_measured (measure level ts) (rule.joined_width level (row_type g).levels)) types_are
           ∙ (λ i. is_measured (first_same cards (key_numbers cards) level (groups input_role cards) whole i) (same_sum control_level level (input_fields_in g.followers) columns i))
           ∙ ap (λ gs. is_measured (first_joined level gs) (Joined level g)) h.alike.split
-          ∙ measured level h.alike.front g h.alike.behind h.alike.holds.good columns (h.few level) same
+          ∙ measured level h.alike.front g h.alike.following h.alike.holds.good columns (h.few level) same
 
       levels_right : rule.all_measured 1 (rule.measures p.types) (row_type g).levels ≡ true
       levels_right = all_nine p.types (row_type g).levels (each_map (Alike h.alike.front g) (λ level. is_measured (measure level p.types) (rule.joined_width level (row_type g).levels) ≡ true) levels level_right h.alike.holds.by_level)
 
       -- V26
       front_once : Each IsOnce h.alike.front
-      front_once = each_first IsOnce h.alike.front (g ∷ h.alike.behind) (subst (Each IsOnce) h.alike.split each_once)
+      front_once = each_first IsOnce h.alike.front (g ∷ h.alike.following) (subst (Each IsOnce) h.alike.split each_once)
 
       joined_alike : are_joined_as (joined_widths (rule.first_matches p.types)) (Matches g) ≡ true
       joined_alike =
           ap (λ ts. are_joined_as (joined_widths (rule.first_matches ts)) (Matches g)) types_are
           ∙ ap (λ cs. are_joined_as (joined_widths cs) (Matches g)) (first_rows cards (key_numbers cards) (groups input_role cards))
           ∙ ap (λ gs. are_joined_as (joined_widths (firsts gs)) (Matches g)) h.alike.split
-          ∙ matched h.alike.front g h.alike.behind h.alike.holds.good front_once (has_columns g h.filed) h.few_matches.once h.alike.holds.matches
+          ∙ matched h.alike.front g h.alike.following h.alike.holds.good front_once (has_columns g h.filed) h.few_matches.once h.alike.holds.matches
 
       few_columns : sum (joined_widths (Matches g)) ≤ 256
       few_columns =

@@ -6,12 +6,12 @@ use Rattle.std.proofs.lemmas.Bool.{and_from, le-leb, lt-ltb, not_from_true, or_f
 use Rattle.rpg_program.specs.declared.operation.Instruction.{Instruction}
 use Rattle.rpg_program.specs.declared.operation.Instruction.TheVariants as made
 use Rattle.rpg_program.specs.Object.{Object}
-use Rattle.rpg_program.specs.Sections.{body_of, first_in, first_place, has_end, level_in, level_of, place_behind, section_instructions}
+use Rattle.rpg_program.specs.Sections.{body_of, first_in, first_place, has_end, level_in, level_of, place_after, section_instructions}
 use Rattle.rpg_program.specs.declared.section.Section.{Section}
 use Rattle.rpg_program.specs.declared.section.Section.TheVariants as section
 use Rattle.rpg_verify_rules.proofs.Kept.{NoneTrue}
 use Rattle.rpg_text.specs.Texts.{is_between}
-use Rattle.rpg_verify_rules.specs.PlaceRules.{bodies_judged, calls_higher, ends_in_return, has_stray_return, is_body, is_off_level, is_own, is_return, is_return_if_any, place_breaks, places_judged, judged_behind_detail, section_judged, stays_inside, subroutines_judged, with_first}
+use Rattle.rpg_verify_rules.specs.PlaceRules.{bodies_judged, calls_higher, ends_in_return, has_stray_return, is_body, is_off_level, is_own, is_return, is_return_if_any, place_breaks, places_judged, judged_after_detail, section_judged, stays_inside, subroutines_judged, with_first}
 use Rattle.rpg_verify_rules.specs.declared.rule.PlaceRule.{PlaceRule}
 use Rattle.rpg_verify_rules.specs.declared.rule.PlaceRule.TheVariants.{V21, V22}
 use Rattle.rpg_compile_program.proofs.Control.{code_each, code_none, code_own, last_return, stays, stays_before}
@@ -153,11 +153,11 @@ module _ (number : Key → ℕ) (level : ℕ → ℕ) (s : Sections Key) (p : Ob
   abbrev Passes : PlaceRule → Section → List (Instruction ℕ) → Type 0
   Passes r sec code = Each (λ i. place_breaks r p sec i ≡ false) code
 
-  targets_pass : (sec : Section) (first end : ℕ) (code : List (Instruction ℕ)) → first_place p sec ≡ first → place_behind p sec ≡ end → has_end sec ≡ true → Each (Within first end) code → Passes V21 sec code
+  targets_pass : (sec : Section) (first end : ℕ) (code : List (Instruction ℕ)) → first_place p sec ≡ first → place_after p sec ≡ end → has_end sec ≡ true → Each (Within first end) code → Passes V21 sec code
   unfolding place_breaks
   targets_pass sec first end code f e h w = each_map (Within first end) (λ i. not (stays_inside p sec i) ≡ false) code (λ i x. not_from_true (stays_inside p sec i) (stays p sec first end i f e h x)) w
 
-  body_targets_pass : (sec : Section) (first high : ℕ) (code : List (Instruction ℕ)) → first_place p sec ≡ first → high < place_behind p sec → Each (Within first high) code → Passes V21 sec code
+  body_targets_pass : (sec : Section) (first high : ℕ) (code : List (Instruction ℕ)) → first_place p sec ≡ first → high < place_after p sec → Each (Within first high) code → Passes V21 sec code
   unfolding place_breaks
   body_targets_pass sec first high code f e w = each_map (Within first high) (λ i. not (stays_inside p sec i) ≡ false) code (λ i x. not_from_true (stays_inside p sec i) (stays_before p sec first high i f e x)) w
 
@@ -202,8 +202,8 @@ module _ (number : Key → ℕ) (level : ℕ → ℕ) (s : Sections Key) (p : Ob
     unfolding sub subroutines_code
     first_here = let z : own ≡ own + 0 = omega arith in ap (λ k. first_place p (section.Subroutine k)) z ∙ at.firsts 0
 
-    end_here : place_behind p sub ≡ first + length (section_code number (called_number s) own first x.body)
-    unfolding place_behind
+    end_here : place_after p sub ≡ first + length (section_code number (called_number s) own first x.body)
+    unfolding place_after
     end_here = let a = first_here in let b = ap length code_here in omega arith
 
     level_here : level_of p sub ≡ level own
@@ -236,16 +236,16 @@ module _ (number : Key → ℕ) (level : ℕ → ℕ) (s : Sections Key) (p : Ob
 
   -- ---- V21
 
-  detail_end : IsCodeOf number level s p → place_behind p section.Detail ≡ 0 + sizes s.detail
-  unfolding place_behind first_place
+  detail_end : IsCodeOf number level s p → place_after p section.Detail ≡ 0 + sizes s.detail
+  unfolding place_after first_place
   detail_end c = ap (λ n. 0 + n) (ap length c.detail ∙ section_length 0 0 s.detail)
 
   total_first : IsCodeOf number level s p → first_place p section.Total ≡ sizes s.detail
   unfolding first_place
   total_first c = ap length c.detail ∙ section_length 0 0 s.detail
 
-  total_end : IsCodeOf number level s p → place_behind p section.Total ≡ sizes s.detail + sizes s.total
-  unfolding place_behind
+  total_end : IsCodeOf number level s p → place_after p section.Total ≡ sizes s.detail + sizes s.total
+  unfolding place_after
   total_end c = let a = total_first c in let b = ap length c.total ∙ section_length 0 (sizes s.detail) s.total in omega arith
 
   detail_first : first_place p section.Detail ≡ 0
@@ -257,7 +257,7 @@ module _ (number : Key → ℕ) (level : ℕ → ℕ) (s : Sections Key) (p : Ob
       let d = targets_pass section.Detail 0 (0 + sizes s.detail) (section_code number (called_number s) 0 0 s.detail) detail_first (detail_end c) refl (section_within 0 0 s.detail) in
       let t = targets_pass section.Total (sizes s.detail) (sizes s.detail + sizes s.total) (section_code number (called_number s) 0 (sizes s.detail) s.total) (total_first c) (total_end c) refl (section_within 0 (sizes s.detail) s.total) in
       let u = (subroutines_pass c 0 (sizes s.detail + sizes s.total) s.subroutines (stands c) h.bodies).0 in
-      none_in_both (section_judged V21 p section.Detail) (judged_behind_detail V21 p)
+      none_in_both (section_judged V21 p section.Detail) (judged_after_detail V21 p)
       (subst (λ code. NoneTrue (map (place_breaks V21 p section.Detail) code)) (sym c.detail) (none_broken (place_breaks V21 p section.Detail) (section_code number (called_number s) 0 0 s.detail) d))
       (none_in_both (section_judged V21 p section.Total) (subroutines_judged V21 p 0 p.subroutines)
       (subst (λ code. NoneTrue (map (place_breaks V21 p section.Total) code)) (sym c.total) (none_broken (place_breaks V21 p section.Total) (section_code number (called_number s) 0 (sizes s.detail) s.total) t))
@@ -270,7 +270,7 @@ module _ (number : Key → ℕ) (level : ℕ → ℕ) (s : Sections Key) (p : Ob
       let d = calls_pass section.Detail (section_code number (called_number s) 0 0 s.detail) (section_calls c section.Detail 0 0 0 s.detail refl h.detail_calls) in
       let t = calls_pass section.Total (section_code number (called_number s) 0 (sizes s.detail) s.total) (section_calls c section.Total 0 0 (sizes s.detail) s.total refl h.total_calls) in
       let u = (subroutines_pass c 0 (sizes s.detail + sizes s.total) s.subroutines (stands c) h.bodies).1 in
-      none_in_both (section_judged V22 p section.Detail) (judged_behind_detail V22 p)
+      none_in_both (section_judged V22 p section.Detail) (judged_after_detail V22 p)
       (subst (λ code. NoneTrue (map (place_breaks V22 p section.Detail) code)) (sym c.detail) (none_broken (place_breaks V22 p section.Detail) (section_code number (called_number s) 0 0 s.detail) d))
       (none_in_both (section_judged V22 p section.Total) (subroutines_judged V22 p 0 p.subroutines)
       (subst (λ code. NoneTrue (map (place_breaks V22 p section.Total) code)) (sym c.total) (none_broken (place_breaks V22 p section.Total) (section_code number (called_number s) 0 (sizes s.detail) s.total) t))

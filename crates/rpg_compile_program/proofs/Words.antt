@@ -28,7 +28,7 @@ use Rattle.rpg_sheet_specs.specs.declared.extension.TableSpec.{TableSpec}
 use Rattle.rpg_sheet_specs.specs.declared.input.InputFieldSpec.{InputFieldSpec}
 use Rattle.rpg_sheet_specs.specs.declared.spec.Spec.{Spec}
 use Rattle.rpg_symbols.specs.Fields.{NamedForms, defined_form, given}
-use Rattle.rpg_compile_program.proofs.Numbers.{constant_found, forms_same, get_behind, length_map, place_position, standing}
+use Rattle.rpg_compile_program.proofs.Numbers.{constant_found, forms_same, get_after, length_map, place_position, standing}
 use Rattle.rpg_compile_program.specs.Data.{constant_values, field_values, loaded, values_of}
 use Rattle.rpg_compile_program.specs.Program.{program_of}
 use Rattle.rpg_compile_program.specs.Table.{Table, constant_number, defined_fields, key_form, key_number, key_word, table_of, with_definition, with_definitions, with_form}
@@ -149,7 +149,7 @@ module _ (cards : List SpecCard) (allowance : ℕ) where
       let number : constant_number (table_of cards) x ≡ length (table_of cards).names + r.0 + 1 = ap (λ o. unwrap_or (option_map (λ i. length (table_of cards).names + i + 1) o) 0) (place_position (is_same x) (table_of cards).constants r.0 r.1) in
       let next : length (table_of cards).names + r.0 + 1 ≡ suc (length (table_of cards).names + r.0) = omega arith in
       ap (values_at (values_of cards)) (number ∙ next)
-      ∙ get_behind names (map constant_values (table_of cards).constants) r.0 (length (table_of cards).names) (sym (length_map (field_values (loaded cards)) (table_of cards).names))
+      ∙ get_after names (map constant_values (table_of cards).constants) r.0 (length (table_of cards).names) (sym (length_map (field_values (loaded cards)) (table_of cards).names))
       ∙ slice_get-map constant_values (table_of cards).constants r.0 ∙ ap (option_map constant_values) r.2
 
   -- the form says whether there is a word

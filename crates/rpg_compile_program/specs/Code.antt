@@ -54,8 +54,8 @@ skip_code target cs = made.Branch false cs target
 
 -- a SKIP past the group, where it waits for an indicator
 abbrev pub level_code : ℕ → Option ℕ → List (Instruction ℕ)
-level_code behind None = []
-level_code behind (Some n) = skip_code behind (on_level n) ∷ []
+level_code following None = []
+level_code following (Some n) = skip_code following (on_level n) ∷ []
 
 -- an alternative before the last one: SKIPs to the next one, and a JUMP to the operation
 abbrev pub alternative_code : ℕ → ℕ → List Conditions → List (Instruction ℕ)
@@ -65,9 +65,9 @@ alternative_code next operation (cs ∷ ds ∷ rest) = skip_code next cs ∷ alt
 
 -- alternatives from a place on; the last one SKIPs past the group
 abbrev pub tests_code : ℕ → ℕ → ℕ → List (List Conditions) → List (Instruction ℕ)
-tests_code place operation behind [] = []
-tests_code place operation behind (cs ∷ []) = map (skip_code behind) cs
-tests_code place operation behind (cs ∷ ds ∷ rest) = alternative_code (place + length cs) operation cs ++ tests_code (place + length cs) operation behind (ds ∷ rest)
+tests_code place operation following [] = []
+tests_code place operation following (cs ∷ []) = map (skip_code following) cs
+tests_code place operation following (cs ∷ ds ∷ rest) = alternative_code (place + length cs) operation cs ++ tests_code (place + length cs) operation following (ds ∷ rest)
 
 -- numbers of fields, places of labels, numbers of subroutines, and the number of the running one
 module _ (number : Key → ℕ) (place_of callee_of : Option Name → ℕ) (own : ℕ) where

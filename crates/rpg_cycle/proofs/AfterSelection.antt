@@ -55,8 +55,8 @@ tested : (p : Object) (left : Left) (s u : Test) (a b : Running) (h k : Beside) 
     Does (after_selection p left s) a h e b k → Does (after_selection p left u) a h e b k
 tested p left s u a b h k e agree d = record {
   program = d.program;
-  behind = λ previous l.
-      let x = d.behind previous l in record {
+  following = λ previous l.
+      let x = d.following previous l in record {
         out = x.out;
         phase = by_totals p left s u (under_way (config_on previous a.config) h) agree e (under_way (config_on (last_position_from previous x.out.lines) b.config) k) x.out x.phase;
         last = x.last;

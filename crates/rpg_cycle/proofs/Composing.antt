@@ -6,7 +6,7 @@ use Rattle.rpg_paper.proofs.Papers.{bytes_from-append}
 use Rattle.rpg_paper.specs.Paper.{Placed, Position, bytes_from, last_position_from}
 use Rattle.rpg_program.proofs.Putting.{disk-append, end_from-lines}
 use Rattle.rpg_program.specs.Put.{Bytes, disk_bytes, line_of, with_output}
-use Rattle.rpg_cycle.specs.Doing.{Does, DoesBehind, Beside, DoesAlone, under_way, unselected}
+use Rattle.rpg_cycle.specs.Doing.{Does, DoesAfter, Beside, DoesAlone, under_way, unselected}
 use Rattle.rpg_cycle_records.specs.Waiting.{unread}
 use Rattle.rpg_program.specs.Object.{Object}
 use Rattle.rpg_cycle.specs.Ends.{PhaseEnd, GoesOn, EndOfJob, Halt}
@@ -38,9 +38,9 @@ output_none previous p = bytes_are _ _ (sym (append-nil p.print)) (sym (append-n
 
 -- ---- two phases
 
-both_behind : (P Q : Phase) (previous : Option Position) (a b c : Running) (s t u : Beside) (e : PhaseEnd) (x : DoesBehind P previous a s GoesOn b t) →
-    DoesBehind Q (last_position_from previous x.out.lines) b t e c u → DoesBehind (P before Q) previous a s e c u
-both_behind P Q previous a b c s t u e x y =
+both_after : (P Q : Phase) (previous : Option Position) (a b c : Running) (s t u : Beside) (e : PhaseEnd) (x : DoesAfter P previous a s GoesOn b t) →
+    DoesAfter Q (last_position_from previous x.out.lines) b t e c u → DoesAfter (P before Q) previous a s e c u
+both_after P Q previous a b c s t u e x y =
     let ends = end_from-lines previous x.out.lines y.out.lines in
     record {
       out = with_more x.out y.out;
@@ -60,20 +60,20 @@ both_behind P Q previous a b c s t u e x y =
 pub goes : {P Q : Phase} {a b c : Running} {s t u : Beside} {e : PhaseEnd} → Does P a s GoesOn b t → Does Q b t e c u → Does (P before Q) a s e c u
 goes {P} {Q} {a} {b} {c} {s} {t} {u} {e} h g = record {
   program = g.program ∙ h.program;
-  behind = λ previous l.
-      let x = h.behind previous l in
-      both_behind P Q previous a b c s t u e x (g.behind (last_position_from previous x.out.lines) x.last);
+  following = λ previous l.
+      let x = h.following previous l in
+      both_after P Q previous a b c s t u e x (g.following (last_position_from previous x.out.lines) x.last);
 }
 
 -- the one phase ended the job
-ends_behind : (P Q : Phase) (previous : Option Position) (a b : Running) (s t : Beside) (e : JobEnd) → DoesBehind P previous a s (job_end e) b t → DoesBehind (P before Q) previous a s (job_end e) b t
-ends_behind P Q previous a b s t jobs.EndOfJob x = record {
+ends_after : (P Q : Phase) (previous : Option Position) (a b : Running) (s t : Beside) (e : JobEnd) → DoesAfter P previous a s (job_end e) b t → DoesAfter (P before Q) previous a s (job_end e) b t
+ends_after P Q previous a b s t jobs.EndOfJob x = record {
   out = x.out;
   phase = (EndOfJob, under_way (config_on (last_position_from previous x.out.lines) b.config) t, x.out, x.phase, (refl, refl, refl));
   last = x.last;
   bytes = x.bytes;
 }
-ends_behind P Q previous a b s t (jobs.Halt k) x = record {
+ends_after P Q previous a b s t (jobs.Halt k) x = record {
   out = x.out;
   phase = (Halt (halt_number k), under_way (config_on (last_position_from previous x.out.lines) b.config) t, x.out, x.phase, (refl, refl, refl));
   last = x.last;
@@ -81,14 +81,14 @@ ends_behind P Q previous a b s t (jobs.Halt k) x = record {
 }
 
 pub ends : {P Q : Phase} {a b : Running} {s t : Beside} (e : JobEnd) → Does P a s (job_end e) b t → Does (P before Q) a s (job_end e) b t
-ends {P} {Q} {a} {b} {s} {t} e h = record { program = h.program; behind = λ previous l. ends_behind P Q previous a b s t e (h.behind previous l) }
+ends {P} {Q} {a} {b} {s} {t} e h = record { program = h.program; following = λ previous l. ends_after P Q previous a b s t e (h.following previous l) }
 
 -- a phase that puts nothing out and leaves the form where it is
 pub quietly : (f : UnderWay → Done) (a b : Running) (s t : Beside) (e : PhaseEnd) (d : Config) →
     ((previous : Option Position) → f (under_way (config_on previous a.config) s) ≡ done e (under_way (config_on previous d) t)) → b ≡ record a { config = d } → Does (without_output f) a s e b t
 quietly f a b s t e d h is = subst (λ (r : Running). Does (without_output f) a s e r t) (sym is) (record {
   program = refl;
-  behind = λ previous l. record {
+  following = λ previous l. record {
     out = no_output;
     phase = (ap (λ (x : Done). x.end) (sym (h previous)), ap (λ (x : Done). x.leads) (sym (h previous)), refl);
     last = l;
@@ -121,7 +121,7 @@ pub left_out : (test : Config → Bool) (P : Phase) (a : Running) → ((previous
 left_out test P a h = record {
   each = λ s. record {
     program = refl;
-    behind = λ previous l. record {
+    following = λ previous l. record {
       out = no_output;
       phase = subst (λ (b : Bool). either b nothing_done P (under_way (config_on previous a.config) s) GoesOn (under_way (config_on previous a.config) s) no_output) (sym (h previous)) (refl, refl, refl);
       last = l;
@@ -135,8 +135,8 @@ pub not_left_out : (test : Config → Bool) (P : Phase) (a b : Running) (e : Pha
 not_left_out test P a b e h d = record {
   each = λ s. record {
     program = (d.each s).program;
-    behind = λ previous l.
-        let x = (d.each s).behind previous l in record {
+    following = λ previous l.
+        let x = (d.each s).following previous l in record {
           out = x.out;
           phase = subst (λ (t : Bool). either t nothing_done P (under_way (config_on previous a.config) s) e (under_way (config_on (last_position_from previous x.out.lines) b.config) s) x.out) (sym (h previous)) x.phase;
           last = x.last;

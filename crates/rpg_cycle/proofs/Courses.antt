@@ -17,13 +17,13 @@ use Rattle.rpg_cycle.specs.Ends.{PhaseEnd, GoesOn, EndOfJob, Halt, Wrong}
 use Rattle.rpg_cycle.specs.Job.{AtWork, Cycles, DoesCycle, feed_at, job_needs_record, with_feed}
 use Rattle.rpg_cycle.specs.Phases.{Cycle, UnderWay, begun, needs_record}
 use Rattle.rpg_cycle.specs.RunAnswers.{RunsRecords}
-use Rattle.rpg_cycle.specs.Runs.{Course, Records, Runs, ends_or, last_cycle, last_feed, left_behind, next_of, rest_where_needed, with_cycle}
+use Rattle.rpg_cycle.specs.Runs.{Course, Records, Runs, ends_or, last_cycle, last_feed, left_following, next_of, rest_where_needed, with_cycle}
 use Rattle.rpg_cycle.specs.Stages.{Ended, Going, is_going, job_end, stage_at}
 use Rattle.rpg_cycle.specs.declared.ends.JobEnd.{JobEnd}
 use Rattle.rpg_cycle.specs.declared.ends.JobEnd.TheVariants as jobs
 use Rattle.rpg_cycle.specs.declared.runs.Summary.{Summary}
 use Rattle.rpg_machine.specs.Config.{Config, Output, no_output, with_more}
-use Rattle.rpg_machine.specs.Running.{config_on, feed_behind}
+use Rattle.rpg_machine.specs.Running.{config_on, feed_after}
 use Rattle.rpg_program.specs.Object.{Object}
 use Rattle.rpg_verify.specs.Bound.{bound}
 
@@ -44,8 +44,8 @@ was_ended (Wrong f) x h = cc
 -- ---- courses
 
 -- a course with cycles before it
-abbrev pub behind : ℕ → ℕ → Output → Course → Course
-behind cycles most out course = record {
+abbrev pub following : ℕ → ℕ → Output → Course → Course
+following cycles most out course = record {
   ending = course.ending;
   cycles = cycles + course.cycles;
   most = max most course.most;
@@ -58,7 +58,7 @@ abbrev pub next_in : AtWork → InputFile → List (List ℕ) → Option (List �
 next_in j f rs = next_of (needs_record j.program j.config j.inputs f) rs
 
 abbrev pub left_after : AtWork → Records → Records
-left_after j rs = left_behind j.program j.config j.inputs rs
+left_after j rs = left_following j.program j.config j.inputs rs
 
 -- a run from a job after these records and this line
 abbrev pub RunsFrom : AtWork → List Selected → Option Position → Records → Course → Type 0
@@ -73,7 +73,7 @@ pub record IsUnderWay (old : AtWork) (records : Records) (new : AtWork) (rest : 
   pub out : Output
   pub last : new.last ≡ line_of (last_position_from None out.lines)
   pub bytes : new.output ≡ with_output None out.lines out.records old.output
-  pub runs : (course : Course) → RunsFrom new earlier (last_position_from None out.lines) rest course → Runs old.program [] records (config_on None old.config) unread (behind cycles most out course)
+  pub runs : (course : Course) → RunsFrom new earlier (last_position_from None out.lines) rest course → Runs old.program [] records (config_on None old.config) unread (following cycles most out course)
   pub few : cycles + waiting_count new.inputs + records_count rest ≤ records_count records
 
 -- the same ending and the same last cycle
@@ -215,15 +215,15 @@ ends_here : (e : JobEnd) (d : UnderWay) (out : Output) (Rest : UnderWay → Cour
 ends_here jobs.EndOfJob d out Rest = refl
 ends_here (jobs.Halt k) d out Rest = refl
 
-feed_some : (q : Position) (xs : List Placed) → feed_behind (line_of (last_position_from (Some q) xs)) ≡ 10 ∷ []
+feed_some : (q : Position) (xs : List Placed) → feed_after (line_of (last_position_from (Some q) xs)) ≡ 10 ∷ []
 feed_some q [] = refl
 feed_some q (x ∷ xs) = feed_some x.at xs
 
-feed_last : (xs : List Placed) → feed_behind (line_of (last_position_from None xs)) ≡ last_feed xs
+feed_last : (xs : List Placed) → feed_after (line_of (last_position_from None xs)) ≡ last_feed xs
 feed_last [] = refl
 feed_last (x ∷ xs) = feed_some x.at xs
 
-feed_ended : (e : JobEnd) (last : Option ℕ) → feed_at (stage_at (job_end e)) last ≡ feed_behind last
+feed_ended : (e : JobEnd) (last : Option ℕ) → feed_at (stage_at (job_end e)) last ≡ feed_after last
 feed_ended jobs.EndOfJob last = refl
 feed_ended (jobs.Halt k) last = refl
 
@@ -237,7 +237,7 @@ ends_by old mid new records rest a b cycles most e s u d last is =
     let ends = end_from-lines None u.out.lines d.out.lines in
     let bytes = ap (with_output (last_position_from None u.out.lines) d.out.lines d.out.records) u.bytes ∙ output_both None u.out.lines d.out.lines u.out.records d.out.records old.output in
     let feed : feed_at (stage_at (job_end e)) new.last ≡ last_feed all.lines =
-    feed_ended e new.last ∙ ap feed_behind (d.last ∙ ap line_of (sym ends)) ∙ feed_last all.lines in
+    feed_ended e new.last ∙ ap feed_after (d.last ∙ ap line_of (sym ends)) ∙ feed_last all.lines in
     subst (λ (x : Summary). RunsRecords old records x new) (sym is) (record {
       out = all;
       there = d.there;

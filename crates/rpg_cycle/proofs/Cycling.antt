@@ -9,7 +9,7 @@ use Rattle.rpg_machine.specs.Running.{Behaviour}
 use Rattle.rpg_machine.specs.declared.time.OutputTime.TheVariants as times
 use Rattle.rpg_program.specs.Object.{Object, has_file}
 use Rattle.rpg_program.specs.declared.section.Section.TheVariants as sections
-use Rattle.rpg_cycle.proofs.InTurn.{behind, both_on}
+use Rattle.rpg_cycle.proofs.InTurn.{following, both_on}
 use Rattle.rpg_cycle_records.proofs.Matches.{found}
 use Rattle.rpg_cycle.proofs.Picking.{Picked, selects}
 use Rattle.rpg_cycle.proofs.Taking.{takes}
@@ -93,30 +93,30 @@ Agree s t c = (x : Selected) → c.selected ≡ Some x → s c.inputs x ≡ t c.
 still_agree : (s t : Test) (c d : UnderWay) → Stays c d → Agree s t c → Agree s t d
 still_agree s t c d k h = λ x e. subst (λ (i : Inputs). s i x ≡ t i x) (sym k.inputs) (h x (sym k.selected ∙ e))
 
-abbrev pub behind_match : Object → Phase
-behind_match p = fill_fields p before detail_calculations p
+abbrev pub after_match : Object → Phase
+after_match p = fill_fields p before detail_calculations p
 
-by_match : (p : Object) (s t : Test) (c : UnderWay) → Agree s t c → (e : PhaseEnd) (d : UnderWay) (out : Output) → (show_match s before behind_match p) c e d out → (show_match t before behind_match p) c e d out
-by_match p s t c h = instead (show_match s) (show_match t) (behind_match p) c (shown s t c h)
+by_match : (p : Object) (s t : Test) (c : UnderWay) → Agree s t c → (e : PhaseEnd) (d : UnderWay) (out : Output) → (show_match s before after_match p) c e d out → (show_match t before after_match p) c e d out
+by_match p s t c h = instead (show_match s) (show_match t) (after_match p) c (shown s t c h)
 
 by_overflow : (p : Object) (s t : Test) (c : UnderWay) → Agree s t c → (e : PhaseEnd) (d : UnderWay) (out : Output) →
-    (overflow_lines p before show_match s before behind_match p) c e d out → (overflow_lines p before show_match t before behind_match p) c e d out
+    (overflow_lines p before show_match s before after_match p) c e d out → (overflow_lines p before show_match t before after_match p) c e d out
 by_overflow p s t c h =
-    behind (overflow_lines p) (show_match s before behind_match p) (show_match t before behind_match p) c
+    following (overflow_lines p) (show_match s before after_match p) (show_match t before after_match p) c
     (λ m d put out e first rest. by_match p s t m (still_agree s t c m (at_overflow p (has_no_overflow p.overflow c.config) c m put first) h) e d out rest)
 
 by_last : (p : Object) (s t : Test) (c : UnderWay) → Agree s t c → (e : PhaseEnd) (d : UnderWay) (out : Output) →
-    (end_where_last before overflow_lines p before show_match s before behind_match p) c e d out →
-    (end_where_last before overflow_lines p before show_match t before behind_match p) c e d out
+    (end_where_last before overflow_lines p before show_match s before after_match p) c e d out →
+    (end_where_last before overflow_lines p before show_match t before after_match p) c e d out
 by_last p s t c h =
-    behind end_where_last (overflow_lines p before show_match s before behind_match p) (overflow_lines p before show_match t before behind_match p) c
+    following end_where_last (overflow_lines p before show_match s before after_match p) (overflow_lines p before show_match t before after_match p) c
     (λ m d put out e first rest. by_overflow p s t m (still_agree s t c m (same c m first.1) h) e d out rest)
 
 pub by_totals : (p : Object) (left : Left) (s t : Test) (c : UnderWay) → Agree s t c → (e : PhaseEnd) (d : UnderWay) (out : Output) →
     after_selection p left s c e d out → after_selection p left t c e d out
 by_totals p left s t c h =
-    behind (total_time p left) (end_where_last before overflow_lines p before show_match s before behind_match p)
-    (end_where_last before overflow_lines p before show_match t before behind_match p) c
+    following (total_time p left) (end_where_last before overflow_lines p before show_match s before after_match p)
+    (end_where_last before overflow_lines p before show_match t before after_match p) c
     (λ m d put out e first rest. by_last p s t m (still_agree s t c m (at_totals p (is_bypassed p left.any left.control c.config) c m put first) h) e d out rest)
 
 -- ---- the whole cycle
@@ -137,10 +137,10 @@ cycle_by p earlier s t r a b c h none =
     let left = left_by p earlier in
     let F = from_selection p left s a b in
     let G = from_selection p left t a b in
-    behind (detail_lines p) (halt_where_asked before set_off p before F) (halt_where_asked before set_off p before G) c
-    (λ m1 d1 put1 out1 e1 first1 rest1. behind halt_where_asked (set_off p before F) (set_off p before G) m1
-    (λ m2 d2 put2 out2 e2 first2 rest2. behind (set_off p) F G m2
-    (λ m3 d3 put3 out3 e3 first3 rest3. behind (select_record p left a b) (after_selection p left s) (after_selection p left t) m3
+    following (detail_lines p) (halt_where_asked before set_off p before F) (halt_where_asked before set_off p before G) c
+    (λ m1 d1 put1 out1 e1 first1 rest1. following halt_where_asked (set_off p before F) (set_off p before G) m1
+    (λ m2 d2 put2 out2 e2 first2 rest2. following (set_off p) F G m2
+    (λ m3 d3 put3 out3 e3 first3 rest3. following (select_record p left a b) (after_selection p left s) (after_selection p left t) m3
     (λ m4 d4 put4 out4 e4 first4 rest4.
     let k1 = by_act (PutsOut p times.Detail) c m1 GoesOn put1 first1 in
     let k2 = same m1 m2 first2.1 in
@@ -163,12 +163,12 @@ from_last p earlier a b c i e d out h g =
 
 -- ---- what it leaves is in order again
 
-pub behind_4 : (p : Object) (left : Left) (t : Test) (c d : UnderWay) (out : Output) → after_selection p left t c GoesOn d out → Stays c d
-behind_4 p left t c d out g =
-    let five = both_on (total_time p left) (end_where_last before overflow_lines p before show_match t before behind_match p) c d out g in
-    let six = both_on end_where_last (overflow_lines p before show_match t before behind_match p) five.mid d five.more five.two in
-    let seven = both_on (overflow_lines p) (show_match t before behind_match p) six.mid d six.more six.two in
-    let eight = both_on (show_match t) (behind_match p) seven.mid d seven.more seven.two in
+pub after_4 : (p : Object) (left : Left) (t : Test) (c d : UnderWay) (out : Output) → after_selection p left t c GoesOn d out → Stays c d
+after_4 p left t c d out g =
+    let five = both_on (total_time p left) (end_where_last before overflow_lines p before show_match t before after_match p) c d out g in
+    let six = both_on end_where_last (overflow_lines p before show_match t before after_match p) five.mid d five.more five.two in
+    let seven = both_on (overflow_lines p) (show_match t before after_match p) six.mid d six.more six.two in
+    let eight = both_on (show_match t) (after_match p) seven.mid d seven.more seven.two in
     let nine = both_on (fill_fields p) (detail_calculations p) eight.mid d eight.more eight.two in
     let k5 = at_totals p (is_bypassed p left.any left.control c.config) c five.mid five.put five.one in
     let k6 = same five.mid six.mid six.one.1 in
@@ -193,7 +193,7 @@ keeps p earlier a b c i d out h g =
     let k3 : Stays two.mid three.mid = record { inputs = ap (λ (u : UnderWay). u.inputs) three.one.1; selected = ap (λ (u : UnderWay). u.selected) three.one.1 } in
     let k = stay (begun p c i) one.mid three.mid k1 (stay one.mid two.mid three.mid k2 k3) in
     let picked = fourth p earlier a b three.mid four.mid four.put (subst (λ (j : Inputs). AreMergedInOrder p earlier j) (sym k.inputs) h) k.selected four.one in
-    let last = behind_4 p left t four.mid d four.more four.two in
+    let last = after_4 p left t four.mid d four.more four.two in
     subst (λ (o : Option Selected). AreMergedInOrder p (with_record o earlier) d.inputs) (sym last.selected)
     (subst (λ (j : Inputs). AreMergedInOrder p (with_record four.mid.selected earlier) j) (sym last.inputs) picked.orderly)
 

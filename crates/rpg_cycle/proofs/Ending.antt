@@ -8,7 +8,7 @@ use Rattle.rpg_machine.specs.Outputs.{PutsOut}
 use Rattle.rpg_machine.specs.declared.time.OutputTime.TheVariants as times
 use Rattle.rpg_program.specs.Object.{Object}
 use Rattle.rpg_cycle.proofs.InTurn.{both_on}
-use Rattle.rpg_cycle.proofs.Cycling.{Stays, at_totals, behind_4, behind_match, by_act, from_selection, keeps, same, settled_still, stay}
+use Rattle.rpg_cycle.proofs.Cycling.{Stays, at_totals, after_4, after_match, by_act, from_selection, keeps, same, settled_still, stay}
 use Rattle.rpg_cycle.proofs.Taking.{takes}
 use Rattle.rpg_cycle.specs.Counting.{one_for_record, records_count, waiting_count}
 use Rattle.rpg_cycle_records.specs.Earlier.{Left, Selected, control_fields, left_by, match_value, with_record}
@@ -19,7 +19,7 @@ use Rattle.rpg_cycle_records.specs.Levels.{is_in_record}
 use Rattle.rpg_cycle_records.specs.Merging.{AreMergedInOrder}
 use Rattle.rpg_cycle.specs.Phases.{Cycle, Done, UnderWay, begun, broken_level, detail_lines, without_output, done, either, end_where_last, halt_where_asked, overflow_lines, type_indicator, is_bypassed, needs_record, read_record, select_one, select_from, select_record, select_waiting, set_off, show_match, take_in, total_time, with_config, with_inputs, ◌before◌}
 use Rattle.rpg_cycle.specs.Staging.{after_selection}
-use Rattle.rpg_cycle.specs.Runs.{Course, Records, RunsIn, ends_or, left_behind, next_of, rest_where_needed}
+use Rattle.rpg_cycle.specs.Runs.{Course, Records, RunsIn, ends_or, left_following, next_of, rest_where_needed}
 use Rattle.rpg_cycle_records.specs.Waiting.{InputState, Inputs, chosen, first_of, has_match, with_file_over, takes_in, waiting_in, with_waiting}
 
 -- ---- taking in
@@ -127,14 +127,14 @@ not_last false false h = refl
 
 has_selected : (p : Object) (left : Left) (t : Inputs → Selected → Bool) (c d : UnderWay) (out : Output) → after_selection p left t c GoesOn d out → is_none c.selected ≡ false
 has_selected p left t c d out g =
-    let five = both_on (total_time p left) (end_where_last before overflow_lines p before show_match t before behind_match p) c d out g in
-    let six = both_on end_where_last (overflow_lines p before show_match t before behind_match p) five.mid d five.more five.two in
+    let five = both_on (total_time p left) (end_where_last before overflow_lines p before show_match t before after_match p) c d out g in
+    let six = both_on end_where_last (overflow_lines p before show_match t before after_match p) five.mid d five.more five.two in
     let k5 = at_totals p (is_bypassed p left.any left.control c.config) c five.mid five.put five.one in
     ap is_none (sym k5.selected) ∙ not_last (is_on five.mid.config last_record) (is_none five.mid.selected) six.one.0
 
 pub shorter : (p : Object) (earlier : List Selected) (rs : Records) (c : Config) (i : Inputs) (d : UnderWay) (out : Output) → AreMergedInOrder p earlier i →
     Cycle p earlier (next_of (needs_record p c i Primary) rs.primary) (next_of (needs_record p c i Secondary) rs.secondary) (begun p c i) GoesOn d out →
-    waiting_count d.inputs + records_count (left_behind p c i rs) + 1 ≤ waiting_count i + records_count rs
+    waiting_count d.inputs + records_count (left_following p c i rs) + 1 ≤ waiting_count i + records_count rs
 shorter p earlier rs c i d out h g =
     let left = left_by p earlier in
     let t = has_match p earlier in
@@ -152,7 +152,7 @@ shorter p earlier rs c i d out h g =
     let asks = not (is_on c last_record || any_on c halt_indicators) in
     let s = phase_4 p earlier asks n m rs three.mid four.mid four.put (is_on three.mid.config last_record) (subst (λ (j : Inputs). AreMergedInOrder p earlier j) (sym k.inputs) h) k.selected
     (ap (λ (j : Inputs). asks && takes_in p j Primary) (sym k.inputs)) (ap (λ (j : Inputs). asks && takes_in p j Secondary) (sym k.inputs)) four.one in
-    let last = behind_4 p left t four.mid d four.more four.two in
+    let last = after_4 p left t four.mid d four.more four.two in
     let few = s.less (has_selected p left t four.mid d four.more four.two) in
     let u : waiting_count d.inputs ≡ waiting_count four.mid.inputs = ap waiting_count last.inputs in
     let v : waiting_count three.mid.inputs ≡ waiting_count i = ap waiting_count k.inputs in
@@ -171,10 +171,10 @@ pub few_cycles : (n : ℕ) (p : Object) (earlier : List Selected) (rs : Records)
     RunsIn n p earlier rs c i course → course.cycles ≤ waiting_count i + records_count rs + 1
 few_cycles zero p earlier rs c i course h g = absurd g
 few_cycles (suc n) p earlier rs c i course h (e, d, out, cycle, rest) =
-    by_end e d out (λ d rest. RunsIn n p (with_record d.selected earlier) (left_behind p c i rs) d.config d.inputs rest) course (waiting_count i + records_count rs)
+    by_end e d out (λ d rest. RunsIn n p (with_record d.selected earlier) (left_following p c i rs) d.config d.inputs rest) course (waiting_count i + records_count rs)
     (λ on x g.
     let cycle' = subst (λ (k : PhaseEnd). Cycle p earlier (next_of (needs_record p c i Primary) rs.primary) (next_of (needs_record p c i Secondary) rs.secondary) (begun p c i) k d out) on cycle in
     let less = shorter p earlier rs c i d out h cycle' in
-    let few = few_cycles n p (with_record d.selected earlier) (left_behind p c i rs) d.config d.inputs x
+    let few = few_cycles n p (with_record d.selected earlier) (left_following p c i rs) d.config d.inputs x
     (keeps p earlier (next_of (needs_record p c i Primary) rs.primary) (next_of (needs_record p c i Secondary) rs.secondary) c i d out h cycle') g in
     omega (arith, few, less)) rest

@@ -15,14 +15,14 @@ use Rattle.rpg_machine.specs.Running.{Behaviour, Did, Running}
 pub did_grow : {P : Behaviour} {a b : Running} {e : effects.End} → Did P a e b → OnlyGrows a.output b.output
 did_grow {P} {a} {b} {e} d =
     let o = some_before a.last in
-    let x = d.behind o.0 o.1 in
+    let x = d.following o.0 o.1 in
     grows_by o.0 x.out.lines x.out.records a.output b.output x.bytes
 
 -- so did a phase
 pub does_grow : {P : Phase} {a b : Running} {s t : Beside} {e : PhaseEnd} → Does P a s e b t → OnlyGrows a.output b.output
 does_grow {P} {a} {b} {s} {t} {e} d =
     let o = some_before a.last in
-    let x = d.behind o.0 o.1 in
+    let x = d.following o.0 o.1 in
     grows_by o.0 x.out.lines x.out.records a.output b.output x.bytes
 
 pub alone_grows : {P : Phase} {a b : Running} {e : PhaseEnd} → DoesAlone P a e b → OnlyGrows a.output b.output

@@ -18,9 +18,9 @@ both_on P Q c d out (Halt k, m, put, first, rest) = let h = rest.0 in absurd (cc
 both_on P Q c d out (Wrong k, m, put, first, rest) = let h = rest.0 in absurd (cc)
 
 -- the second of two may be put in the place of another that does the same wherever the first one leads
-pub behind : (P Q R : Phase) (c : UnderWay) → ((m d : UnderWay) (put out : Output) (e : PhaseEnd) → P c GoesOn m put → Q m e d out → R m e d out) →
+pub following : (P Q R : Phase) (c : UnderWay) → ((m d : UnderWay) (put out : Output) (e : PhaseEnd) → P c GoesOn m put → Q m e d out → R m e d out) →
     (e : PhaseEnd) (d : UnderWay) (out : Output) → (P before Q) c e d out → (P before R) c e d out
-behind P Q R c f e d out (GoesOn, m, put, first, rest) = (GoesOn, m, put, first, (rest.0, f m d put rest.0 e first rest.1, rest.2))
-behind P Q R c f e d out (EndOfJob, m, put, first, rest) = (EndOfJob, m, put, first, rest)
-behind P Q R c f e d out (Halt k, m, put, first, rest) = (Halt k, m, put, first, rest)
-behind P Q R c f e d out (Wrong k, m, put, first, rest) = (Wrong k, m, put, first, rest)
+following P Q R c f e d out (GoesOn, m, put, first, rest) = (GoesOn, m, put, first, (rest.0, f m d put rest.0 e first rest.1, rest.2))
+following P Q R c f e d out (EndOfJob, m, put, first, rest) = (EndOfJob, m, put, first, rest)
+following P Q R c f e d out (Halt k, m, put, first, rest) = (Halt k, m, put, first, rest)
+following P Q R c f e d out (Wrong k, m, put, first, rest) = (Wrong k, m, put, first, rest)

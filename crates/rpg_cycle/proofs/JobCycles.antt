@@ -8,14 +8,14 @@ use Rattle.rpg_cycle_records.specs.Earlier.{Left, Selected, left_by, with_record
 use Rattle.rpg_cycle_records.specs.Merging.{AreMergedInOrder}
 use Rattle.rpg_cycle_records.specs.Waiting.{Inputs, finds_match}
 use Rattle.rpg_cycle.specs.Ends.{GoesOn, PhaseEnd}
-use Rattle.rpg_cycle.specs.Job.{AtWork, DoesCycle, IsBehind, feed_at, with_feed}
+use Rattle.rpg_cycle.specs.Job.{AtWork, DoesCycle, IsFollowing, feed_at, with_feed}
 use Rattle.rpg_cycle_records.specs.Keeping.{noted, renewed_by, selected_as}
 use Rattle.rpg_cycle.specs.Phases.{Cycle, CycleOn, UnderWay, begun}
 use Rattle.rpg_cycle.specs.Stages.{Ended, Going, Stage, job_end, stage_at}
 use Rattle.rpg_cycle.specs.declared.ends.JobEnd.{JobEnd}
 use Rattle.rpg_cycle.specs.declared.ends.JobEnd.TheVariants as jobs
 use Rattle.rpg_machine.specs.Config.{Output}
-use Rattle.rpg_machine.specs.Running.{Running, config_on, feed_behind, finished, refilled}
+use Rattle.rpg_machine.specs.Running.{Running, config_on, feed_after, finished, refilled}
 use Rattle.rpg_program.specs.Object.{Object}
 
 -- a job with that machine
@@ -33,7 +33,7 @@ CycleBy p left primary secondary c e d out = CycleOn p left (finds_match p left)
 
 -- a record that was selected is one more of those that left what is kept
 pub one_more : (old new : AtWork) (earlier : List Selected) (previous : Option Position) (x y : Option (List ℕ)) → AreMergedInOrder old.program earlier old.inputs → DoesCycle old earlier previous x y GoesOn new →
-    IsBehind old.program new.left new.inputs
+    IsFollowing old.program new.left new.inputs
 one_more old new earlier previous x y order d = record {
   earlier = with_record d.there.selected earlier;
   leave = d.left refl;
@@ -58,7 +58,7 @@ pub goes_on : (p : Object) (earlier : List Selected) (previous : Option Position
     left ≡ left_by p earlier → AreMergedInOrder p earlier i → m.last ≡ line_of previous → now ≡ noted p t (renewed_by p t text left) →
     Does (CycleBy p left x y) (refilled m) (unselected i) GoesOn b (holding j t text) → DoesCycle (job p m left i stage) earlier previous x y GoesOn (job p b now j Going)
 goes_on p earlier previous x y m b left now i j stage t text same is order placed kept d =
-    let z = d.behind previous placed in
+    let z = d.following previous placed in
     record {
       stage = refl;
       program = refl;
@@ -85,7 +85,7 @@ pub ends : (p : Object) (earlier : List Selected) (previous : Option Position) (
     left ≡ left_by p earlier → AreMergedInOrder p earlier i → m.last ≡ line_of previous → Does (CycleBy p left x y) (refilled m) (unselected i) (job_end e) b s → c ≡ finished b →
     DoesCycle (job p m left i stage) earlier previous x y (job_end e) (job p c now j (Ended (job_end e)))
 ends p earlier previous x y m b c left now i j stage s e same is order placed d done =
-    let z = d.behind previous placed in
+    let z = d.following previous placed in
     subst (λ (r : Running). DoesCycle (job p m left i stage) earlier previous x y (job_end e) (job p r now j (Ended (job_end e)))) (sym done) (record {
       stage = sym (ended e);
       program = refl;
@@ -96,6 +96,6 @@ ends p earlier previous x y m b c left now i j stage s e same is order placed d 
       left = λ h. absurd (stops_not e h);
       inputs = λ h. absurd (stops_not e h);
       last = z.last;
-      bytes = ap (with_feed (feed_behind b.last)) z.bytes
+      bytes = ap (with_feed (feed_after b.last)) z.bytes
           ∙ ap (λ (g : Stage). with_feed (feed_at g b.last) (with_output previous z.out.lines z.out.records m.output)) (sym (ended e));
     })

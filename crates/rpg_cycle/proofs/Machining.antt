@@ -16,8 +16,8 @@ use Rattle.rpg_program.specs.declared.section.Section.{Section}
 machine_does : (P : Behaviour) (a b : Running) (last : effects.End) (s : Beside) → Did P a last b → Does (by_machine P) a s (phase_end last) b s
 machine_does P a b last s d = record {
   program = d.program;
-  behind = λ previous l.
-      let x = d.behind previous l in
+  following = λ previous l.
+      let x = d.following previous l in
       record { out = x.out; phase = (last, x.act, refl, refl, refl); last = x.last; bytes = x.bytes };
 }
 
@@ -35,7 +35,7 @@ filled_fields : (p : Object) (i : Inputs) (t : ℕ) (text : List ℕ) (a b : Run
     Does (by_machine (FillsFields p t text)) a s e b s → Does (fill_fields p) a s e b s)
 filled_fields p i t text a b e h = record {
   program = h.program;
-  behind = λ previous l. let x = h.behind previous l in record { out = x.out; phase = x.phase; last = x.last; bytes = x.bytes };
+  following = λ previous l. let x = h.following previous l in record { out = x.out; phase = x.phase; last = x.last; bytes = x.bytes };
 }
 
 pub filled : (i : Inputs) (o : Option ℕ) (t : ℕ) (text : List ℕ) (a b : Running) (last : effects.End) (e : PhaseEnd) → o ≡ Some t → phase_end last ≡ e → Did (FillsFields a.program t text) a last b →
@@ -50,5 +50,5 @@ pub nothing_filled : (p : Object) (i : Inputs) (o : Option ℕ) (text : List ℕ
 nothing_filled p i o text a none =
     subst (λ (x : Option ℕ). Does (fill_fields p) a (holding i x text) GoesOn a (holding i x text)) (sym none) (record {
       program = refl;
-      behind = λ previous l. record { out = Rattle.rpg_machine.specs.Config.no_output; phase = (refl, refl, refl); last = l; bytes = Rattle.rpg_cycle.proofs.Composing.output_none previous a.output };
+      following = λ previous l. record { out = Rattle.rpg_machine.specs.Config.no_output; phase = (refl, refl, refl); last = l; bytes = Rattle.rpg_cycle.proofs.Composing.output_none previous a.output };
     })

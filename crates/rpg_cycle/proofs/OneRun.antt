@@ -11,7 +11,7 @@ use Rattle.rpg_program.specs.declared.input.InputFile.TheVariants.{Primary, Seco
 use Rattle.rpg_cycle.specs.Ends.{PhaseEnd, GoesOn, EndOfJob, Halt, Wrong, phase_end}
 use Rattle.rpg_cycle.specs.Indicators.{is_on, last_record}
 use Rattle.rpg_cycle.specs.Phases.{CycleOn, Done, Phase, UnderWay, begun, by_machine, without_output, either, fill_from, from_there, needs_record, output, nothing_done, section, select_record, unless, ◌before◌}
-use Rattle.rpg_cycle.specs.Runs.{Course, IsRun, Records, RunsIn, ends_or, left_behind, next_of, printed, stored, with_cycle}
+use Rattle.rpg_cycle.specs.Runs.{Course, IsRun, Records, RunsIn, ends_or, left_following, next_of, printed, stored, with_cycle}
 use Rattle.rpg_cycle.specs.Starting.{job_start}
 use Rattle.rpg_machine.specs.Config.{Config, Output, no_output, with_more}
 use Rattle.rpg_machine.specs.Outputs.{ByEffect}
@@ -170,10 +170,10 @@ pub runs_same : (n m : ℕ) (p : Object) (earlier : List Selected) (rs : Records
 runs_same zero m p earlier rs c i u v h g = absurd h
 runs_same (suc n) zero p earlier rs c i u v h g = absurd g
 runs_same (suc n) (suc m) p earlier rs c i u v (e, x, a, h, r) (f, y, b, g, s) =
-    ends_same e f x y a b (λ d rest. RunsIn n p (with_record d.selected earlier) (left_behind p c i rs) d.config d.inputs rest)
-    (λ d rest. RunsIn m p (with_record d.selected earlier) (left_behind p c i rs) d.config d.inputs rest) u v
+    ends_same e f x y a b (λ d rest. RunsIn n p (with_record d.selected earlier) (left_following p c i rs) d.config d.inputs rest)
+    (λ d rest. RunsIn m p (with_record d.selected earlier) (left_following p c i rs) d.config d.inputs rest) u v
     ((cycle_fixed p (left_by p earlier) (has_match p earlier) (next_of (needs_record p c i Primary) rs.primary) (next_of (needs_record p c i Secondary) rs.secondary)).same (begun p c i) e f x y a b h g)
-    (λ k l o q. runs_same n m p (with_record x.selected earlier) (left_behind p c i rs) x.config x.inputs k l o q) r s
+    (λ k l o q. runs_same n m p (with_record x.selected earlier) (left_following p c i rs) x.config x.inputs k l o q) r s
 
 pub course_one : (p : Object) (date : ℤ) (fields : Fields nat_cmp) (records : Records) (u v : Course) (a b : Bytes) → IsRun p date fields records u a → IsRun p date fields records v b → u ≡ v
 course_one p date fields records u v a b h g = runs_same u.cycles v.cycles p [] records (job_start p date fields) unread u v h.runs g.runs

@@ -284,8 +284,8 @@ at_last p left primary secondary i a b on is =
     (λ previous. ap (λ (c : Config). done GoesOn (under_way c (unselected i))) (sym (all_on previous level_indicators true a.config))) is in
     record {
       program = d.program;
-      behind = λ previous l.
-          let x = d.behind previous l in record {
+      following = λ previous l.
+          let x = d.following previous l in record {
             out = x.out;
             phase = subst (λ (z : Bool). either z P Q (under_way (config_on previous a.config) (unselected i)) GoesOn (under_way (config_on (last_position_from previous x.out.lines) b.config) (unselected i)) x.out)
                 (sym on) x.phase;
@@ -302,8 +302,8 @@ not_last p left primary secondary a b s t e off d =
     let Q = take_in p left Primary primary before take_in p left Secondary secondary before select_one p left in
     record {
       program = d.program;
-      behind = λ previous l.
-          let x = d.behind previous l in record {
+      following = λ previous l.
+          let x = d.following previous l in record {
             out = x.out;
             phase = subst (λ (z : Bool). either z P Q (under_way (config_on previous a.config) s) e (under_way (config_on (last_position_from previous x.out.lines) b.config) t) x.out) (sym off) x.phase;
             last = x.last;

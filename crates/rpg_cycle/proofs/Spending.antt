@@ -78,13 +78,13 @@ section_spends s a b low = record { few = in_order a.config.steps (section_cost 
 pub output_spends : (time : OutputTime) (e : effects.End) (a b : Running) → Did (PutsOut a.program time) a e b → Spends a.program (output_weight a.program time) a b
 output_spends time e a b d =
     let o = some_before a.last in
-    let x = (d.behind o.0 o.1).act.leads in
+    let x = (d.following o.0 o.1).act.leads in
     reach_of a.program (output_weight a.program time) a b (ap (λ (c : Config). c.steps) x) (ap (λ (c : Config). c.allowance) x)
 
 pub fields_spend : (t : ℕ) (text : List ℕ) (e : effects.End) (a b : Running) → Did (FillsFields a.program t text) a e b → Spends a.program (length (inputs_at a.program t)) a b
 fields_spend t text e a b d =
     let o = some_before a.last in
-    let x = (d.behind o.0 o.1).act.leads in
+    let x = (d.following o.0 o.1).act.leads in
     reach_of a.program (length (inputs_at a.program t)) a b (ap (λ (c : Config). c.steps) x) (ap (λ (c : Config). c.allowance) x)
 
 -- what a machine spent of its own program is spent of one that is the same

@@ -5,7 +5,7 @@ use Rattle.std.specs.Ordering.{nat_cmp}
 use Rattle.rpg_cycle.specs.Ends.{PhaseEnd, GoesOn, EndOfJob, Halt, Wrong, phase_end}
 use Rattle.rpg_cycle.specs.Indicators.{is_on, last_record, level_indicators, with_all, with_levels, with_one, with_type, without_type, without_types}
 use Rattle.rpg_cycle.specs.Phases.{CycleOn, Done, Phase, UnderWay, all_off, begun, broken_level, by_machine, without_output, done, either, fill_from, from_there, identify, needs_record, output, nothing_done, read_record, section, select_from, select_record, select_waiting, take_type, type_indicator, unless, with_config, with_inputs, ◌before◌}
-use Rattle.rpg_cycle.specs.Runs.{Course, Records, RunsIn, ends_or, left_behind, next_of}
+use Rattle.rpg_cycle.specs.Runs.{Course, Records, RunsIn, ends_or, left_following, next_of}
 use Rattle.rpg_cycle.specs.Standing.{RunsStandRight, StandsRightAtEnd}
 use Rattle.rpg_cycle.specs.Starting.{job_start}
 use Rattle.rpg_cycle_records.specs.Earlier.{Left, Selected, control_fields, last_of_file, left_by, match_fields, match_value, with_record}
@@ -27,7 +27,7 @@ use Rattle.rpg_machine.specs.Run.{running_place}
 use Rattle.rpg_machine.specs.declared.time.OutputTime.{OutputTime}
 use Rattle.rpg_machine.specs.declared.time.OutputTime.TheVariants as times
 use Rattle.rpg_program.specs.Object.{Object}
-use Rattle.rpg_program.specs.Sections.{first_place, has_end, place_behind}
+use Rattle.rpg_program.specs.Sections.{first_place, has_end, place_after}
 use Rattle.rpg_program.specs.declared.section.Place.{Place}
 use Rattle.rpg_program.specs.declared.section.Section.{Section}
 use Rattle.rpg_program.specs.declared.section.Section.TheVariants as sections
@@ -73,7 +73,7 @@ off_stays p c =
 -- ---- phases
 
 abbrev place_at : Object → Section → ℕ → Option Place
-place_at p s n = cond (has_end s && eqb n (place_behind p s)) None (Some (record { section = s; number = n }))
+place_at p s n = cond (has_end s && eqb n (place_after p s)) None (Some (record { section = s; number = n }))
 
 module _ (p : Object) where
   same_place : (c d : Config) → Stays c d → running_place p d ≡ running_place p c
@@ -219,13 +219,13 @@ module _ (p : Object) where
       → StandsRightAtEnd p course.ending course.there.config
   runs_stand zero rs earlier c i course none h = absurd h
   runs_stand (suc n) rs earlier c i course none (e, d, out, cycle, ends) =
-      ends_stand e d out (λ d rest. RunsIn n p (with_record d.selected earlier) (left_behind p c i rs) d.config d.inputs rest) course
+      ends_stand e d out (λ d rest. RunsIn n p (with_record d.selected earlier) (left_following p c i rs) d.config d.inputs rest) course
       ((cycle_stands (left_by p earlier) (has_match p earlier) (next_of (needs_record p c i Primary) rs.primary) (next_of (needs_record p c i Secondary) rs.secondary)).right (begun p c i) e d out cycle none)
-      (λ on rest h. runs_stand n (left_behind p c i rs) (with_record d.selected earlier) d.config d.inputs rest on h) ends
+      (λ on rest h. runs_stand n (left_following p c i rs) (with_record d.selected earlier) d.config d.inputs rest on h) ends
 
   -- a job starts after detail calculations
   starts_outside : (date : ℤ) (fields : Fields nat_cmp) → running_place p (job_start p date fields) ≡ None
-  unfolding place_behind first_place
+  unfolding place_after first_place
   starts_outside date fields = ap (λ (b : Bool). cond b None (Some (here (job_start p date fields)))) (eq-eqb (length p.detail) (0 + length p.detail) (omega arith))
 
 pub runs_stand_right : RunsStandRight

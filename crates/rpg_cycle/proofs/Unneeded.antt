@@ -190,9 +190,9 @@ halts_stay p c i m put kept g =
 -- the fourth phase agrees wherever the phases before it lead, if it does where LR is as it was and the files are
 module _ (p : Object) (left : Left) (matches : Inputs → Selected → Bool) (c : Config) (i : Inputs) (f : InputFile) (kept : IsProgram p) (needless : needs_record p c i f ≡ false) (P Q : Phase)
     (alike : (u : UnderWay) → (is_on u.config last_record ≡ false → takes_in p u.inputs f ≡ false) → Agrees P Q u) where
-  behind_off : (m n u : UnderWay) (put more last : Output) → detail_lines p (begun p c i) GoesOn m put → halt_where_asked m GoesOn n more → set_off p n GoesOn u last →
+  after_off : (m n u : UnderWay) (put more last : Output) → detail_lines p (begun p c i) GoesOn m put → halt_where_asked m GoesOn n more → set_off p n GoesOn u last →
       Agrees (P before after_selection p left matches) (Q before after_selection p left matches) u
-  behind_off m n u put more last g k o =
+  after_off m n u put more last g k o =
       let none : any_on c halt_indicators ≡ false = sym (halts_stay p c i m put kept g) ∙ not_asked (any_on m.config halt_indicators) k.0 in
       let lit : is_on u.config last_record ≡ is_on c last_record = ap (λ (x : UnderWay). is_on x.config last_record) o.1 ∙ last_stays p n.config
       ∙ ap (λ (x : UnderWay). is_on x.config last_record) k.1 ∙ stays p c i m put kept g last_record (λ q a b e. omega arith) in
@@ -200,22 +200,22 @@ module _ (p : Object) (left : Left) (matches : Inputs → Selected → Bool) (c 
       first_agrees P Q (after_selection p left matches) u
       (alike u (λ dark. ap (λ (j : Inputs). takes_in p j f) same ∙ needed_not (is_on c last_record) (any_on c halt_indicators) (takes_in p i f) needless none (sym lit ∙ dark)))
 
-  behind_lines : Agrees (detail_lines p before halt_where_asked before set_off p before P before after_selection p left matches)
+  after_lines : Agrees (detail_lines p before halt_where_asked before set_off p before P before after_selection p left matches)
       (detail_lines p before halt_where_asked before set_off p before Q before after_selection p left matches) (begun p c i)
-  behind_lines =
+  after_lines =
       rest_agrees (detail_lines p) (halt_where_asked before set_off p before P before after_selection p left matches) (halt_where_asked before set_off p before Q before after_selection p left matches) (begun p c i)
       (λ m put g. rest_agrees halt_where_asked (set_off p before P before after_selection p left matches) (set_off p before Q before after_selection p left matches) m
       (λ n more k. rest_agrees (set_off p) (P before after_selection p left matches) (Q before after_selection p left matches) n
-      (λ u last o. behind_off m n u put more last g k o)))
+      (λ u last o. after_off m n u put more last g k o)))
 
 pub primary_unneeded : (p : Object) (earlier : List Selected) (c : Config) (i : Inputs) (now next b : Option (List ℕ)) (e : PhaseEnd) (d : UnderWay) (out : Output) → IsProgram p → needs_record p c i Primary ≡ false →
     Cycle p earlier now b (begun p c i) e d out → Cycle p earlier next b (begun p c i) e d out
 primary_unneeded p earlier c i now next b e d out kept needless h =
     let left = left_by p earlier in
-    (behind_lines p left (has_match p earlier) c i Primary kept needless (select_record p left now b) (select_record p left next b) (first_alike p left now next b)).each e d out h
+    (after_lines p left (has_match p earlier) c i Primary kept needless (select_record p left now b) (select_record p left next b) (first_alike p left now next b)).each e d out h
 
 pub secondary_unneeded : (p : Object) (earlier : List Selected) (c : Config) (i : Inputs) (a now next : Option (List ℕ)) (e : PhaseEnd) (d : UnderWay) (out : Output) → IsProgram p → needs_record p c i Secondary ≡ false →
     Cycle p earlier a now (begun p c i) e d out → Cycle p earlier a next (begun p c i) e d out
 secondary_unneeded p earlier c i a now next e d out kept needless h =
     let left = left_by p earlier in
-    (behind_lines p left (has_match p earlier) c i Secondary kept needless (select_record p left a now) (select_record p left a next) (second_alike p left a now next)).each e d out h
+    (after_lines p left (has_match p earlier) c i Secondary kept needless (select_record p left a now) (select_record p left a next) (second_alike p left a now next)).each e d out h

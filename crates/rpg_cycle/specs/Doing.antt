@@ -63,7 +63,7 @@ abbrev pub under_way : Config → Beside → UnderWay
 under_way c h = record { config = c; inputs = h.inputs; selected = h.selected }
 
 -- after a line placed before, a machine did a phase, and its bytes were appended; `before` and `after` are what the cycle has besides the machine
-pub record DoesBehind (P : Phase) (previous : Option Position) (old : Running) (before : Beside) (e : PhaseEnd) (new : Running) (after : Beside) : Type 0 where
+pub record DoesAfter (P : Phase) (previous : Option Position) (old : Running) (before : Beside) (e : PhaseEnd) (new : Running) (after : Beside) : Type 0 where
   pub out : Output
   pub phase : P (under_way (config_on previous old.config) before) e (under_way (config_on (last_position_from previous out.lines) new.config) after) out
   pub last : new.last ≡ line_of (last_position_from previous out.lines)
@@ -72,7 +72,7 @@ pub record DoesBehind (P : Phase) (previous : Option Position) (old : Running) (
 -- a machine did a phase, whatever was placed before
 pub record Does (P : Phase) (old : Running) (before : Beside) (e : PhaseEnd) (new : Running) (after : Beside) : Type 0 where
   pub program : new.program ≡ old.program
-  pub behind : (previous : Option Position) → old.last ≡ line_of previous → DoesBehind P previous old before e new after
+  pub following : (previous : Option Position) → old.last ≡ line_of previous → DoesAfter P previous old before e new after
 
 -- a machine did a phase that left the files and the selected record as they were
 abbrev pub DoesHolding : Phase → Beside → Running → PhaseEnd → Running → Type 0

@@ -19,7 +19,7 @@ use Rattle.rpg_cycle.specs.Phases.{Cycle, UnderWay, begun}
 use Rattle.rpg_cycle.specs.Stages.{Stage, Going, Ended, Failed, has_failed, is_going, stage_at}
 use Rattle.rpg_cycle.specs.Starting.{date_in, dated}
 use Rattle.rpg_machine.specs.Config.{Config, Output}
-use Rattle.rpg_machine.specs.Running.{Running, config_on, feed_behind, no_bytes}
+use Rattle.rpg_machine.specs.Running.{Running, config_on, feed_after, no_bytes}
 use Rattle.rpg_program.specs.Object.{Object}
 use Rattle.rpg_store.specs.First.{first_contents, first_currents}
 use Rattle.rpg_verify.specs.Bound.{bound}
@@ -62,7 +62,7 @@ first_fields p = record { values = first_contents p; current = first_currents p 
 -- ---- a cycle
 
 -- earlier records, the last of them first, left this and these files
-pub record IsBehind (p : Object) (left : Left) (inputs : Inputs) : Type 0 where
+pub record IsFollowing (p : Object) (left : Left) (inputs : Inputs) : Type 0 where
   pub earlier : List Selected
   pub leave : left ≡ left_by p earlier
   pub orderly : AreMergedInOrder p earlier inputs
@@ -70,7 +70,7 @@ pub record IsBehind (p : Object) (left : Left) (inputs : Inputs) : Type 0 where
 -- where the job ends, so does the last line
 abbrev pub feed_at : Stage → Option ℕ → List ℕ
 feed_at Going last = []
-feed_at (Ended e) last = feed_behind last
+feed_at (Ended e) last = feed_after last
 feed_at Failed last = []
 
 -- the bytes with what ends the printed pages, if anything does
@@ -94,7 +94,7 @@ pub record DoesCycle (old : AtWork) (earlier : List Selected) (previous : Option
 -- A cycle after earlier records that left what the job keeps, whatever was placed before. There are such records, and it is the same cycle
 -- after each list of them that came in order.
 pub record Cycles (old : AtWork) (primary secondary : Option (List ℕ)) (new : AtWork) : Type 0 where
-  pub behind : IsBehind old.program old.left old.inputs
+  pub following : IsFollowing old.program old.left old.inputs
   pub does : (earlier : List Selected) → old.left ≡ left_by old.program earlier → AreMergedInOrder old.program earlier old.inputs
       → (previous : Option Position) → old.last ≡ line_of previous → (e : PhaseEnd) × DoesCycle old earlier previous primary secondary e new
 
@@ -117,6 +117,6 @@ job_taken j = record j { output = no_bytes }
 pub record IsAtWork (p : Object) (machine : Running) (stage : Stage) (kept : Kept) : Type 0 where
   pub program : is_going stage ≡ true → machine.program ≡ p
   pub ready : is_going stage ≡ true → IsReady machine
-  pub behind : is_going stage ≡ true → IsBehind p (left_of kept) (inputs_of kept)
+  pub following : is_going stage ≡ true → IsFollowing p (left_of kept) (inputs_of kept)
   pub files : is_going stage ≡ true → AreFilesKept p kept
   pub few : has_failed stage ≡ false → machine.config.steps ≤ bound p

@@ -53,9 +53,9 @@ first_if_any [] = None
 first_if_any (x ∷ xs) = Some x
 
 -- the list without its first
-abbrev pub behind_first : {A : Type 0} → List A → List A
-behind_first [] = []
-behind_first (x ∷ xs) = xs
+abbrev pub following_first : {A : Type 0} → List A → List A
+following_first [] = []
+following_first (x ∷ xs) = xs
 
 -- what a cycle takes from a file, and what it leaves
 abbrev pub next_of : {A : Type 0} → Bool → List A → Option A
@@ -63,11 +63,11 @@ next_of is_needed rs = if is_needed then first_if_any rs else None
 
 -- the records that are left, where one is needed
 abbrev pub rest_where_needed : {A : Type 0} → Bool → List A → List A
-rest_where_needed is_needed rs = if is_needed then behind_first rs else rs
+rest_where_needed is_needed rs = if is_needed then following_first rs else rs
 
 -- the records that are left after a cycle
-abbrev pub left_behind : Object → Config → Inputs → Records → Records
-left_behind p c i rs = record { primary = rest_where_needed (needs_record p c i Primary) rs.primary; secondary = rest_where_needed (needs_record p c i Secondary) rs.secondary }
+abbrev pub left_following : Object → Config → Inputs → Records → Records
+left_following p c i rs = record { primary = rest_where_needed (needs_record p c i Primary) rs.primary; secondary = rest_where_needed (needs_record p c i Secondary) rs.secondary }
 
 -- a run of at most so many cycles from a configuration and files, after earlier records (the last first), over the records that are left
 abbrev pub RunsIn : ℕ → Object → List Selected → Records → Config → Inputs → Course → Type 0
@@ -75,7 +75,7 @@ RunsIn zero p earlier rs c i course = ⊥
 RunsIn (suc n) p earlier rs c i course =
     (e : PhaseEnd) × (d : UnderWay) × (out : Output)
     × Cycle p earlier (next_of (needs_record p c i Primary) rs.primary) (next_of (needs_record p c i Secondary) rs.secondary) (begun p c i) e d out
-    × ends_or e d out (λ d rest. RunsIn n p (with_record d.selected earlier) (left_behind p c i rs) d.config d.inputs rest) course
+    × ends_or e d out (λ d rest. RunsIn n p (with_record d.selected earlier) (left_following p c i rs) d.config d.inputs rest) course
 
 -- a run, in as many cycles as it takes
 abbrev pub Runs : Object → List Selected → Records → Config → Inputs → Course → Type 0

@@ -4,7 +4,7 @@ ghost use Rattle.std.specs.Option.{ForSome};
 ghost use Rattle.rpg_cycle.specs.Phases as phases;
 ghost use Rattle.rpg_cycle.specs.Spending.{cycle_weight};
 ghost use Rattle.rpg_program.specs.Kept.{IsIndicator};
-ghost use Rattle.rpg_program.specs.Sections.{has_end, place_behind};
+ghost use Rattle.rpg_program.specs.Sections.{has_end, place_after};
 ghost use Rattle.rpg_verify.specs.Bound as words;
 
 use rpg_cycle_records::{rows_of, type_at};
@@ -29,9 +29,9 @@ pub(crate) fn overflow_of(program: &Verified) -> Option<u8>
 }
 
 /// Whether a place is the end of detail or total calculations.
-#[tactic(auto, unfolding(rpg_program::specs::Sections::place_behind, rpg_program::specs::Sections::first_place))]
+#[tactic(auto, unfolding(rpg_program::specs::Sections::place_after, rpg_program::specs::Sections::first_place))]
 pub(crate) fn is_end(program: &Verified, place: Place) -> bool
-    ensures { result ≡ (has_end place.section && place.number == place_behind program.now place.section) }
+    ensures { result ≡ (has_end place.section && place.number == place_after program.now place.section) }
 {
     let rows = rows_of(program);
     let number = usize::from(place.number);

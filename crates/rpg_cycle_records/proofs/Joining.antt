@@ -5,25 +5,25 @@ use borrow.Author.Tests.{leb-true, leb-false}
 use Rattle.std.proofs.lemmas.List.{get_or-set_other, get_or-map, map-set, set-get_or, drop_more}
 use Rattle.rpg_program.specs.declared.input.ControlField.{ControlField}
 use Rattle.rpg_cycle_records.specs.Earlier.{or_before}
-use Rattle.rpg_cycle_records.specs.Fronts.{rest_behind}
+use Rattle.rpg_cycle_records.specs.Fronts.{rest_following}
 use Rattle.rpg_cycle_records.specs.Keeping.{renewed, seen_bytes, seen_levels}
 use Rattle.rpg_cycle_records.specs.Levels.{same_bytes, joined_bytes, at_level, has_level, level_bytes, differs, highest_broken}
 use Rattle.rpg_cycle_records.specs.declared.levels.LastBytes.{LastBytes}
-use Rattle.rpg_cycle_records.proofs.Fronts.{same_rest, same_behind}
+use Rattle.rpg_cycle_records.proofs.Fronts.{same_rest, same_after}
 
 -- the first field's bytes are there or not
 pub same_first : (fs : List ControlField) (k : ℕ) (d : ControlField) (text rest more : List ℕ) (level : ℕ) → k < length fs →
-    rest_behind (at_level text level (get_or fs k d)) rest ≡ Some more → same_bytes rest (joined_bytes (drop k fs) text level) ≡ same_bytes more (joined_bytes (drop (k + 1) fs) text level)
+    rest_following (at_level text level (get_or fs k d)) rest ≡ Some more → same_bytes rest (joined_bytes (drop k fs) text level) ≡ same_bytes more (joined_bytes (drop (k + 1) fs) text level)
 same_first fs k d text rest more level h e =
     ap (λ (x : List ControlField). same_bytes rest (joined_bytes x text level)) (drop_more fs k d h)
-    ∙ same_behind (at_level text level (get_or fs k d)) rest (joined_bytes (drop (k + 1) fs) text level)
+    ∙ same_after (at_level text level (get_or fs k d)) rest (joined_bytes (drop (k + 1) fs) text level)
     ∙ ap (λ o. same_rest o (joined_bytes (drop (k + 1) fs) text level)) e
 
 pub other_first : (fs : List ControlField) (k : ℕ) (d : ControlField) (text rest : List ℕ) (level : ℕ) → k < length fs →
-    rest_behind (at_level text level (get_or fs k d)) rest ≡ None → same_bytes rest (joined_bytes (drop k fs) text level) ≡ false
+    rest_following (at_level text level (get_or fs k d)) rest ≡ None → same_bytes rest (joined_bytes (drop k fs) text level) ≡ false
 other_first fs k d text rest level h e =
     ap (λ (x : List ControlField). same_bytes rest (joined_bytes x text level)) (drop_more fs k d h)
-    ∙ same_behind (at_level text level (get_or fs k d)) rest (joined_bytes (drop (k + 1) fs) text level)
+    ∙ same_after (at_level text level (get_or fs k d)) rest (joined_bytes (drop (k + 1) fs) text level)
     ∙ ap (λ o. same_rest o (joined_bytes (drop (k + 1) fs) text level)) e
 
 -- nothing is left

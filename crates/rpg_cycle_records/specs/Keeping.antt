@@ -43,8 +43,8 @@ selected_as None text = None
 selected_as (Some t) text = Some (record { type = t; text = text })
 
 -- the last match value of a file, renewed by a record of a type where it is of that file and has one
-abbrev pub value_behind : Object → InputFile → ℕ → List ℕ → Option (List ℕ) → Option (List ℕ)
-value_behind p f t text before = or_before before (value_from p f (record { type = t; text = text }))
+abbrev pub value_following : Object → InputFile → ℕ → List ℕ → Option (List ℕ) → Option (List ℕ)
+value_following p f t text before = or_before before (value_from p f (record { type = t; text = text }))
 
 -- the match value of its file renewed by a record that has one
 abbrev pub with_match_value : Object → Selected → Left → Left

@@ -5,7 +5,7 @@ ghost use Rattle.rpg_cycle_records.specs.Fitting.{IsControlIn};
 ghost use Rattle.rpg_cycle_records.specs.Earlier.{or_before};
 ghost use Rattle.rpg_cycle_records.specs.Keeping.{renewed, seen_bytes, seen_levels};
 ghost use Rattle.rpg_cycle_records.specs.Levels as spec;
-ghost use Rattle.rpg_cycle_records.specs.Fronts.{rest_behind};
+ghost use Rattle.rpg_cycle_records.specs.Fronts.{rest_following};
 ghost use Rattle.rpg_cycle_records.specs.Lasting.{are_last, is_last};
 
 use rpg_program::input::ControlField;
@@ -38,8 +38,8 @@ fn columns_of(text: &[u8], field: ControlField) -> &[u8]
 }
 
 /// What follows a first byte, if it is that one.
-fn behind_one(bytes: &[u8], first: u8) -> Option<&[u8]>
-    ensures { option_map (λ r. r.now) result ≡ rest_behind (first ∷ []) bytes.now }
+fn after_one(bytes: &[u8], first: u8) -> Option<&[u8]>
+    ensures { option_map (λ r. r.now) result ≡ rest_following (first ∷ []) bytes.now }
 {
     match bytes {
         [byte, others @ ..] if *byte == first => Some(others),
@@ -48,14 +48,14 @@ fn behind_one(bytes: &[u8], first: u8) -> Option<&[u8]>
 }
 
 /// What follows a control field's bytes, if the bytes begin with them.
-fn behind<'a>(bytes: &'a [u8], text: &[u8], field: ControlField) -> Option<&'a [u8]>
+fn following<'a>(bytes: &'a [u8], text: &[u8], field: ControlField) -> Option<&'a [u8]>
     requires { IsControlIn (length text.now) field }
-    ensures { option_map (λ r. r.now) result ≡ rest_behind (spec.compared text.now field) bytes.now }
+    ensures { option_map (λ r. r.now) result ≡ rest_following (spec.compared text.now field) bytes.now }
 {
     let columns = columns_of(text, field);
     let mut rest = bytes;
     for byte in columns {
-        match behind_one(rest, byte_of(field.is_numeric, *byte)) {
+        match after_one(rest, byte_of(field.is_numeric, *byte)) {
             Some(others) => rest = others,
             None => return None,
         }
@@ -64,31 +64,26 @@ fn behind<'a>(bytes: &'a [u8], text: &[u8], field: ControlField) -> Option<&'a [
 }
 
 /// The same of a control field that may be of another level.
-fn behind_level<'a>(
-    bytes: &'a [u8],
-    text: &[u8],
-    field: ControlField,
-    level: u8,
-) -> Option<&'a [u8]>
+fn after_level<'a>(bytes: &'a [u8], text: &[u8], field: ControlField, level: u8) -> Option<&'a [u8]>
     requires { IsControlIn (length text.now) field }
-    ensures { option_map (λ r. r.now) result ≡ rest_behind (spec.at_level text.now level field) bytes.now }
+    ensures { option_map (λ r. r.now) result ≡ rest_following (spec.at_level text.now level field) bytes.now }
 {
     if field.level == level {
-        behind(bytes, text, field)
+        following(bytes, text, field)
     } else {
         Some(bytes)
     }
 }
 
 /// Whether these are the bytes of a level.
-#[tactic(auto, using(crate::proofs::Fronts::same_behind))]
+#[tactic(auto, using(crate::proofs::Fronts::same_after))]
 fn is_joined(bytes: &[u8], fields: &[ControlField], text: &[u8], level: u8) -> bool
     requires { All (IsControlIn (length text.now)) fields.now }
     ensures { result ≡ spec.same_bytes bytes.now (spec.joined_bytes fields.now text.now level) }
 {
     let mut rest = bytes;
     for field in fields {
-        match behind_level(rest, text, *field, level) {
+        match after_level(rest, text, *field, level) {
             Some(others) => rest = others,
             None => return false,
         }

@@ -82,7 +82,7 @@ pub struct LastValues {
 impl LastValues {
     ghost use Rattle.std.specs.Prelude.{◌<◌, IfOk, None};
     ghost use Rattle.rpg_cycle_records.specs.Fitting.{IsFilledAs};
-    ghost use Rattle.rpg_cycle_records.specs.Keeping.{value_behind};
+    ghost use Rattle.rpg_cycle_records.specs.Keeping.{value_following};
     ghost use Rattle.rpg_program.specs.declared.input.InputFile.TheVariants as files;
 
     /// No values, with room for 256 bytes each.
@@ -102,8 +102,8 @@ impl LastValues {
     pub fn keep(&mut self, program: &Verified, row: usize, text: &[u8]) -> Result<(), AllocError>
         requires there { row < length program.now.types }
         requires filled { IsFilledAs program.now row text.now }
-        ensures primary { OnOk result (seen_value self.new.primary ≡ value_behind program.now files.Primary row text.now (seen_value self.old.primary)) }
-        ensures secondary { OnOk result (seen_value self.new.secondary ≡ value_behind program.now files.Secondary row text.now (seen_value self.old.secondary)) }
+        ensures primary { OnOk result (seen_value self.new.primary ≡ value_following program.now files.Primary row text.now (seen_value self.old.primary)) }
+        ensures secondary { OnOk result (seen_value self.new.secondary ≡ value_following program.now files.Secondary row text.now (seen_value self.old.secondary)) }
     {
         let fields = match_fields(program, row);
         if fields.is_empty() {

@@ -8,7 +8,7 @@ use Rattle.rpg_cycle.proofs.OneRun.{runs_same}
 use Rattle.rpg_cycle.specs.Counting.{records_count, waiting_count}
 use Rattle.rpg_cycle.specs.Ends.{PhaseEnd, GoesOn, EndOfJob, Halt, Wrong}
 use Rattle.rpg_cycle.specs.Phases.{UnderWay, begun, needs_record}
-use Rattle.rpg_cycle.specs.Runs.{Course, IsRun, Records, RunsIn, last_cycle, left_behind, next_of, printed, stored, with_cycle}
+use Rattle.rpg_cycle.specs.Runs.{Course, IsRun, Records, RunsIn, last_cycle, left_following, next_of, printed, stored, with_cycle}
 use Rattle.rpg_cycle.specs.Starting.{job_first_world, job_start}
 use Rattle.rpg_cycle_records.specs.Earlier.{Selected, with_record}
 use Rattle.rpg_cycle_records.specs.Merging as merging
@@ -45,7 +45,7 @@ module _ (p : Object) (orderly : IsOrderly p) where
   by_cycle n next earlier rs c i order enough GoesOn d out cycle well =
       let fewer = shorter p earlier rs c i d out order cycle in
       let order_kept = keeps p earlier (next_of (needs_record p c i Primary) rs.primary) (next_of (needs_record p c i Secondary) rs.secondary) c i d out order cycle in
-      let rest = next (with_record d.selected earlier) (left_behind p c i rs) d.config d.inputs well.values (well.no_cell refl) well.waiting order_kept (omega (arith, fewer, enough)) in
+      let rest = next (with_record d.selected earlier) (left_following p c i rs) d.config d.inputs well.values (well.no_cell refl) well.waiting order_kept (omega (arith, fewer, enough)) in
       let one = well.few in
       let others = rest.few in
       record { course = with_cycle d.config out rest.course; runs = (GoesOn, d, out, cycle, (rest.course, rest.runs, refl)); ending = rest.ending; few = omega (arith, one, others) }

@@ -212,8 +212,8 @@ module _ (p : Object) (orderly : IsOrderly p) where
 
   -- ---- one after another
 
-  abbrev behind_match : Phase
-  behind_match = fill_fields p before detail_calculations p
+  abbrev after_match : Phase
+  after_match = fill_fields p before detail_calculations p
 
   abbrev overflow_lines_weight : ℕ
   overflow_lines_weight = cond (is_some p.overflow) (output_weight p times.Overflow) 0
@@ -226,7 +226,7 @@ module _ (p : Object) (orderly : IsOrderly p) where
 
   module _ (left : Left) (matches : Inputs → Selected → Bool) (primary secondary : Option (List ℕ)) where
     abbrev from_overflow : Phase
-    from_overflow = overflow_lines p before show_match matches before behind_match
+    from_overflow = overflow_lines p before show_match matches before after_match
 
     abbrev from_selection : Phase
     from_selection = select_record p left primary secondary before after_selection p left matches
@@ -234,9 +234,9 @@ module _ (p : Object) (orderly : IsOrderly p) where
     late_work : Works p (end_where_last before from_overflow) owing nothing (0 + late)
     late_work =
         both p end_where_last from_overflow owing owing nothing 0 late (ending_works owing)
-        (both p (overflow_lines p) (show_match matches before behind_match) owing owing nothing overflow_lines_weight (0 + (0 + section_cost p sections.Detail))
+        (both p (overflow_lines p) (show_match matches before after_match) owing owing nothing overflow_lines_weight (0 + (0 + section_cost p sections.Detail))
         (overflow_works p p.overflow (output p times.Overflow) owing (output_weight p times.Overflow) (output_works times.Overflow owing))
-        (both p (show_match matches) behind_match owing owing nothing 0 (0 + section_cost p sections.Detail) (showing_works matches owing)
+        (both p (show_match matches) after_match owing owing nothing 0 (0 + section_cost p sections.Detail) (showing_works matches owing)
         (both p (fill_fields p) (detail_calculations p) owing nothing nothing 0 (section_cost p sections.Detail) filling_works (section_works sections.Detail nothing refl))))
 
     middle_works : Works p from_selection owing nothing (selection_weight + (totals + (0 + late)))

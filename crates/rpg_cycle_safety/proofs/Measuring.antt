@@ -7,7 +7,7 @@ use Rattle.rpg_cycle.specs.Ends.{PhaseEnd, GoesOn, EndOfJob, Halt, Wrong}
 use Rattle.rpg_cycle.specs.Indicators.{any_on, halt_indicators, is_on, last_record, level_indicators, matching_record, with_all, with_one}
 use Rattle.rpg_cycle.specs.Phases.{Cycle, CycleOn, Done, Phase, UnderWay, all_off, begun, by_machine, detail_calculations, detail_lines, without_output, done, either, end_where_last, fill_fields, fill_from, from_there, halt_where_asked, has_no_overflow, if_selected, is_bypassed, needs_record, output, overflow_lines, nothing_done, read_record, section, select_from, select_one, select_record, set_off, show_match, take_in, total_time, unless, with_config, ◌before◌}
 use Rattle.rpg_cycle.specs.Staging.{after_selection}
-use Rattle.rpg_cycle.specs.Runs.{Records, left_behind, next_of}
+use Rattle.rpg_cycle.specs.Runs.{Records, left_following, next_of}
 use Rattle.rpg_cycle.specs.Starting.{job_first_world, job_start}
 use Rattle.rpg_program.specs.Effect.{Effect}
 use Rattle.rpg_program.specs.Forms.{form_at}
@@ -222,12 +222,12 @@ module _ (p : Object) (orderly : IsOrderly p) where
 
   -- ---- cycles
 
-  abbrev behind_match : Phase
-  behind_match = fill_fields p before detail_calculations p
+  abbrev after_match : Phase
+  after_match = fill_fields p before detail_calculations p
 
   module _ (left : Left) (matches : Inputs → Selected → Bool) (primary secondary : Option (List ℕ)) where
     abbrev from_ending : Phase
-    from_ending = end_where_last before overflow_lines p before show_match matches before behind_match
+    from_ending = end_where_last before overflow_lines p before show_match matches before after_match
 
     abbrev from_selection : Phase
     from_selection = select_record p left primary secondary before after_selection p left matches
@@ -239,9 +239,9 @@ module _ (p : Object) (orderly : IsOrderly p) where
         (both_paid (set_off p) from_selection off_paid
         (both_paid (select_record p left primary secondary) (after_selection p left matches) (selection_paid left primary secondary)
         (both_paid (total_time p left) from_ending (totals_paid left)
-        (both_paid end_where_last (overflow_lines p before show_match matches before behind_match) end_paid
-        (both_paid (overflow_lines p) (show_match matches before behind_match) overflow_paid
-        (both_paid (show_match matches) behind_match (showing_paid matches)
+        (both_paid end_where_last (overflow_lines p before show_match matches before after_match) end_paid
+        (both_paid (overflow_lines p) (show_match matches before after_match) overflow_paid
+        (both_paid (show_match matches) after_match (showing_paid matches)
         (both_paid (fill_fields p) (detail_calculations p) filling_paid (section_rests sections.Detail refl)))))))))
 
   starts : (c : Config) (i : Inputs) → Holds p c.world.data → c.cells ≡ map.empty → AreWaiting p i → Rests (begun p c i)
@@ -273,7 +273,7 @@ module _ (p : Object) (orderly : IsOrderly p) where
       let one = cycle_paid (left_by p earlier) (has_match p earlier) (next_of (needs_record p c i Primary) rs.primary) (next_of (needs_record p c i Secondary) rs.secondary) previous
       (begun p c i) GoesOn d first (starts c i h none waiting) near cycle in
       let there = one.rests refl in
-      of_cycles n (with_record d.selected earlier) (left_behind p c i rs) (last_position_from previous first.lines) d.config d.inputs last out there.values there.no_cell there.waiting one.pays.near rest
+      of_cycles n (with_record d.selected earlier) (left_following p c i rs) (last_position_from previous first.lines) d.config d.inputs last out there.values there.no_cell there.waiting one.pays.near rest
 
   -- every cycle of a run
   pub run_in_output : (date : ℤ) (fields : Fields nat_cmp) (records : Records) (last : Option Position) (out : Output) → unsigned_abs date < 10 ^ 6 →

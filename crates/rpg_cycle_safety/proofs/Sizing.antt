@@ -117,8 +117,8 @@ put_few overflow Printer s text previous w short few near =
     let at = v.paper.here in
     let far = way_short previous at (record { line = up.line; page = omega (arith, pages) }) in
     let bytes = placed_few previous at text far few in
-    let behind = after_up overflow s at.page v short (record { line = up.line; page = omega arith }) in
-    record { few = omega (arith, bytes); near = record { line = behind.line; page = behind.page } }
+    let following = after_up overflow s at.page v short (record { line = up.line; page = omega arith }) in
+    record { few = omega (arith, bytes); near = record { line = following.line; page = following.page } }
 put_few overflow Disk s text previous w short few near = let bytes = record_few text few in record { few = omega (arith, bytes); near = near }
 
 module _ (p : Object) where

@@ -5,7 +5,7 @@ use Rattle.rpg_cycle_records.specs.Earlier.{Selected, with_record}
 use Rattle.rpg_cycle_records.specs.Waiting.{Inputs, unread}
 use Rattle.rpg_cycle.specs.Ends.{PhaseEnd, GoesOn, EndOfJob, Halt, Wrong}
 use Rattle.rpg_cycle.specs.Phases.{UnderWay, needs_record}
-use Rattle.rpg_cycle.specs.Runs.{Course, IsRun, Records, RunsIn, ends_or, last_cycle, last_feed, left_behind, next_of, with_cycle}
+use Rattle.rpg_cycle.specs.Runs.{Course, IsRun, Records, RunsIn, ends_or, last_cycle, last_feed, left_following, next_of, with_cycle}
 use Rattle.rpg_cycle.specs.Starting.{job_first_world, job_start}
 use Rattle.rpg_program.specs.Put.{Bytes, disk_bytes}
 use Rattle.rpg_program.specs.World.{Fields}
@@ -64,9 +64,9 @@ module _ (p : Object) (orderly : IsOrderly p) where
       let secondary = next_of (needs_record p c i Secondary) rs.secondary in
       let well = cycles_well p orderly earlier primary secondary c i e d out h none waiting cycle in
       let pays = cycle_pays p orderly earlier primary secondary previous c i e d out h none waiting near cycle in
-      ended_few e previous d out (λ d rest. RunsIn n p (with_record d.selected earlier) (left_behind p c i rs) d.config d.inputs rest) course
+      ended_few e previous d out (λ d rest. RunsIn n p (with_record d.selected earlier) (left_following p c i rs) d.config d.inputs rest) course
       (cycle_in_output p orderly earlier primary secondary previous c i e d out h none waiting near cycle)
-      (λ goes rest runs. runs_few n (with_record d.selected earlier) (left_behind p c i rs) (last_position_from previous out.lines) d.config d.inputs rest well.values (well.no_cell goes) well.waiting pays.near runs) ends
+      (λ goes rest runs. runs_few n (with_record d.selected earlier) (left_following p c i rs) (last_position_from previous out.lines) d.config d.inputs rest well.values (well.no_cell goes) well.waiting pays.near runs) ends
 
   -- a whole run, with the line feed after its last line
   pub whole_few : (date : ℤ) (fields : Fields nat_cmp) (records : Records) (course : Course) (bytes : Bytes) → unsigned_abs date < 10 ^ 6 → Holds p (job_first_world fields).data →

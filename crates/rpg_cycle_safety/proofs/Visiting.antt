@@ -7,7 +7,7 @@ use Rattle.rpg_cycle.specs.Ends.{PhaseEnd, GoesOn, EndOfJob, Halt, Wrong, phase_
 use Rattle.rpg_cycle.specs.Indicators.{any_on, halt_indicators, is_on, last_record, level_indicators, matching_record, with_all, with_one}
 use Rattle.rpg_cycle.specs.Phases.{CycleOn, Done, Phase, UnderWay, all_off, begun, by_machine, detail_calculations, detail_lines, without_output, done, either, end_where_last, fill_fields, fill_from, from_there, halt_where_asked, has_no_overflow, if_selected, is_bypassed, needs_record, output, overflow_lines, nothing_done, read_record, section, select_from, select_one, select_record, set_off, show_match, take_in, total_time, unless, with_config, ◌before◌}
 use Rattle.rpg_cycle.specs.Staging.{after_selection}
-use Rattle.rpg_cycle.specs.Runs.{Records, left_behind, next_of}
+use Rattle.rpg_cycle.specs.Runs.{Records, left_following, next_of}
 use Rattle.rpg_cycle.specs.Starting.{job_first_world, job_start}
 use Rattle.rpg_program.specs.Effect.{Effect}
 use Rattle.rpg_program.specs.Ends as effects
@@ -42,7 +42,7 @@ use Rattle.rpg_machine.specs.Step.{Outcome, Next, Stop}
 use Rattle.rpg_machine.specs.declared.time.OutputTime.{OutputTime}
 use Rattle.rpg_machine.specs.declared.time.OutputTime.TheVariants as times
 use Rattle.rpg_program.specs.Object.{Object}
-use Rattle.rpg_program.specs.Sections.{first_place, has_end, is_place, place_behind}
+use Rattle.rpg_program.specs.Sections.{first_place, has_end, is_place, place_after}
 use Rattle.rpg_program.specs.declared.section.Place.{Place}
 use Rattle.rpg_program.specs.declared.section.Section.{Section}
 use Rattle.rpg_program.specs.declared.section.Section.TheVariants as sections
@@ -244,12 +244,12 @@ module _ (p : Object) (orderly : IsOrderly p) where
 
   -- ---- cycles
 
-  abbrev behind_match : Phase
-  behind_match = fill_fields p before detail_calculations p
+  abbrev after_match : Phase
+  after_match = fill_fields p before detail_calculations p
 
   module _ (left : Left) (matches : Inputs → Selected → Bool) (primary secondary : Option (List ℕ)) where
     abbrev from_ending : Phase
-    from_ending = end_where_last before overflow_lines p before show_match matches before behind_match
+    from_ending = end_where_last before overflow_lines p before show_match matches before after_match
 
     abbrev from_selection : Phase
     from_selection = select_record p left primary secondary before after_selection p left matches
@@ -261,9 +261,9 @@ module _ (p : Object) (orderly : IsOrderly p) where
         (both_safe (set_off p) from_selection off_safe
         (both_safe (select_record p left primary secondary) (after_selection p left matches) (selection_safe left primary secondary)
         (both_safe (total_time p left) from_ending (totals_safe left)
-        (both_safe end_where_last (overflow_lines p before show_match matches before behind_match) end_safe
-        (both_safe (overflow_lines p) (show_match matches before behind_match) overflow_safe
-        (both_safe (show_match matches) behind_match (showing_safe matches)
+        (both_safe end_where_last (overflow_lines p before show_match matches before after_match) end_safe
+        (both_safe (overflow_lines p) (show_match matches before after_match) overflow_safe
+        (both_safe (show_match matches) after_match (showing_safe matches)
         (both_safe (fill_fields p) (detail_calculations p) filling_safe (section_safe sections.Detail refl)))))))))
 
     abbrev filling_way : Way
@@ -302,22 +302,22 @@ module _ (p : Object) (orderly : IsOrderly p) where
   visits_safe : (n : ℕ) (earlier : List Selected) (rs : Records) (c : Config) (i : Inputs) (x : Config) → Rests (begun p c i) → Visits n p earlier rs c i x → IsSteady p x
   visits_safe zero earlier rs c i x r h = absurd h
   visits_safe (suc n) earlier rs c i x r h =
-      along_safe (next_cycle p earlier rs c i) (next_way p earlier rs c i) (λ d y. Visits n p (with_record d.selected earlier) (left_behind p c i rs) d.config d.inputs y)
+      along_safe (next_cycle p earlier rs c i) (next_way p earlier rs c i) (λ d y. Visits n p (with_record d.selected earlier) (left_following p c i rs) d.config d.inputs y)
       (cycle_safe (left_by p earlier) (has_match p earlier) (next_of (needs_record p c i Primary) rs.primary) (next_of (needs_record p c i Secondary) rs.secondary))
       (way_safe earlier (next_of (needs_record p c i Primary) rs.primary) (next_of (needs_record p c i Secondary) rs.secondary))
-      (λ d y k v. visits_safe n (with_record d.selected earlier) (left_behind p c i rs) d.config d.inputs y (again d k) v) (begun p c i) x r h
+      (λ d y k v. visits_safe n (with_record d.selected earlier) (left_following p c i rs) d.config d.inputs y (again d k) v) (begun p c i) x r h
 
   at_end : (n e : ℕ) → n ≡ e → (b : Bool) → nat_lt n e ≡ b → (nat_le 0 n && (nat_lt n e || (true && eqb n e))) ≡ true
   at_end n e same true t = rw (le-leb 0 n (omega arith), t)
   at_end n e same false t = rw (le-leb 0 n (omega arith), t, eq-eqb n e same)
 
-  behind_detail : is_place p (record { section = sections.Detail; number = length p.detail }) ≡ true
-  unfolding is_place place_behind first_place
-  behind_detail = at_end (length p.detail) (0 + length p.detail) (omega arith) _ refl
+  following_detail : is_place p (record { section = sections.Detail; number = length p.detail }) ≡ true
+  unfolding is_place place_after first_place
+  following_detail = at_end (length p.detail) (0 + length p.detail) (omega arith) _ refl
 
   -- every configuration of a run
   pub visited_steady : (date : ℤ) (fields : Fields nat_cmp) (records : Records) (x : Config) → unsigned_abs date < 10 ^ 6 → Holds p (job_first_world fields).data →
       IsOfRun p date fields records x → IsSteady p x
   visited_steady date fields records x small h (n, visits) =
       visits_safe n [] records (job_start p date fields) unread x
-      (record { values = start_holds p orderly.program date small fields h; ended = refl; place = behind_detail; no_cell = refl; waiting = unread_waits p; taken = tt }) visits
+      (record { values = start_holds p orderly.program date small fields h; ended = refl; place = following_detail; no_cell = refl; waiting = unread_waits p; taken = tt }) visits

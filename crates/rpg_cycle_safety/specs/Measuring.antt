@@ -6,7 +6,7 @@ use Rattle.rpg_cycle_records.specs.Waiting.{Inputs, unread}
 use Rattle.rpg_cycle.specs.Ends.{PhaseEnd, GoesOn}
 use Rattle.rpg_cycle.specs.Job.{AtWork}
 use Rattle.rpg_cycle.specs.Phases.{UnderWay, begun}
-use Rattle.rpg_cycle.specs.Runs.{Records, left_behind}
+use Rattle.rpg_cycle.specs.Runs.{Records, left_following}
 use Rattle.rpg_cycle.specs.Starting.{job_start}
 use Rattle.rpg_program.specs.Put.{disk_bytes}
 use Rattle.rpg_program.specs.World.{Fields}
@@ -56,7 +56,7 @@ IsOfCycles zero p earlier rs previous c i last out = ⊥
 IsOfCycles (suc n) p earlier rs previous c i last out =
     IsOfCycle p earlier rs previous c i last out
     ⊎ ((d : UnderWay) × (first : Output) × next_cycle p earlier rs c i (begun p c i) GoesOn d first
-    × IsOfCycles n p (with_record d.selected earlier) (left_behind p c i rs) (last_position_from previous first.lines) d.config d.inputs last out)
+    × IsOfCycles n p (with_record d.selected earlier) (left_following p c i rs) (last_position_from previous first.lines) d.config d.inputs last out)
 
 -- what a cycle of the whole run of a program over records puts out, and the line placed last before it
 abbrev pub IsPutInRun : Object → ℤ → Fields nat_cmp → Records → Option Position → Output → Type 0

@@ -5,7 +5,7 @@ use Rattle.rpg_cycle_records.specs.Earlier.{Left, Selected, left_by, with_record
 use Rattle.rpg_cycle_records.specs.Waiting.{Inputs, has_match, unread}
 use Rattle.rpg_cycle.specs.Ends.{PhaseEnd, GoesOn}
 use Rattle.rpg_cycle.specs.Phases.{Phase, UnderWay, begun, detail_lines, end_where_last, fill_fields, halt_where_asked, is_bypassed, needs_record, output, overflow_lines, section, select_record, set_off, show_match, total_time}
-use Rattle.rpg_cycle.specs.Runs.{Records, left_behind, next_of}
+use Rattle.rpg_cycle.specs.Runs.{Records, left_following, next_of}
 use Rattle.rpg_cycle.specs.Starting.{job_start}
 use Rattle.rpg_program.specs.World.{Fields}
 use Rattle.rpg_program.specs.declared.input.InputFile.TheVariants.{Primary, Secondary}
@@ -74,7 +74,7 @@ abbrev pub Visits : ℕ → Object → List Selected → Records → Config → 
 Visits zero p earlier rs c i x = ⊥
 Visits (suc n) p earlier rs c i x =
     along (next_cycle p earlier rs c i) (next_way p earlier rs c i)
-    (λ d y. Visits n p (with_record d.selected earlier) (left_behind p c i rs) d.config d.inputs y) (begun p c i) x
+    (λ d y. Visits n p (with_record d.selected earlier) (left_following p c i rs) d.config d.inputs y) (begun p c i) x
 
 -- those of the whole run of a program over records, on a date, with what its fields hold at first
 abbrev pub IsOfRun : Object → ℤ → Fields nat_cmp → Records → Config → Type 0

@@ -34,8 +34,8 @@ negative-signed false ds h = le-ltb (place_value ds) 0 (omega arith)
 -- ---- moves of lists
 
 -- the places that the source reaches
-behind-overlay_right : (s o : List ℕ) (j : ℕ) → length o - length s ≤ j → get_or (overlay_right s o) j 0 ≡ get_or s (length s - length o + (j - (length o - length s))) 0
-behind-overlay_right s o j h =
+following-overlay_right : (s o : List ℕ) (j : ℕ) → length o - length s ≤ j → get_or (overlay_right s o) j 0 ≡ get_or s (length s - length o + (j - (length o - length s))) 0
+following-overlay_right s o j h =
     let k = length o - length s in
     get_or-append_right (take k o) (drop (length s - length o) s) k j 0 (length-take-le k o (omega arith)) h
     ∙ get_or-drop (length s - length o) s (j - k) 0
@@ -46,7 +46,7 @@ right_place s o i h =
     elim (cases_lt i (length s)) [
       | inl inside ↦
           let at : length s - length o + ((length o - 1 - i) - (length o - length s)) ≡ length s - 1 - i = omega arith in
-          long ∙ behind-overlay_right s o (length o - 1 - i) (omega arith) ∙ ap (λ j. get_or s j 0) at
+          long ∙ following-overlay_right s o (length o - 1 - i) (omega arith) ∙ ap (λ j. get_or s j 0) at
           ∙ sym (ap (λ b. cond b (from_right s i) (from_right o i)) (lt-ltb i (length s) inside))
       | inr beyond ↦
           long ∙ front-overlay_right s o (length o - 1 - i) (omega arith)
@@ -78,7 +78,7 @@ right-below s o hs ho j =
     let k = length o - length s in
     elim (cases_lt j k) [
       | inl front ↦ rw (front-overlay_right s o j (omega arith)) (ho j)
-      | inr behind ↦ rw (behind-overlay_right s o j behind) (hs (length s - length o + (j - k)))
+      | inr following ↦ rw (following-overlay_right s o j following) (hs (length s - length o + (j - k)))
     ]
 
 left-below : (s o : List ℕ) → ((i : ℕ) → get_or s i 0 < 10) → ((i : ℕ) → get_or o i 0 < 10) → (j : ℕ) → get_or (overlay_left s o) j 0 < 10
@@ -249,15 +249,15 @@ plain_alone text n some p =
     ext_get_or 0 text (zoned_text k n) (sym long)
     (λ i l. elim (cases_lt (i + 1) k) [
       | inl front ↦
-          let behind : k - 1 - i ≡ 1 + (k - 1 - 1 - i) = omega arith in
+          let following : k - 1 - i ≡ 1 + (k - 1 - 1 - i) = omega arith in
           digit_is (get_or text i 0) (p.front i front)
-          ∙ ap (λ d. 48 + d) (digit i l ∙ ap (λ x. x % 10) (ap (λ j. m / 10 ^ j) behind ∙ sym (div-tens m 1 (k - 1 - 1 - i))))
+          ∙ ap (λ d. 48 + d) (digit i l ∙ ap (λ x. x % 10) (ap (λ j. m / 10 ^ j) following ∙ sym (div-tens m 1 (k - 1 - 1 - i))))
           ∙ sym (front_characters (k - 1) (m / 10) (last_character n) i (omega arith))
       | inr end ↦
           let here : i ≡ k - 1 = omega arith in
-          let zero_behind : k - 1 - (k - 1) ≡ 0 = omega arith in
+          let zero_after : k - 1 - (k - 1) ≡ 0 = omega arith in
           ap (λ j. get_or text j 0) here
-          ∙ last_is (get_or text (k - 1) 0) n (digit (k - 1) (omega arith) ∙ ap (λ j. m / 10 ^ j % 10) zero_behind ∙ ap (λ x. x % 10) (div-one m)) p.last
+          ∙ last_is (get_or text (k - 1) 0) n (digit (k - 1) (omega arith) ∙ ap (λ j. m / 10 ^ j % 10) zero_after ∙ ap (λ x. x % 10) (div-one m)) p.last
           ∙ sym (last_of_push (map (λ d. 48 + d) (lowest_digits (k - 1) (m / 10))) (last_character n))
           ∙ ap (λ j. get_or (zoned_text k n) (j - 1) 0) long
           ∙ sym (ap (λ j. get_or (zoned_text k n) j 0) here)

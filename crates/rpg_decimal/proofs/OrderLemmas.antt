@@ -14,10 +14,10 @@ pub padded_character : (n : ℕ) (text : List ℕ) (i : ℕ) → i < max (length
 padded_character n text i h =
     elim (cases_lt i (length text)) [
       | inl inside ↦ get_or_append_left text (replicate (n - length text) 32) 0 i inside ∙ get_or_default text i 0 32 inside
-      | inr behind ↦
-          get_or-append_right text (replicate (n - length text) 32) (length text) i 0 refl behind
+      | inr following ↦
+          get_or-append_right text (replicate (n - length text) 32) (length text) i 0 refl following
           ∙ get_or-replicate (n - length text) (i - length text) 32 0 (omega arith)
-          ∙ sym (get_or_past text i 32 behind)
+          ∙ sym (get_or_past text i 32 following)
     ]
 
 nat_cmp_refl : (n : ℕ) → nat_cmp n n ≡ Equal

@@ -50,8 +50,8 @@ fn place_in(sequence: &[u8], c: u8) -> Option<usize>
 fn rank(c: u8) -> usize
     ensures { result ≡ rank c }
 {
-    let behind = COLLATING_SEQUENCE.len() + usize::from(c);
-    place_in(COLLATING_SEQUENCE, c).unwrap_or(behind)
+    let following = COLLATING_SEQUENCE.len() + usize::from(c);
+    place_in(COLLATING_SEQUENCE, c).unwrap_or(following)
 }
 
 /// The character at a place, a blank after the end.

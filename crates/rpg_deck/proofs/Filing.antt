@@ -3,7 +3,7 @@ use Rattle.std.proofs.Common.{◌≡◌, ℕ, Bool, true, false, cond, List, [],
 use Rattle.std.specs.List.{cons_option}
 use Rattle.std.specs.Option.{option_map, option_or}
 use Rattle.rpg_cards.specs.Cards.{data_on, input_on, output_on}
-use Rattle.rpg_cards.specs.Groups.{Apart, Follower, Heading, Role, data_card_role, data_role, followers, following, input_card_role, input_role, opening, output_card_role, output_role, role_on}
+use Rattle.rpg_cards.specs.Groups.{Apart, Follower, Heading, Role, data_card_role, data_role, followers, followers_with, input_card_role, input_role, opening, output_card_role, output_role, role_on}
 use Rattle.rpg_cards.specs.Groups as flat
 use Rattle.rpg_cards.specs.declared.spec_card.SpecCard.{SpecCard}
 use Rattle.rpg_deck.specs.Begins.{is_deck, is_output_line, is_type}
@@ -44,7 +44,7 @@ module _ {X H F : Type 0} (on : Spec → Option X) (role : X → Role H F) (begi
     same_followers (c ∷ cs) = by (on c.spec) (same_followers cs)
       where
         acts : (x : X) (r : Role H F) → IsAs x r → map follower (followers by_role cs) ≡ texts (strays by_card (cards_on on cs))
-            → map follower (following r (followers by_role cs)) ≡ texts (cond (begins x) [] (numbered c.number x ∷ strays by_card (cards_on on cs)))
+            → map follower (followers_with r (followers by_role cs)) ≡ texts (cond (begins x) [] (numbered c.number x ∷ strays by_card (cards_on on cs)))
         acts x (Heading h n) is rest = sym (ap (λ b. texts (cond b [] (numbered c.number x ∷ strays by_card (cards_on on cs)))) is.0)
         acts x (Follower f) is rest =
             ap (λ y. y ∷ map follower (followers by_role cs)) is.1 ∙ ap (λ ys. x ∷ ys) rest
@@ -52,7 +52,7 @@ module _ {X H F : Type 0} (on : Spec → Option X) (role : X → Role H F) (begi
         acts x Apart is rest = absurd is
 
         by : (o : Option X) → map follower (followers by_role cs) ≡ texts (strays by_card (cards_on on cs))
-            → map follower (following (role_on role o) (followers by_role cs)) ≡ texts (strays by_card (cons_option (option_map (numbered c.number) o) (cards_on on cs)))
+            → map follower (followers_with (role_on role o) (followers by_role cs)) ≡ texts (strays by_card (cons_option (option_map (numbered c.number) o) (cards_on on cs)))
         by None rest = rest
         by (Some x) rest = acts x (role x) (is_as x) rest
 

@@ -92,8 +92,8 @@ no_output (spec.Output x) l = absurd (omega arith)
 no_output (spec.Data x) l = refl
 
 -- past an empty front a card comes first
-past : {X : Type 0} (front behind all : List X) (x : X) → front ≡ [] → behind ≡ x ∷ all → front ++ behind ≡ x ∷ (front ++ all)
-past front behind all x empty is = cc
+past : {X : Type 0} (front following all : List X) (x : X) → front ≡ [] → following ≡ x ∷ all → front ++ following ≡ x ∷ (front ++ all)
+past front following all x empty is = cc
 
 module _ (n : ℕ) (cs : List SpecCard) where
   first : (s : Spec) → IsInOrder (place s) cs → joined (record { number = n; spec = s } ∷ cs) ≡ record { number = n; spec = s } ∷ joined cs

@@ -4,11 +4,11 @@ use Rattle.std.proofs.lemmas.List.Elements.{filter-append}
 use Rattle.std.specs.List.{cons_option, filter_map, last_or}
 use Rattle.std.specs.Option.{option_and_then, option_map, option_map_or, option_to_list}
 use Rattle.rpg_cards.specs.Calculations as flat
-use Rattle.rpg_cards.specs.Calls.{call_at, called_subroutine, calls, calls_behind, subroutine_in}
+use Rattle.rpg_cards.specs.Calls.{call_at, called_subroutine, calls, calls_after, subroutine_in}
 use Rattle.rpg_cards.specs.Deeds.{Calculation, deed_of}
 use Rattle.rpg_cards.specs.Keys.{Key}
 use Rattle.rpg_cards.specs.Labels as old
-use Rattle.rpg_cards.specs.Labels.{begins_subroutine, begun_count, brackets, ends, is_begsr, is_inside_subroutine, labels_behind, section_of}
+use Rattle.rpg_cards.specs.Labels.{begins_subroutine, begun_count, brackets, ends, is_begsr, is_inside_subroutine, labels_after, section_of}
 use Rattle.rpg_cards.specs.Sections.{is_subroutine}
 use Rattle.rpg_cards.specs.declared.labels.Label.{Label}
 use Rattle.rpg_cards.specs.declared.labels.Section.{Section}
@@ -107,10 +107,10 @@ listed : {Y : Type 0} (o : Option Y) (ys : List Y) → option_to_list o ++ ys �
 listed None ys = refl
 listed (Some y) ys = refl
 
-labels_from : (gs : List CalculationCards) (p : SubroutineState) (before : List (Calculation Key)) → Matches p before → labels_behind before (map calculation_in gs) ≡ new.labels_of_steps (steps_from p gs)
+labels_from : (gs : List CalculationCards) (p : SubroutineState) (before : List (Calculation Key)) → Matches p before → labels_after before (map calculation_in gs) ≡ new.labels_of_steps (steps_from p gs)
 labels_from [] p before m = refl
 labels_from (g ∷ gs) p before m =
-    listed (old.label_at before (calculation_in g)) (labels_behind (before ++ calculation_in g ∷ []) (map calculation_in gs))
+    listed (old.label_at before (calculation_in g)) (labels_after (before ++ calculation_in g ∷ []) (map calculation_in gs))
     ∙ ap (λ ls. cons_option (old.label_at before (calculation_in g)) ls) (labels_from gs (subroutine_state_after p g) (before ++ calculation_in g ∷ []) (matches_next p before g m))
     ∙ ap (λ s. cons_option (option_map (λ n. record { named = n; section = s }) (old.gives (calculation_in g).deed)) (new.labels_of_steps (steps_from (subroutine_state_after p g) gs))) (same_section p before g m)
     ∙ ap (λ d. cons_option (option_map (λ n. record { named = n; section = new.section_of_group p g }) (old.gives d)) (new.labels_of_steps (steps_from (subroutine_state_after p g) gs))) (same_deed g)
@@ -119,10 +119,10 @@ labels_from (g ∷ gs) p before m =
 pub labels-are : (gs : List CalculationCards) → old.labels (map calculation_in gs) ≡ new.labels_of_steps (steps_from before_calculations gs)
 labels-are gs = labels_from gs before_calculations [] (record { begun = refl; own = refl })
 
-calls_from : (given : List Label) (gs : List CalculationCards) (p : SubroutineState) (before : List (Calculation Key)) → Matches p before → calls_behind given before (map calculation_in gs) ≡ filter_map (new.call_of given) (steps_from p gs)
+calls_from : (given : List Label) (gs : List CalculationCards) (p : SubroutineState) (before : List (Calculation Key)) → Matches p before → calls_after given before (map calculation_in gs) ≡ filter_map (new.call_of given) (steps_from p gs)
 calls_from given [] p before m = refl
 calls_from given (g ∷ gs) p before m =
-    listed (call_at given before (calculation_in g)) (calls_behind given (before ++ calculation_in g ∷ []) (map calculation_in gs))
+    listed (call_at given before (calculation_in g)) (calls_after given (before ++ calculation_in g ∷ []) (map calculation_in gs))
     ∙ ap (λ cs. cons_option (call_at given before (calculation_in g)) cs) (calls_from given gs (subroutine_state_after p g) (before ++ calculation_in g ∷ []) (matches_next p before g m))
     ∙ ap (λ o. cons_option o (filter_map (new.call_of given) (steps_from (subroutine_state_after p g) gs))) here
   where

@@ -209,18 +209,18 @@ writes_fill ms n p q o r used room within are_n are last start after number supp
     let shows : characters_before p.number.negative p.number.size p.suppression.kept p.suppression.fill ms p.after ≡ fills =
     hidden_by (ltb p.suppression.kept p.after) (is_digit_last ms) p.number.negative p.number.size p.suppression.kept p.suppression.fill ms p.after refl refl none used.kept are last ∙ ap (λ k. replicate k p.suppression.fill) are_n in
     let front : length (take at o) ≡ at = length-take-le at o (omega (arith, within)) in
-    let behind : post_of at (p.start - at) o ≡ drop p.start o = drop-drop (p.start - at) at o ∙ ap (λ k. drop k o) (omega (arith, room)) in
+    let following : post_of at (p.start - at) o ≡ drop p.start o = drop-drop (p.start - at) at o ∙ ap (λ k. drop k o) (omega (arith, room)) in
     let few : length fills ≡ n = length-replicate n p.suppression.fill in
     record {
       text = ap (λ i. drop i r) start ∙ ap (drop at) made ∙ drop_at (take at o) (fills ++ post_of at (p.start - at) o) at front
-          ∙ ap (λ xs. fills ++ xs) behind ∙ ap (λ xs. xs ++ drop p.start o) (sym shows);
+          ∙ ap (λ xs. fills ++ xs) following ∙ ap (λ xs. xs ++ drop p.start o) (sym shows);
       front = ap (take q.start) made ∙ take-put_mid_below at (p.start - at) o fills q.start (omega (arith, start)) (omega (arith, within));
       same_length = omega (
         arith,
         ap length made,
         length-append (take at o) (fills ++ post_of at (p.start - at) o),
         length-append fills (post_of at (p.start - at) o),
-        ap length behind,
+        ap length following,
         length-drop p.start o,
         front,
         few,

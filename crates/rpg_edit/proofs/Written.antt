@@ -96,9 +96,9 @@ written_text marks n kept fill old new at w =
 pub finished_text : (marks : List Mark) (n : ℤ) (kept fill : ℕ) (old new : List ℕ) (at : ℕ) (change : List ℕ → List ℕ) (last : List ℕ) → IsWritten marks n kept fill old at new →
     last ≡ change (mid_of at (length new - at) new) → put_mid at (length new - at) new last ≡ take (length old - length marks) old ++ change (marked_text n kept fill marks)
 finished_text marks n kept fill old new at change last w e =
-    let behind : length (drop at new) ≡ length new - at = length-drop at new in
-    let none : post_of at (length new - at) new ≡ [] = drop_all (length new - at) (drop at new) (omega (arith, behind)) in
-    let whole : mid_of at (length new - at) new ≡ drop at new = take_all (length new - at) (drop at new) (omega (arith, behind)) in
+    let following : length (drop at new) ≡ length new - at = length-drop at new in
+    let none : post_of at (length new - at) new ≡ [] = drop_all (length new - at) (drop at new) (omega (arith, following)) in
+    let whole : mid_of at (length new - at) new ≡ drop at new = take_all (length new - at) (drop at new) (omega (arith, following)) in
     ap (λ xs. take at new ++ (last ++ xs)) none
     ∙ ap (λ xs. take at new ++ xs) (append-nil last)
     ∙ ap (λ xs. xs ++ last) w.front

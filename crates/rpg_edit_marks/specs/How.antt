@@ -5,7 +5,7 @@ use Rattle.rpg_edit_marks.specs.declared.how.How.TheVariants.{Plain, Code, Word}
 use Rattle.rpg_edit_marks.specs.Edited.{IsTextOf}
 use Rattle.rpg_decimal_words.specs.Zoned.{zoned_text}
 use Rattle.rpg_edit_marks.specs.Code.{code_marks, coded, kept_digits, fill_of, dollar_in, IsFitCode}
-use Rattle.rpg_edit_marks.specs.Word.{word_marks, worded, digits_behind_stop, word_fill, IsWordFor}
+use Rattle.rpg_edit_marks.specs.Word.{word_marks, worded, digits_after_stop, word_fill, IsWordFor}
 
 -- the characters that a number of `len` digits with `dec` decimals takes
 abbrev pub width_of : ℕ → ℕ → How (List ℕ) → ℕ
@@ -23,7 +23,7 @@ edited n len dec (Word word) = worded n word
 abbrev pub IsEdited : ℤ → ℕ → ℕ → How (List ℕ) → List ℕ → Type 0
 IsEdited n len dec Plain text = text ≡ zoned_text len n
 IsEdited n len dec (Code code fill) text = (digits : List ℕ) × IsTextOf n (kept_digits code len dec (unsigned_abs n)) (fill_of fill) (code_marks code fill len dec) digits × (text ≡ dollar_in fill digits)
-IsEdited n len dec (Word word) text = IsTextOf n (digits_behind_stop word) (word_fill word) (word_marks word) text
+IsEdited n len dec (Word word) text = IsTextOf n (digits_after_stop word) (word_fill word) (word_marks word) text
 
 -- what a number of `len` digits with `dec` decimals may be edited by
 abbrev pub IsFit : ℕ → ℕ → How (List ℕ) → Type 0

@@ -63,8 +63,8 @@ abbrev pub stop_of : List ℕ → ℕ
 stop_of word = position_or_len is_stop word
 
 -- these digits always show
-abbrev pub digits_behind_stop : List ℕ → ℕ
-digits_behind_stop word = count_by (λ c. c == 32) (after_first is_stop word)
+abbrev pub digits_after_stop : List ℕ → ℕ
+digits_after_stop word = count_by (λ c. c == 32) (after_first is_stop word)
 
 -- the character for suppressed zeros: an asterisk or a blank
 abbrev pub word_fill : List ℕ → ℕ
@@ -76,7 +76,7 @@ has_dollar_at_stop word = nat_lt (stop_of word) (length word) && (slice_index wo
 
 -- the text of n by a word
 abbrev pub worded : ℤ → List ℕ → List ℕ
-worded n word = marked_text n (digits_behind_stop word) (word_fill word) (word_marks word)
+worded n word = marked_text n (digits_after_stop word) (word_fill word) (word_marks word)
 
 -- the word's places are as many as the digits, and no dollar sign comes right before its stop
 pub record IsWordFor (digits : ℕ) (word : List ℕ) : Type 0 where

@@ -17,6 +17,6 @@ sign_part-credit (c ∷ rest) h = rw (not_minus c (begins_with_character 82 rest
 -- after these two marks come the characters after them
 pub credit_done : (part : List ℕ) (i : ℕ) (old before first second new : List Mark) → begins_credit (drop i part) ≡ true → before ++ sign_part (drop i part) ≡ old → first ≡ before ++ Sign 67 ∷ [] → second ≡ first ++ Sign 82 ∷ [] → new ≡ second ++ map always_mark (drop (i + 2) part) → new ≡ old
 credit_done part i old before first second new h whole is_first is_second is_new =
-    let behind : drop 2 (drop i part) ≡ drop (i + 2) part = drop-drop 2 i part in
-    let credit : sign_part (drop i part) ≡ Sign 67 ∷ Sign 82 ∷ map always_mark (drop (i + 2) part) = sign_part-credit (drop i part) h ∙ ap (λ xs. Sign 67 ∷ Sign 82 ∷ map always_mark xs) behind in
+    let following : drop 2 (drop i part) ≡ drop (i + 2) part = drop-drop 2 i part in
+    let credit : sign_part (drop i part) ≡ Sign 67 ∷ Sign 82 ∷ map always_mark (drop (i + 2) part) = sign_part-credit (drop i part) h ∙ ap (λ xs. Sign 67 ∷ Sign 82 ∷ map always_mark xs) following in
     rw (is_new, is_second, is_first) (simp append_assoc (sym (ap (λ marks. before ++ marks) credit) ∙ whole))

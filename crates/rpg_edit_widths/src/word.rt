@@ -3,7 +3,7 @@
 ghost use Rattle.std.specs.Prelude.{◌≡◌, ◌==◌, ◌&&◌, not, ℕ, ◌+◌, ◌-◌, ◌<◌, ◌≤◌, List, [], ◌++◌, map, count_by, length, OnOk, OnErr, IfOk};
 ghost use Rattle.arrayvec.specs.ArrayVec.{array_vec_len};
 ghost use Rattle.rpg_edit_marks.specs.Edited.{places};
-ghost use Rattle.rpg_edit_marks.specs.Word.{is_stop, shown_character, mark_of, marks_of, places_end, always_mark, begins_credit, sign_part, first_dollar, word_marks, stop_of, digits_behind_stop, word_fill, has_dollar_at_stop, IsWordFor};
+ghost use Rattle.rpg_edit_marks.specs.Word.{is_stop, shown_character, mark_of, marks_of, places_end, always_mark, begins_credit, sign_part, first_dollar, word_marks, stop_of, digits_after_stop, word_fill, has_dollar_at_stop, IsWordFor};
 
 use crate::mark::{MOST_MARKS, Marks};
 use crate::suppression::Suppression;
@@ -39,7 +39,7 @@ impl Model for EditWord {
     ghost view = { λ w. w.characters.items };
 
     ghost invariant = { λ w. (w.marks.items ≡ word_marks w.characters.items)
-        × (w.suppression.kept ≡ digits_behind_stop w.characters.items)
+        × (w.suppression.kept ≡ digits_after_stop w.characters.items)
         × (w.suppression.fill ≡ word_fill w.characters.items) };
 }
 
@@ -83,7 +83,7 @@ impl EditWord {
 
     /// What is suppressed in front of its stop.
     pub fn suppression(&self) -> Suppression
-        ensures kept { result.kept ≡ digits_behind_stop self.now }
+        ensures kept { result.kept ≡ digits_after_stop self.now }
         ensures fill { result.fill ≡ word_fill self.now }
     {
         self.suppression
@@ -133,20 +133,20 @@ fn suppression(word: &[u8], stop: usize) -> Suppression
     requires high { length word.now ≤ 24 }
     requires within { stop ≤ length word.now }
     requires stop { stop ≡ stop_of word.now }
-    ensures kept { result.kept ≡ digits_behind_stop word.now }
+    ensures kept { result.kept ≡ digits_after_stop word.now }
     ensures fill { result.fill ≡ word_fill word.now }
 {
     Suppression {
-        kept: digits_behind(word, stop),
+        kept: digits_following(word, stop),
         fill: fill_at(word, stop),
     }
 }
 
-fn digits_behind(word: &[u8], stop: usize) -> u8
+fn digits_following(word: &[u8], stop: usize) -> u8
     requires high { length word.now ≤ 24 }
     requires within { stop ≤ length word.now }
     requires stop { stop ≡ stop_of word.now }
-    ensures { result ≡ digits_behind_stop word.now }
+    ensures { result ≡ digits_after_stop word.now }
 {
     word.iter()
         .skip(stop + 1)

@@ -14,7 +14,7 @@ use Rattle.rpg_program.proofs.Putting.{disk-append, end_from-lines}
 use Rattle.rpg_program.specs.Put.{Bytes, disk_bytes, line_of, with_output}
 use Rattle.rpg_files.specs.Sending.{AppendsFirst}
 use Rattle.rpg_machine.specs.Config.{Output, with_more}
-use Rattle.rpg_machine.specs.Running.{feed_behind, no_bytes}
+use Rattle.rpg_machine.specs.Running.{feed_after, no_bytes}
 use Rattle.rpg_engine.proofs.Courses.{GoesOnWith, IsLast, more_none}
 use Rattle.rpg_engine.proofs.Outputs.{same_bytes}
 use Rattle.rpg_engine.specs.Outputs.{bytes_for, bytes_with}
@@ -29,11 +29,11 @@ pub record BeginsWith (all front : List ℕ) : Type 0 where
   pub is : all ≡ front ++ more
 
 -- the last line's feed
-feed_of_lines : (x : Placed) (xs : List Placed) (last : Option Position) → feed_behind (line_of (last_position_from (Some x.at) xs)) ≡ 10 ∷ []
+feed_of_lines : (x : Placed) (xs : List Placed) (last : Option Position) → feed_after (line_of (last_position_from (Some x.at) xs)) ≡ 10 ∷ []
 feed_of_lines x [] last = refl
 feed_of_lines x (y ∷ ys) last = feed_of_lines y ys last
 
-feed_is : (lines : List Placed) → last_feed lines ≡ feed_behind (line_of (last_position lines))
+feed_is : (lines : List Placed) → last_feed lines ≡ feed_after (line_of (last_position lines))
 feed_is [] = refl
 feed_is (x ∷ xs) = sym (feed_of_lines x xs None)
 
@@ -55,12 +55,12 @@ put_for Disk e out o = refl
 
 -- ---- the end of a run
 
-ends_with_feed : (out o : Output) → paper out.lines ++ (([] ++ bytes_from (last_position out.lines) o.lines) ++ feed_behind (line_of (last_position_from (last_position out.lines) o.lines))) ≡ printed (with_more out o)
+ends_with_feed : (out o : Output) → paper out.lines ++ (([] ++ bytes_from (last_position out.lines) o.lines) ++ feed_after (line_of (last_position_from (last_position out.lines) o.lines))) ≡ printed (with_more out o)
 ends_with_feed out o =
-    let feed = feed_behind (line_of (last_position_from (last_position out.lines) o.lines)) in
+    let feed = feed_after (line_of (last_position_from (last_position out.lines) o.lines)) in
     sym (append_assoc (paper out.lines) (bytes_from (last_position out.lines) o.lines) feed)
     ∙ ap (λ bytes. bytes ++ feed) (sym (paper_both out.lines o.lines))
-    ∙ ap (λ last. paper (out.lines ++ o.lines) ++ feed_behind (line_of last)) (sym (end_from-lines None out.lines o.lines))
+    ∙ ap (λ last. paper (out.lines ++ o.lines) ++ feed_after (line_of last)) (sym (end_from-lines None out.lines o.lines))
     ∙ ap (λ bytes. paper (out.lines ++ o.lines) ++ bytes) (sym (feed_is (out.lines ++ o.lines)))
 
 print_ends : (e : PhaseEnd) (out o : Output) → IsLast e → paper out.lines ++ (put_by e out o).print ≡ printed (with_more out o)

@@ -7,15 +7,15 @@ use Rattle.rpg_cycle_records.specs.Waiting.{Inputs, has_match, unread}
 use Rattle.rpg_program.specs.declared.input.InputFile.TheVariants.{Primary, Secondary}
 use Rattle.rpg_cycle.specs.Ends.{PhaseEnd, GoesOn, EndOfJob, Halt, Wrong}
 use Rattle.rpg_cycle.specs.Phases.{Cycle, UnderWay, begun, needs_record}
-use Rattle.rpg_cycle.specs.Runs.{Course, Records, Runs, RunsIn, ends_or, last_cycle, left_behind, next_of, with_cycle}
+use Rattle.rpg_cycle.specs.Runs.{Course, Records, Runs, RunsIn, ends_or, last_cycle, left_following, next_of, with_cycle}
 use Rattle.rpg_paper.specs.Paper.{Placed}
 use Rattle.rpg_machine.specs.Config.{Config, Output, no_output, with_more}
 use Rattle.rpg_program.specs.Object.{Object}
 use Rattle.rpg_engine.specs.Reporting.{GoesOnFor}
 
 -- a course with cycles before it
-abbrev pub behind : ℕ → ℕ → Output → Course → Course
-behind cycles most out course = record {
+abbrev pub following : ℕ → ℕ → Output → Course → Course
+following cycles most out course = record {
   ending = course.ending;
   cycles = cycles + course.cycles;
   most = max most course.most;
@@ -39,13 +39,13 @@ more_assoc a b c = same_output _ _ _ _ (sym (append_assoc a.lines b.lines c.line
 pub more_none : (a : Output) → with_more a no_output ≡ a
 more_none a = same_output (a.lines ++ []) a.lines (a.records ++ []) a.records (append-nil a.lines) (append-nil a.records)
 
-none_before : (course : Course) → behind 0 0 no_output course ≡ course
+none_before : (course : Course) → following 0 0 no_output course ≡ course
 none_before course = same_course course.ending course.there (0 + course.cycles) course.cycles (max 0 course.most) course.most course.output course.output (omega arith) (omega arith) refl
 
 -- one more cycle before the rest
-one_behind : (cycles most greater : ℕ) (c : Config) (out more : Output) (course : Course) → greater ≡ max most c.steps
-    → behind cycles most out (with_cycle c more course) ≡ behind (cycles + 1) greater (with_more out more) course
-one_behind cycles most greater c out more course g =
+one_after : (cycles most greater : ℕ) (c : Config) (out more : Output) (course : Course) → greater ≡ max most c.steps
+    → following cycles most out (with_cycle c more course) ≡ following (cycles + 1) greater (with_more out more) course
+one_after cycles most greater c out more course g =
     same_course course.ending course.there (cycles + (1 + course.cycles)) (cycles + 1 + course.cycles) (max most (max c.steps course.most)) (max greater course.most)
     (with_more out (with_more more course.output)) (with_more (with_more out more) course.output) (omega arith) (omega (arith, g)) (more_assoc out more course.output)
 
@@ -69,7 +69,7 @@ GoesOnTo n p earlier rs c i out there = GoesOnFor n p earlier rs c i out (λ e r
 record GoesOnOnce (p : Object) (s : Stand) (o : Output) (Then : List Selected → Records → Config → Inputs → Type 0) : Type 0 where
   d : UnderWay
   cycle : Cycle p s.earlier (next_of (needs_record p s.now s.inputs Primary) s.rest.primary) (next_of (needs_record p s.now s.inputs Secondary) s.rest.secondary) (begun p s.now s.inputs) GoesOn d o
-  then : Then (with_record d.selected s.earlier) (left_behind p s.now s.inputs s.rest) d.config d.inputs
+  then : Then (with_record d.selected s.earlier) (left_following p s.now s.inputs s.rest) d.config d.inputs
 
 go_on_more : (n : ℕ) (p : Object) (earlier : List Selected) (rs : Records) (c : Config) (i : Inputs) (out o : Output) (there : Stand) (Then : List Selected → Records → Config → Inputs → Type 0)
     → GoesOnOnce p there o Then → GoesOnTo n p earlier rs c i out there → GoesOnFor (suc n) p earlier rs c i (with_more out o) Then
@@ -82,7 +82,7 @@ go_on_more (suc n) p earlier rs c i out o there Then once (d, first, more, cycle
   with_more more o,
   cycle,
   ap (λ (x : Output). with_more x o) is ∙ sym (more_assoc first more o),
-  go_on_more n p (with_record d.selected earlier) (left_behind p c i rs) d.config d.inputs more o there Then once rest,
+  go_on_more n p (with_record d.selected earlier) (left_following p c i rs) d.config d.inputs more o there Then once rest,
 )
 
 -- what holds there holds of what they led to
@@ -90,7 +90,7 @@ pub goes_on_to : (n : ℕ) (p : Object) (earlier : List Selected) (rs : Records)
     → Then there.earlier there.rest there.now there.inputs → GoesOnTo n p earlier rs c i out there → GoesOnFor n p earlier rs c i out Then
 goes_on_to zero p earlier rs c i out there Then holds (none, at) = (none, subst (λ (s : Stand). Then s.earlier s.rest s.now s.inputs) (sym at) holds)
 goes_on_to (suc n) p earlier rs c i out there Then holds (d, first, more, cycle, is, rest) =
-    (d, first, more, cycle, is, goes_on_to n p (with_record d.selected earlier) (left_behind p c i rs) d.config d.inputs more there Then holds rest)
+    (d, first, more, cycle, is, goes_on_to n p (with_record d.selected earlier) (left_following p c i rs) d.config d.inputs more there Then holds rest)
 
 -- ---- a run under way
 
@@ -98,8 +98,8 @@ goes_on_to (suc n) p earlier rs c i out there Then holds (d, first, more, cycle,
 -- records are left: all these cycles went on, a course of what is left is one of all, and each course of all comes from one of what is left.
 pub record IsUnderWay (p : Object) (start : Config) (all : Records) (earlier : List Selected) (now : Config) (i : Inputs) (rest : Records) (cycles most : ℕ) (out : Output) : Type 0 where
   pub gone : GoesOnTo cycles p [] all start unread out (stand earlier rest now i)
-  pub forth : (course : Course) → Runs p earlier rest now i course → Runs p [] all start unread (behind cycles most out course)
-  pub back : (course : Course) → Runs p [] all start unread course → (later : Course) × Runs p earlier rest now i later × (course ≡ behind cycles most out later)
+  pub forth : (course : Course) → Runs p earlier rest now i course → Runs p [] all start unread (following cycles most out course)
+  pub back : (course : Course) → Runs p [] all start unread course → (later : Course) × Runs p earlier rest now i later × (course ≡ following cycles most out later)
 
 pub begins : (p : Object) (start : Config) (all : Records) → IsUnderWay p start all [] start unread all 0 0 no_output
 begins p start all = record {
@@ -113,11 +113,11 @@ begins p start all = record {
 -- a cycle with the first of these records in each file that needs one; where it goes on, the others are left
 pub record HeadCycle (p : Object) (earlier : List Selected) (c : Config) (i : Inputs) (e : PhaseEnd) (d : UnderWay) (out : Output) (rs after : Records) : Type 0 where
   pub cycle : Cycle p earlier (next_of (needs_record p c i Primary) rs.primary) (next_of (needs_record p c i Secondary) rs.secondary) (begun p c i) e d out
-  pub left : e ≡ GoesOn → after ≡ left_behind p c i rs
+  pub left : e ≡ GoesOn → after ≡ left_following p c i rs
 
 -- what follows the first cycle of a run
 abbrev Rest : Object → List Selected → Config → Inputs → Records → UnderWay → Course → Type 0
-Rest p earlier c i rs d rest = Runs p (with_record d.selected earlier) (left_behind p c i rs) d.config d.inputs rest
+Rest p earlier c i rs d rest = Runs p (with_record d.selected earlier) (left_following p c i rs) d.config d.inputs rest
 
 -- a run begins with a cycle
 record HasFirst (p : Object) (earlier : List Selected) (c : Config) (i : Inputs) (rs : Records) (course : Course) : Type 0 where
@@ -140,8 +140,8 @@ has_first (suc n) p earlier c i rs course (e, d, out, cycle, ends) = record {
   d = d;
   out = out;
   cycle = cycle;
-  ends = by_count p e d out (λ d rest. RunsIn n p (with_record d.selected earlier) (left_behind p c i rs) d.config d.inputs rest) (Rest p earlier c i rs) course
-      (λ rest runs. own_count p n (with_record d.selected earlier) (left_behind p c i rs) d.config d.inputs rest runs) ends;
+  ends = by_count p e d out (λ d rest. RunsIn n p (with_record d.selected earlier) (left_following p c i rs) d.config d.inputs rest) (Rest p earlier c i rs) course
+      (λ rest runs. own_count p n (with_record d.selected earlier) (left_following p c i rs) d.config d.inputs rest runs) ends;
 }
 
 -- a run has some cycle
@@ -162,7 +162,7 @@ first_is p earlier now i rs after e d o later head runs =
 
 -- and a cycle with what follows it is a run
 runs_first : (p : Object) (earlier : List Selected) (now : Config) (i : Inputs) (rs after : Records) (e : PhaseEnd) (d : UnderWay) (o : Output) (n : ℕ) (later : Course)
-    → HeadCycle p earlier now i e d o rs after → ends_or e d o (λ d rest. RunsIn n p (with_record d.selected earlier) (left_behind p now i rs) d.config d.inputs rest) later
+    → HeadCycle p earlier now i e d o rs after → ends_or e d o (λ d rest. RunsIn n p (with_record d.selected earlier) (left_following p now i rs) d.config d.inputs rest) later
     → Runs p earlier rs now i later
 runs_first p earlier now i rs after e d o n later head ends = own_count p (suc n) earlier rs now i later (e, d, o, head.cycle, ends)
 
@@ -174,7 +174,7 @@ one_more p start all earlier now i rest after cycles most greater out d o u head
       (go_on_more cycles p [] all start unread out o (stand earlier rest now i) (λ e r x j. stand e r x j ≡ stand (with_record d.selected earlier) after d.config d.inputs)
       (record { d = d; cycle = head.cycle; then = ap (λ (rs : Records). stand (with_record d.selected earlier) rs d.config d.inputs) (sym (head.left refl)) }) u.gone);
   forth = λ course runs.
-      subst (λ c. Runs p [] all start unread c) (one_behind cycles most greater d.config out o course g)
+      subst (λ c. Runs p [] all start unread c) (one_after cycles most greater d.config out o course g)
       (u.forth (with_cycle d.config o course) (runs_first p earlier now i rest after GoesOn d o course.cycles (with_cycle d.config o course) head
       (course, subst (λ (rs : Records). Runs p (with_record d.selected earlier) rs d.config d.inputs course) (head.left refl) runs, refl)));
   back = λ course runs.
@@ -182,7 +182,7 @@ one_more p start all earlier now i rest after cycles most greater out d o u head
       let more = first_is p earlier now i rest after GoesOn d o later.0 head later.1 in (
         more.0,
         subst (λ (rs : Records). Runs p (with_record d.selected earlier) rs d.config d.inputs more.0) (sym (head.left refl)) more.1,
-        later.2 ∙ ap (behind cycles most out) more.2 ∙ one_behind cycles most greater d.config out o more.0 g,
+        later.2 ∙ ap (following cycles most out) more.2 ∙ one_after cycles most greater d.config out o more.0 g,
       );
 }
 
@@ -203,7 +203,7 @@ ends_here (Wrong f) d o Rest last = refl
 -- the whole run
 pub ends : (p : Object) (start : Config) (all : Records) (earlier : List Selected) (now : Config) (i : Inputs) (rest after : Records) (cycles most : ℕ) (out : Output) (e : PhaseEnd) (d : UnderWay) (o : Output)
     → IsUnderWay p start all earlier now i rest cycles most out → HeadCycle p earlier now i e d o rest after → IsLast e
-    → Runs p [] all start unread (behind cycles most out (last_cycle e d o))
+    → Runs p [] all start unread (following cycles most out (last_cycle e d o))
 ends p start all earlier now i rest after cycles most out e d o u head last =
     u.forth (last_cycle e d o) (runs_first p earlier now i rest after e d o 0 (last_cycle e d o) head (ends_here e d o _ last))
 

@@ -24,7 +24,7 @@ pub of_each : (given left others rest : Option (List ℕ)) (Fact Other : List �
 of_each given left others rest Fact Other each h = record {
   primary = h.primary;
   secondary = h.secondary;
-  fact = λ more behind can can_too. each (h.primary.read ++ more) (h.secondary.read ++ behind) (h.fact more behind can can_too);
+  fact = λ more following can can_too. each (h.primary.read ++ more) (h.secondary.read ++ following) (h.fact more following can can_too);
 }
 
 module _ (p : Object) (day : ℤ) where
@@ -52,7 +52,7 @@ module _ (p : Object) (day : ℤ) where
     primary = h.primary;
     secondary = h.secondary;
     fact = record {
-      run = λ more behind can can_too. exists (records_of (h.primary.read ++ more) (h.secondary.read ++ behind));
+      run = λ more following can can_too. exists (records_of (h.primary.read ++ more) (h.secondary.read ++ following));
       stops = h.fact.stops;
       needs = h.fact.needs;
     };

@@ -1,7 +1,7 @@
 -- What a cycle does with the records that are next in the two files: which of them it does the same with, and what one that goes on has taken.
 use Rattle.std.proofs.Common.{◌≡◌, ℕ, ◌+◌, ◌≤◌, Bool, true, false, cond, not, ◌&&◌, ◌||◌, List, [], ◌∷◌, length, slice_get, Option, None, Some, is_none, refl, sym, ap, ◌∙◌, subst, arith, inl, inr}
 use Rattle.std.specs.List.{list_all}
-use Rattle.rpg_cycle.proofs.Cycling.{Stays, at_totals, behind_4, behind_match, by_act, from_selection, same, stay}
+use Rattle.rpg_cycle.proofs.Cycling.{Stays, at_totals, after_4, after_match, by_act, from_selection, same, stay}
 use Rattle.rpg_cycle.proofs.Ending.{shorter}
 use Rattle.rpg_cycle.proofs.InTurn.{both_on}
 use Rattle.rpg_cycle.proofs.Taking.{takes}
@@ -37,8 +37,8 @@ there P Q EndOfJob m put e d out alike h = h
 there P Q (Halt k) m put e d out alike h = h
 there P Q (Wrong f) m put e d out alike h = h
 
-behind_same : (P Q R : Phase) → Follows Q R → Follows (P before Q) (P before R)
-behind_same P Q R alike c e d out h = (h.0, h.1, h.2, h.3, there Q R h.0 h.1 h.2 e d out alike h.4)
+after_same : (P Q R : Phase) → Follows Q R → Follows (P before Q) (P before R)
+after_same P Q R alike c e d out h = (h.0, h.1, h.2, h.3, there Q R h.0 h.1 h.2 e d out alike h.4)
 
 first_same : (P Q R : Phase) → Follows P Q → Follows (P before R) (Q before R)
 first_same P Q R alike c e d out h = (h.0, h.1, h.2, alike c h.0 h.1 h.2 h.3, h.4)
@@ -64,14 +64,14 @@ selects_same : (p : Object) (left : Left) (x x' y y' : Option (List ℕ)) → Ar
 selects_same p left x x' y y' alike alike_too c =
     either_same (is_on c.config last_record) (without_output (λ u. done GoesOn (with_config (with_all level_indicators true) u)))
     (take_in p left Primary x before take_in p left Secondary y before select_one p left) (take_in p left Primary x' before take_in p left Secondary y' before select_one p left)
-    (λ m e d out h. behind_same (take_in p left Primary x') (take_in p left Secondary y before select_one p left) (take_in p left Secondary y' before select_one p left)
+    (λ m e d out h. after_same (take_in p left Primary x') (take_in p left Secondary y before select_one p left) (take_in p left Secondary y' before select_one p left)
     (first_same (take_in p left Secondary y) (take_in p left Secondary y') (select_one p left) (takes_same p left Secondary y y' alike_too)) m e d out
     (first_same (take_in p left Primary x) (take_in p left Primary x') (take_in p left Secondary y before select_one p left) (takes_same p left Primary x x' alike) m e d out h)) c
 
 -- a cycle does the same with records that are alike
 pub cycles_same : (p : Object) (earlier : List Selected) (x x' y y' : Option (List ℕ)) → AreSameOrBad p Primary x x' → AreSameOrBad p Secondary y y' → Follows (Cycle p earlier x y) (Cycle p earlier x' y')
 cycles_same p earlier x x' y y' alike alike_too =
-    behind_same (detail_lines p) _ _ (behind_same halt_where_asked _ _ (behind_same (set_off p) _ _
+    after_same (detail_lines p) _ _ (after_same halt_where_asked _ _ (after_same (set_off p) _ _
     (first_same _ _ _ (selects_same p (left_by p earlier) x x' y y' alike alike_too))))
 
 -- ---- a cycle that goes on
@@ -83,8 +83,8 @@ not_last false false h = refl
 
 has_selected : (p : Object) (left : Left) (t : Inputs → Selected → Bool) (c d : UnderWay) (out : Output) → after_selection p left t c GoesOn d out → is_none c.selected ≡ false
 has_selected p left t c d out g =
-    let five = both_on (total_time p left) (end_where_last before overflow_lines p before show_match t before behind_match p) c d out g in
-    let six = both_on end_where_last (overflow_lines p before show_match t before behind_match p) five.mid d five.more five.two in
+    let five = both_on (total_time p left) (end_where_last before overflow_lines p before show_match t before after_match p) c d out g in
+    let six = both_on end_where_last (overflow_lines p before show_match t before after_match p) five.mid d five.more five.two in
     let k5 = at_totals p (is_bypassed p left.any left.control c.config) c five.mid five.put five.one in
     ap is_none (sym k5.selected) ∙ not_last (is_on five.mid.config last_record) (is_none five.mid.selected) six.one.0
 
@@ -212,7 +212,7 @@ cycle_takes p earlier x y c i d out h g =
     let k2 = same one.mid two.mid two.one.1 in
     let k3 : Stays two.mid three.mid = record { inputs = ap (λ (u : UnderWay). u.inputs) three.one.1; selected = ap (λ (u : UnderWay). u.selected) three.one.1 } in
     let k = stay (begun p c i) one.mid three.mid k1 (stay one.mid two.mid three.mid k2 k3) in
-    let last = behind_4 p left t four.mid d four.more four.two in
+    let last = after_4 p left t four.mid d four.more four.two in
     let s = picks p left x y three.mid four.mid four.put (is_on three.mid.config last_record) k.selected (has_selected p left t four.mid d four.more four.two) four.one in
     let r = phase_four p earlier x y three.mid four.mid (subst (λ (j : Inputs). AreMergedInOrder p earlier j) (sym k.inputs) h) s in
     subst (λ (j : Inputs). Takes p x y i j) (sym last.inputs) (subst (λ (j : Inputs). Takes p x y j four.mid.inputs) k.inputs r)

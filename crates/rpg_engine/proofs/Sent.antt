@@ -53,19 +53,19 @@ module _ (start now : FileState) (waiting all : List ℕ) (s : IsSent start now 
   all_sent none = subst (λ (x : List ℕ). Appends start.has now.has x) (sym (append-nil s.gone) ∙ ap (λ (x : List ℕ). s.gone ++ x) (sym none) ∙ s.order) s.out
 
   -- bytes that begin with all these begin with those that went out
-  behind_gone : (whole : List ℕ) → BeginsWith whole all → BeginsWith whole (s.gone ++ waiting)
-  behind_gone whole begins = record { more = begins.more; is = begins.is ∙ ap (λ (x : List ℕ). x ++ begins.more) (sym s.order) }
+  after_gone : (whole : List ℕ) → BeginsWith whole all → BeginsWith whole (s.gone ++ waiting)
+  after_gone whole begins = record { more = begins.more; is = begins.is ∙ ap (λ (x : List ℕ). x ++ begins.more) (sym s.order) }
 
   -- of them the file has a first part
   pub prefix_sent : (whole : List ℕ) → BeginsWith whole all → AppendsPrefix start.has now.has whole
   prefix_sent whole begins =
-      let front = behind_gone whole begins in
+      let front = after_gone whole begins in
       (length s.gone, front_sent start.has now.has whole s.gone (record { more = waiting ++ front.more; is = front.is ∙ append_assoc s.gone waiting front.more }) s.out)
 
   -- a first part of what waited went out
   first_sent : (c : Option (List ℕ)) (whole : List ℕ) (n : ℕ) → BeginsWith whole all → AppendsFirst now.has c n waiting → AppendsFirst start.has c (now.sent + n) whole
   first_sent c whole n begins part =
-      subst (λ (k : ℕ). AppendsFirst start.has c (k + n) whole) (sym s.count) (part_sent start.has now.has c whole s.gone waiting n (behind_gone whole begins) s.out part)
+      subst (λ (k : ℕ). AppendsFirst start.has c (k + n) whole) (sym s.count) (part_sent start.has now.has c whole s.gone waiting n (after_gone whole begins) s.out part)
 
   -- and no more than all that was put out
   strictly_sent : (n : ℕ) → n < length waiting → now.sent + n < length all
@@ -77,7 +77,7 @@ module _ (start now : FileState) (waiting all : List ℕ) (s : IsSent start now 
 
   pub waiting_sent : (c : Option (List ℕ)) (whole : List ℕ) → BeginsWith whole all → Appends now.has c waiting → AppendsPrefix start.has c whole
   waiting_sent c whole begins out =
-      (length (s.gone ++ waiting), front_sent start.has c whole (s.gone ++ waiting) (behind_gone whole begins) (Appends-trans start.has now.has c s.gone waiting s.out out))
+      (length (s.gone ++ waiting), front_sent start.has c whole (s.gone ++ waiting) (after_gone whole begins) (Appends-trans start.has now.has c s.gone waiting s.out out))
 
   -- where nothing more went out
   pub still_sent : (c : Option (List ℕ)) (whole : List ℕ) → BeginsWith whole all → c ≡ now.has → AppendsPrefix start.has c whole

@@ -42,7 +42,7 @@ use Rattle.rpg_engine.specs.declared.fault.RunFault.{RunFault}
 use Rattle.rpg_engine.specs.declared.fault.RunFault.TheVariants as faults
 use Rattle.rpg_engine.specs.declared.files.OutputFile.{OutputFile}
 use Rattle.rpg_engine.proofs.Bytes.{BeginsWith, put_begins, put_last, put_on, put_with, so_far}
-use Rattle.rpg_engine.proofs.Courses.{GoesOnWith, HeadCycle, IsLast, IsUnderWay, behind, begins_with, ends, goes_on_to, one_more, some_cycles, stand}
+use Rattle.rpg_engine.proofs.Courses.{GoesOnWith, HeadCycle, IsLast, IsUnderWay, following, begins_with, ends, goes_on_to, one_more, some_cycles, stand}
 use Rattle.rpg_engine.proofs.Outputs.{none_for, own_order}
 use Rattle.rpg_engine.proofs.Sent.{IsSent, all_sent, begins_whole, counted_sent, left_parts, left_up_to, rest_sent, still_sent, waiting_sent}
 use Rattle.rpg_engine.proofs.Streams.{SinceStart, Stands, Streams, head, is_last, more_read, reads_on, rest, steps_are, under_way_still, was_ended, was_read}
@@ -69,7 +69,7 @@ stream_reports first job mid given others a b a' b' cycles most greater before a
     let does = t.does in
     let ended : e ≡ job_end j = was_ended e j (sym does.stage ∙ stage) in
     let last : IsLast e = subst IsLast (sym ended) (is_last j) in
-    let course = behind cycles most s.out (last_cycle e does.there does.out) in
+    let course = following cycles most s.out (last_cycle e does.there does.out) in
     record {
       primary = was_read given a'.input (more_read given a.input a'.input _ s.primary.since t.primary.input);
       secondary = was_read others b'.input (more_read others b.input b'.input _ s.secondary.since t.secondary.input);
@@ -171,7 +171,7 @@ some_records [] some = absurd (omega arith)
 some_records (b ∷ bytes) some = elim (cases_Bool (b == 10)) [
   | inl feed ↦ rw feed (omega arith)
   | inr other ↦ rw other (elim (cases_Bool (b == 13 && begins_with_line_feed bytes)) [
-    | inl returns ↦ rw returns (behind_return bytes (feed_follows (b == 13) (begins_with_line_feed bytes) returns))
+    | inl returns ↦ rw returns (after_return bytes (feed_follows (b == 13) (begins_with_line_feed bytes) returns))
     | inr on ↦ rw on (some_onto b (records bytes))
   ])
 ]
@@ -180,9 +180,9 @@ some_records (b ∷ bytes) some = elim (cases_Bool (b == 10)) [
     feed_follows true q h = h
     feed_follows false q h = absurd cc
 
-    behind_return : (rest : List ℕ) → begins_with_line_feed rest ≡ true → 0 < length (records rest)
-    behind_return [] h = absurd (let never : false ≡ true = h in cc)
-    behind_return (c ∷ rest) h = rw h (omega arith)
+    after_return : (rest : List ℕ) → begins_with_line_feed rest ≡ true → 0 < length (records rest)
+    after_return [] h = absurd (let never : false ≡ true = h in cc)
+    after_return (c ∷ rest) h = rw h (omega arith)
 
 -- the records of an input and those to come of it, once so much more was read
 abbrev pub all_of : {given : Option (List ℕ)} {i : Input} → SinceStart given i → List ℕ → List ℕ → List (List ℕ)
@@ -210,9 +210,9 @@ pub record ReadFails (job : AtWork) (file : InputFile) (fault : ReadFault) {give
   pub needed : job_needs_record job file ≡ true
   pub part : List ℕ
   pub known : Option (List ℕ)
-  pub unread : (more behind : List ℕ) → CanFollow i.ended more → CanFollow j.ended behind
-      → IsUnread fault (records_of_file file (record { primary = all_of since one.read more; secondary = all_of since_too two.read behind }))
-      (records_of_file file (record { primary = left_of a one.read more; secondary = left_of b two.read behind })) part (bytes_of_input file more behind)
+  pub unread : (more following : List ℕ) → CanFollow i.ended more → CanFollow j.ended following
+      → IsUnread fault (records_of_file file (record { primary = all_of since one.read more; secondary = all_of since_too two.read following }))
+      (records_of_file file (record { primary = left_of a one.read more; secondary = left_of b two.read following })) part (bytes_of_input file more following)
   pub first : file ≡ Secondary → job_needs_record job Primary ≡ true → (more : List ℕ) → CanFollow i.ended more → AreSameOrBad job.program Primary known (first_if_any (left_of a one.read more))
   pub sent : HaveAll before after put
 
@@ -229,7 +229,7 @@ module _ {R S : Type 0} (remaining : R → Option (List ℕ)) (others : S → Op
     needed = none.0.0;
     part = buffered_of primary';
     known = None;
-    unread = λ more behind can can_too. unread_by remaining primary primary' given s fault none.0.1 more can;
+    unread = λ more following can can_too. unread_by remaining primary primary' given s fault none.0.1 more can;
     first = λ is. absurd cc;
     sent = sent;
   }
@@ -237,7 +237,7 @@ module _ {R S : Type 0} (remaining : R → Option (List ℕ)) (others : S → Op
     needed = none.1.0;
     part = buffered_of secondary';
     known = record_with primary' none.0.0;
-    unread = λ more behind can can_too. unread_by others secondary secondary' beside t fault none.1.1 behind can_too;
+    unread = λ more following can can_too. unread_by others secondary secondary' beside t fault none.1.1 following can_too;
     first = λ is needs more can. known_first remaining job.program Primary (job_needs_record job Primary) primary primary' none.0 limit needs more can;
     sent = sent;
   }
@@ -290,29 +290,29 @@ module _ (first job : AtWork) (given others : Option (List ℕ)) (a b : Source) 
   xs_of more = (s.primary.since.read ++ one.read) ++ more
 
   abbrev ys_of : List ℕ → List ℕ
-  ys_of behind = (s.secondary.since.read ++ two.read) ++ behind
+  ys_of following = (s.secondary.since.read ++ two.read) ++ following
 
   abbrev stands_now : Config
   stands_now = config_on (last_position s.out.lines) job.config
 
   -- the cycles that went on, and what holds after them
-  went_on : (day : ℤ) → IsStart first day → (more behind : List ℕ) → CanFollow i.ended more → CanFollow j.ended behind → (Then : List Selected → Records → Config → Inputs → Type 0)
-      → Then s.earlier (records_of (a.input.buffered ++ (one.read ++ more)) (b.input.buffered ++ (two.read ++ behind))) stands_now job.inputs
-      → WentOn cycles first.program day (xs_of more) (ys_of behind) s.out Then
-  went_on day is more behind can can_too Then holds =
-      let u = reads_on first job given others a b cycles most s i j _ _ one two more behind can can_too in
-      subst (λ (c : Config). GoesOnFor cycles first.program [] (records_of (xs_of more) (ys_of behind)) c unread s.out Then) (start_is first day is)
-      (goes_on_to cycles first.program [] (records_of (xs_of more) (ys_of behind)) (config_on None first.config) unread s.out
-      (stand s.earlier (records_of (a.input.buffered ++ (one.read ++ more)) (b.input.buffered ++ (two.read ++ behind))) stands_now job.inputs) Then holds u.gone)
+  went_on : (day : ℤ) → IsStart first day → (more following : List ℕ) → CanFollow i.ended more → CanFollow j.ended following → (Then : List Selected → Records → Config → Inputs → Type 0)
+      → Then s.earlier (records_of (a.input.buffered ++ (one.read ++ more)) (b.input.buffered ++ (two.read ++ following))) stands_now job.inputs
+      → WentOn cycles first.program day (xs_of more) (ys_of following) s.out Then
+  went_on day is more following can can_too Then holds =
+      let u = reads_on first job given others a b cycles most s i j _ _ one two more following can can_too in
+      subst (λ (c : Config). GoesOnFor cycles first.program [] (records_of (xs_of more) (ys_of following)) c unread s.out Then) (start_is first day is)
+      (goes_on_to cycles first.program [] (records_of (xs_of more) (ys_of following)) (config_on None first.config) unread s.out
+      (stand s.earlier (records_of (a.input.buffered ++ (one.read ++ more)) (b.input.buffered ++ (two.read ++ following))) stands_now job.inputs) Then holds u.gone)
 
   -- the next cycle waits for its record
   waits_for : (file : InputFile) (fault : ReadFault) (before after : Contents) (fails : ReadFails job file fault s.primary.since s.secondary.since one two (bytes_of s.out) before after)
-      → (more behind : List ℕ) → CanFollow i.ended more → CanFollow j.ended behind
-      → WaitsFor job.program file fault (records_of (xs_of more) (ys_of behind)) (records_of (a.input.buffered ++ (one.read ++ more)) (b.input.buffered ++ (two.read ++ behind))) stands_now job.inputs
-      fails.part (bytes_of_input file more behind) fails.known
-  waits_for file fault before after fails more behind can can_too = record {
+      → (more following : List ℕ) → CanFollow i.ended more → CanFollow j.ended following
+      → WaitsFor job.program file fault (records_of (xs_of more) (ys_of following)) (records_of (a.input.buffered ++ (one.read ++ more)) (b.input.buffered ++ (two.read ++ following))) stands_now job.inputs
+      fails.part (bytes_of_input file more following) fails.known
+  waits_for file fault before after fails more following can can_too = record {
     needed = going_on (is_going job.stage) (needs_record job.program stands_now job.inputs file) fails.needed;
-    unread = fails.unread more behind can can_too;
+    unread = fails.unread more following can can_too;
     first = λ is needs. fails.first is
         (needs_too (is_going job.stage) (needs_record job.program stands_now job.inputs file) (needs_record job.program stands_now job.inputs Primary) fails.needed needs) more can;
   }
@@ -347,15 +347,15 @@ module _ (first job : AtWork) (given others : Option (List ℕ)) (a b : Source) 
             part = failed.part;
             known = failed.known;
             sent = failed.sent;
-            goes_on = λ more behind can can_too.
+            goes_on = λ more following can can_too.
                 let xs = xs_of more in
-                let ys = ys_of behind in
-                went_on day is more behind can can_too (λ earlier rs c k. WaitsFor first.program file fault (records_of xs ys) rs c k failed.part (bytes_of_input file more behind) failed.known)
-                (subst (λ (p : Object). WaitsFor p file fault (records_of xs ys) (records_of (a.input.buffered ++ (one.read ++ more)) (b.input.buffered ++ (two.read ++ behind))) stands_now job.inputs
-                failed.part (bytes_of_input file more behind) failed.known) s.program (waits_for file fault before after failed more behind can can_too));
-            longer = λ more behind can can_too course bytes run.
-                let u = reads_on first job given others a b cycles most s i j _ _ one two more behind can can_too in
-                let later = u.back course (runs_from first day (xs_of more) (ys_of behind) course bytes is run) in
+                let ys = ys_of following in
+                went_on day is more following can can_too (λ earlier rs c k. WaitsFor first.program file fault (records_of xs ys) rs c k failed.part (bytes_of_input file more following) failed.known)
+                (subst (λ (p : Object). WaitsFor p file fault (records_of xs ys) (records_of (a.input.buffered ++ (one.read ++ more)) (b.input.buffered ++ (two.read ++ following))) stands_now job.inputs
+                failed.part (bytes_of_input file more following) failed.known) s.program (waits_for file fault before after failed more following can can_too));
+            longer = λ more following can can_too course bytes run.
+                let u = reads_on first job given others a b cycles most s i j _ _ one two more following can can_too in
+                let later = u.back course (runs_from first day (xs_of more) (ys_of following) course bytes is run) in
                 let some = some_cycles later.0.cycles first.program s.earlier stands_now job.inputs _ later.0 later.1 in
                 let all : course.cycles ≡ cycles + later.0.cycles = ap (λ (c : Course). c.cycles) later.2 in
                 omega (arith, some, all);
@@ -372,7 +372,7 @@ module _ (first : AtWork) (day : ℤ) (is : IsStart first day) (xs ys : List ℕ
     (u : IsUnderWay first.program (config_on None first.config) (records_of xs ys) earlier now i rest cycles most out) where
   put_at_end : (e : PhaseEnd) → HeadCycle first.program earlier now i e there o rest after → IsLast e → EitherPutOut first.program day xs ys (put_with e out o)
   put_at_end e head last =
-      let course = behind cycles most out (last_cycle e there o) in
+      let course = following cycles most out (last_cycle e there o) in
       inr (
         course,
         record {
@@ -383,8 +383,8 @@ module _ (first : AtWork) (day : ℤ) (is : IsStart first day) (xs ys : List ℕ
         },
       )
 
-  put_out_behind : (e : PhaseEnd) → HeadCycle first.program earlier now i e there o rest after → EitherPutOut first.program day xs ys (put_with e out o)
-  put_out_behind GoesOn head =
+  put_out_after : (e : PhaseEnd) → HeadCycle first.program earlier now i e there o rest after → EitherPutOut first.program day xs ys (put_with e out o)
+  put_out_after GoesOn head =
       let more = one_more first.program (config_on None first.config) (records_of xs ys) earlier now i rest after cycles most (max most there.config.steps) out there o u head refl in
       let put : IsPutOutBy (cycles + 1) first.program day xs ys (put_with GoesOn out o) = (
         with_more out o,
@@ -394,16 +394,16 @@ module _ (first : AtWork) (day : ℤ) (is : IsStart first day) (xs ys : List ℕ
         put_on out o GoesOn refl,
       ) in
       inl (cycles + 1, put)
-  put_out_behind EndOfJob head = put_at_end EndOfJob head tt
-  put_out_behind (Halt k) head = put_at_end (Halt k) head tt
-  put_out_behind (Wrong f) head = put_at_end (Wrong f) head tt
+  put_out_after EndOfJob head = put_at_end EndOfJob head tt
+  put_out_after (Halt k) head = put_at_end (Halt k) head tt
+  put_out_after (Wrong f) head = put_at_end (Wrong f) head tt
 
 -- after a cycle, with its output
-pub stopped_behind : (first job mid : AtWork) (given others : Option (List ℕ)) (a b a' b' : Source) (cycles most : ℕ) (fault : RunFault) (none_failed : Type 0) (e : PhaseEnd) (before after : Contents)
+pub stopped_after : (first job mid : AtWork) (given others : Option (List ℕ)) (a b a' b' : Source) (cycles most : ℕ) (fault : RunFault) (none_failed : Type 0) (e : PhaseEnd) (before after : Contents)
     (s : Streams first given others job a b cycles most) (t : TakesNext s.earlier (last_position s.out.lines) job a b e mid a' b')
     → LeavesParts fault (put_with e s.out t.does.out) before after → HasSent fault none_failed before after (put_with e s.out t.does.out)
     → IsWriters fault → (day : ℤ) → IsStart first day → OfFronts given a'.input.remaining others b'.input.remaining (StopsEarly first.program day fault none_failed before after)
-stopped_behind first job mid given others a b a' b' cycles most fault none_failed e before after s t leaves sent writers day is =
+stopped_after first job mid given others a b a' b' cycles most fault none_failed e before after s t leaves sent writers day is =
     let does = t.does in
     let now = config_on (last_position s.out.lines) job.config in
     record {
@@ -423,7 +423,7 @@ stopped_behind first job mid given others a b a' b' cycles most fault none_faile
                   leaves bytes (put_begins course.output s.out bytes run.print run.disk e does.out goes);
               bytes = put_with e s.out does.out;
               put_out = subst (λ (x : RunFault). MayBePutOut x first.program day xs ys (put_with e s.out does.out)) (sym writers.2)
-                  (put_out_behind first day is xs ys s.earlier now job.inputs _ _ cycles most s.out does.there does.out u e one);
+                  (put_out_after first day is xs ys s.earlier now job.inputs _ _ cycles most s.out does.there does.out u e one);
               sent = sent;
             };
         needs = λ file why read. absurd (writers_read fault writers file why read);

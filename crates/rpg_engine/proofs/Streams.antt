@@ -7,7 +7,7 @@ use Rattle.rpg_cycle.specs.Counting.{waiting_count}
 use Rattle.rpg_cycle.specs.Ends.{PhaseEnd, GoesOn, EndOfJob, Halt, Wrong}
 use Rattle.rpg_cycle.specs.Job.{AtWork, DoesCycle, feed_at, with_feed}
 use Rattle.rpg_cycle.specs.Phases.{Cycle, begun, needs_record}
-use Rattle.rpg_cycle.specs.Runs.{Records, left_behind, next_of}
+use Rattle.rpg_cycle.specs.Runs.{Records, left_following, next_of}
 use Rattle.rpg_cycle.specs.Stages.{Ended, job_end, stage_at}
 use Rattle.rpg_cycle.specs.declared.ends.JobEnd.{JobEnd}
 use Rattle.rpg_cycle.specs.declared.ends.JobEnd.TheVariants as jobs
@@ -103,9 +103,9 @@ pub record Streams (first : AtWork) (given others : Option (List ℕ)) (job : At
   pub few : cycles + waiting_count job.inputs ≤ a.count + b.count
   pub primary : Stands given a
   pub secondary : Stands others b
-  pub under_way : (more behind : List ℕ) → CanFollow a.input.ended more → CanFollow b.input.ended behind
-      → IsUnderWay first.program (config_on None first.config) (records_of (primary.since.read ++ more) (secondary.since.read ++ behind)) earlier (config_on (last_position out.lines) job.config) job.inputs
-      (records_of (a.input.buffered ++ more) (b.input.buffered ++ behind)) cycles most out
+  pub under_way : (more following : List ℕ) → CanFollow a.input.ended more → CanFollow b.input.ended following
+      → IsUnderWay first.program (config_on None first.config) (records_of (primary.since.read ++ more) (secondary.since.read ++ following)) earlier (config_on (last_position out.lines) job.config) job.inputs
+      (records_of (a.input.buffered ++ more) (b.input.buffered ++ following)) cycles most out
 
 pub stream_begins : (first : AtWork) (a b : Source)
     → first.left ≡ left_by first.program [] → first.inputs ≡ unread → first.last ≡ None
@@ -122,11 +122,11 @@ stream_begins first a b left none last front unended count front_too unended_too
     few = let waits : waiting_count first.inputs ≡ 0 = ap waiting_count none in omega (arith, waits);
     primary = stands a front unended count;
     secondary = stands b front_too unended_too count_too;
-    under_way = λ more behind can can_too.
-        subst (λ (i : Inputs). IsUnderWay first.program (config_on None first.config) (records_of more behind) [] (config_on None first.config) i (records_of (a.input.buffered ++ more) (b.input.buffered ++ behind)) 0 0 no_output) (sym none)
-        (subst (λ (x : List ℕ). IsUnderWay first.program (config_on None first.config) (records_of more behind) [] (config_on None first.config) unread (records_of (x ++ more) (b.input.buffered ++ behind)) 0 0 no_output) (sym front)
-        (subst (λ (x : List ℕ). IsUnderWay first.program (config_on None first.config) (records_of more behind) [] (config_on None first.config) unread (records_of more (x ++ behind)) 0 0 no_output) (sym front_too)
-        (begins first.program (config_on None first.config) (records_of more behind))));
+    under_way = λ more following can can_too.
+        subst (λ (i : Inputs). IsUnderWay first.program (config_on None first.config) (records_of more following) [] (config_on None first.config) i (records_of (a.input.buffered ++ more) (b.input.buffered ++ following)) 0 0 no_output) (sym none)
+        (subst (λ (x : List ℕ). IsUnderWay first.program (config_on None first.config) (records_of more following) [] (config_on None first.config) unread (records_of (x ++ more) (b.input.buffered ++ following)) 0 0 no_output) (sym front)
+        (subst (λ (x : List ℕ). IsUnderWay first.program (config_on None first.config) (records_of more following) [] (config_on None first.config) unread (records_of more (x ++ following)) 0 0 no_output) (sym front_too)
+        (begins first.program (config_on None first.config) (records_of more following))));
   },
   refl,
 )
@@ -149,40 +149,40 @@ module _ (first job : AtWork) (given others : Option (List ℕ)) (a b : Source) 
   now = config_on (last_position s.out.lines) job.config
 
   -- the cycles so far, with what was read since
-  pub reads_on : (i j : Input) (F G : List ℕ → List ℕ → Type 0) (adv : Advances a.input i F) (more_adv : Advances b.input j G) (more behind : List ℕ) → CanFollow i.ended more → CanFollow j.ended behind
-      → IsUnderWay first.program (config_on None first.config) (records_of ((s.primary.since.read ++ adv.read) ++ more) ((s.secondary.since.read ++ more_adv.read) ++ behind)) s.earlier now job.inputs
-      (records_of (a.input.buffered ++ (adv.read ++ more)) (b.input.buffered ++ (more_adv.read ++ behind))) cycles most s.out
-  reads_on i j F G adv more_adv more behind can can_too =
-      let rest = records_of (a.input.buffered ++ (adv.read ++ more)) (b.input.buffered ++ (more_adv.read ++ behind)) in
-      subst (λ (x : List ℕ). IsUnderWay first.program (config_on None first.config) (records_of x ((s.secondary.since.read ++ more_adv.read) ++ behind)) s.earlier now job.inputs rest cycles most s.out) (sym (append_assoc s.primary.since.read adv.read more))
-      (subst (λ (x : List ℕ). IsUnderWay first.program (config_on None first.config) (records_of (s.primary.since.read ++ (adv.read ++ more)) x) s.earlier now job.inputs rest cycles most s.out) (sym (append_assoc s.secondary.since.read more_adv.read behind))
-      (s.under_way (adv.read ++ more) (more_adv.read ++ behind) (follows a.input i F adv more can) (follows b.input j G more_adv behind can_too)))
+  pub reads_on : (i j : Input) (F G : List ℕ → List ℕ → Type 0) (adv : Advances a.input i F) (more_adv : Advances b.input j G) (more following : List ℕ) → CanFollow i.ended more → CanFollow j.ended following
+      → IsUnderWay first.program (config_on None first.config) (records_of ((s.primary.since.read ++ adv.read) ++ more) ((s.secondary.since.read ++ more_adv.read) ++ following)) s.earlier now job.inputs
+      (records_of (a.input.buffered ++ (adv.read ++ more)) (b.input.buffered ++ (more_adv.read ++ following))) cycles most s.out
+  reads_on i j F G adv more_adv more following can can_too =
+      let rest = records_of (a.input.buffered ++ (adv.read ++ more)) (b.input.buffered ++ (more_adv.read ++ following)) in
+      subst (λ (x : List ℕ). IsUnderWay first.program (config_on None first.config) (records_of x ((s.secondary.since.read ++ more_adv.read) ++ following)) s.earlier now job.inputs rest cycles most s.out) (sym (append_assoc s.primary.since.read adv.read more))
+      (subst (λ (x : List ℕ). IsUnderWay first.program (config_on None first.config) (records_of (s.primary.since.read ++ (adv.read ++ more)) x) s.earlier now job.inputs rest cycles most s.out) (sym (append_assoc s.secondary.since.read more_adv.read following))
+      (s.under_way (adv.read ++ more) (more_adv.read ++ following) (follows a.input i F adv more can) (follows b.input j G more_adv following can_too)))
 
   -- one more cycle
   module _ (mid : AtWork) (a' b' : Source) (e : PhaseEnd) (t : TakesNext s.earlier (last_position s.out.lines) job a b e mid a' b') where
     abbrev pub rest : List ℕ → List ℕ → Records
-    rest more behind = records_of (a.input.buffered ++ (t.primary.input.read ++ more)) (b.input.buffered ++ (t.secondary.input.read ++ behind))
+    rest more following = records_of (a.input.buffered ++ (t.primary.input.read ++ more)) (b.input.buffered ++ (t.secondary.input.read ++ following))
 
     abbrev pub after : List ℕ → List ℕ → Records
-    after more behind = records_of (a'.input.buffered ++ more) (b'.input.buffered ++ behind)
+    after more following = records_of (a'.input.buffered ++ more) (b'.input.buffered ++ following)
 
     -- whatever follows, the cycle is one with the first records of what is left
-    pub head : (more behind : List ℕ) → CanFollow a'.input.ended more → CanFollow b'.input.ended behind
-        → HeadCycle first.program s.earlier now job.inputs e t.does.there t.does.out (rest more behind) (after more behind)
-    head more behind can can_too =
+    pub head : (more following : List ℕ) → CanFollow a'.input.ended more → CanFollow b'.input.ended following
+        → HeadCycle first.program s.earlier now job.inputs e t.does.there t.does.out (rest more following) (after more following)
+    head more following can can_too =
         let p = job.program in
         let one = t.primary.input.fact more can in
-        let two = t.secondary.input.fact behind can_too in
-        subst (λ (q : Object). HeadCycle q s.earlier now job.inputs e t.does.there t.does.out (rest more behind) (after more behind)) s.program (record {
-          cycle = cycles_same p s.earlier t.x (next_of (needs_record p now job.inputs Primary) (rest more behind).primary) t.y (next_of (needs_record p now job.inputs Secondary) (rest more behind).secondary)
+        let two = t.secondary.input.fact following can_too in
+        subst (λ (q : Object). HeadCycle q s.earlier now job.inputs e t.does.there t.does.out (rest more following) (after more following)) s.program (record {
+          cycle = cycles_same p s.earlier t.x (next_of (needs_record p now job.inputs Primary) (rest more following).primary) t.y (next_of (needs_record p now job.inputs Secondary) (rest more following).secondary)
               one.alike two.alike (begun p now job.inputs) e t.does.there t.does.out t.does.cycle;
-          left = λ on. both_records (after more behind).primary (left_behind p now job.inputs (rest more behind)).primary (after more behind).secondary (left_behind p now job.inputs (rest more behind)).secondary
+          left = λ on. both_records (after more following).primary (left_following p now job.inputs (rest more following)).primary (after more following).secondary (left_following p now job.inputs (rest more following)).secondary
               (one.left on) (two.left on);
         })
 
-    pub under_way_still : (more behind : List ℕ) → CanFollow a'.input.ended more → CanFollow b'.input.ended behind
-        → IsUnderWay first.program (config_on None first.config) (records_of ((s.primary.since.read ++ t.primary.input.read) ++ more) ((s.secondary.since.read ++ t.secondary.input.read) ++ behind)) s.earlier now job.inputs
-        (rest more behind) cycles most s.out
+    pub under_way_still : (more following : List ℕ) → CanFollow a'.input.ended more → CanFollow b'.input.ended following
+        → IsUnderWay first.program (config_on None first.config) (records_of ((s.primary.since.read ++ t.primary.input.read) ++ more) ((s.secondary.since.read ++ t.secondary.input.read) ++ following)) s.earlier now job.inputs
+        (rest more following) cycles most s.out
     under_way_still = reads_on a'.input b'.input _ _ t.primary.input t.secondary.input
 
 -- what the job puts out in this cycle, after what it had put out before
@@ -230,12 +230,12 @@ stream_goes_on first job mid given others a b a' b' cycles most greater e s t on
         few = omega (arith, s.few, fewer, waits, t.primary.count on, t.secondary.count on);
         primary = record { since = more_read given a.input a'.input _ s.primary.since t.primary.input; counted = counted_on p Primary given (needs_record p c job.inputs Primary) t.x e a a' s.primary t.primary on };
         secondary = record { since = more_read others b.input b'.input _ s.secondary.since t.secondary.input; counted = counted_on p Secondary others (needs_record p c job.inputs Secondary) t.y e b b' s.secondary t.secondary on };
-        under_way = λ more behind can can_too.
-            let rs = records_of (a.input.buffered ++ (t.primary.input.read ++ more)) (b.input.buffered ++ (t.secondary.input.read ++ behind)) in
-            let ss = records_of (a'.input.buffered ++ more) (b'.input.buffered ++ behind) in
-            let all = records_of ((s.primary.since.read ++ t.primary.input.read) ++ more) ((s.secondary.since.read ++ t.secondary.input.read) ++ behind) in
-            let one = head first job given others a b cycles most s mid a' b' e t more behind can can_too in
-            let again = under_way_still first job given others a b cycles most s mid a' b' e t more behind can can_too in
+        under_way = λ more following can can_too.
+            let rs = records_of (a.input.buffered ++ (t.primary.input.read ++ more)) (b.input.buffered ++ (t.secondary.input.read ++ following)) in
+            let ss = records_of (a'.input.buffered ++ more) (b'.input.buffered ++ following) in
+            let all = records_of ((s.primary.since.read ++ t.primary.input.read) ++ more) ((s.secondary.since.read ++ t.secondary.input.read) ++ following) in
+            let one = head first job given others a b cycles most s mid a' b' e t more following can can_too in
+            let again = under_way_still first job given others a b cycles most s mid a' b' e t more following can can_too in
             let going : HeadCycle first.program s.earlier c job.inputs GoesOn there does.out rs ss = subst (λ (x : PhaseEnd). HeadCycle first.program s.earlier c job.inputs x there does.out rs ss) on one in
             let to : there.config ≡ config_on (last_position (s.out.lines ++ does.out.lines)) mid.config = does.config ∙ ap (λ previous. config_on previous mid.config) (sym line) in
             subst (λ (i : Inputs). IsUnderWay first.program start all (with_record there.selected s.earlier) (config_on (last_position (s.out.lines ++ does.out.lines)) mid.config) i ss (cycles + 1) greater (with_more s.out does.out)) (sym (does.inputs on))

@@ -27,7 +27,7 @@ use Rattle.rpg_machine.specs.Running.{config_on}
 use Rattle.rpg_program.specs.Object.{Object, input_length}
 use Rattle.rpg_paper.specs.Paper.{Position}
 use Rattle.rpg_engine.specs.Reporting.{AreSameOrBad, IsBad}
-use Rattle.rpg_engine.specs.Streaming.{Asks, IsBehindRecord, IsNeedOf, TakesCycle, record_with}
+use Rattle.rpg_engine.specs.Streaming.{Asks, StandsAfterRecord, IsNeedOf, TakesCycle, record_with}
 use Rattle.rpg_engine.proofs.Passing.{IfNeeded, Takes, cycle_takes, in_list, needed_takes}
 
 -- what holds for the bytes to come, in another form
@@ -143,26 +143,26 @@ module _ {R : Type 0} (remaining : R → Option (List ℕ)) where
   faults_stay true answer old new asks = (asks.needed refl).0.faults
 
   -- of a file that isn't over the reader gave a record
-  pub record_behind : (p : Object) (f : InputFile) (job job' : AtWork) (old new : RecordReader R) (is_needed : Bool) (answer : Next) → Asks remaining is_needed old (Ok answer) new
+  pub record_after : (p : Object) (f : InputFile) (job job' : AtWork) (old new : RecordReader R) (is_needed : Bool) (answer : Next) → Asks remaining is_needed old (Ok answer) new
       → (is_needed ≡ true → IsBad p f (record_with new answer) → ⊥) → (is_needed ≡ true → record_with new answer ≡ None → (input_at job'.inputs f).is_over ≡ true)
-      → ((input_at job.inputs f).is_over ≡ true → (input_at job'.inputs f).is_over ≡ true) → IsBehindRecord job f old → IsBehindRecord job' f new
-  record_behind p f job job' old new false answer asks bad none still before = λ not_over.
+      → ((input_at job.inputs f).is_over ≡ true → (input_at job'.inputs f).is_over ≡ true) → StandsAfterRecord job f old → StandsAfterRecord job' f new
+  record_after p f job job' old new false answer asks bad none still before = λ not_over.
       ap (λ (r : RecordReader R). is_record (answer_of r)) (asks.unneeded refl).1 ∙ before (was_open (input_at job.inputs f).is_over refl not_over)
     where
       was_open : (b : Bool) → (input_at job.inputs f).is_over ≡ b → (input_at job'.inputs f).is_over ≡ false → (input_at job.inputs f).is_over ≡ false
       was_open true is not_over = absurd (let never : true ≡ false = sym (still is) ∙ not_over in cc)
       was_open false is not_over = is
-  record_behind p f job job' old new true next.Record asks bad none still before = λ not_over. ap is_record (asks.needed refl).1
-  record_behind p f job job' old new true next.Bad asks bad none still before = absurd (bad refl (no_character p f))
-  record_behind p f job job' old new true next.End asks bad none still before = λ not_over. absurd (let never : true ≡ false = sym (none refl refl) ∙ not_over in cc)
+  record_after p f job job' old new true next.Record asks bad none still before = λ not_over. ap is_record (asks.needed refl).1
+  record_after p f job job' old new true next.Bad asks bad none still before = absurd (bad refl (no_character p f))
+  record_after p f job job' old new true next.End asks bad none still before = λ not_over. absurd (let never : true ≡ false = sym (none refl refl) ∙ not_over in cc)
 
 -- ---- both
 
 -- a job that goes on, with the readers of its files: each gave a record last, unless its file is over, and reads records of the program's length
 pub record AreReady {R S : Type 0} (job : AtWork) (primary : RecordReader R) (secondary : RecordReader S) : Type 0 where
   pub going : is_going job.stage ≡ true
-  pub behind_primary : IsBehindRecord job Primary primary
-  pub behind_secondary : IsBehindRecord job Secondary secondary
+  pub after_primary : StandsAfterRecord job Primary primary
+  pub after_secondary : StandsAfterRecord job Secondary secondary
   pub limit_primary : limit_of primary ≡ job.program.record_length
   pub limit_secondary : limit_of secondary ≡ job.program.secondary_length
 
@@ -222,27 +222,27 @@ module _ {R S : Type 0} (remaining : R → Option (List ℕ)) (others : S → Op
       )
 
   -- where the job goes on the readers stand after a record, as before
-  behind_first : Takes job.program (record_with primary' takes.first) (record_with secondary' takes.second) job.inputs job'.inputs → IsBehindRecord job Primary primary → IsBehindRecord job' Primary primary'
-  behind_first took = record_behind remaining job.program Primary job job' primary primary' (needs_record job.program job.config job.inputs Primary) takes.first asks_first
+  following_first : Takes job.program (record_with primary' takes.first) (record_with secondary' takes.second) job.inputs job'.inputs → StandsAfterRecord job Primary primary → StandsAfterRecord job' Primary primary'
+  following_first took = record_after remaining job.program Primary job job' primary primary' (needs_record job.program job.config job.inputs Primary) takes.first asks_first
       (λ needs. took.primary.no_bad (needed_takes job.program job.config job.inputs Primary needs))
       (λ needs. took.primary.over_where_none (needed_takes job.program job.config job.inputs Primary needs)) took.primary.over_still
 
-  behind_second : Takes job.program (record_with primary' takes.first) (record_with secondary' takes.second) job.inputs job'.inputs → IsBehindRecord job Secondary secondary → IsBehindRecord job' Secondary secondary'
-  behind_second took = record_behind others job.program Secondary job job' secondary secondary' (needs_record job.program job.config job.inputs Secondary) takes.second asks_second
+  after_second : Takes job.program (record_with primary' takes.first) (record_with secondary' takes.second) job.inputs job'.inputs → StandsAfterRecord job Secondary secondary → StandsAfterRecord job' Secondary secondary'
+  after_second took = record_after others job.program Secondary job job' secondary secondary' (needs_record job.program job.config job.inputs Secondary) takes.second asks_second
       (λ needs. took.secondary.no_bad (needed_takes job.program job.config job.inputs Secondary needs))
       (λ needs. took.secondary.over_where_none (needed_takes job.program job.config job.inputs Secondary needs)) took.secondary.over_still
 
-  pub ready_behind : (earlier : List Selected) → job.left ≡ left_by job.program earlier → AreMergedInOrder job.program earlier job.inputs → (previous : Option Position) → job.last ≡ line_of previous → job'.stage ≡ Going
+  pub ready_after : (earlier : List Selected) → job.left ≡ left_by job.program earlier → AreMergedInOrder job.program earlier job.inputs → (previous : Option Position) → job.last ≡ line_of previous → job'.stage ≡ Going
       → AreReady job' primary' secondary'
-  ready_behind earlier leave order previous placed stage =
+  ready_after earlier leave order previous placed stage =
       let x = record_with primary' takes.first in
       let y = record_with secondary' takes.second in
       let done = takes.cycle.cycles.does earlier leave order previous placed in
       let took = gone_on job job' earlier previous x y done.0 order done.1 (went done.0 (sym done.1.stage ∙ stage)) in
       record {
         going = ap is_going stage;
-        behind_primary = behind_first took ready.behind_primary;
-        behind_secondary = behind_second took ready.behind_secondary;
+        after_primary = following_first took ready.after_primary;
+        after_secondary = after_second took ready.after_secondary;
         limit_primary = limit_stays remaining _ _ primary primary' takes.asks_primary ∙ ready.limit_primary ∙ sym (ap (λ (p : Object). p.record_length) done.1.program);
         limit_secondary = limit_stays others _ _ secondary secondary' takes.asks_secondary ∙ ready.limit_secondary ∙ sym (ap (λ (p : Object). p.secondary_length) done.1.program);
       }
@@ -252,8 +252,8 @@ module _ {R S : Type 0} (remaining : R → Option (List ℕ)) (others : S → Op
 pub ready_still : {R S : Type 0} (job mid : AtWork) → mid ≡ record job { output = mid.output } → (primary : RecordReader R) (secondary : RecordReader S) → AreReady job primary secondary → AreReady mid primary secondary
 ready_still job mid same primary secondary ready = subst (λ (j : AtWork). AreReady j primary secondary) (sym same) (record {
   going = ready.going;
-  behind_primary = ready.behind_primary;
-  behind_secondary = ready.behind_secondary;
+  after_primary = ready.after_primary;
+  after_secondary = ready.after_secondary;
   limit_primary = ready.limit_primary;
   limit_secondary = ready.limit_secondary;
 })

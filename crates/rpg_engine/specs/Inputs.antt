@@ -19,7 +19,7 @@ pub record WasRead (given left : Option (List ℕ)) : Type 0 where
 pub record OfInputs (given left others rest : Option (List ℕ)) (Fact : List ℕ → List ℕ → Type 0) : Type 0 where
   pub primary : WasRead given left
   pub secondary : WasRead others rest
-  pub fact : (more behind : List ℕ) → CanFollow primary.ended more → CanFollow secondary.ended behind → Fact (primary.read ++ more) (secondary.read ++ behind)
+  pub fact : (more following : List ℕ) → CanFollow primary.ended more → CanFollow secondary.ended following → Fact (primary.read ++ more) (secondary.read ++ following)
 
 -- what was read of an input, and whether its end was seen
 pub record Front : Type 0 where
@@ -38,7 +38,7 @@ pub record OfFronts (given left others rest : Option (List ℕ)) (Fact : Front �
 
 -- Fact holds of every two inputs that begin so.
 abbrev pub OfEach : Front → Front → (List ℕ → List ℕ → Type 0) → Type 0
-OfEach a b Fact = (more behind : List ℕ) → CanFollow a.ended more → CanFollow b.ended behind → Fact (a.read ++ more) (b.read ++ behind)
+OfEach a b Fact = (more following : List ℕ) → CanFollow a.ended more → CanFollow b.ended following → Fact (a.read ++ more) (b.read ++ following)
 
 -- of the bytes of two inputs, those of one
 abbrev pub bytes_of_input : InputFile → (primary secondary : List ℕ) → List ℕ

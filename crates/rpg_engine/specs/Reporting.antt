@@ -7,7 +7,7 @@ use Rattle.rpg_cycle.specs.Counting.{records_count}
 use Rattle.rpg_cycle.specs.Ends.{GoesOn}
 use Rattle.rpg_cycle.specs.Job.{first_fields}
 use Rattle.rpg_cycle.specs.Phases.{Cycle, UnderWay, begun, needs_record}
-use Rattle.rpg_cycle.specs.Runs.{Course, IsRun, Records, first_if_any, left_behind, next_of}
+use Rattle.rpg_cycle.specs.Runs.{Course, IsRun, Records, first_if_any, left_following, next_of}
 use Rattle.rpg_cycle.specs.Stages.{job_end}
 use Rattle.rpg_cycle.specs.Starting.{date_in, job_start}
 use Rattle.rpg_cycle_records.specs.Earlier.{Selected, with_record}
@@ -92,7 +92,7 @@ GoesOnFor (suc n) p earlier rs c i out Then =
     (d : UnderWay) × (first : Output) × (more : Output)
     × Cycle p earlier (next_of (needs_record p c i Primary) rs.primary) (next_of (needs_record p c i Secondary) rs.secondary) (begun p c i) GoesOn d first
     × (out ≡ with_more first more)
-    × GoesOnFor n p (with_record d.selected earlier) (left_behind p c i rs) d.config d.inputs more Then
+    × GoesOnFor n p (with_record d.selected earlier) (left_following p c i rs) d.config d.inputs more Then
 
 -- so many cycles of the run over the inputs' records
 abbrev pub WentOn : ℕ → Object → ℤ → (primary secondary : List ℕ) → Output → (List Selected → Records → Config → Inputs → Type 0) → Type 0
@@ -174,8 +174,8 @@ pub record NeedsRecord (p : Object) (day : ℤ) (file : InputFile) (fault : Read
   pub part : List ℕ
   pub known : Option (List ℕ)
   pub sent : HaveAll before after (bytes_of out)
-  pub goes_on : (more behind : List ℕ) → CanFollow a.ended more → CanFollow b.ended behind → WentOn cycles p day (a.read ++ more) (b.read ++ behind) out
-      (λ earlier rs c i. WaitsFor p file fault (records_of (a.read ++ more) (b.read ++ behind)) rs c i part (bytes_of_input file more behind) known)
+  pub goes_on : (more following : List ℕ) → CanFollow a.ended more → CanFollow b.ended following → WentOn cycles p day (a.read ++ more) (b.read ++ following) out
+      (λ earlier rs c i. WaitsFor p file fault (records_of (a.read ++ more) (b.read ++ following)) rs c i part (bytes_of_input file more following) known)
   pub longer : OfEach a b (λ primary secondary. (course : Course) (bytes : Bytes) → IsRunOver p day primary secondary course bytes → cycles < course.cycles)
 
 -- there is a run over the inputs' records, and each writer has such parts of its bytes; where a reader failed the job waited for its record

@@ -46,12 +46,12 @@ pub record IsNeedOf (need : Need) (job : AtWork) : Type 0 where
   pub secondary : need.secondary ≡ job_needs_record job Secondary
 
 -- the reader of a file that isn't over gave a record last
-abbrev pub IsBehindRecord : {R : Type 0} → AtWork → InputFile → RecordReader R → Type 0
-IsBehindRecord job f reader = (input_at job.inputs f).is_over ≡ false → is_record (answer_of reader) ≡ true
+abbrev pub StandsAfterRecord : {R : Type 0} → AtWork → InputFile → RecordReader R → Type 0
+StandsAfterRecord job f reader = (input_at job.inputs f).is_over ≡ false → is_record (answer_of reader) ≡ true
 
 -- a reader can be asked for the record that the next cycle of a job needs of its file: it gave one last, and one more fault of it can be counted
 pub record CanBeAsked {R : Type 0} (job : AtWork) (f : InputFile) (reader : RecordReader R) : Type 0 where
-  pub behind : IsBehindRecord job f reader
+  pub following : StandsAfterRecord job f reader
   pub faults : faults_of (reader_of reader) < 2 ^ 64 - 1
 
 -- the record for a cycle, by what a reader returned: for a bad record, one that no program can take

@@ -47,7 +47,7 @@ fn cycle_with<S: Store + Drop>(
 /// What comes next in a file, if it is needed; else nothing is read from it.
 fn ask<R: Read>(records: &mut RecordReader<'_, R>, is_needed: bool) -> Result<Next, ReadFault>
     requires faults { faults_of (reader_of records.old) < 2 ^ 64 - 1 }
-    requires behind_record { is_needed ≡ true → is_record (answer_of records.old) ≡ true }
+    requires stands_after_record { is_needed ≡ true → is_record (answer_of records.old) ≡ true }
     ensures same_reader { records.new.reader.ghost_name ≡ records.old.reader.ghost_name }
     ensures asks { Asks R.remaining is_needed records.old result records.new }
     ensures sure { IsSureWhereAsked is_needed records.old → IsOk result }

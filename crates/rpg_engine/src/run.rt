@@ -10,7 +10,7 @@ use crate::fault::RunFault;
 use crate::files::Writers;
 use crate::report::Report;
 use crate::sending::{
-    Sent, enough_for, fault_behind, send_before_reading, send_where_enough, waiting_in,
+    Sent, enough_for, fault_after, send_before_reading, send_where_enough, waiting_in,
 };
 use crate::watching::Watcher;
 use rpg_cycle::Job;
@@ -50,7 +50,7 @@ pub(crate) fn run<S: Store + Drop, R1: Read, R2: Read, W1: Write, W2: Write, W: 
         let ended = match next_cycle(job, need, primary, secondary) {
             Ok(ended) => ended,
             Err(fault) => {
-                return Err(fault_behind(fault, cycles, writers, job.output(), waiting, sent));
+                return Err(fault_after(fault, cycles, writers, job.output(), waiting, sent));
             }
         };
         cycles += 1;

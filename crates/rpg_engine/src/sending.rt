@@ -184,7 +184,7 @@ fn send_or_leave<W1: Write, W2: Write>(
 /// The fault to report where a cycle wasn't done after so many that were. Where memory ran out, what waited before that cycle is still
 /// sent, and a writer that fails then isn't reported: memory ran out first. Where a reader failed, nothing was left waiting.
 #[inline(never)]
-pub(crate) fn fault_behind<W1: Write, W2: Write>(
+pub(crate) fn fault_after<W1: Write, W2: Write>(
     fault: CycleFault,
     cycles: u64,
     writers: &mut Writers<W1, W2>,

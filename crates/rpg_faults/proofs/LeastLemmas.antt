@@ -23,9 +23,9 @@ abbrev pub Breaks : Rule → List SpecCard → List SpecCard → ℕ → Type 0
 Breaks r before [] n = ⊥
 Breaks r before (c ∷ after) n = ((c.number ≡ n) × (r before c after ≡ true)) ⊎ Breaks r (before ++ c ∷ []) after n
 
-breaks_behind : (r : Rule) (n : ℕ) (before front : List SpecCard) (at : SpecCard) (back : List SpecCard) → at.number ≡ n → r (before ++ front) at back ≡ true → Breaks r before (front ++ at ∷ back) n
-breaks_behind r n before [] at back e t = inl (e, ap (λ l. r l at back) (sym (append-nil before)) ∙ t)
-breaks_behind r n before (c ∷ front) at back e t = inr (breaks_behind r n (before ++ c ∷ []) front at back e (ap (λ l. r l at back) (append_assoc before (c ∷ []) front) ∙ t))
+breaks_after : (r : Rule) (n : ℕ) (before front : List SpecCard) (at : SpecCard) (back : List SpecCard) → at.number ≡ n → r (before ++ front) at back ≡ true → Breaks r before (front ++ at ∷ back) n
+breaks_after r n before [] at back e t = inl (e, ap (λ l. r l at back) (sym (append-nil before)) ∙ t)
+breaks_after r n before (c ∷ front) at back e t = inr (breaks_after r n (before ++ c ∷ []) front at back e (ap (λ l. r l at back) (append_assoc before (c ∷ []) front) ∙ t))
 
 pub broken_among : (r : Rule) (cards : List SpecCard) (n : ℕ) (before after : List SpecCard) → cards ≡ before ++ after → Breaks r before after n → BreaksRule r cards n
 broken_among r cards n before [] split b = absurd b
@@ -78,19 +78,19 @@ abbrev IsLeast : List SpecCard → Option Fault → Type 0
 IsLeast cards o = MatchOption o (Faultless cards) (λ f. IsLeastFault cards f)
 
 -- all faults are those of cards that stand after others
-abbrev AreBehind : List SpecCard → List SpecCard → List SpecCard → Type 0
-AreBehind cards before after = (g : Fault) → HasFault cards g ↔ Breaks (rule g.code) before after g.card
+abbrev AreFollowing : List SpecCard → List SpecCard → List SpecCard → Type 0
+AreFollowing cards before after = (g : Fault) → HasFault cards g ↔ Breaks (rule g.code) before after g.card
 
-least_from : (cards : List SpecCard) (low : ℕ) (before after : List SpecCard) → Numbered low after → AreBehind cards before after → IsLeast cards (least_fault_from before after)
-least_from cards low before [] h behind = λ g f. (behind g).0 f
-least_from cards low before (c ∷ cs) h behind =
+least_from : (cards : List SpecCard) (low : ℕ) (before after : List SpecCard) → Numbered low after → AreFollowing cards before after → IsLeast cards (least_fault_from before after)
+least_from cards low before [] h following = λ g f. (following g).0 f
+least_from cards low before (c ∷ cs) h following =
     by_code (find (λ k. rule k before c cs) codes) (least_code (λ k. rule k before c cs)) (least_from cards (c.number + 1) (before ++ c ∷ []) cs h.1)
   where
-    by_code : (o : Option FaultCode) → IsLeastCode (λ k. rule k before c cs) o → (AreBehind cards (before ++ c ∷ []) cs → IsLeast cards (least_fault_from (before ++ c ∷ []) cs)) → IsLeast cards (option_or (option_map (fault_on c) o) (least_fault_from (before ++ c ∷ []) cs))
-    by_code None none later = later (λ g. (λ f. elim ((behind g).0 f) [ inl b ↦ absurd (none g.code b.1) | inr b ↦ b ], λ b. (behind g).1 (inr b)))
+    by_code : (o : Option FaultCode) → IsLeastCode (λ k. rule k before c cs) o → (AreFollowing cards (before ++ c ∷ []) cs → IsLeast cards (least_fault_from (before ++ c ∷ []) cs)) → IsLeast cards (option_or (option_map (fault_on c) o) (least_fault_from (before ++ c ∷ []) cs))
+    by_code None none later = later (λ g. (λ f. elim ((following g).0 f) [ inl b ↦ absurd (none g.code b.1) | inr b ↦ b ], λ b. (following g).1 (inr b)))
     by_code (Some k) first later = record {
-      is = (behind (fault_on c k)).1 (inl (refl, first.0));
-      least = λ g f. elim ((behind g).0 f) [
+      is = (following (fault_on c k)).1 (inl (refl, first.0));
+      least = λ g f. elim ((following g).0 f) [
         | inl b ↦ inr (b.0, first.1 g.code b.1)
         | inr b ↦ inl (let up = number_up (rule g.code) g.card (c.number + 1) (before ++ c ∷ []) cs h.1 b in omega arith)
       ];
@@ -99,7 +99,7 @@ least_from cards low before (c ∷ cs) h behind =
 -- ---- all of a source
 
 pub breaks_in : (r : Rule) (cards : List SpecCard) (n : ℕ) → BreaksRule r cards n → Breaks r [] cards n
-breaks_in r cards n b = rw b.split (breaks_behind r n [] b.before b.card b.after b.here b.broken)
+breaks_in r cards n b = rw b.split (breaks_after r n [] b.before b.card b.after b.here b.broken)
 
 -- of the source as a whole only F7 is broken
 pub as_whole : (cards : List SpecCard) (k : FaultCode) → source_rule k cards ≡ true → (fault_number F7 ≤ fault_number k) × (lacks_input cards ≡ true)
@@ -109,7 +109,7 @@ as_whole cards _ e = absurd cc
 
 pub least : (cards : List SpecCard) → Numbered 1 cards → IsLeast cards (least_fault cards)
 unfolding source_rule
-least cards numbered = cond_both (lacks_input cards) (Some whole) (least_fault_from [] cards) (IsLeast cards) (λ t. record { is = inr (refl, t); least = not_before }) (λ e. least_from cards 1 [] cards numbered (behind e))
+least cards numbered = cond_both (lacks_input cards) (Some whole) (least_fault_from [] cards) (IsLeast cards) (λ t. record { is = inr (refl, t); least = not_before }) (λ e. least_from cards 1 [] cards numbered (following e))
   where
     whole : Fault
     whole = record { card = 0; code = F7 }
@@ -118,8 +118,8 @@ least cards numbered = cond_both (lacks_input cards) (Some whole) (least_fault_f
     not_before g (inl b) = inl (let up = number_up (rule g.code) g.card 1 [] cards numbered (breaks_in (rule g.code) cards g.card b) in omega arith)
     not_before g (inr s) = inr (sym s.0, (as_whole cards g.code s.1).0)
 
-    behind : lacks_input cards ≡ false → AreBehind cards [] cards
-    behind e g = (
+    following : lacks_input cards ≡ false → AreFollowing cards [] cards
+    following e g = (
       λ f. elim f [ inl b ↦ breaks_in (rule g.code) cards g.card b | inr s ↦ absurd (both_ways (lacks_input cards) e (as_whole cards g.code s.1).1) ],
       λ b. inl (broken_among (rule g.code) cards g.card [] cards refl b),
     )

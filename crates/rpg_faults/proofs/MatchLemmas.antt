@@ -12,7 +12,7 @@ use Rattle.std.specs.List.{filter, list_any, sum_by}
 use Rattle.std.specs.Option.{option_map, option_map_or, option_or}
 use Rattle.rpg_cards.proofs.GroupLemmas.{one_if_heading}
 use Rattle.rpg_cards.specs.Cards.{input_field_in}
-use Rattle.rpg_cards.specs.Groups.{Apart, Follower, Group, Heading, Role, followers, following, groups, input_role, open_group}
+use Rattle.rpg_cards.specs.Groups.{Apart, Follower, Group, Heading, Role, followers, followers_with, groups, input_role, open_group}
 use Rattle.rpg_cards.specs.Levels.{input_fields, is_at, is_match_field, match_level}
 use Rattle.rpg_cards.specs.declared.spec_card.SpecCard.{SpecCard}
 use Rattle.rpg_faults.proofs.LevelLemmas.{item_at, set_level}
@@ -352,8 +352,8 @@ no_cards [] none = refl
 no_cards (c ∷ cards) none = absurd (omega arith)
 
 module _ (fs : List InputFieldSpec) (c : SpecCard) (rest : List SpecCard) where
-  of_role : (r : Role RecordType InputSpec) → input_role c.spec ≡ r → matched (c ∷ rest) ≡ matched_fields (following r (followers input_role rest))
-  of_role r is = ap (λ (r : Role RecordType InputSpec). matched_fields (following r (followers input_role rest))) is
+  of_role : (r : Role RecordType InputSpec) → input_role c.spec ≡ r → matched (c ∷ rest) ≡ matched_fields (followers_with r (followers input_role rest))
+  of_role r is = ap (λ (r : Role RecordType InputSpec). matched_fields (followers_with r (followers input_role rest))) is
 
   pub matched_type : (t : RecordType) (found : Option (List ℕ)) → input_role c.spec ≡ Heading t t.file → AreGood fs found → found ≡ good_matches (fs ++ matched (c ∷ rest))
   matched_type t found is good = good.lengths ∙ ap good_matches (sym (ap (λ xs. fs ++ xs) (of_role (Heading t t.file) is) ∙ append-nil fs))

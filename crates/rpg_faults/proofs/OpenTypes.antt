@@ -2,7 +2,7 @@
 use Rattle.std.proofs.Common.{◌≡◌, ℕ, ◌+◌, List, [], ◌∷◌, ◌++◌, length, take, Option, None, Some, refl, ap, ◌∙◌, arith}
 use Rattle.std.proofs.Math.Seq.{take-append-add}
 use Rattle.std.specs.Option.{option_map, option_or}
-use Rattle.rpg_cards.proofs.GroupLemmas.{groups-heading, groups-push, groups-taken, one_if_heading, open_group-push, file_behind}
+use Rattle.rpg_cards.proofs.GroupLemmas.{groups-heading, groups-push, groups-taken, one_if_heading, open_group-push, file_after}
 use Rattle.rpg_cards.specs.Groups.{Apart, Follower, Group, Heading, Role, followers, group_count, groups, groups_from, input_role, open_group, opening, with_card}
 use Rattle.rpg_cards.specs.declared.spec_card.SpecCard.{SpecCard}
 use Rattle.rpg_faults.specs.Lengths.{input_specs_in}
@@ -24,7 +24,7 @@ module _ (before : List SpecCard) (c : SpecCard) (after : List SpecCard) where
   types_before t is = groups-taken input_role before c after t t.file is
 
   abbrev pub last_file : Option (List ℕ)
-  last_file = file_behind input_role None before
+  last_file = file_after input_role None before
 
   abbrev pub type_group : RecordType → Group RecordType InputSpec
   type_group t = record { heading = t; followers = followers input_role after; file = option_or t.file last_file }

@@ -10,7 +10,7 @@ use Rattle.rpg_cards.specs.declared.spec_card.SpecCard.{SpecCard}
 use Rattle.rpg_deck.specs.Flat.{IsInOrder, place}
 use Rattle.rpg_faults.specs.Cards.{numbered_cards, with_spec}
 use Rattle.rpg_faults.specs.Source.{cards_in}
-use Rattle.rpg_sheet.specs.Sheet.{comes_after, fault_behind, fault_under, first_sheet_fault, has_sheet_fault, is_data_behind, line_code, source}
+use Rattle.rpg_sheet.specs.Sheet.{comes_after, fault_after, fault_under, first_sheet_fault, has_sheet_fault, has_begun_data, line_code, source}
 use Rattle.rpg_sheet.specs.declared.sheet.SheetCode.{SheetCode}
 use Rattle.rpg_sheet.specs.declared.sheet.SheetCode.TheVariants.{S1, S2, S3, S4}
 use Rattle.rpg_sheet_specs.specs.Cards.{begins_data, card_of, ends_source, form_type, is_sheet, is_skipped, sheet_of, sheet_place}
@@ -51,7 +51,7 @@ few_places form.Output = omega arith
 -- ---- the cards of lines, numbered from n on
 
 abbrev tail : Bool → ℕ → List (List ℕ) → List SpecCard
-tail behind n lines = numbered_cards n (specs_from behind (map card_of lines))
+tail data_begun n lines = numbered_cards n (specs_from data_begun (map card_of lines))
 
 -- data come last
 data_step : (o : Option DataSpec) (n low : ℕ) (rest : List SpecCard) → low ≤ 6 → ((l : ℕ) → l ≤ 6 → IsInOrder l rest) → IsInOrder low (with_spec n (option_map spec.Data o) rest)
@@ -88,10 +88,10 @@ module _ (earlier : List (List ℕ)) (line : List ℕ) where
       ∙ or_right (list_any (λ e. comes_after n (card_of e)) earlier) (comes_after n (card_of line) || false)
       (or_left (comes_after n (card_of line)) false (ap (λ o. option_map_or (λ g. ltb n (sheet_place g)) o false) is ∙ lt-ltb n (sheet_place f) below))
 
-  no_data : is_data_behind earlier ≡ false → begins_data (card_of line) ≡ false → is_data_behind with_line ≡ false
+  no_data : has_begun_data earlier ≡ false → begins_data (card_of line) ≡ false → has_begun_data with_line ≡ false
   no_data before here = list_any-append (λ e. begins_data (card_of e)) earlier (line ∷ []) ∙ ap (λ b. b || (begins_data (card_of line) || false)) before ∙ ap (λ b. b || false) here
 
-  above : (f : FormType) (low : ℕ) → sheet_of false (card_of line) ≡ Some f → is_data_behind earlier ≡ false → has_sheet_fault earlier line S4 ≡ false → Reaches earlier low → low ≤ sheet_place f
+  above : (f : FormType) (low : ℕ) → sheet_of false (card_of line) ≡ Some f → has_begun_data earlier ≡ false → has_sheet_fault earlier line S4 ≡ false → Reaches earlier low → low ≤ sheet_place f
   above f low is before right reaches = by (cases_lt (sheet_place f) low)
     where
       late : list_any (λ e. comes_after (sheet_place f) (card_of e)) earlier ≡ false
@@ -103,8 +103,8 @@ module _ (earlier : List (List ℕ)) (line : List ℕ) where
       by (inl below) = let l = late in let t = reaches (sheet_place f) below in absurd cc
       by (inr low_is) = low_is
 
-module _ (earlier : List (List ℕ)) (line : List ℕ) (more : List (List ℕ)) (n low : ℕ) (right : has_sheet_fault earlier line S4 ≡ false) (before : is_data_behind earlier ≡ false) (few : low ≤ 6) (reaches : Reaches earlier low)
-    (all : (l : ℕ) → l ≤ 6 → is_data_behind (earlier ++ line ∷ []) ≡ false → Reaches (earlier ++ line ∷ []) l → IsInOrder l (tail false (n + 1) more)) where
+module _ (earlier : List (List ℕ)) (line : List ℕ) (more : List (List ℕ)) (n low : ℕ) (right : has_sheet_fault earlier line S4 ≡ false) (before : has_begun_data earlier ≡ false) (few : low ≤ 6) (reaches : Reaches earlier low)
+    (all : (l : ℕ) → l ≤ 6 → has_begun_data (earlier ++ line ∷ []) ≡ false → Reaches (earlier ++ line ∷ []) l → IsInOrder l (tail false (n + 1) more)) where
   -- the card isn't on a sheet, or can't be read
   kept : begins_data (card_of line) ≡ false → IsInOrder low (tail false (n + 1) more)
   kept here = all low few (no_data earlier line before here) (reaches_kept earlier line low reaches)
@@ -154,10 +154,10 @@ unmapped : {X Y : Type 0} (f : X → Y) (o : Option X) → option_map f o ≡ No
 unmapped f None is = refl
 unmapped f (Some x) is = absurd cc
 
-in_order : (lines earlier : List (List ℕ)) (n low : ℕ) → fault_behind earlier lines ≡ None → is_data_behind earlier ≡ false → low ≤ 6 → Reaches earlier low → IsInOrder low (tail false n lines)
+in_order : (lines earlier : List (List ℕ)) (n low : ℕ) → fault_after earlier lines ≡ None → has_begun_data earlier ≡ false → low ≤ 6 → Reaches earlier low → IsInOrder low (tail false n lines)
 in_order [] earlier n low right before few reaches = tt
 in_order (line ∷ more) earlier n low right before few reaches =
-    let both : (option_map (fault_under earlier line) (line_code earlier line) ≡ None) × (fault_behind (earlier ++ line ∷ []) more ≡ None) = neither (option_map (fault_under earlier line) (line_code earlier line)) (fault_behind (earlier ++ line ∷ []) more) right in
+    let both : (option_map (fault_under earlier line) (line_code earlier line) ≡ None) × (fault_after (earlier ++ line ∷ []) more ≡ None) = neither (option_map (fault_under earlier line) (line_code earlier line)) (fault_after (earlier ++ line ∷ []) more) right in
     line_in_order earlier line more n low
     (no_code (has_sheet_fault earlier line S1) (has_sheet_fault earlier line S2) (has_sheet_fault earlier line S3) (has_sheet_fault earlier line S4) _ (unmapped (fault_under earlier line) (line_code earlier line) both.0)) before few reaches
     (λ l small none reach. in_order more (earlier ++ line ∷ []) (n + 1) l both.1 none small reach)

@@ -46,5 +46,5 @@ abbrev pub some_length : ℕ → Option ℕ
 some_length n = if n == 0 then None else Some n
 
 -- with fields of that joined length before them
-abbrev pub length_behind : ℕ → List InputFieldSpec → Option ℕ
-length_behind n fs = if has_bad fs then None else some_length (n + sum_by input_columns fs)
+abbrev pub length_after : ℕ → List InputFieldSpec → Option ℕ
+length_after n fs = if has_bad fs then None else some_length (n + sum_by input_columns fs)

@@ -178,13 +178,13 @@ fn good_matches(after: &[SpecCard]) -> Option<[u16; 9]>
 {
     let mut found = None;
     let mut rest = after;
-    'cards: while let Some((card, behind)) = rest.split_first() {
+    'cards: while let Some((card, following)) = rest.split_first() {
         match matches_on(found, card) {
             Further::OtherType => return found,
             Further::Bad => return None,
             Further::Found(lengths) => found = lengths,
         }
-        rest = behind;
+        rest = following;
     }
     found
 }

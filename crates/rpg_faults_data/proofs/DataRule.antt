@@ -8,10 +8,10 @@ use Rattle.std.specs.List.{flat_map, range_with_len, slice_get}
 use Rattle.std.specs.Option.{is_some, option_and_then, option_map, option_map_or, option_or}
 use Rattle.std.specs.Prelude.{count_by, nat_le, nat_lt}
 use Rattle.rpg_cards.specs.Cards.{data_on, extension_on}
-use Rattle.rpg_cards.specs.Groups.{Group, data_card_role, data_role, followers, following, group_count, groups_from, opening, role_on}
+use Rattle.rpg_cards.specs.Groups.{Group, data_card_role, data_role, followers, followers_with, group_count, groups_from, opening, role_on}
 use Rattle.rpg_cards.specs.Names.{tables_on}
 use Rattle.rpg_cards.specs.declared.spec_card.SpecCard.{SpecCard}
-use Rattle.rpg_faults_data.specs.Causes.{DataCard, PlacedEntry, begins_table_data, after_deck_begin, data_cause, deck_cards, entry_cause, entry_fault, first_wrong, is_deck_begin, missing_deck, need_of, of_behind, of_data, of_deck, of_extension, of_table, of_tables, placed_entries, placed_entry_on, with_data_card, wrong_entry}
+use Rattle.rpg_faults_data.specs.Causes.{DataCard, PlacedEntry, begins_table_data, after_deck_begin, data_cause, deck_cards, entry_cause, entry_fault, first_wrong, is_deck_begin, missing_deck, need_of, of_after, of_data, of_deck, of_extension, of_table, of_tables, placed_entries, placed_entry_on, with_data_card, wrong_entry}
 use Rattle.rpg_faults_data.specs.declared.cause.DataCause.TheVariants as cause
 use Rattle.rpg_faults_data.specs.declared.wrong_entry.EntryFault.TheVariants.{Lower, NoNumber}
 use Rattle.rpg_faults_data.proofs.EntryLemmas.{any_wrong-none}
@@ -88,7 +88,7 @@ deck_texts : (cards : List SpecCard) → texts (deck_cards cards) ≡ followers 
 deck_texts [] = refl
 deck_texts (c ∷ cs) = by (data_on c.spec) (deck_texts cs)
   where
-    by : (x : Option DataSpec) → texts (deck_cards cs) ≡ followers data_role cs → texts (with_data_card c.number x (deck_cards cs)) ≡ following (role_on data_card_role x) (followers data_role cs)
+    by : (x : Option DataSpec) → texts (deck_cards cs) ≡ followers data_role cs → texts (with_data_card c.number x (deck_cards cs)) ≡ followers_with (role_on data_card_role x) (followers data_role cs)
     by None e = e
     by (Some deck.Begin) e = refl
     by (Some (deck.Card text)) e = ap (λ l. text ∷ l) e
@@ -119,9 +119,9 @@ above_zero m = by (suc m == 0) refl
     by true e = let same = eqb-true (suc m) 0 e in absurd (omega arith)
     by false e = refl
 
-behind_is : (n : ℕ) (cards : List SpecCard) → deck_at n cards ≡ option_map (followers data_role) (after_deck_begin n cards)
-behind_is n [] = refl
-behind_is n (c ∷ cs) = by (data_on c.spec) n (λ m. behind_is m cs)
+following_is : (n : ℕ) (cards : List SpecCard) → deck_at n cards ≡ option_map (followers data_role) (after_deck_begin n cards)
+following_is n [] = refl
+following_is n (c ∷ cs) = by (data_on c.spec) n (λ m. following_is m cs)
   where
     by : (x : Option DataSpec) (n : ℕ) → ((m : ℕ) → deck_at m cs ≡ option_map (followers data_role) (after_deck_begin m cs))
         → option_map (λ (g : Group (Unit {0}) (List ℕ)). g.followers) (slice_get (opening (role_on data_card_role x) None (followers data_role cs) (λ own. groups_from data_role own cs)) n)
@@ -144,14 +144,14 @@ extension_some : (cards before : List SpecCard) (e : ExtensionSpec) (p : Option 
 extension_some cards before e None = if_some (has_table e) cause.NoData
 extension_some cards before e (Some per_card) =
     by (after_deck_begin (wanted before) cards)
-    ∙ ap (λ o. option_map_or (λ ts. has_forms e && bad_deck e per_card ts) o true) (sym (behind_is (wanted before) cards))
+    ∙ ap (λ o. option_map_or (λ ts. has_forms e && bad_deck e per_card ts) o true) (sym (following_is (wanted before) cards))
   where
     by : (o : Option (List SpecCard))
-        → is_some (option_map_or (of_behind e per_card) o (Some (missing_deck e per_card))) ≡ option_map_or (λ ts. has_forms e && bad_deck e per_card ts) (option_map (followers data_role) o) true
+        → is_some (option_map_or (of_after e per_card) o (Some (missing_deck e per_card))) ≡ option_map_or (λ ts. has_forms e && bad_deck e per_card ts) (option_map (followers data_role) o) true
     by None = refl
-    by (Some behind) =
-        only_if (has_forms e) (of_deck e per_card (deck_cards behind)) (bad_deck e per_card (followers data_role behind))
-        (deck_some e per_card (deck_cards behind) ∙ ap (bad_deck e per_card) (deck_texts behind))
+    by (Some following) =
+        only_if (has_forms e) (of_deck e per_card (deck_cards following)) (bad_deck e per_card (followers data_role following))
+        (deck_some e per_card (deck_cards following) ∙ ap (bad_deck e per_card) (deck_texts following))
 
 -- ---- `**` cards
 

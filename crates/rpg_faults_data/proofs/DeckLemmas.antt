@@ -8,7 +8,7 @@ use Rattle.std.specs.Option.{option_map_or}
 use Rattle.std.specs.Prelude.{MatchOption, is_some, unwrap_or}
 use Rattle.rpg_cards.proofs.GroupLemmas.{groups-push, one_if_heading}
 use Rattle.rpg_cards.specs.Cards.{data_on, extension_on}
-use Rattle.rpg_cards.specs.Groups.{data_card_role, data_role, followers, following, groups, role_on}
+use Rattle.rpg_cards.specs.Groups.{data_card_role, data_role, followers, followers_with, groups, role_on}
 use Rattle.rpg_cards.specs.declared.spec_card.SpecCard.{SpecCard}
 use Rattle.rpg_faults_data.specs.Data.{wanted, wants_data}
 use Rattle.rpg_faults_data.specs.Decks as decks
@@ -56,16 +56,16 @@ not_data (spec.Data x) wants = absurd (wants_none wants)
     wants_none e = cc
 
 pub with_taken : (cards before : List SpecCard) (c : SpecCard) (d : Decks) (o : Option (Bor (List SpecCard))) (empty r : Bor (List SpecCard))
-    → MatchOption o (groups data_role d.rest.now ≡ []) (λ behind. groups data_role d.rest.now ≡ decks.deck behind.now ∷ groups data_role behind.now) → r ≡ unwrap_or o empty → empty.now ≡ [] → wants_data c ≡ true
+    → MatchOption o (groups data_role d.rest.now ≡ []) (λ following. groups data_role d.rest.now ≡ decks.deck following.now ∷ groups data_role following.now) → r ≡ unwrap_or o empty → empty.now ≡ [] → wants_data c ≡ true
     → AreDecks cards before d → AreDecks cards (before ++ c ∷ []) (record { rest = r; wanted = d.wanted })
 with_taken cards before c d None empty r none is nothing wants was = record {
   rest = ap (λ (b : Bor (List SpecCard)). groups data_role b.now) is ∙ ap (groups data_role) nothing
       ∙ taken_none (groups data_role cards) [] (wanted before) (wanted (before ++ c ∷ [])) refl (sym none ∙ was.rest) (one_more before c wants);
   to_come = let e = was.to_come in let g = groups-push data_role before c in let z = not_data c.spec wants in omega arith;
 }
-with_taken cards before c d (Some behind) empty r first is nothing wants was = record {
+with_taken cards before c d (Some following) empty r first is nothing wants was = record {
   rest = ap (λ (b : Bor (List SpecCard)). groups data_role b.now) is
-      ∙ taken (groups data_role cards) (groups data_role d.rest.now) (decks.deck behind.now) (groups data_role behind.now) (wanted before) (wanted (before ++ c ∷ [])) first was.rest (one_more before c wants);
+      ∙ taken (groups data_role cards) (groups data_role d.rest.now) (decks.deck following.now) (groups data_role following.now) (wanted before) (wanted (before ++ c ∷ [])) first was.rest (one_more before c wants);
   to_come = let e = was.to_come in let g = groups-push data_role before c in let z = not_data c.spec wants in omega arith;
 }
 
@@ -88,15 +88,15 @@ with_other cards before c d wants begins was = record {
 -- ---- the texts of a deck, card by card
 
 texts_at : (cards : List SpecCard) (i : ℕ) (c : SpecCard) → i < length cards → c ≡ get_or cards i c
-    → followers data_role (drop i cards) ≡ following (data_role c.spec) (followers data_role (drop (i + 1) cards))
+    → followers data_role (drop i cards) ≡ followers_with (data_role c.spec) (followers data_role (drop (i + 1) cards))
 texts_at cards i c less is =
     ap (followers data_role) (drop-cons cards i c less) ∙ ap (λ (d : SpecCard). followers data_role (d ∷ drop (suc i) cards)) (sym is)
-    ∙ ap (λ k. following (data_role c.spec) (followers data_role (drop k cards))) (sym (add-one i))
+    ∙ ap (λ k. followers_with (data_role c.spec) (followers data_role (drop k cards))) (sym (add-one i))
 
 pub texts-card : (cards : List SpecCard) (i : ℕ) (c : SpecCard) (text : List ℕ) → i < length cards → c ≡ get_or cards i c → data_on c.spec ≡ Some (deck.Card text)
     → followers data_role (drop i cards) ≡ text ∷ followers data_role (drop (i + 1) cards)
-texts-card cards i c text less is on = texts_at cards i c less is ∙ ap (λ (d : Option DataSpec). following (role_on data_card_role d) (followers data_role (drop (i + 1) cards))) on
+texts-card cards i c text less is on = texts_at cards i c less is ∙ ap (λ (d : Option DataSpec). followers_with (role_on data_card_role d) (followers data_role (drop (i + 1) cards))) on
 
 pub texts-other : (cards : List SpecCard) (i : ℕ) (c : SpecCard) → i < length cards → c ≡ get_or cards i c → data_on c.spec ≡ None
     → followers data_role (drop i cards) ≡ followers data_role (drop (i + 1) cards)
-texts-other cards i c less is on = texts_at cards i c less is ∙ ap (λ (d : Option DataSpec). following (role_on data_card_role d) (followers data_role (drop (i + 1) cards))) on
+texts-other cards i c less is on = texts_at cards i c less is ∙ ap (λ (d : Option DataSpec). followers_with (role_on data_card_role d) (followers data_role (drop (i + 1) cards))) on

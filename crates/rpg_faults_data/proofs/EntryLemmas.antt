@@ -22,16 +22,16 @@ or_and_false false true = refl
 or_and_false false false = refl
 
 -- after an entry that was good
-behind_one : (t : TableSpec) (b : List ℕ) (xs : List (List ℕ)) → any_wrong t (Some b) xs ≡ (list_any (is_bad t.decimals) xs || (t.ascending && descends (is_lower t.decimals) (b ∷ xs)))
-behind_one t b [] = sym (or_and_false false t.ascending)
-behind_one t b (x ∷ xs) =
-    ap (λ r. is_wrong t (Some b) x || r) (behind_one t x xs)
+after_one : (t : TableSpec) (b : List ℕ) (xs : List (List ℕ)) → any_wrong t (Some b) xs ≡ (list_any (is_bad t.decimals) xs || (t.ascending && descends (is_lower t.decimals) (b ∷ xs)))
+after_one t b [] = sym (or_and_false false t.ascending)
+after_one t b (x ∷ xs) =
+    ap (λ r. is_wrong t (Some b) x || r) (after_one t x xs)
     ∙ regroup (is_bad t.decimals x) t.ascending (is_lower t.decimals x b) (list_any (is_bad t.decimals) xs) (descends (is_lower t.decimals) (x ∷ xs))
 
 pub any_wrong-none : (t : TableSpec) (xs : List (List ℕ)) → bad_table_data t xs ≡ any_wrong t None xs
 any_wrong-none t [] = or_and_false false t.ascending
 any_wrong-none t (x ∷ xs) =
-    sym (ap (λ r. is_wrong t None x || r) (behind_one t x xs)
+    sym (ap (λ r. is_wrong t None x || r) (after_one t x xs)
     ∙ regroup (is_bad t.decimals x) t.ascending false (list_any (is_bad t.decimals) xs) (descends (is_lower t.decimals) (x ∷ xs)))
 
 or_assoc : (a b c : Bool) → (a || (b || c)) ≡ ((a || b) || c)

@@ -80,14 +80,14 @@ module _ {C X : Type 0} (f : C → ℕ → X) (per_card : ℕ) where
 abbrev text_of : PlacedEntry → List ℕ
 text_of e = e.text
 
-wrong_behind : (t : TableSpec) (k : ℕ) (o : Option (List ℕ)) (es gs : List PlacedEntry)
+wrong_after : (t : TableSpec) (k : ℕ) (o : Option (List ℕ)) (es gs : List PlacedEntry)
     → first_wrong t k o (es ++ gs) ≡ option_or (first_wrong t k o es) (first_wrong t (k + length es) (last_or o (map text_of es)) gs)
-wrong_behind t k o [] gs = let same : k ≡ k + 0 = omega arith in ap (λ m. first_wrong t m o gs) same
-wrong_behind t k o (e ∷ es) gs =
+wrong_after t k o [] gs = let same : k ≡ k + 0 = omega arith in ap (λ m. first_wrong t m o gs) same
+wrong_after t k o (e ∷ es) gs =
     let here = wrong_entry t k o e in
     let last = last_or (Some e.text) (map text_of es) in
     let same : k + 1 + length es ≡ k + length (e ∷ es) = omega arith in
-    ap (option_or here) (wrong_behind t (k + 1) (Some e.text) es gs)
+    ap (option_or here) (wrong_after t (k + 1) (Some e.text) es gs)
     ∙ sym (option_or_assoc here (first_wrong t (k + 1) (Some e.text) es) (first_wrong t (k + 1 + length es) last gs))
     ∙ ap (λ m. option_or (option_or here (first_wrong t (k + 1) (Some e.text) es)) (first_wrong t m last gs)) same
 
@@ -99,32 +99,32 @@ module _ (t : TableSpec) (k : ℕ) (o : Option (List ℕ)) (width from len n per
   abbrev own : ℕ → List PlacedEntry
   own m = map (placed_entry_on width from len d) (range_with_len 0 m)
 
-  abbrev behind : ℕ → List PlacedEntry
-  behind m = placed_entries m per_card width from len ds
+  abbrev following : ℕ → List PlacedEntry
+  following m = placed_entries m per_card width from len ds
 
   last_is : last_or o (map text_of (own count)) ≡ last_or o (map (entry_on width from len d.text) (range_with_len 0 count))
   last_is = ap (last_or o) (map-map text_of (placed_entry_on width from len d) (range_with_len 0 count))
 
-  card_by_card : all ≡ option_or found (first_wrong t (k + count) (last_or o (map (entry_on width from len d.text) (range_with_len 0 count))) (behind (n - count)))
+  card_by_card : all ≡ option_or found (first_wrong t (k + count) (last_or o (map (entry_on width from len d.text) (range_with_len 0 count))) (following (n - count)))
   card_by_card =
       so_far ∙ ap (λ l. first_wrong t k o (placed_entries n per_card width from len l)) split
       ∙ ap (first_wrong t k o) (some_on (placed_entry_on width from len) per_card n d ds)
-      ∙ ap (λ m. first_wrong t k o (own m ++ behind (n - m))) (sym least)
-      ∙ wrong_behind t k o (own count) (behind (n - count))
-      ∙ ap (λ f. option_or f (first_wrong t (k + length (own count)) (last_or o (map text_of (own count))) (behind (n - count)))) (sym here)
-      ∙ ap (λ m. option_or found (first_wrong t (k + m) (last_or o (map text_of (own count))) (behind (n - count)))) (length-map-range_with_len (placed_entry_on width from len d) 0 count)
-      ∙ ap (λ l. option_or found (first_wrong t (k + count) l (behind (n - count)))) last_is
+      ∙ ap (λ m. first_wrong t k o (own m ++ following (n - m))) (sym least)
+      ∙ wrong_after t k o (own count) (following (n - count))
+      ∙ ap (λ f. option_or f (first_wrong t (k + length (own count)) (last_or o (map text_of (own count))) (following (n - count)))) (sym here)
+      ∙ ap (λ m. option_or found (first_wrong t (k + m) (last_or o (map text_of (own count))) (following (n - count)))) (length-map-range_with_len (placed_entry_on width from len d) 0 count)
+      ∙ ap (λ l. option_or found (first_wrong t (k + count) l (following (n - count)))) last_is
 
   pub found_on_card : is_some found ≡ true → found ≡ all
   found_on_card some =
-      sym (card_by_card ∙ or_some_is found (first_wrong t (k + count) (last_or o (map (entry_on width from len d.text) (range_with_len 0 count))) (behind (n - count))) some)
+      sym (card_by_card ∙ or_some_is found (first_wrong t (k + count) (last_or o (map (entry_on width from len d.text) (range_with_len 0 count))) (following (n - count))) some)
 
   pub not_on_card : (m left : ℕ) (next : Option (List ℕ)) → is_some found ≡ false → m ≡ k + count → left ≡ n - count
       → next ≡ last_or o (map (entry_on width from len d.text) (range_with_len 0 count)) → all ≡ first_wrong t m next (placed_entries left per_card width from len ds)
   not_on_card m left next none number fewer last =
-      card_by_card ∙ or_none_is found (first_wrong t (k + count) (last_or o (map (entry_on width from len d.text) (range_with_len 0 count))) (behind (n - count))) none
-      ∙ ap (λ j. first_wrong t j (last_or o (map (entry_on width from len d.text) (range_with_len 0 count))) (behind (n - count))) (sym number)
-      ∙ ap (λ l. first_wrong t m l (behind (n - count))) (sym last) ∙ ap (λ j. first_wrong t m next (behind j)) (sym fewer)
+      card_by_card ∙ or_none_is found (first_wrong t (k + count) (last_or o (map (entry_on width from len d.text) (range_with_len 0 count))) (following (n - count))) none
+      ∙ ap (λ j. first_wrong t j (last_or o (map (entry_on width from len d.text) (range_with_len 0 count))) (following (n - count))) (sym number)
+      ∙ ap (λ l. first_wrong t m l (following (n - count))) (sym last) ∙ ap (λ j. first_wrong t m next (following j)) (sym fewer)
 
 -- a card that isn't one of data
 pub kept : (t : TableSpec) (k : ℕ) (o : Option (List ℕ)) (width from len n per_card : ℕ) (ds cards : List DataCard) (all : Option EntryCause) (m left : ℕ) (next : Option (List ℕ))

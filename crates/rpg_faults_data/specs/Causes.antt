@@ -132,13 +132,13 @@ of_deck e per_card cards =
     else option_map cause.Entry (of_tables e per_card cards 0 (tables_on e))
 
 -- no further rule applies where a table has no form
-abbrev pub of_behind : ExtensionSpec → ℕ → List SpecCard → Option DataCause
-of_behind e per_card behind = if has_forms e then of_deck e per_card (deck_cards behind) else None
+abbrev pub of_after : ExtensionSpec → ℕ → List SpecCard → Option DataCause
+of_after e per_card following = if has_forms e then of_deck e per_card (deck_cards following) else None
 
 -- of an E card, by its entries per card
 abbrev pub of_extension : List SpecCard → List SpecCard → ExtensionSpec → Option ℕ → Option DataCause
 of_extension cards before e None = if has_table e then Some cause.NoData else None
-of_extension cards before e (Some per_card) = option_map_or (of_behind e per_card) (after_deck_begin (wanted before) cards) (Some (missing_deck e per_card))
+of_extension cards before e (Some per_card) = option_map_or (of_after e per_card) (after_deck_begin (wanted before) cards) (Some (missing_deck e per_card))
 
 -- ---- data that no E card wants
 

@@ -7,7 +7,7 @@ use Rattle.rpg_faults_data.specs.declared.decks.Decks.{Decks}
 
 -- the data after a ** card, up to the next one
 abbrev pub deck : List SpecCard → Group (Unit {0}) (List ℕ)
-deck behind = record { heading = tt; followers = followers data_role behind; file = None }
+deck following = record { heading = tt; followers = followers data_role following; file = None }
 
 -- what is left of the data for the E cards from here on
 pub record AreDecks (cards before : List SpecCard) (d : Decks) : Type 0 where
@@ -16,5 +16,5 @@ pub record AreDecks (cards before : List SpecCard) (d : Decks) : Type 0 where
 
 -- a `**` card begins a deck, any other card doesn't change the groups
 abbrev pub BeginsDeck : SpecCard → Bool → Type 0
-BeginsDeck c true = (behind : List SpecCard) → groups data_role (c ∷ behind) ≡ deck behind ∷ groups data_role behind
-BeginsDeck c false = (behind : List SpecCard) → groups data_role (c ∷ behind) ≡ groups data_role behind
+BeginsDeck c true = (following : List SpecCard) → groups data_role (c ∷ following) ≡ deck following ∷ groups data_role following
+BeginsDeck c false = (following : List SpecCard) → groups data_role (c ∷ following) ≡ groups data_role following

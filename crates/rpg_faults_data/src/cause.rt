@@ -74,9 +74,9 @@ fn of_extension(
         } else {
             None
         },
-        Some(per_card) => match behind_begin(wanted(before), source.as_slice()) {
+        Some(per_card) => match after_begin(wanted(before), source.as_slice()) {
             None => Some(missing(extension, per_card)),
-            Some(behind) => of_behind(extension, per_card, behind),
+            Some(following) => of_after(extension, per_card, following),
         },
     }
 }
@@ -102,20 +102,20 @@ fn need_of(extension: &ExtensionSpec, per_card: u16) -> Need
     }
 }
 
-fn of_behind(extension: &ExtensionSpec, per_card: u16, behind: &[SpecCard]) -> Option<DataCause>
-    ensures { result ≡ causes.of_behind extension.now per_card behind.now }
+fn of_after(extension: &ExtensionSpec, per_card: u16, following: &[SpecCard]) -> Option<DataCause>
+    ensures { result ≡ causes.of_after extension.now per_card following.now }
 {
     if has_forms(extension) {
-        of_deck(extension, per_card, behind)
+        of_deck(extension, per_card, following)
     } else {
         None
     }
 }
 
 #[tactic(auto, using(crate::proofs::DataRule::length_deck))]
-fn of_deck(extension: &ExtensionSpec, per_card: u16, behind: &[SpecCard]) -> Option<DataCause>
+fn of_deck(extension: &ExtensionSpec, per_card: u16, following: &[SpecCard]) -> Option<DataCause>
     requires { IsTrue (rules.has_forms extension.now) }
-    ensures { result ≡ causes.of_deck extension.now per_card (causes.deck_cards behind.now) }
+    ensures { result ≡ causes.of_deck extension.now per_card (causes.deck_cards following.now) }
 {
     if per_card == 0 {
         return Some(DataCause::NonePerCard);
@@ -124,12 +124,12 @@ fn of_deck(extension: &ExtensionSpec, per_card: u16, behind: &[SpecCard]) -> Opt
     if per_card as u32 * width > 80 {
         return Some(DataCause::TooWide { per_card, width });
     }
-    let there = data_cards(behind);
+    let there = data_cards(following);
     let need = need_of(extension, per_card);
     if there != need.cards as usize {
         return Some(DataCause::OtherCards { need, there });
     }
-    let entry = of_tables(extension, per_card as usize, width as usize, behind)?;
+    let entry = of_tables(extension, per_card as usize, width as usize, following)?;
     Some(DataCause::Entry(entry))
 }
 
@@ -219,19 +219,19 @@ fn begins(card: &SpecCard) -> bool
 }
 
 /// The cards after the `**` card with this number, from 0.
-fn behind_begin(number: usize, cards: &[SpecCard]) -> Option<&[SpecCard]>
-    ensures { option_map (λ behind. behind.now) result ≡ causes.after_deck_begin number cards.now }
+fn after_begin(number: usize, cards: &[SpecCard]) -> Option<&[SpecCard]>
+    ensures { option_map (λ following. following.now) result ≡ causes.after_deck_begin number cards.now }
 {
     let mut number = number;
     let mut rest = cards;
-    while let Some((card, behind)) = rest.split_first() {
+    while let Some((card, following)) = rest.split_first() {
         if begins(card) {
             if number == 0 {
-                return Some(behind);
+                return Some(following);
             }
             number -= 1;
         }
-        rest = behind;
+        rest = following;
     }
     None
 }

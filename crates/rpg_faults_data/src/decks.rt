@@ -36,7 +36,7 @@ impl<'a> Decks<'a> {
     {
         if wants_data(card) {
             Decks {
-                rest: behind_next(self.rest).unwrap_or(&[]),
+                rest: after_next(self.rest).unwrap_or(&[]),
                 wanted: self.wanted,
             }
         } else if begins_deck(card) {
@@ -51,9 +51,9 @@ impl<'a> Decks<'a> {
 
     /// The cards after the `**` card of the deck that the next E card takes.
     pub(crate) fn next(self) -> Option<&'a [SpecCard]>
-        ensures { (cards before : List SpecCard) → AreDecks cards before self.entry → option_map (λ behind. followers data_role behind.now) result ≡ rules.deck_at (rules.wanted before) cards }
+        ensures { (cards before : List SpecCard) → AreDecks cards before self.entry → option_map (λ following. followers data_role following.now) result ≡ rules.deck_at (rules.wanted before) cards }
     {
-        behind_next(self.rest)
+        after_next(self.rest)
     }
 
     /// Whether the next `**` card begins data that no E card wants.
@@ -82,15 +82,15 @@ pub(crate) fn begins_deck(card: &SpecCard) -> bool
 }
 
 /// The cards after the next `**` card.
-pub fn behind_next(cards: &[SpecCard]) -> Option<&[SpecCard]>
-    ensures { MatchOption result (groups data_role cards.now ≡ []) (λ behind. groups data_role cards.now ≡ deck behind.now ∷ groups data_role behind.now) }
+pub fn after_next(cards: &[SpecCard]) -> Option<&[SpecCard]>
+    ensures { MatchOption result (groups data_role cards.now ≡ []) (λ following. groups data_role cards.now ≡ deck following.now ∷ groups data_role following.now) }
 {
     let mut rest = cards;
-    while let Some((card, behind)) = rest.split_first() {
+    while let Some((card, following)) = rest.split_first() {
         if begins_deck(card) {
-            return Some(behind);
+            return Some(following);
         }
-        rest = behind;
+        rest = following;
     }
     None
 }

@@ -9,5 +9,5 @@ mod wrong_entry;
 
 pub use cause::{DataCause, Need, data_cause};
 pub use data::{breaks_data, data_columns};
-pub use decks::{Decks, behind_next};
+pub use decks::{Decks, after_next};
 pub use wrong_entry::{EntryCause, EntryFault};

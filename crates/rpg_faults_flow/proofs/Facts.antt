@@ -36,11 +36,11 @@ lacks_name (GoesTo l) = is_none l
 lacks_name (Executes n) = is_none n
 lacks_name _ = false
 
-pub record Facts (cards : List SpecCard) (before : List (Calculation Key)) (g : Calculation Key) (behind : List (Calculation Key)) : Type 0 where
+pub record Facts (cards : List SpecCard) (before : List (Calculation Key)) (g : Calculation Key) (following : List (Calculation Key)) : Type 0 where
   -- F12
   pub begins_group : joins g.control ≡ false
   pub inside : (is_subroutine g.control && (not (is_bracket g.deed) && not (is_inside_subroutine before))) ≡ false
-  pub paired : unpaired before g behind ≡ false
+  pub paired : unpaired before g following ≡ false
   -- F9
   pub free : is_endsr g.deed ≡ true → tests g.alternatives ≡ 0
   pub named : lacks_name g.deed ≡ false

@@ -4,7 +4,7 @@ use Rattle.std.specs.Prelude.{find}
 use Rattle.std.specs.Option.{option_map, option_map_or, option_to_list}
 use Rattle.rpg_cards.specs.Deeds.{Begins, Calculation, Deed}
 use Rattle.rpg_cards.specs.Keys.{Key, Name}
-use Rattle.rpg_cards.specs.Labels.{begins_subroutine, begun_count, brackets, ends, gives, is_begsr, is_endsr, is_inside_subroutine, label_named, labels_behind, section_by, section_of}
+use Rattle.rpg_cards.specs.Labels.{begins_subroutine, begun_count, brackets, ends, gives, is_begsr, is_endsr, is_inside_subroutine, label_named, labels_after, section_by, section_of}
 use Rattle.rpg_cards.specs.declared.labels.Label.{Label}
 use Rattle.rpg_cards.specs.declared.labels.Section.{Section}
 use Rattle.rpg_cards.specs.declared.labels.Section.TheVariants as section_kind
@@ -27,22 +27,22 @@ body_at n [] = []
 body_at zero (s ∷ ss) = s.body
 body_at (suc n) (s ∷ ss) = body_at n ss
 
-abbrev pub behind_at : ℕ → List (Subroutine Key) → List (Subroutine Key)
-behind_at zero ss = ss
-behind_at (suc n) [] = []
-behind_at (suc n) (s ∷ ss) = behind_at n ss
+abbrev pub after_at : ℕ → List (Subroutine Key) → List (Subroutine Key)
+after_at zero ss = ss
+after_at (suc n) [] = []
+after_at (suc n) (s ∷ ss) = after_at n ss
 
-pub body_behind : (n : ℕ) (ss rest : List (Subroutine Key)) (s : Subroutine Key) → behind_at n ss ≡ s ∷ rest → body_at n ss ≡ s.body
-body_behind zero [] rest s e = absurd cc
-body_behind zero (t ∷ ts) rest s e = ap (body_at 0) e
-body_behind (suc n) [] rest s e = absurd cc
-body_behind (suc n) (t ∷ ts) rest s e = body_behind n ts rest s e
+pub body_after : (n : ℕ) (ss rest : List (Subroutine Key)) (s : Subroutine Key) → after_at n ss ≡ s ∷ rest → body_at n ss ≡ s.body
+body_after zero [] rest s e = absurd cc
+body_after zero (t ∷ ts) rest s e = ap (body_at 0) e
+body_after (suc n) [] rest s e = absurd cc
+body_after (suc n) (t ∷ ts) rest s e = body_after n ts rest s e
 
-behind_behind : (n : ℕ) (ss rest : List (Subroutine Key)) (s : Subroutine Key) → behind_at n ss ≡ s ∷ rest → behind_at (n + 1) ss ≡ rest
-behind_behind zero [] rest s e = absurd cc
-behind_behind zero (t ∷ ts) rest s e = ap (behind_at 1) e
-behind_behind (suc n) [] rest s e = absurd cc
-behind_behind (suc n) (t ∷ ts) rest s e = ap (λ k. behind_at k (t ∷ ts)) (moved n) ∙ behind_behind n ts rest s e
+following_twice : (n : ℕ) (ss rest : List (Subroutine Key)) (s : Subroutine Key) → after_at n ss ≡ s ∷ rest → after_at (n + 1) ss ≡ rest
+following_twice zero [] rest s e = absurd cc
+following_twice zero (t ∷ ts) rest s e = ap (after_at 1) e
+following_twice (suc n) [] rest s e = absurd cc
+following_twice (suc n) (t ∷ ts) rest s e = ap (λ k. after_at k (t ∷ ts)) (moved n) ∙ following_twice n ts rest s e
   where
     moved : (n : ℕ) → suc n + 1 ≡ suc (n + 1)
     moved n = omega arith
@@ -51,12 +51,12 @@ behind_behind (suc n) (t ∷ ts) rest s e = ap (λ k. behind_at k (t ∷ ts)) (m
 
 -- what is begun so far, what follows, and what the open subroutine has done
 pub record At (all : List (Subroutine Key)) (front gs : List (Calculation Key)) : Type 0 where
-  pub behind : behind_at (begun_count front) all ≡ subs gs
+  pub following : after_at (begun_count front) all ≡ subs gs
   pub done : List (Calculation Key)
   pub body : (n : ℕ) → begun_count front ≡ suc n → body_at n all ≡ done ++ up_to_begin (bodies gs)
 
 pub at_first : (gs : List (Calculation Key)) → At (subs gs) [] gs
-at_first gs = record { behind = refl; done = []; body = λ n e. absurd cc }
+at_first gs = record { following = refl; done = []; body = λ n e. absurd cc }
 
 same_suc : (m n : ℕ) → m + 1 ≡ suc n → m ≡ n
 same_suc m n e = omega (arith, e)
@@ -67,22 +67,22 @@ at_next all front g gs paired a = by_view (view g.deed)
     by_view : ((n : Option Name) × (g.deed ≡ Begins n)) ⊎ IsOther g.deed → At all (front ++ g ∷ []) gs
     by_view (inl (n, d)) =
         let s = begin_control front g gs n d paired in
-        let here = a.behind ∙ subs_begin g gs n d s in
+        let here = a.following ∙ subs_begin g gs n d s in
         record {
-          behind = ap (λ k. behind_at k all) (begun_more front g n d s) ∙ behind_behind (begun_count front) all (subs gs) (record { name = n; body = up_to_begin (bodies gs) }) here;
+          following = ap (λ k. after_at k all) (begun_more front g n d s) ∙ following_twice (begun_count front) all (subs gs) (record { name = n; body = up_to_begin (bodies gs) }) here;
           done = [];
-          body = λ m e. ap (λ k. body_at k all) (sym (same_suc (begun_count front) m (sym (begun_more front g n d s) ∙ e))) ∙ body_behind (begun_count front) all (subs gs) (record { name = n; body = up_to_begin (bodies gs) }) here;
+          body = λ m e. ap (λ k. body_at k all) (sym (same_suc (begun_count front) m (sym (begun_more front g n d s) ∙ e))) ∙ body_after (begun_count front) all (subs gs) (record { name = n; body = up_to_begin (bodies gs) }) here;
         }
     by_view (inr o) = by_control (is_subroutine g.control) refl
       where
         by_control : (b : Bool) → is_subroutine g.control ≡ b → At all (front ++ g ∷ []) gs
         by_control true s = record {
-          behind = ap (λ k. behind_at k all) (begun_same front g o.begsr) ∙ a.behind ∙ subs_other g gs o.begun;
+          following = ap (λ k. after_at k all) (begun_same front g o.begsr) ∙ a.following ∙ subs_other g gs o.begun;
           done = a.done ++ g ∷ [];
           body = λ m e. a.body m (sym (begun_same front g o.begsr) ∙ e) ∙ ap (λ xs. a.done ++ xs) (up_other g gs o.begun ∙ ap (λ b. cond b (g ∷ up_to_begin (bodies gs)) (up_to_begin (bodies gs))) s) ∙ sym (append_assoc a.done (g ∷ []) (up_to_begin (bodies gs)));
         }
         by_control false s = record {
-          behind = ap (λ k. behind_at k all) (begun_same front g o.begsr) ∙ a.behind ∙ subs_other g gs o.begun;
+          following = ap (λ k. after_at k all) (begun_same front g o.begsr) ∙ a.following ∙ subs_other g gs o.begun;
           done = a.done;
           body = λ m e. a.body m (sym (begun_same front g o.begsr) ∙ e) ∙ ap (λ xs. a.done ++ xs) (up_other g gs o.begun ∙ ap (λ b. cond b (g ∷ up_to_begin (bodies gs)) (up_to_begin (bodies gs))) s);
         }
@@ -103,9 +103,9 @@ or_left : (a b : Bool) → a ≡ true → (a || b) ≡ true
 or_left true b e = refl
 or_left false b e = absurd cc
 
-has_behind : (l : Option Name) (done gs : List (Calculation Key)) → has_label l gs ≡ true → has_label l (done ++ gs) ≡ true
-has_behind l [] gs e = e
-has_behind l (d ∷ ds) gs e = or_right (is_same_name l (label_on d.deed)) (has_label l (ds ++ gs)) (has_behind l ds gs e)
+has_after : (l : Option Name) (done gs : List (Calculation Key)) → has_label l gs ≡ true → has_label l (done ++ gs) ≡ true
+has_after l [] gs e = e
+has_after l (d ∷ ds) gs e = or_right (is_same_name l (label_on d.deed)) (has_label l (ds ++ gs)) (has_after l ds gs e)
 
 has_of : (test : ControlLevel → Bool) (l : Option Name) (front : List (Calculation Key)) (g : Calculation Key) (gs : List (Calculation Key)) → test g.control ≡ true → is_same_name l (label_on g.deed) ≡ true → has_label l (of_control test (front ++ g ∷ gs)) ≡ true
 has_of test l [] g gs t e = ap (λ b. has_label l (cond b (g ∷ of_control test gs) (of_control test gs))) t ∙ or_left (is_same_name l (label_on g.deed)) (has_label l (of_control test gs)) e
@@ -191,7 +191,7 @@ module _ (cards : List SpecCard) (all : List (Calculation Key)) where
           let n = any_begun front i in
           ap (λ x. has_label (Some m) (part all (subs all) x)) (own_section front g n.0 c o.begsr i n.1)
           ∙ ap (has_label (Some m)) (a.body n.0 n.1)
-          ∙ has_behind (Some m) a.done (up_to_begin (bodies (g ∷ gs))) (ap (has_label (Some m)) (up_other g gs o.begun ∙ ap (λ b. cond b (g ∷ up_to_begin (bodies gs)) (up_to_begin (bodies gs))) c) ∙ or_left (is_same_name (Some m) (label_on g.deed)) (has_label (Some m) (up_to_begin (bodies gs))) e)
+          ∙ has_after (Some m) a.done (up_to_begin (bodies (g ∷ gs))) (ap (has_label (Some m)) (up_other g gs o.begun ∙ ap (λ b. cond b (g ∷ up_to_begin (bodies gs)) (up_to_begin (bodies gs))) c) ∙ or_left (is_same_name (Some m) (label_on g.deed)) (has_label (Some m) (up_to_begin (bodies gs))) e)
 
       by : (c : ControlLevel) → g.control ≡ c → has_label (Some m) (part all (subs all) (section_of front g)) ≡ true
       by control.Detail p = ap (λ x. has_label (Some m) (part all (subs all) x)) (section ∙ ap (section_by front false) p) ∙ ap (λ x. has_label (Some m) (of_control is_detail x)) s ∙ has_of is_detail (Some m) front g gs (ap is_detail p) e
@@ -200,24 +200,24 @@ module _ (cards : List SpecCard) (all : List (Calculation Key)) where
       by control.And p = let no = sym (ap joins p) ∙ f.begins_group in absurd cc
       by control.Or p = let no = sym (ap joins p) ∙ f.begins_group in absurd cc
 
-  pub label_placed : (m : Name) (front gs : List (Calculation Key)) (L : Label) → all ≡ front ++ gs → At (subs all) front gs → EachSplit (Facts cards) front gs → label_named m (labels_behind front gs) ≡ Some L → L.named.is_subroutine ≡ false
+  pub label_placed : (m : Name) (front gs : List (Calculation Key)) (L : Label) → all ≡ front ++ gs → At (subs all) front gs → EachSplit (Facts cards) front gs → label_named m (labels_after front gs) ≡ Some L → L.named.is_subroutine ≡ false
       → has_label (Some m) (part all (subs all) L.section) ≡ true
   label_placed m front [] L s a h e is = absurd cc
   label_placed m front (g ∷ gs) L s a h e is =
       by_view (λ f. label_placed m (front ++ g ∷ []) gs L (s ∙ sym (append_assoc front (g ∷ []) gs)) (at_next (subs all) front g gs h.0.paired a) h.1 f is) (view g.deed)
     where
-      by_view : (label_named m (labels_behind (front ++ g ∷ []) gs) ≡ Some L → has_label (Some m) (part all (subs all) L.section) ≡ true) → ((n : Option Name) × (g.deed ≡ Begins n)) ⊎ IsOther g.deed → has_label (Some m) (part all (subs all) L.section) ≡ true
+      by_view : (label_named m (labels_after (front ++ g ∷ []) gs) ≡ Some L → has_label (Some m) (part all (subs all) L.section) ≡ true) → ((n : Option Name) × (g.deed ≡ Begins n)) ⊎ IsOther g.deed → has_label (Some m) (part all (subs all) L.section) ≡ true
       by_view rec (inr o) =
-          by_found (find_label m (section_of front g) (label_on g.deed) (labels_behind (front ++ g ∷ []) gs) L
-          (ap (λ x. find (named_so m) (option_to_list (option_map (λ n. record { named = n; section = section_of front g }) x) ++ labels_behind (front ++ g ∷ []) gs)) (sym o.gives) ∙ e))
+          by_found (find_label m (section_of front g) (label_on g.deed) (labels_after (front ++ g ∷ []) gs) L
+          (ap (λ x. find (named_so m) (option_to_list (option_map (λ n. record { named = n; section = section_of front g }) x) ++ labels_after (front ++ g ∷ []) gs)) (sym o.gives) ∙ e))
         where
-          by_found : ((is_same_name (Some m) (label_on g.deed) ≡ true) × (L.named.is_subroutine ≡ false) × (L.section ≡ section_of front g)) ⊎ (find (named_so m) (labels_behind (front ++ g ∷ []) gs) ≡ Some L) → has_label (Some m) (part all (subs all) L.section) ≡ true
+          by_found : ((is_same_name (Some m) (label_on g.deed) ≡ true) × (L.named.is_subroutine ≡ false) × (L.section ≡ section_of front g)) ⊎ (find (named_so m) (labels_after (front ++ g ∷ []) gs) ≡ Some L) → has_label (Some m) (part all (subs all) L.section) ≡ true
           by_found (inl x) = ap (λ z. has_label (Some m) (part all (subs all) z)) x.2 ∙ has_here m front g gs s a h.0 o x.0
           by_found (inr f) = rec f
       by_view rec (inl (n, d)) =
-          by_found (find_begin m (section_of front g) n (labels_behind (front ++ g ∷ []) gs) L
-          (ap (λ (x : Deed Key). find (named_so m) (option_to_list (option_map (λ n. record { named = n; section = section_of front g }) (gives x)) ++ labels_behind (front ++ g ∷ []) gs)) (sym d) ∙ e))
+          by_found (find_begin m (section_of front g) n (labels_after (front ++ g ∷ []) gs) L
+          (ap (λ (x : Deed Key). find (named_so m) (option_to_list (option_map (λ n. record { named = n; section = section_of front g }) (gives x)) ++ labels_after (front ++ g ∷ []) gs)) (sym d) ∙ e))
         where
-          by_found : ((is_same_name (Some m) n ≡ true) × (L.named.is_subroutine ≡ true) × (L.section ≡ section_of front g)) ⊎ ((is_same_name (Some m) n ≡ false) × (find (named_so m) (labels_behind (front ++ g ∷ []) gs) ≡ Some L)) → has_label (Some m) (part all (subs all) L.section) ≡ true
+          by_found : ((is_same_name (Some m) n ≡ true) × (L.named.is_subroutine ≡ true) × (L.section ≡ section_of front g)) ⊎ ((is_same_name (Some m) n ≡ false) × (find (named_so m) (labels_after (front ++ g ∷ []) gs) ≡ Some L)) → has_label (Some m) (part all (subs all) L.section) ≡ true
           by_found (inl x) = let no = sym x.1 ∙ is in absurd cc
           by_found (inr x) = rec x.1

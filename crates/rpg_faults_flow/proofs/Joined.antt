@@ -4,7 +4,7 @@ use Rattle.std.specs.Prelude.{◌==◌}
 use Rattle.std.specs.Option.{option_and_then, option_map, option_map_or, option_to_list}
 use Rattle.std.proofs.lemmas.Bool.{eqb-true}
 use Rattle.rpg_cards.specs.Calculations.{calculations}
-use Rattle.rpg_cards.specs.Calls.{call_at, called_subroutine, calls, calls_behind, reaches, subroutine_in}
+use Rattle.rpg_cards.specs.Calls.{call_at, called_subroutine, calls, calls_after, reaches, subroutine_in}
 use Rattle.rpg_cards.specs.Deeds.{Acts, Begins, Calculation, Executes, Deed, Ends, GoesTo, Marks, Nothing, PutsOut, tests}
 use Rattle.rpg_cards.specs.Keys.{Key, Name}
 use Rattle.rpg_cards.specs.Labels as labels
@@ -19,7 +19,7 @@ use Rattle.rpg_cards.specs.Groups.{joins}
 use Rattle.rpg_cards.specs.declared.spec_card.SpecCard.{SpecCard}
 use Rattle.rpg_faults_flow.proofs.Facts.{Facts, each_fact, lacks_name}
 use Rattle.rpg_faults_flow.proofs.Counted.{subs_count}
-use Rattle.rpg_faults_flow.proofs.Goals.{At, any_begun, at_first, at_next, body_at, inside_here, label_placed, own_section, part, body_behind}
+use Rattle.rpg_faults_flow.proofs.Goals.{At, any_begun, at_first, at_next, body_at, inside_here, label_placed, own_section, part, body_after}
 use Rattle.rpg_faults_flow.proofs.Paired.{ArePaired, EndsWell, all_end_well, are_paired, none_before}
 use Rattle.rpg_faults_flow.proofs.Placed.{IsOther, begin_control, begun_more, begun_same, bodies, not_begins, subroutine_found, subs, subs_begin, subs_other, up_begin, up_other, view}
 use Rattle.rpg_faults_flow.proofs.Reaching.{forward_by_calls}
@@ -154,14 +154,14 @@ module _ (cards : List SpecCard) where
     abbrev Goals : List (Calculation Key) → List (Calculation Key) → Type 0
     Goals front gs = ((n : ℕ) → begun_count front ≡ suc n → Each (λ g. HasGoal (body_at n (subs all)) g.deed) (up_to_begin (bodies gs))) × Each (λ (s : Subroutine Key). Each (λ g. HasGoal s.body g.deed) s.body) (subs gs)
 
-    goals_behind : (front gs : List (Calculation Key)) → At (subs all) front gs → EachSplit (Facts cards) front gs → Goals front gs
-    goals_behind front [] a h = (λ n e. tt, tt)
-    goals_behind front (g ∷ gs) a h = by_view (goals_behind (front ++ g ∷ []) gs (at_next (subs all) front g gs h.0.paired a) h.1) (view g.deed)
+    goals_after : (front gs : List (Calculation Key)) → At (subs all) front gs → EachSplit (Facts cards) front gs → Goals front gs
+    goals_after front [] a h = (λ n e. tt, tt)
+    goals_after front (g ∷ gs) a h = by_view (goals_after (front ++ g ∷ []) gs (at_next (subs all) front g gs h.0.paired a) h.1) (view g.deed)
       where
         by_view : Goals (front ++ g ∷ []) gs → ((n : Option Name) × (g.deed ≡ Begins n)) ⊎ IsOther g.deed → Goals front (g ∷ gs)
         by_view rec (inl (n, d)) =
             let s = begin_control front g gs n d h.0.paired in
-            let own = body_behind (begun_count front) (subs all) (subs gs) (record { name = n; body = up_to_begin (bodies gs) }) (a.behind ∙ subs_begin g gs n d s) in (
+            let own = body_after (begun_count front) (subs all) (subs gs) (record { name = n; body = up_to_begin (bodies gs) }) (a.following ∙ subs_begin g gs n d s) in (
               λ m e. subst (Each (λ g. HasGoal (body_at m (subs all)) g.deed)) (sym (up_begin g gs n d s)) tt,
               subst (Each (λ (s : Subroutine Key). Each (λ g. HasGoal s.body g.deed) s.body)) (sym (subs_begin g gs n d s))
                   (subst (λ b. Each (λ (g : Calculation Key). HasGoal b g.deed) (up_to_begin (bodies gs))) own (rec.0 (begun_count front) (begun_more front g n d s ∙ omega arith)), rec.1),
@@ -245,15 +245,15 @@ module _ (cards : List SpecCard) where
     abbrev calls_left : List (Calculation Key) → List (Calculation Key) → List Pair
     calls_left front gs = calls_in (subs all) (begun_count front - 1) (up_to_begin (bodies gs)) ++ calls_from (subs all) (begun_count front) (subs gs)
 
-    calls_same : (front gs : List (Calculation Key)) → EachSplit (Facts cards) front gs → calls_behind given front gs ≡ calls_left front gs
+    calls_same : (front gs : List (Calculation Key)) → EachSplit (Facts cards) front gs → calls_after given front gs ≡ calls_left front gs
     calls_same front [] h = refl
     calls_same front (g ∷ gs) h = by_view (calls_same (front ++ g ∷ []) gs h.1) (view g.deed)
       where
-        by_view : calls_behind given (front ++ g ∷ []) gs ≡ calls_left (front ++ g ∷ []) gs → ((n : Option Name) × (g.deed ≡ Begins n)) ⊎ IsOther g.deed → calls_behind given front (g ∷ gs) ≡ calls_left front (g ∷ gs)
+        by_view : calls_after given (front ++ g ∷ []) gs ≡ calls_left (front ++ g ∷ []) gs → ((n : Option Name) × (g.deed ≡ Begins n)) ⊎ IsOther g.deed → calls_after given front (g ∷ gs) ≡ calls_left front (g ∷ gs)
         by_view rec (inl (n, d)) =
             let s = begin_control front g gs n d h.0.paired in
             let none : call_at given front g ≡ None = ap (λ (x : Deed Key). made_call (subroutine_in (section_of front g)) (option_and_then (called_subroutine given) (wants x))) d ∙ wants_none n (subroutine_in (section_of front g)) in
-            ap (λ o. option_to_list o ++ calls_behind given (front ++ g ∷ []) gs) none
+            ap (λ o. option_to_list o ++ calls_after given (front ++ g ∷ []) gs) none
             ∙ rec
             ∙ ap (λ k. calls_in (subs all) (k - 1) (up_to_begin (bodies gs)) ++ calls_from (subs all) k (subs gs)) (begun_more front g n d s)
             ∙ moved (begun_count front)
@@ -268,8 +268,8 @@ module _ (cards : List SpecCard) where
                 ap (λ x. calls_in (subs all) x (up_to_begin (bodies gs)) ++ calls_from (subs all) (k + 1) (subs gs)) a ∙ ap (λ x. calls_in (subs all) k (up_to_begin (bodies gs)) ++ calls_from (subs all) x (subs gs)) b
         by_view rec (inr o) = by_control (is_subroutine g.control) refl
           where
-            behind : (b : Bool) → is_subroutine g.control ≡ b → calls_left front (g ∷ gs) ≡ calls_in (subs all) (begun_count front - 1) (cond b (g ∷ up_to_begin (bodies gs)) (up_to_begin (bodies gs))) ++ calls_from (subs all) (begun_count front) (subs gs)
-            behind b s =
+            following : (b : Bool) → is_subroutine g.control ≡ b → calls_left front (g ∷ gs) ≡ calls_in (subs all) (begun_count front - 1) (cond b (g ∷ up_to_begin (bodies gs)) (up_to_begin (bodies gs))) ++ calls_from (subs all) (begun_count front) (subs gs)
+            following b s =
                 ap (λ us. calls_in (subs all) (begun_count front - 1) us ++ calls_from (subs all) (begun_count front) (subs (g ∷ gs))) (up_other g gs o.begun ∙ ap (λ b. cond b (g ∷ up_to_begin (bodies gs)) (up_to_begin (bodies gs))) s)
                 ∙ ap (λ ss. calls_in (subs all) (begun_count front - 1) (cond b (g ∷ up_to_begin (bodies gs)) (up_to_begin (bodies gs))) ++ calls_from (subs all) (begun_count front) ss) (subs_other g gs o.begun)
 
@@ -283,19 +283,19 @@ module _ (cards : List SpecCard) where
             with_append n None xs ys = refl
             with_append n (Some m) xs ys = refl
 
-            by_control : (b : Bool) → is_subroutine g.control ≡ b → calls_behind given front (g ∷ gs) ≡ calls_left front (g ∷ gs)
+            by_control : (b : Bool) → is_subroutine g.control ≡ b → calls_after given front (g ∷ gs) ≡ calls_left front (g ∷ gs)
             by_control false s =
-                ap (λ c. option_to_list (made_call c (option_and_then (called_subroutine given) (wants g.deed))) ++ calls_behind given (front ++ g ∷ []) gs) (outside_caller front (labels.begins_subroutine g) g.control s)
-                ∙ rec ∙ same_count ∙ sym (behind false s)
+                ap (λ c. option_to_list (made_call c (option_and_then (called_subroutine given) (wants g.deed))) ++ calls_after given (front ++ g ∷ []) gs) (outside_caller front (labels.begins_subroutine g) g.control s)
+                ∙ rec ∙ same_count ∙ sym (following false s)
             by_control true s =
                 let i = inside_here cards front g gs h.0 s o.begsr in
                 let n = any_begun front i in
                 let own : subroutine_in (section_of front g) ≡ Some (begun_count front - 1) = ap subroutine_in (own_section front g n.0 s o.begsr i n.1) ∙ ap Some (sym (less (begun_count front) n.0 n.1)) in
-                ap (λ x. option_to_list x ++ calls_behind given (front ++ g ∷ []) gs) (made ∙ ap (λ c. made_call c (option_map (λ n. callee n (subs all)) (call_in g.deed))) own)
-                ∙ with_made (begun_count front - 1) (call_in g.deed) (calls_behind given (front ++ g ∷ []) gs)
+                ap (λ x. option_to_list x ++ calls_after given (front ++ g ∷ []) gs) (made ∙ ap (λ c. made_call c (option_map (λ n. callee n (subs all)) (call_in g.deed))) own)
+                ∙ with_made (begun_count front - 1) (call_in g.deed) (calls_after given (front ++ g ∷ []) gs)
                 ∙ ap (with_call (subs all) (begun_count front - 1) (call_in g.deed)) (rec ∙ same_count)
                 ∙ with_append (begun_count front - 1) (call_in g.deed) (calls_in (subs all) (begun_count front - 1) (up_to_begin (bodies gs))) (calls_from (subs all) (begun_count front) (subs gs))
-                ∙ sym (behind true s)
+                ∙ sym (following true s)
               where
                 less : (a b : ℕ) → a ≡ suc b → a - 1 ≡ b
                 less a b e = omega (arith, e)
@@ -310,11 +310,11 @@ module _ (cards : List SpecCard) where
     abbrev IsForward : Pair → Type 0
     IsForward p = reaches (calls all) p.1 p.0 ≡ false
 
-    each_call : (front gs : List (Calculation Key)) → EachSplit (Facts cards) front gs → Each IsForward (calls_behind given front gs)
+    each_call : (front gs : List (Calculation Key)) → EachSplit (Facts cards) front gs → Each IsForward (calls_after given front gs)
     each_call front [] h = tt
     each_call front (g ∷ gs) h = by (call_at given front g) h.0.forward (each_call (front ++ g ∷ []) gs h.1)
       where
-        by : (o : Option Pair) → comes_back (calls all) o ≡ false → Each IsForward (calls_behind given (front ++ g ∷ []) gs) → Each IsForward (option_to_list o ++ calls_behind given (front ++ g ∷ []) gs)
+        by : (o : Option Pair) → comes_back (calls all) o ≡ false → Each IsForward (calls_after given (front ++ g ∷ []) gs) → Each IsForward (option_to_list o ++ calls_after given (front ++ g ∷ []) gs)
         by None e r = r
         by (Some p) e r = (e, r)
 
@@ -400,7 +400,7 @@ module _ (cards : List SpecCard) where
       total_ends = not_sr is_total total_other;
       detail_found = each_control (λ g. IsFound (subs all) g.deed) is_detail all found_all;
       total_found = each_control (λ g. IsFound (subs all) g.deed) is_total all found_all;
-      bodies = plain_bodies (subs all) (all_end_well (bodies all) false pairs) (each_body IsGoodBody (bodies all) good_bodies) (goals_behind [] all (at_first all) facts).1;
+      bodies = plain_bodies (subs all) (all_end_well (bodies all) false pairs) (each_body IsGoodBody (bodies all) good_bodies) (goals_after [] all (at_first all) facts).1;
       forward = forward (length (subs all));
       few = few;
     }

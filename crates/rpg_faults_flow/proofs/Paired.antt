@@ -50,8 +50,8 @@ last_filter {X} test [] x d = by (test x)
 last_filter {X} test (y ∷ ys) x d = by (test y) (λ e. last_filter test ys x e)
   where
     by : (b : Bool) → ((e : Option X) → last_or e (filter test (ys ++ x ∷ [])) ≡ cond (test x) (Some x) (last_or e (filter test ys))) → last_or d (cond b (y ∷ filter test (ys ++ x ∷ [])) (filter test (ys ++ x ∷ []))) ≡ cond (test x) (Some x) (last_or d (cond b (y ∷ filter test ys) (filter test ys)))
-    by true behind = behind (Some y)
-    by false behind = behind d
+    by true following = following (Some y)
+    by false following = following d
 
 -- with one more, of that bracket: (BEGSR, ENDSR)
 abbrev pub inside_by : Bool → Bool → Bool → Bool

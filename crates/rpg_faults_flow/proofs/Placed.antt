@@ -5,7 +5,7 @@ use Rattle.std.specs.Option.{option_map, option_map_or, option_to_list}
 use Rattle.rpg_cards.specs.Deeds.{Acts, Begins, Calculation, Executes, Deed, Ends, GoesTo, Marks, Nothing, PutsOut}
 use Rattle.rpg_cards.specs.Keys.{Key, Name}
 use Rattle.rpg_cards.specs.Labels as labels
-use Rattle.rpg_cards.specs.Labels.{as_label, begins_subroutine, begun_count, gives, is_begsr, label_named, labels_behind, section_by, section_of}
+use Rattle.rpg_cards.specs.Labels.{as_label, begins_subroutine, begun_count, gives, is_begsr, label_named, labels_after, section_by, section_of}
 use Rattle.rpg_cards.specs.declared.labels.Label.{Label}
 use Rattle.rpg_cards.specs.declared.labels.Section.{Section}
 use Rattle.rpg_cards.specs.declared.labels.Section.TheVariants as section_kind
@@ -148,16 +148,16 @@ find_begin m section (Some x) rest L e = by (is_same_name (Some m) (Some x)) ref
 abbrev pub Found : Name → List (Calculation Key) → List (Calculation Key) → Label → Type 0
 Found m front gs L = (defines_subroutine (Some m) (subs gs) ≡ true) × (L.section ≡ section_kind.Subroutine (begun_count front + callee (Some m) (subs gs)))
 
-pub subroutine_found : (cards : List SpecCard) (m : Name) (front gs : List (Calculation Key)) (L : Label) → EachSplit (Facts cards) front gs → label_named m (labels_behind front gs) ≡ Some L → L.named.is_subroutine ≡ true → Found m front gs L
+pub subroutine_found : (cards : List SpecCard) (m : Name) (front gs : List (Calculation Key)) (L : Label) → EachSplit (Facts cards) front gs → label_named m (labels_after front gs) ≡ Some L → L.named.is_subroutine ≡ true → Found m front gs L
 subroutine_found cards m front [] L h e is = absurd cc
 subroutine_found cards m front (g ∷ gs) L h e is = by_view (λ f. subroutine_found cards m (front ++ g ∷ []) gs L h.1 f is) (view g.deed)
   where
-    by_view : (label_named m (labels_behind (front ++ g ∷ []) gs) ≡ Some L → (defines_subroutine (Some m) (subs gs) ≡ true) × (L.section ≡ section_kind.Subroutine (begun_count (front ++ g ∷ []) + callee (Some m) (subs gs)))) → ((n : Option Name) × (g.deed ≡ Begins n)) ⊎ IsOther g.deed → (defines_subroutine (Some m) (subs (g ∷ gs)) ≡ true) × (L.section ≡ section_kind.Subroutine (begun_count front + callee (Some m) (subs (g ∷ gs))))
+    by_view : (label_named m (labels_after (front ++ g ∷ []) gs) ≡ Some L → (defines_subroutine (Some m) (subs gs) ≡ true) × (L.section ≡ section_kind.Subroutine (begun_count (front ++ g ∷ []) + callee (Some m) (subs gs)))) → ((n : Option Name) × (g.deed ≡ Begins n)) ⊎ IsOther g.deed → (defines_subroutine (Some m) (subs (g ∷ gs)) ≡ true) × (L.section ≡ section_kind.Subroutine (begun_count front + callee (Some m) (subs (g ∷ gs))))
     by_view rec (inr o) =
-        by_found (find_label m (section_of front g) (label_on g.deed) (labels_behind (front ++ g ∷ []) gs) L
-        (ap (λ x. find (named_so m) (option_to_list (option_map (λ n. record { named = n; section = section_of front g }) x) ++ labels_behind (front ++ g ∷ []) gs)) (sym o.gives) ∙ e))
+        by_found (find_label m (section_of front g) (label_on g.deed) (labels_after (front ++ g ∷ []) gs) L
+        (ap (λ x. find (named_so m) (option_to_list (option_map (λ n. record { named = n; section = section_of front g }) x) ++ labels_after (front ++ g ∷ []) gs)) (sym o.gives) ∙ e))
       where
-        by_found : ((is_same_name (Some m) (label_on g.deed) ≡ true) × (L.named.is_subroutine ≡ false) × (L.section ≡ section_of front g)) ⊎ (find (named_so m) (labels_behind (front ++ g ∷ []) gs) ≡ Some L)
+        by_found : ((is_same_name (Some m) (label_on g.deed) ≡ true) × (L.named.is_subroutine ≡ false) × (L.section ≡ section_of front g)) ⊎ (find (named_so m) (labels_after (front ++ g ∷ []) gs) ≡ Some L)
             → (defines_subroutine (Some m) (subs (g ∷ gs)) ≡ true) × (L.section ≡ section_kind.Subroutine (begun_count front + callee (Some m) (subs (g ∷ gs))))
         by_found (inl x) = let no = sym x.1 ∙ is in absurd cc
         by_found (inr f) =
@@ -166,8 +166,8 @@ subroutine_found cards m front (g ∷ gs) L h e is = by_view (λ f. subroutine_f
               r.1 ∙ ap (λ k. section_kind.Subroutine (k + callee (Some m) (subs gs))) (begun_same front g o.begsr) ∙ ap (λ ss. section_kind.Subroutine (begun_count front + callee (Some m) ss)) (sym (subs_other g gs o.begun)),
             )
     by_view rec (inl (n, d)) =
-        by_found (find_begin m (section_of front g) n (labels_behind (front ++ g ∷ []) gs) L
-        (ap (λ (x : Deed Key). find (named_so m) (option_to_list (option_map (λ n. record { named = n; section = section_of front g }) (gives x)) ++ labels_behind (front ++ g ∷ []) gs)) (sym d) ∙ e))
+        by_found (find_begin m (section_of front g) n (labels_after (front ++ g ∷ []) gs) L
+        (ap (λ (x : Deed Key). find (named_so m) (option_to_list (option_map (λ n. record { named = n; section = section_of front g }) (gives x)) ++ labels_after (front ++ g ∷ []) gs)) (sym d) ∙ e))
       where
         is_sub : is_subroutine g.control ≡ true
         is_sub = begin_control front g gs n d h.0.paired
@@ -182,7 +182,7 @@ subroutine_found cards m front (g ∷ gs) L h e is = by_view (λ f. subroutine_f
             by_control control.And e = absurd cc
             by_control control.Or e = absurd cc
 
-        by_found : ((is_same_name (Some m) n ≡ true) × (L.named.is_subroutine ≡ true) × (L.section ≡ section_of front g)) ⊎ ((is_same_name (Some m) n ≡ false) × (find (named_so m) (labels_behind (front ++ g ∷ []) gs) ≡ Some L))
+        by_found : ((is_same_name (Some m) n ≡ true) × (L.named.is_subroutine ≡ true) × (L.section ≡ section_of front g)) ⊎ ((is_same_name (Some m) n ≡ false) × (find (named_so m) (labels_after (front ++ g ∷ []) gs) ≡ Some L))
             → (defines_subroutine (Some m) (subs (g ∷ gs)) ≡ true) × (L.section ≡ section_kind.Subroutine (begun_count front + callee (Some m) (subs (g ∷ gs))))
         by_found (inl x) = (
           ap (defines_subroutine (Some m)) (subs_begin g gs n d is_sub) ∙ ap (λ b. b || defines_subroutine (Some m) (subs gs)) x.0,

@@ -60,9 +60,9 @@ front : (n : ℕ) (ps : List Pair) (s u t : ℕ) → IsCallAmong s u ps → reac
 front n ps s u t h r = or_right (s == t) (list_any (λ (p : Pair). p.0 == s && reaches_in n ps p.1 t) ps) (any_call (λ (p : Pair). p.0 == s && reaches_in n ps p.1 t) s u ps h (and_from (s == s) (reaches_in n ps u t) (same_itself s) r))
 
 -- one call later
-behind : (n : ℕ) (ps : List Pair) (s a t : ℕ) → reaches_in n ps s a ≡ true → IsCallAmong a t ps → reaches_in (suc n) ps s t ≡ true
-behind zero ps s a t r h = let same = eqb-true s a r in front zero ps s t t (subst (λ x. IsCallAmong x t ps) (sym same) h) (reaches_itself zero ps t)
-behind (suc n) ps s a t r h = by_first (s == a) refl r (λ u. behind n ps u a t)
+following : (n : ℕ) (ps : List Pair) (s a t : ℕ) → reaches_in n ps s a ≡ true → IsCallAmong a t ps → reaches_in (suc n) ps s t ≡ true
+following zero ps s a t r h = let same = eqb-true s a r in front zero ps s t t (subst (λ x. IsCallAmong x t ps) (sym same) h) (reaches_itself zero ps t)
+following (suc n) ps s a t r h = by_first (s == a) refl r (λ u. following n ps u a t)
   where
     by_first : (b : Bool) → (s == a) ≡ b → (b || list_any (λ (p : Pair). p.0 == s && reaches_in n ps p.1 a) ps) ≡ true
         → ((u : ℕ) → reaches_in n ps u a ≡ true → IsCallAmong a t ps → reaches_in (suc n) ps u t ≡ true) → reaches_in (suc (suc n)) ps s t ≡ true
@@ -83,8 +83,8 @@ chain_reaches ps s t chain n few h e = by_first (nat_eq s t) refl e
     rest t (a ∷ ys) (suc n) few h e = by_caller (nat_eq s a) refl e (rest a ys n (omega arith) h.1)
       where
         by_caller : (b : Bool) → nat_eq s a ≡ b → (b || list_any (nat_eq s) ys) ≡ true → (list_any (nat_eq s) ys ≡ true → reaches_in n ps s a ≡ true) → reaches_in (suc n) ps s t ≡ true
-        by_caller true f e r = let same = eqb-true s a f in behind n ps s a t (subst (λ x. reaches_in n ps s x ≡ true) same (reaches_itself n ps s)) h.0
-        by_caller false f e r = behind n ps s a t (r e) h.0
+        by_caller true f e r = let same = eqb-true s a f in following n ps s a t (subst (λ x. reaches_in n ps s x ≡ true) same (reaches_itself n ps s)) h.0
+        by_caller false f e r = following n ps s a t (r e) h.0
 
     by_first : (b : Bool) → nat_eq s t ≡ b → (b || list_any (nat_eq s) chain) ≡ true → reaches_in n ps s t ≡ true
     by_first true f e = let same = eqb-true s t f in subst (λ x. reaches_in n ps s x ≡ true) same (reaches_itself n ps s)

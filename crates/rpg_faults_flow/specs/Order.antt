@@ -50,9 +50,9 @@ is_closed (g ∷ gs) = ends g
 
 -- BEGSR or ENDSR outside SR groups, ENDSR without BEGSR, or BEGSR without ENDSR
 abbrev pub unpaired : List (Calculation Key) → Calculation Key → List (Calculation Key) → Bool
-unpaired before g behind =
+unpaired before g following =
     (is_bracket g.deed && not (is_subroutine g.control))
-    || ((ends g && not (is_inside_subroutine before)) || (begins_subroutine g && not (is_closed (brackets behind))))
+    || ((ends g && not (is_inside_subroutine before)) || (begins_subroutine g && not (is_closed (brackets following))))
 
 -- the group that ends on the card has an unpaired BEGSR or ENDSR
 abbrev pub breaks_calculation : List SpecCard → SpecCard → List SpecCard → CalculationGroup → Bool

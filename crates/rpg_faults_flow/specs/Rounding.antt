@@ -33,8 +33,8 @@ abbrev pub leaves_remainder : CalculationSpec → Bool
 leaves_remainder k = operation_passes is_division k && not k.half_adjust
 
 -- the card right before is the last one of a division without H
-abbrev pub is_behind_division : List SpecCard → Bool
-is_behind_division before = option_map_or (λ g. leaves_remainder (last_card g)) (open_calculation_group before) false
+abbrev pub follows_division : List SpecCard → Bool
+follows_division before = option_map_or (λ g. leaves_remainder (last_card g)) (open_calculation_group before) false
 
 -- H on a card before the last, or where the operation doesn't round
 abbrev pub rounds_nothing : CalculationSpec → Option CalculationSpec → Bool
@@ -42,7 +42,7 @@ rounds_nothing k last = k.half_adjust && not (option_map_or (operation_passes ma
 
 -- MVR in a group of one card follows a division
 abbrev pub lacks_remainder : List SpecCard → CalculationSpec → Option CalculationSpec → Bool
-lacks_remainder before k last = option_map_or (operation_passes is_remainder) last false && (joins k.control_level || not (is_behind_division before))
+lacks_remainder before k last = option_map_or (operation_passes is_remainder) last false && (joins k.control_level || not (follows_division before))
 
 -- H where nothing is rounded, or MVR without a division right before
 abbrev pub rounds_wrongly : List SpecCard → CalculationSpec → Option CalculationSpec → Bool

@@ -22,13 +22,13 @@ takes_codes (input.And codes) = true
 takes_codes (input.Field f) = false
 
 -- a type card or an AND card comes right before
-abbrev pub is_behind_codes : List SpecCard → Bool
-is_behind_codes before = option_map_or takes_codes (option_and_then (λ (c : SpecCard). input_on c.spec) (card_right_before before)) false
+abbrev pub follows_codes : List SpecCard → Bool
+follows_codes before = option_map_or takes_codes (option_and_then (λ (c : SpecCard). input_on c.spec) (card_right_before before)) false
 
 -- F12 of an I card
 abbrev pub is_stray_input : List SpecCard → InputSpec → Bool
 is_stray_input before (input.Type t) = false
-is_stray_input before (input.And codes) = not (is_behind_codes before)
+is_stray_input before (input.And codes) = not (follows_codes before)
 is_stray_input before (input.Field f) = is_none (open_group input_role before)
 
 -- ---- O: the conditions of an AND or OR card continue those of a record, AND or OR card
@@ -41,14 +41,14 @@ takes_conditions (output.Or t) = true
 takes_conditions (output.Field f) = false
 
 -- a record, AND or OR card comes right before
-abbrev pub is_behind_conditions : List SpecCard → Bool
-is_behind_conditions before = option_map_or takes_conditions (option_and_then (λ (c : SpecCard). output_on c.spec) (card_right_before before)) false
+abbrev pub follows_conditions : List SpecCard → Bool
+follows_conditions before = option_map_or takes_conditions (option_and_then (λ (c : SpecCard). output_on c.spec) (card_right_before before)) false
 
 -- F12 of an O card
 abbrev pub is_stray_output : List SpecCard → OutputSpec → Bool
 is_stray_output before (output.Record r) = false
-is_stray_output before (output.And t) = not (is_behind_conditions before)
-is_stray_output before (output.Or t) = not (is_behind_conditions before)
+is_stray_output before (output.And t) = not (follows_conditions before)
+is_stray_output before (output.Or t) = not (follows_conditions before)
 is_stray_output before (output.Field f) = is_none (open_group output_role before)
 
 -- F12 of I and O cards

@@ -5,7 +5,7 @@ use Rattle.std.proofs.lemmas.List.Sums.{sum_by_push}
 use Rattle.std.specs.Option.{option_map, option_map_or, option_to_list}
 use Rattle.std.specs.Prelude.{is_some}
 use Rattle.rpg_cards.proofs.GroupEnds.{last_card-joined}
-use Rattle.rpg_cards.specs.Calculations.{CalculationGroup, alone, calculation_ending, calculation_of, calculations_before, calculations_from, card_ending, goes_on, group_at, group_with, joined_group, last_card, open_behind, open_calculation_group, open_with}
+use Rattle.rpg_cards.specs.Calculations.{CalculationGroup, alone, calculation_ending, calculation_of, calculations_before, calculations_from, card_ending, goes_on, group_at, group_with, joined_group, last_card, open_after, open_calculation_group, open_with}
 use Rattle.rpg_cards.specs.Deeds.{Calculation, deed_of}
 use Rattle.rpg_cards.specs.Keys.{Key}
 use Rattle.rpg_cards.specs.Labels.{begins_subroutine, begun_count, is_begsr}
@@ -19,9 +19,9 @@ use Rattle.rpg_sheet_specs.specs.declared.calculation.CalculationSpec.{Calculati
 
 -- ---- the group that is open after a card
 
-pub open_behind-push : (o : Option CalculationGroup) (before : List SpecCard) (c : SpecCard) → open_behind o (before ++ c ∷ []) ≡ open_with (open_behind o before) c.spec
-open_behind-push o [] c = refl
-open_behind-push o (d ∷ ds) c = open_behind-push (open_with o d.spec) ds c
+pub open_after-push : (o : Option CalculationGroup) (before : List SpecCard) (c : SpecCard) → open_after o (before ++ c ∷ []) ≡ open_with (open_after o before) c.spec
+open_after-push o [] c = refl
+open_after-push o (d ∷ ds) c = open_after-push (open_with o d.spec) ds c
 
 -- ---- what ends on a card
 
@@ -50,14 +50,14 @@ begins-on before c after k e =
 -- ---- one card more
 
 calculations_from-push : (o : Option CalculationGroup) (before : List SpecCard) (c : SpecCard) (after : List SpecCard)
-    → calculations_from o (before ++ c ∷ []) after ≡ calculations_from o before (c ∷ after) ++ option_to_list (option_map calculation_of (group_at (open_behind o before) c after))
+    → calculations_from o (before ++ c ∷ []) after ≡ calculations_from o before (c ∷ after) ++ option_to_list (option_map calculation_of (group_at (open_after o before) c after))
 calculations_from-push o [] c after = append-nil (option_to_list (option_map calculation_of (group_at o c after)))
 calculations_from-push o (d ∷ ds) c after =
     let here = λ (rest : List SpecCard). option_to_list (option_map calculation_of (group_at o d rest)) in
     let own = open_with o d.spec in
     ap (λ rest. here rest ++ calculations_from own (ds ++ c ∷ []) after) (append_assoc ds (c ∷ []) after)
     ∙ ap (λ gs. here (ds ++ c ∷ after) ++ gs) (calculations_from-push own ds c after)
-    ∙ sym (append_assoc (here (ds ++ c ∷ after)) (calculations_from own ds (c ∷ after)) (option_to_list (option_map calculation_of (group_at (open_behind own ds) c after))))
+    ∙ sym (append_assoc (here (ds ++ c ∷ after)) (calculations_from own ds (c ∷ after)) (option_to_list (option_map calculation_of (group_at (open_after own ds) c after))))
 
 begun_count-append : (gs hs : List (Calculation Key)) → begun_count (gs ++ hs) ≡ begun_count gs + begun_count hs
 begun_count-append [] hs = omega arith
@@ -85,7 +85,7 @@ begun_count-push before c after =
 pub is_in_subroutine-push : (before : List SpecCard) (c : SpecCard) (m : Option CalculationSpec) → m ≡ calculation_on c.spec
     → is_in_subroutine (before ++ c ∷ []) ≡ option_map_or is_of_subroutine (option_map (group_with (open_calculation_group before)) m) false
 is_in_subroutine-push before c m is =
-    ap (λ g. option_map_or is_of_subroutine g false) (open_behind-push None before c) ∙ ap (λ k. option_map_or is_of_subroutine (option_map (group_with (open_calculation_group before)) k) false) (sym is)
+    ap (λ g. option_map_or is_of_subroutine g false) (open_after-push None before c) ∙ ap (λ k. option_map_or is_of_subroutine (option_map (group_with (open_calculation_group before)) k) false) (sym is)
 
 -- ---- what is counted
 

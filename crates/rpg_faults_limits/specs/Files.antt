@@ -47,8 +47,8 @@ bad_file before f =
 
 -- A card names a file of this use. Only after another card of its kind may it leave the name out.
 abbrev pub lacks_file : List SpecCard → (FileUse → Bool) → Bool → Option (List ℕ) → Bool
-lacks_file cards is_fit is_behind None = not is_behind
-lacks_file cards is_fit is_behind (Some name) = option_map_or (λ f. not (is_fit (file_use f))) (file_named name cards) true
+lacks_file cards is_fit is_following None = not is_following
+lacks_file cards is_fit is_following (Some name) = option_map_or (λ f. not (is_fit (file_use f))) (file_named name cards) true
 
 -- F7 of a card: its file is bad, or it names no file that it may have
 abbrev pub breaks_files : List SpecCard → List SpecCard → SpecCard → Bool

@@ -36,7 +36,7 @@ impl Calculations {
         Calculations {
             cards: self.cards + one_if(card.calculation().is_some()),
             subroutines: self.subroutines + one_if(self.begins(before, card, after)),
-            is_subroutine: self.is_subroutine_behind(before, card),
+            is_subroutine: self.is_subroutine_after(before, card),
         }
     }
 
@@ -54,7 +54,7 @@ impl Calculations {
     }
 
     /// Whether the card belongs to a group of an SR card.
-    fn is_subroutine_behind(self, before: &[SpecCard], card: &SpecCard) -> bool
+    fn is_subroutine_after(self, before: &[SpecCard], card: &SpecCard) -> bool
         requires { self.is_subroutine ≡ is_in_subroutine before.now }
         ensures { result ≡ is_in_subroutine (before.now ++ card.now ∷ []) }
     {

@@ -83,11 +83,11 @@ const fn longest(serves_as: FileUse) -> u16
     }
 }
 
-fn lacks_input_file(source: &IndexedCards, is_behind: bool, name: &Option<Word<8>>) -> bool
-    ensures { result ≡ files.lacks_file source.now known.is_input is_behind name.now }
+fn lacks_input_file(source: &IndexedCards, is_following: bool, name: &Option<Word<8>>) -> bool
+    ensures { result ≡ files.lacks_file source.now known.is_input is_following name.now }
 {
     match name {
-        None => !is_behind,
+        None => !is_following,
         Some(name) => !matches!(
             serves_as(source, name),
             Some(FileUse::Primary | FileUse::Secondary)
@@ -95,11 +95,11 @@ fn lacks_input_file(source: &IndexedCards, is_behind: bool, name: &Option<Word<8
     }
 }
 
-fn lacks_output_file(source: &IndexedCards, is_behind: bool, name: &Option<Word<8>>) -> bool
-    ensures { result ≡ files.lacks_file source.now known.is_output is_behind name.now }
+fn lacks_output_file(source: &IndexedCards, is_following: bool, name: &Option<Word<8>>) -> bool
+    ensures { result ≡ files.lacks_file source.now known.is_output is_following name.now }
 {
     match name {
-        None => !is_behind,
+        None => !is_following,
         Some(name) => !matches!(
             serves_as(source, name),
             Some(FileUse::Printer | FileUse::Disk)

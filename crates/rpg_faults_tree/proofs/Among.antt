@@ -2,7 +2,7 @@
 use Rattle.std.proofs.Common.{◌≡◌, Bool, true, false, cond, List, [], ◌∷◌, ◌++◌, Option, None, refl, ap, ◌∙◌}
 use Rattle.std.specs.List.{cons_option}
 use Rattle.std.specs.Option.{option_map, option_map_or, option_to_list}
-use Rattle.rpg_cards.specs.Calculations.{CalculationGroup, calculation_of, calculations_from, completed, goes_on, group_with, joined_group, open_behind}
+use Rattle.rpg_cards.specs.Calculations.{CalculationGroup, calculation_of, calculations_from, completed, goes_on, group_with, joined_group, open_after}
 use Rattle.rpg_cards.specs.Cards.{calculation_on, calculation_specs_in}
 use Rattle.rpg_cards.specs.Deeds.{Calculation}
 use Rattle.rpg_cards.specs.Groups.{joins}
@@ -36,9 +36,9 @@ nothing false = refl
 
 -- ---- before C cards
 
-pub open_none : (cs : List SpecCard) → NoC cs → open_behind None cs ≡ None
+pub open_none : (cs : List SpecCard) → NoC cs → open_after None cs ≡ None
 open_none [] none = refl
-open_none (c ∷ cs) none = ap (λ o. open_behind (option_map (group_with None) o) cs) none.0 ∙ open_none cs none.1
+open_none (c ∷ cs) none = ap (λ o. open_after (option_map (group_with None) o) cs) none.0 ∙ open_none cs none.1
 
 pub done_none : (cs after : List SpecCard) → NoC cs → (o : Option CalculationGroup) → calculations_from o cs after ≡ []
 done_none [] after none o = refl

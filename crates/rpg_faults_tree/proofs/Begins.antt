@@ -19,7 +19,7 @@ use Rattle.rpg_faults_tree.proofs.Among.{NoC, completed_none, emitted}
 use Rattle.rpg_faults_tree.proofs.Each.{each}
 use Rattle.rpg_faults_tree.proofs.Ends.{c_cards, with_cards}
 use Rattle.rpg_faults_tree.specs.Numbers.{one_if}
-use Rattle.rpg_faults_flow.proofs.Walk.{calculations_from-push, open_behind-push}
+use Rattle.rpg_faults_flow.proofs.Walk.{calculations_from-push, open_after-push}
 use Rattle.rpg_faults_flow.specs.Kept.{Rule}
 use Rattle.rpg_faults_flow.specs.Order.{breaks_group, is_outside_subroutine, section_rank}
 use Rattle.rpg_sheet_specs.specs.declared.calculation.CalculationSpec.{CalculationSpec}
@@ -75,7 +75,7 @@ module _ (post : List SpecCard) (none : NoC post) where
       ap (λ b. one_if b x.number ++ each at_start (before ++ c ∷ []) (c_cards xs) post) (same (joins x.spec.control_level))
       ∙ ap (λ ns. one_if (breaks (joins x.spec.control_level) (open_calculation_group before) (calculations_before before (rest (x ∷ xs))) (calculation_specs_in before) x.spec xs) x.number ++ ns)
       (by_state (before ++ c ∷ []) xs
-      ∙ ap (λ o. starts_on o (calculations_before (before ++ c ∷ []) (rest xs)) (calculation_specs_in (before ++ c ∷ [])) xs) (open_behind-push None before c)
+      ∙ ap (λ o. starts_on o (calculations_before (before ++ c ∷ []) (rest xs)) (calculation_specs_in (before ++ c ∷ [])) xs) (open_after-push None before c)
       ∙ ap (λ gs. starts_on (Some (group_with (open_calculation_group before) x.spec)) gs (calculation_specs_in (before ++ c ∷ [])) xs) (calculations_from-push None before c (rest xs))
       ∙ ap (λ ks. starts_on (Some (group_with (open_calculation_group before) x.spec)) (calculations_before before (rest (x ∷ xs)) ++ emitted (closed (group_with (open_calculation_group before) x.spec) xs)) ks xs)
       (filter_map-append (λ (d : SpecCard). calculation_on d.spec) before (c ∷ [])))

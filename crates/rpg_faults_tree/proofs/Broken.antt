@@ -155,20 +155,20 @@ output_field = strays.field_rule output_on spec.Output output_role is_output_lin
 input_same : (before : List SpecCard) (c : SpecCard) (after : List SpecCard) → either input_cut input_field before c after ≡ input_rule before c after
 input_same before c after = by (input_on c.spec)
   where
-    by : (o : Option InputSpec) → (option_map_or (λ x. is_and x && not (stray_rules.is_behind_codes before)) o false || option_map_or (λ x. is_input_field x && is_none (open_group input_role before)) o false) ≡ option_map_or (stray_rules.is_stray_input before) o false
+    by : (o : Option InputSpec) → (option_map_or (λ x. is_and x && not (stray_rules.follows_codes before)) o false || option_map_or (λ x. is_input_field x && is_none (open_group input_role before)) o false) ≡ option_map_or (stray_rules.is_stray_input before) o false
     by None = refl
     by (Some (input.Type t)) = refl
-    by (Some (input.And codes)) = sym (or_false (not (stray_rules.is_behind_codes before)))
+    by (Some (input.And codes)) = sym (or_false (not (stray_rules.follows_codes before)))
     by (Some (input.Field f)) = refl
 
 output_same : (before : List SpecCard) (c : SpecCard) (after : List SpecCard) → either output_cut output_field before c after ≡ output_rule before c after
 output_same before c after = by (output_on c.spec)
   where
-    by : (o : Option OutputSpec) → (option_map_or (λ x. is_and_or x && not (stray_rules.is_behind_conditions before)) o false || option_map_or (λ x. is_line_field x && is_none (open_group output_role before)) o false) ≡ option_map_or (stray_rules.is_stray_output before) o false
+    by : (o : Option OutputSpec) → (option_map_or (λ x. is_and_or x && not (stray_rules.follows_conditions before)) o false || option_map_or (λ x. is_line_field x && is_none (open_group output_role before)) o false) ≡ option_map_or (stray_rules.is_stray_output before) o false
     by None = refl
     by (Some (output.Record r)) = refl
-    by (Some (output.And t)) = sym (or_false (not (stray_rules.is_behind_conditions before)))
-    by (Some (output.Or t)) = sym (or_false (not (stray_rules.is_behind_conditions before)))
+    by (Some (output.And t)) = sym (or_false (not (stray_rules.follows_conditions before)))
+    by (Some (output.Or t)) = sym (or_false (not (stray_rules.follows_conditions before)))
     by (Some (output.Field f)) = refl
 
 -- a rule that says nothing of cards of other sheets
@@ -319,17 +319,17 @@ module _ (cards : List SpecCard) where
     given = steps.labels_of_steps (steps_in (tree cards))
 
     pub nowhere-broken : AreBroken (λ before c after. flow.goes_nowhere (before ++ c ∷ after) before c after) cards (lost_cards (tree cards))
-    nowhere-broken = broken-same (at_end (λ done g behind. flow.lacks_label given g)) _ cards (lost_cards (tree cards)) same (ends_broken (λ done g behind. flow.lacks_label given g) (λ s after. step_goes_nowhere given s) (nowhere_is given))
+    nowhere-broken = broken-same (at_end (λ done g following. flow.lacks_label given g)) _ cards (lost_cards (tree cards)) same (ends_broken (λ done g following. flow.lacks_label given g) (λ s after. step_goes_nowhere given s) (nowhere_is given))
       where
-        same : (before : List SpecCard) (c : SpecCard) (after : List SpecCard) → cards ≡ before ++ c ∷ after → at_end (λ done g behind. flow.lacks_label given g) before c after ≡ flow.goes_nowhere (before ++ c ∷ after) before c after
+        same : (before : List SpecCard) (c : SpecCard) (after : List SpecCard) → cards ≡ before ++ c ∷ after → at_end (λ done g following. flow.lacks_label given g) before c after ≡ flow.goes_nowhere (before ++ c ∷ after) before c after
         same before c after split =
             of_calculation (flow.lacks_label given) false (group_ending before c after)
             ∙ ap (λ ls. option_map_or (flow.lacks_label ls) (calculation_ending before c after) false) (sym given_labels ∙ ap (λ cs. old.labels (calculations cs)) split)
 
     pub apart-broken : AreBroken (λ before c after. flow.goes_apart (before ++ c ∷ after) before c after) cards (leaving_cards (tree cards))
-    apart-broken = broken-same (at_end (λ done g behind. flow.leaves_section given done g)) _ cards (leaving_cards (tree cards)) same (ends_broken (λ done g behind. flow.leaves_section given done g) (λ s after. step_leaves_section given s) (leaves_is given))
+    apart-broken = broken-same (at_end (λ done g following. flow.leaves_section given done g)) _ cards (leaving_cards (tree cards)) same (ends_broken (λ done g following. flow.leaves_section given done g) (λ s after. step_leaves_section given s) (leaves_is given))
       where
-        same : (before : List SpecCard) (c : SpecCard) (after : List SpecCard) → cards ≡ before ++ c ∷ after → at_end (λ done g behind. flow.leaves_section given done g) before c after ≡ flow.goes_apart (before ++ c ∷ after) before c after
+        same : (before : List SpecCard) (c : SpecCard) (after : List SpecCard) → cards ≡ before ++ c ∷ after → at_end (λ done g following. flow.leaves_section given done g) before c after ≡ flow.goes_apart (before ++ c ∷ after) before c after
         same before c after split =
             of_calculation (flow.leaves_section given (calculations_before before (c ∷ after))) false (group_ending before c after)
             ∙ ap (λ ls. option_map_or (flow.leaves_section ls (calculations_before before (c ∷ after))) (calculation_ending before c after) false) (sym given_labels ∙ ap (λ cs. old.labels (calculations cs)) split)
@@ -347,9 +347,9 @@ module _ (cards : List SpecCard) where
     of_call call (Some g) = refl
 
     pub recursion-broken : AreBroken (λ before c after. flow.calls_itself (before ++ c ∷ after) before c after) cards (recursive_cards (tree cards))
-    recursion-broken = broken-same (at_end (λ done g behind. flow.comes_back all_calls (old_calls.call_at given done g))) _ cards (recursive_cards (tree cards)) same (ends_broken (λ done g behind. flow.comes_back all_calls (old_calls.call_at given done g)) (λ s after. calls_back given all_calls s) (back_is given all_calls))
+    recursion-broken = broken-same (at_end (λ done g following. flow.comes_back all_calls (old_calls.call_at given done g))) _ cards (recursive_cards (tree cards)) same (ends_broken (λ done g following. flow.comes_back all_calls (old_calls.call_at given done g)) (λ s after. calls_back given all_calls s) (back_is given all_calls))
       where
-        same : (before : List SpecCard) (c : SpecCard) (after : List SpecCard) → cards ≡ before ++ c ∷ after → at_end (λ done g behind. flow.comes_back all_calls (old_calls.call_at given done g)) before c after ≡ flow.calls_itself (before ++ c ∷ after) before c after
+        same : (before : List SpecCard) (c : SpecCard) (after : List SpecCard) → cards ≡ before ++ c ∷ after → at_end (λ done g following. flow.comes_back all_calls (old_calls.call_at given done g)) before c after ≡ flow.calls_itself (before ++ c ∷ after) before c after
         same before c after split =
             of_call (old_calls.call_at given (calculations_before before (c ∷ after))) (group_ending before c after)
             ∙ ap (λ ps. flow.comes_back ps (option_and_then (old_calls.call_at given (calculations_before before (c ∷ after))) (calculation_ending before c after))) (sym given_calls ∙ ap (λ cs. old_calls.calls (calculations cs)) split)
@@ -361,7 +361,7 @@ module _ (cards : List SpecCard) where
     inputs_broken =
         broken-either input_cut input_field cards _ _
         (by-each input_cut cards (cut_off_in is_and takes_codes (tree cards).types)
-        (flat_cards input_cut ∙ at_i input_cut (λ before c after none. ap (λ o. option_map_or (λ x. is_and x && not (stray_rules.is_behind_codes before)) o false) none)
+        (flat_cards input_cut ∙ at_i input_cut (λ before c after none. ap (λ o. option_map_or (λ x. is_and x && not (stray_rules.follows_codes before)) o false) none)
         ∙ strays.cut-are input_on spec.Input input_role is_type is_and takes_codes is_input_field input_sheet up_to_e no_input (cards_on input_on cards) (from_c ++ [])))
         (by-each input_field cards (passing_numbers is_input_field (tree cards).types.strays)
         (flat_cards input_field ∙ at_i input_field (λ before c after none. ap (λ o. option_map_or (λ x. is_input_field x && is_none (open_group input_role before)) o false) none)
@@ -371,7 +371,7 @@ module _ (cards : List SpecCard) where
     outputs_broken =
         broken-either output_cut output_field cards _ _
         (by-each output_cut cards (cut_off_in is_and_or takes_conditions (tree cards).lines)
-        (flat_cards output_cut ∙ at_o output_cut (λ before c after none. ap (λ o. option_map_or (λ x. is_and_or x && not (stray_rules.is_behind_conditions before)) o false) none)
+        (flat_cards output_cut ∙ at_o output_cut (λ before c after none. ap (λ o. option_map_or (λ x. is_and_or x && not (stray_rules.follows_conditions before)) o false) none)
         ∙ strays.cut-are output_on spec.Output output_role is_output_line is_and_or takes_conditions is_line_field output_sheet (up_to_i ++ c_cards all_c) no_output (cards_on output_on cards) (sheet data_on spec.Data cards ++ [])))
         (by-each output_field cards (passing_numbers is_line_field (tree cards).lines.strays)
         (flat_cards output_field ∙ at_o output_field (λ before c after none. ap (λ o. option_map_or (λ x. is_line_field x && is_none (open_group output_role before)) o false) none)

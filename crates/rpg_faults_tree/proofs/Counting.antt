@@ -2,10 +2,10 @@
 use Rattle.std.proofs.Common.{◌≡◌, ℕ, ◌+◌, ◌≤◌, ◌*◌, Bool, false, cond, List, [], ◌∷◌, ◌++◌, length, Option, Some, None, refl, sym, ap, ◌∙◌, arith, append_assoc, append-nil, length-append}
 use Rattle.std.specs.Option.{option_and_then, option_map, option_map_or, option_to_list}
 use Rattle.std.specs.Prelude.{is_some}
-use Rattle.rpg_cards.specs.Calculations.{CalculationGroup, calculation_of, calculations_before, calculations_from, calculations, card_ending, group_at, group_with, last_card, open_behind, open_calculation_group, open_with}
+use Rattle.rpg_cards.specs.Calculations.{CalculationGroup, calculation_of, calculations_before, calculations_from, calculations, card_ending, group_at, group_with, last_card, open_after, open_calculation_group, open_with}
 use Rattle.rpg_cards.specs.Deeds.{Calculation, deed_of}
 use Rattle.rpg_cards.specs.Keys.{Key}
-use Rattle.rpg_cards.specs.Labels.{gives, label_at, labels, labels_behind}
+use Rattle.rpg_cards.specs.Labels.{gives, label_at, labels, labels_after}
 use Rattle.rpg_cards.specs.declared.labels.Label.{Label}
 use Rattle.rpg_cards.specs.declared.labels.Named.{Named}
 use Rattle.rpg_cards.proofs.ItemLemmas.{definitions-push, few_definitions}
@@ -20,15 +20,15 @@ use Rattle.rpg_sheet_specs.specs.declared.calculation.CalculationSpec.{Calculati
 
 -- ---- one more label
 
-pub labels_behind-append : (before gs hs : List (Calculation Key)) → labels_behind before (gs ++ hs) ≡ labels_behind before gs ++ labels_behind (before ++ gs) hs
-labels_behind-append before [] hs = ap (λ (b : List (Calculation Key)). labels_behind b hs) (sym (append-nil before))
-labels_behind-append before (g ∷ gs) hs =
-    ap (λ (ls : List Label). option_to_list (label_at before g) ++ ls) (labels_behind-append (before ++ g ∷ []) gs hs)
-    ∙ sym (append_assoc (option_to_list (label_at before g)) (labels_behind (before ++ g ∷ []) gs) (labels_behind ((before ++ g ∷ []) ++ gs) hs))
-    ∙ ap (λ (b : List (Calculation Key)). (option_to_list (label_at before g) ++ labels_behind (before ++ g ∷ []) gs) ++ labels_behind b hs) (append_assoc before (g ∷ []) gs)
+pub labels_after-append : (before gs hs : List (Calculation Key)) → labels_after before (gs ++ hs) ≡ labels_after before gs ++ labels_after (before ++ gs) hs
+labels_after-append before [] hs = ap (λ (b : List (Calculation Key)). labels_after b hs) (sym (append-nil before))
+labels_after-append before (g ∷ gs) hs =
+    ap (λ (ls : List Label). option_to_list (label_at before g) ++ ls) (labels_after-append (before ++ g ∷ []) gs hs)
+    ∙ sym (append_assoc (option_to_list (label_at before g)) (labels_after (before ++ g ∷ []) gs) (labels_after ((before ++ g ∷ []) ++ gs) hs))
+    ∙ ap (λ (b : List (Calculation Key)). (option_to_list (label_at before g) ++ labels_after (before ++ g ∷ []) gs) ++ labels_after b hs) (append_assoc before (g ∷ []) gs)
 
 labels-push : (gs : List (Calculation Key)) (g : Calculation Key) → labels (gs ++ g ∷ []) ≡ labels gs ++ option_to_list (label_at gs g)
-labels-push gs g = labels_behind-append [] gs (g ∷ []) ∙ ap (λ (ls : List Label). labels gs ++ ls) (append-nil (option_to_list (label_at gs g)))
+labels-push gs g = labels_after-append [] gs (g ∷ []) ∙ ap (λ (ls : List Label). labels gs ++ ls) (append-nil (option_to_list (label_at gs g)))
 
 abbrev pub one_if : Bool → ℕ
 one_if b = cond b 1 0
@@ -81,12 +81,12 @@ few_calculations o (c ∷ cs) after =
     let all = length-append (option_to_list (option_map calculation_of (group_at o c (cs ++ after)))) (calculations_from (open_with o c.spec) cs after) in
     omega arith
 
-few_labels : (before gs : List (Calculation Key)) → length (labels_behind before gs) ≤ length gs
+few_labels : (before gs : List (Calculation Key)) → length (labels_after before gs) ≤ length gs
 few_labels before [] = omega arith
 few_labels before (g ∷ gs) =
     let rest = few_labels (before ++ g ∷ []) gs in
     let one = at_most_one (label_at before g) in
-    let all = length-append (option_to_list (label_at before g)) (labels_behind (before ++ g ∷ []) gs) in
+    let all = length-append (option_to_list (label_at before g)) (labels_after (before ++ g ∷ []) gs) in
     omega arith
 
 pub record AreFew (most : ℕ) (n : Counts) : Type 0 where
@@ -115,15 +115,15 @@ counts_with before c after n new was given defined = record {
 pub calculations_split : (before : List SpecCard) (c : SpecCard) (after : List SpecCard) → calculations (before ++ c ∷ after) ≡ front before c after ++ calculations_from (open_calculation_group before) (c ∷ after) []
 calculations_split before c after = by None before
   where
-    by : (o : Option CalculationGroup) (b : List SpecCard) → calculations_from o (b ++ c ∷ after) [] ≡ calculations_from o b (c ∷ after) ++ calculations_from (open_behind o b) (c ∷ after) []
+    by : (o : Option CalculationGroup) (b : List SpecCard) → calculations_from o (b ++ c ∷ after) [] ≡ calculations_from o b (c ∷ after) ++ calculations_from (open_after o b) (c ∷ after) []
     by o [] = refl
     by o (d ∷ ds) =
         ap (λ (gs : List (Calculation Key)). ended o d ((ds ++ c ∷ after) ++ []) ++ gs) (by (open_with o d.spec) ds)
-        ∙ sym (append_assoc (ended o d ((ds ++ c ∷ after) ++ [])) (calculations_from (open_with o d.spec) ds (c ∷ after)) (calculations_from (open_behind (open_with o d.spec) ds) (c ∷ after) []))
-        ∙ ap (λ (cs : List SpecCard). (ended o d cs ++ calculations_from (open_with o d.spec) ds (c ∷ after)) ++ calculations_from (open_behind (open_with o d.spec) ds) (c ∷ after) []) (append-nil (ds ++ c ∷ after))
+        ∙ sym (append_assoc (ended o d ((ds ++ c ∷ after) ++ [])) (calculations_from (open_with o d.spec) ds (c ∷ after)) (calculations_from (open_after (open_with o d.spec) ds) (c ∷ after) []))
+        ∙ ap (λ (cs : List SpecCard). (ended o d cs ++ calculations_from (open_with o d.spec) ds (c ∷ after)) ++ calculations_from (open_after (open_with o d.spec) ds) (c ∷ after) []) (append-nil (ds ++ c ∷ after))
 
-abbrev pub labels_behind_front : List SpecCard → SpecCard → List SpecCard → List Label
-labels_behind_front before c after = labels_behind (front before c after) (calculations_from (open_calculation_group before) (c ∷ after) [])
+abbrev pub labels_after_front : List SpecCard → SpecCard → List SpecCard → List Label
+labels_after_front before c after = labels_after (front before c after) (calculations_from (open_calculation_group before) (c ∷ after) [])
 
-pub labels_split : (before : List SpecCard) (c : SpecCard) (after : List SpecCard) → labels (calculations (before ++ c ∷ after)) ≡ labels (front before c after) ++ labels_behind_front before c after
-labels_split before c after = ap labels (calculations_split before c after) ∙ labels_behind-append [] (front before c after) (calculations_from (open_calculation_group before) (c ∷ after) [])
+pub labels_split : (before : List SpecCard) (c : SpecCard) (after : List SpecCard) → labels (calculations (before ++ c ∷ after)) ≡ labels (front before c after) ++ labels_after_front before c after
+labels_split before c after = ap labels (calculations_split before c after) ∙ labels_after-append [] (front before c after) (calculations_from (open_calculation_group before) (c ∷ after) [])

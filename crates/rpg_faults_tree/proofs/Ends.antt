@@ -17,7 +17,7 @@ use Rattle.rpg_deck.specs.declared.card.Card.{Card}
 use Rattle.rpg_faults_tree.proofs.Among.{NoC, done_none, emitted, goes_nowhere_on}
 use Rattle.rpg_faults_tree.proofs.Each.{each}
 use Rattle.rpg_faults_tree.specs.Numbers.{one_if}
-use Rattle.rpg_faults_flow.proofs.Walk.{calculations_from-push, open_behind-push}
+use Rattle.rpg_faults_flow.proofs.Walk.{calculations_from-push, open_after-push}
 use Rattle.rpg_faults_flow.specs.Kept.{Rule}
 use Rattle.rpg_sheet_specs.specs.declared.calculation.CalculationSpec.{CalculationSpec}
 use Rattle.rpg_sheet_specs.specs.declared.spec.Spec.TheVariants as spec
@@ -101,7 +101,7 @@ module _ (test : Test) where
         let c : SpecCard = record { number = x.number; spec = spec.Calculation x.spec } in
         ap (λ ns. here (calculations_before before (rest (x ∷ xs))) (group_with (open_calculation_group before) x.spec) x.number xs ++ ns)
         (by_state (before ++ c ∷ []) xs
-        ∙ ap (λ o. ends_on o (calculations_before (before ++ c ∷ []) (rest xs)) xs) (open_behind-push None before c)
+        ∙ ap (λ o. ends_on o (calculations_before (before ++ c ∷ []) (rest xs)) xs) (open_after-push None before c)
         ∙ ap (λ gs. ends_on (Some (group_with (open_calculation_group before) x.spec)) gs xs) (calculations_from-push None before c (rest xs)))
 
     abbrev then_on : CalculationGroup → ℕ → List (Calculation Key) → List (Card CalculationSpec) → List ℕ

@@ -32,16 +32,16 @@ module _ (name : Name) where
       by true more = grind (arith, nat_tests)
       by false more = more
 
-  place_find : (i n : ℕ) (front behind : List Label) → n ≡ i + length front
-      → option_map_or (λ f. nat_lt f.place n) (first_at (is_for name) first_label i (front ++ behind)) false ≡ is_some (label_named name front)
-  place_find i n [] behind h = not_before i n behind (omega arith)
-  place_find i n (l ∷ ls) behind h = by (is_for name l) (place_find (i + 1) n ls behind (omega arith))
+  place_find : (i n : ℕ) (front following : List Label) → n ≡ i + length front
+      → option_map_or (λ f. nat_lt f.place n) (first_at (is_for name) first_label i (front ++ following)) false ≡ is_some (label_named name front)
+  place_find i n [] following h = not_before i n following (omega arith)
+  place_find i n (l ∷ ls) following h = by (is_for name l) (place_find (i + 1) n ls following (omega arith))
     where
       low : nat_lt i n ≡ true
       low = grind (arith, nat_tests)
 
-      by : (b : Bool) → option_map_or (λ f. nat_lt f.place n) (first_at (is_for name) first_label (i + 1) (ls ++ behind)) false ≡ is_some (label_named name ls)
-          → option_map_or (λ f. nat_lt f.place n) (cond b (Some (first_label i l)) (first_at (is_for name) first_label (i + 1) (ls ++ behind))) false ≡ is_some (cond b (Some l) (label_named name ls))
+      by : (b : Bool) → option_map_or (λ f. nat_lt f.place n) (first_at (is_for name) first_label (i + 1) (ls ++ following)) false ≡ is_some (label_named name ls)
+          → option_map_or (λ f. nat_lt f.place n) (cond b (Some (first_label i l)) (first_at (is_for name) first_label (i + 1) (ls ++ following))) false ≡ is_some (cond b (Some l) (label_named name ls))
       by true more = low
       by false more = more
 
@@ -49,6 +49,6 @@ module _ (name : Name) where
     pub found_target : (ls : List Label) → IsLabelIndex names ls → option_map (λ f. f.target) o ≡ option_map label_target (label_named name ls)
     found_target ls index = ap (option_map (λ f. f.target)) (found ∙ index name) ∙ first_find 0 ls
 
-    pub found_place : (ls front behind : List Label) (n : ℕ) → IsLabelIndex names ls → ls ≡ front ++ behind → n ≡ length front → option_map_or (λ f. nat_lt f.place n) o false ≡ is_some (label_named name front)
-    found_place ls front behind n index split h =
-        ap (λ x. option_map_or (λ f. nat_lt f.place n) x false) (found ∙ index name ∙ ap (first_at (is_for name) first_label 0) split) ∙ place_find 0 n front behind (omega arith)
+    pub found_place : (ls front following : List Label) (n : ℕ) → IsLabelIndex names ls → ls ≡ front ++ following → n ≡ length front → option_map_or (λ f. nat_lt f.place n) o false ≡ is_some (label_named name front)
+    found_place ls front following n index split h =
+        ap (λ x. option_map_or (λ f. nat_lt f.place n) x false) (found ∙ index name ∙ ap (first_at (is_for name) first_label 0) split) ∙ place_find 0 n front following (omega arith)

@@ -18,7 +18,7 @@ use Rattle.rpg_faults_tree.proofs.Each.{each}
 use Rattle.rpg_faults_tree.proofs.Ends.{c_cards}
 use Rattle.rpg_faults_tree.specs.Numbers.{one_if}
 use Rattle.rpg_faults_tree.specs.Rounding as tree
-use Rattle.rpg_faults_flow.proofs.Walk.{open_behind-push}
+use Rattle.rpg_faults_flow.proofs.Walk.{open_after-push}
 use Rattle.rpg_faults_flow.specs.Rounding.{bad_rounding, is_remainder, leaves_remainder, may_half_adjust, operation_passes}
 use Rattle.rpg_sheet_specs.specs.declared.calculation.CalculationSpec.{CalculationSpec}
 use Rattle.rpg_sheet_specs.specs.declared.spec.Spec.TheVariants as spec
@@ -46,7 +46,7 @@ module _ (post : List SpecCard) (none : NoC post) where
   by_state before (x ∷ xs) =
       let c : SpecCard = record { number = x.number; spec = spec.Calculation x.spec } in
       ap (λ ns. one_if (wrong (divides (open_calculation_group before)) x.spec (cond (goes_on (rest xs)) None (Some x.spec))) x.number ++ ns)
-      (by_state (before ++ c ∷ []) xs ∙ ap (λ o. rounds_on o xs) (open_behind-push None before c))
+      (by_state (before ++ c ∷ []) xs ∙ ap (λ o. rounds_on o xs) (open_after-push None before c))
 
   -- a card that isn't the last of its group
 

@@ -56,17 +56,17 @@ pub ends-steps : (test : Test) (of : Step → List Step → Bool) → IsTestOf t
 ends-steps test of same gs = ends_of test of same gs steps.before_calculations [] (record { begun = refl; own = refl })
 
 -- F10
-pub nowhere_is : (given : List Label) → IsTestOf (λ done g behind. flow.lacks_label given g) (λ s after. step_goes_nowhere given s)
+pub nowhere_is : (given : List Label) → IsTestOf (λ done g following. flow.lacks_label given g) (λ s after. step_goes_nowhere given s)
 nowhere_is given p done g gs m = ap (λ d. option_map_or (λ n. not (is_given_as given n)) (wants d) false) (same_deed g)
 
 -- F13
-pub leaves_is : (given : List Label) → IsTestOf (λ done g behind. flow.leaves_section given done g) (λ s after. step_leaves_section given s)
+pub leaves_is : (given : List Label) → IsTestOf (λ done g following. flow.leaves_section given done g) (λ s after. step_leaves_section given s)
 leaves_is given p done g gs m =
     ap (λ x. option_map_or (λ (n : Named). option_map_or (leaves_by x n) (label_named n.name given) false) (wants (calculation_in g).deed) false) (same_section p done g m)
     ∙ ap (λ d. option_map_or (λ (n : Named). option_map_or (leaves_by (section_of_group p g) n) (label_named n.name given) false) (wants d) false) (same_deed g)
 
 -- F14
-pub back_is : (given : List Label) (all : List (ℕ × ℕ)) → IsTestOf (λ done g behind. flow.comes_back all (call_at given done g)) (λ s after. calls_back given all s)
+pub back_is : (given : List Label) (all : List (ℕ × ℕ)) → IsTestOf (λ done g following. flow.comes_back all (call_at given done g)) (λ s after. calls_back given all s)
 back_is given all p done g gs m =
     ap (λ x. flow.comes_back all (option_and_then (λ caller. option_map (λ callee. (caller, callee)) (option_and_then (called_subroutine given) (wants (calculation_in g).deed))) (subroutine_in x))) (same_section p done g m)
     ∙ ap (λ d. flow.comes_back all (option_and_then (λ caller. option_map (λ callee. (caller, callee)) (option_and_then (called_subroutine given) (wants d))) (subroutine_in (section_of_group p g)))) (same_deed g)

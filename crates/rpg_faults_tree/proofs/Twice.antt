@@ -19,7 +19,7 @@ use Rattle.rpg_deck.specs.Steps as steps
 use Rattle.rpg_deck.specs.Steps.{steps_in}
 use Rattle.rpg_deck.specs.Tree.{tree}
 use Rattle.rpg_faults_flow.proofs.Ending.{asked}
-use Rattle.rpg_faults_tree.proofs.Counting.{front, labels_behind_front, labels_split}
+use Rattle.rpg_faults_tree.proofs.Counting.{front, labels_after_front, labels_split}
 use Rattle.rpg_faults_flow.specs.Flow.{gives_again, is_defined}
 use Rattle.rpg_faults_tree.specs.Counted.{AreCounts}
 use Rattle.rpg_faults_tree.specs.declared.counts.Counts.{Counts}
@@ -60,6 +60,6 @@ module _ (before : List SpecCard) (c : SpecCard) (after : List SpecCard) where
       ∙ double_not (is_defined name (definitions (before ++ c ∷ [])))
 
 -- the labels before a card are the first of the steps
-pub labels_of_steps : (cards before : List SpecCard) (c : SpecCard) (after : List SpecCard) → IsInOrder 0 cards → cards ≡ before ++ c ∷ after → steps.labels_of_steps (steps_in (tree cards)) ≡ labels (front before c after) ++ labels_behind_front before c after
+pub labels_of_steps : (cards before : List SpecCard) (c : SpecCard) (after : List SpecCard) → IsInOrder 0 cards → cards ≡ before ++ c ∷ after → steps.labels_of_steps (steps_in (tree cards)) ≡ labels (front before c after) ++ labels_after_front before c after
 labels_of_steps cards before c after ordered split =
     sym (ap labels (calculations-are 0 cards ordered) ∙ labels-are (tree cards).calculations) ∙ ap (λ cs. labels (calculations cs)) split ∙ labels_split before c after

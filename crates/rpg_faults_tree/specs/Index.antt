@@ -67,7 +67,7 @@ TellsTarget l name answer = (ss : List Step) → AreLabelsOf ss l → answer ≡
 -- the answer is whether one of so many labels at the front has the name
 abbrev pub TellsFront : Labels → Name → ℕ → Bool → Type 0
 TellsFront l name count answer =
-    (ss : List Step) → (front behind : List Label) → AreLabelsOf ss l → labels_of_steps ss ≡ front ++ behind → count ≡ length front → answer ≡ is_some (label_named name front)
+    (ss : List Step) → (front following : List Label) → AreLabelsOf ss l → labels_of_steps ss ≡ front ++ following → count ≡ length front → answer ≡ is_some (label_named name front)
 
 -- the answer is whether the call of a step leads back to its own subroutine
 abbrev pub TellsRecursion : Labels → Step → Bool → Type 0

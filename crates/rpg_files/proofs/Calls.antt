@@ -96,30 +96,30 @@ ends_told limit count left all bytes new r (Err fault.TooMany) no_record told gi
 record Follows (limit count left : ℕ) (old : Input) (bytes : List ℕ) (rs : List (List ℕ)) (new : Input) : Type 0 where
   more : ℕ
   all : (count + length rs) + more ≡ max_records
-  behind : List ℕ
-  known : IsKnown new behind
-  given : given_of limit left (records (old.buffered ++ bytes)) ≡ rs ++ given_of limit more (records (new.buffered ++ behind))
-  last : last_of limit left (records (old.buffered ++ bytes)) ≡ last_of limit more (records (new.buffered ++ behind))
+  following : List ℕ
+  known : IsKnown new following
+  given : given_of limit left (records (old.buffered ++ bytes)) ≡ rs ++ given_of limit more (records (new.buffered ++ following))
+  last : last_of limit left (records (old.buffered ++ bytes)) ≡ last_of limit more (records (new.buffered ++ following))
 
 -- one record more, before those that follow
-one_more_given : (limit count left m : ℕ) (old mid new : Input) (bytes behind r : List ℕ) (rs : List (List ℕ)) → left ≡ suc m → is_good limit r ≡ true
-    → records (old.buffered ++ bytes) ≡ r ∷ records (mid.buffered ++ behind) → Follows limit (count + 1) m mid behind rs new → Follows limit count left old bytes (r ∷ rs) new
-one_more_given limit count left m old mid new bytes behind r rs parts good first later =
-    let same : given_of limit left (records (old.buffered ++ bytes)) ≡ given_of limit (suc m) (r ∷ records (mid.buffered ++ behind)) = rw (parts, first) refl in
-    let same_last : last_of limit left (records (old.buffered ++ bytes)) ≡ last_of limit (suc m) (r ∷ records (mid.buffered ++ behind)) = rw (parts, first) refl in
+one_more_given : (limit count left m : ℕ) (old mid new : Input) (bytes following r : List ℕ) (rs : List (List ℕ)) → left ≡ suc m → is_good limit r ≡ true
+    → records (old.buffered ++ bytes) ≡ r ∷ records (mid.buffered ++ following) → Follows limit (count + 1) m mid following rs new → Follows limit count left old bytes (r ∷ rs) new
+one_more_given limit count left m old mid new bytes following r rs parts good first later =
+    let same : given_of limit left (records (old.buffered ++ bytes)) ≡ given_of limit (suc m) (r ∷ records (mid.buffered ++ following)) = rw (parts, first) refl in
+    let same_last : last_of limit left (records (old.buffered ++ bytes)) ≡ last_of limit (suc m) (r ∷ records (mid.buffered ++ following)) = rw (parts, first) refl in
     record {
       more = later.more;
       all = let counts = later.all in omega arith;
-      behind = later.behind;
+      following = later.following;
       known = later.known;
-      given = same ∙ given_more limit m r (records (mid.buffered ++ behind)) good ∙ ap (λ (rest : List (List ℕ)). r ∷ rest) later.given;
-      last = same_last ∙ last_more limit m r (records (mid.buffered ++ behind)) good ∙ later.last;
+      given = same ∙ given_more limit m r (records (mid.buffered ++ following)) good ∙ ap (λ (rest : List (List ℕ)). r ∷ rest) later.given;
+      last = same_last ∙ last_more limit m r (records (mid.buffered ++ following)) good ∙ later.last;
     }
 
 follows : (limit count left : ℕ) → count + left ≡ max_records → (old : Input) (bytes : List ℕ) → IsKnown old bytes → (rs : List (List ℕ)) (new : Input) → GivesAll limit count rs old new
     → Follows limit count left old bytes rs new
 follows limit count left all old bytes known [] new gives =
-    subst (λ (input : Input). Follows limit count left old bytes [] input) (sym gives) (record { more = left; all = omega arith; behind = bytes; known = known; given = refl; last = refl })
+    subst (λ (input : Input). Follows limit count left old bytes [] input) (sym gives) (record { more = left; all = omega arith; following = bytes; known = known; given = refl; last = refl })
 follows limit count left all old bytes known (r ∷ rs) new gives =
     let step = leaves old gives.0 bytes (GivesNext limit count r (Ok next.Record)) known gives.1 in
     let parts : left ≡ suc (left - 1) = let lt = step.fact.0 in omega arith in
@@ -132,14 +132,14 @@ pub first_told : (limit : ℕ) (bytes : List ℕ) (rs : List (List ℕ)) (new : 
     → (more : List (List ℕ)) × (given_records limit (records bytes) ≡ rs ++ more)
 first_told limit bytes rs new gives =
     let done = from_start limit bytes rs new gives in
-    (given_of limit done.more (records (new.buffered ++ done.behind)), done.given)
+    (given_of limit done.more (records (new.buffered ++ done.following)), done.given)
 
 pub all_told : (limit : ℕ) (bytes : List ℕ) (rs : List (List ℕ)) (mid new : Input) (r : List ℕ) (last : Result Next ReadFault) → GivesAll limit 0 rs (input_with bytes) mid
     → Advances mid new (GivesNext limit (length rs) r last) → is_record last ≡ false → is_device_fault last ≡ false
     → (rs ≡ given_records limit (records bytes)) × (last ≡ last_answer limit (records bytes))
 all_told limit bytes rs mid new r last gives adv no_record no_fault =
     let done = from_start limit bytes rs mid gives in
-    let step = leaves mid new done.behind (GivesNext limit (length rs) r last) done.known adv in
+    let step = leaves mid new done.following (GivesNext limit (length rs) r last) done.known adv in
     let counts : length rs + done.more ≡ max_records = let all = done.all in omega arith in
-    let told = ends_told limit (length rs) done.more counts (mid.buffered ++ done.behind) (new.buffered ++ step.left) r last no_record no_fault step.fact in
-    (sym (done.given ∙ ap (λ (behind : List (List ℕ)). rs ++ behind) (sym told.0) ∙ append-nil rs), told.1 ∙ sym done.last)
+    let told = ends_told limit (length rs) done.more counts (mid.buffered ++ done.following) (new.buffered ++ step.left) r last no_record no_fault step.fact in
+    (sym (done.given ∙ ap (λ (following : List (List ℕ)). rs ++ following) (sym told.0) ∙ append-nil rs), told.1 ∙ sym done.last)

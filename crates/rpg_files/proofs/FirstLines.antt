@@ -24,10 +24,10 @@ cut_before xs more zero = refl
 cut_before [] more (suc n) = refl
 cut_before (x ∷ xs) more (suc n) = ap (λ (ys : List ℕ). x ∷ ys) (cut_before xs more n)
 
-behind_cut : (xs more : List ℕ) (n : ℕ) → n < length xs → drop n xs ++ more ≡ get_or xs n 0 ∷ (drop (suc n) xs ++ more)
-behind_cut [] more n lt = absurd (omega arith)
-behind_cut (x ∷ xs) more zero lt = refl
-behind_cut (x ∷ xs) more (suc n) lt = behind_cut xs more n (omega arith)
+after_cut : (xs more : List ℕ) (n : ℕ) → n < length xs → drop n xs ++ more ≡ get_or xs n 0 ∷ (drop (suc n) xs ++ more)
+after_cut [] more n lt = absurd (omega arith)
+after_cut (x ∷ xs) more zero lt = refl
+after_cut (x ∷ xs) more (suc n) lt = after_cut xs more n (omega arith)
 
 good_front : (limit : ℕ) (xs : List ℕ) (n : ℕ) → n ≤ length xs → n ≤ limit → list_all is_character (take n xs) ≡ true → is_good limit (take n xs) ≡ true
 good_front limit xs n within short all = and_from _ _ (le-leb _ _ (omega (arith, length-take-le n xs within))) all
@@ -50,11 +50,11 @@ return_ends limit xs n lt short all return feed' = let feed : get_or xs (suc n) 
   within = omega arith;
   good = good_front limit xs n (omega arith) short all;
   first = λ more.
-      let behind = drop (suc (suc n)) xs ++ more in
-      let at : get_or xs n 0 ∷ (drop (suc n) xs ++ more) ≡ 13 ∷ 10 ∷ behind =
-      ap (λ (b : ℕ). b ∷ (drop (suc n) xs ++ more)) return ∙ ap (λ (ys : List ℕ). 13 ∷ ys) (behind_cut xs more (suc n) (omega arith) ∙ ap (λ (b : ℕ). b ∷ behind) feed) in
+      let following = drop (suc (suc n)) xs ++ more in
+      let at : get_or xs n 0 ∷ (drop (suc n) xs ++ more) ≡ 13 ∷ 10 ∷ following =
+      ap (λ (b : ℕ). b ∷ (drop (suc n) xs ++ more)) return ∙ ap (λ (ys : List ℕ). 13 ∷ ys) (after_cut xs more (suc n) (omega arith) ∙ ap (λ (b : ℕ). b ∷ following) feed) in
       let two : suc (suc n) ≡ n + 2 = omega arith in
-      ap records (cut_at xs more n (omega arith) ∙ ap (λ (ys : List ℕ). take n xs ++ ys) at) ∙ return_first (take n xs) behind all
+      ap records (cut_at xs more n (omega arith) ∙ ap (λ (ys : List ℕ). take n xs ++ ys) at) ∙ return_first (take n xs) following all
       ∙ ap (λ (k : ℕ). take n xs ∷ records (drop k xs ++ more)) two;
 }
 
@@ -71,16 +71,16 @@ neither_ends limit xs n lt all other no_feed no_return more = other_ends limit x
 pub lone_return_ends : (limit : ℕ) (xs : List ℕ) (n : ℕ) → n + 1 < length xs → list_all is_character (take n xs) ≡ true → is_character (get_or xs n 0) ≡ false → get_or xs n 0 ≢ 10 → get_or xs (n + 1) 0 ≢ 10
     → (more : List ℕ) → BeginsBad limit (xs ++ more)
 lone_return_ends limit xs n lt all other no_feed no_feed_at more =
-    let no_feed_behind : get_or xs (suc n) 0 ≢ 10 = rw add-one at no_feed_at in
+    let no_feed_after : get_or xs (suc n) 0 ≢ 10 = rw add-one at no_feed_at in
     other_ends limit xs n (omega arith) all other no_feed
-    (λ m. and_right _ _ (subst (λ (ys : List ℕ). begins_with_line_feed ys ≡ false) (sym (behind_cut xs m (suc n) (omega arith))) (ne_eqb _ _ no_feed_behind))) more
+    (λ m. and_right _ _ (subst (λ (ys : List ℕ). begins_with_line_feed ys ≡ false) (sym (after_cut xs m (suc n) (omega arith))) (ne_eqb _ _ no_feed_after))) more
 
 pub too_long : (limit : ℕ) (xs : List ℕ) (n : ℕ) → n ≤ length xs → limit < n → list_all is_character (take n xs) ≡ true → (more : List ℕ) → BeginsBad limit (xs ++ more)
 too_long limit xs n within long all more =
     subst (BeginsBad limit) (sym (cut_before xs more n)) (long_begins_bad limit (take n xs) (drop n xs ++ more) all (omega (arith, length-take-le n xs within)))
 
 pub open_whole : (limit : ℕ) (xs : List ℕ) (n : ℕ) → n ≡ length xs → n ≤ limit → list_all is_character (take n xs) ≡ true → IsIncomplete limit xs n
-open_whole limit xs n whole short all = record { short = short; within = omega arith; characters = all; behind = inl (drop_all n xs (omega arith)) }
+open_whole limit xs n whole short all = record { short = short; within = omega arith; characters = all; following = inl (drop_all n xs (omega arith)) }
 
 last_byte : (xs : List ℕ) (n : ℕ) → n < length xs → length xs ≤ n + 1 → drop n xs ≡ get_or xs n 0 ∷ []
 last_byte [] n lt last = absurd (omega arith)
@@ -90,15 +90,15 @@ last_byte (x ∷ xs) (suc n) lt last = last_byte xs n (omega arith) (omega arith
 
 -- characters, and characters after them
 pub joined : (xs : List ℕ) (a n : ℕ) → list_all is_character (take a xs) ≡ true → list_all is_character (take n (take (length xs - a) (drop a xs))) ≡ true → list_all is_character (take (a + n) xs) ≡ true
-joined xs a n first behind =
-    let all_behind : list_all is_character (take n (drop a xs)) ≡ true = rw (take_rest xs a) at behind in
-    rw (take-add a n xs, list_all-append is_character (take a xs) (take n (drop a xs))) (and_from _ _ first all_behind)
+joined xs a n first following =
+    let all_after : list_all is_character (take n (drop a xs)) ≡ true = rw (take_rest xs a) at following in
+    rw (take-add a n xs, list_all-append is_character (take a xs) (take n (drop a xs))) (and_from _ _ first all_after)
 
 -- the same of a slice after them
 pub joined_slice : (xs : List ℕ) (a n : ℕ) → list_all is_character (take a xs) ≡ true → list_all is_character (take (a + n - a) (drop a xs)) ≡ true → list_all is_character (take (a + n) xs) ≡ true
-joined_slice xs a n first behind =
+joined_slice xs a n first following =
     let count : a + n - a ≡ n = omega arith in
-    rw (take-add a n xs, list_all-append is_character (take a xs) (take n (drop a xs))) (and_from _ _ first (ap (λ k. list_all is_character (take k (drop a xs))) (sym count) ∙ behind))
+    rw (take-add a n xs, list_all-append is_character (take a xs) (take n (drop a xs))) (and_from _ _ first (ap (λ k. list_all is_character (take k (drop a xs))) (sym count) ∙ following))
 
 -- ---- a line without an end has no line feed
 
@@ -109,7 +109,7 @@ characters_line (b ∷ xs) all = let parts = and_parts _ _ all in rw (not_ten b 
 pub open_line : (limit : ℕ) (xs : List ℕ) (n : ℕ) → IsIncomplete limit xs n → is_line xs ≡ true
 open_line limit xs n is =
     let cut : xs ≡ take n xs ++ drop n xs = sym (append-nil xs) ∙ cut_before xs [] n ∙ ap (λ (ys : List ℕ). take n xs ++ ys) (append-nil (drop n xs)) in
-    let back : is_line (drop n xs) ≡ true = elim is.behind [ inl none ↦ ap is_line none | inr one ↦ ap is_line one ] in
+    let back : is_line (drop n xs) ≡ true = elim is.following [ inl none ↦ ap is_line none | inr one ↦ ap is_line one ] in
     ap is_line cut ∙ list_all-append (λ b. not (is_line_feed b)) (take n xs) (drop n xs) ∙ and_from _ _ (characters_line (take n xs) is.characters) back
 
 pub empty_line : (xs : List ℕ) → length xs ≡ 0 → is_line xs ≡ true
@@ -132,7 +132,7 @@ whole_at_end limit xs n is whole some =
     }
 
 pub return_at_end : (limit : ℕ) (xs : List ℕ) (n : ℕ) → IsIncomplete limit xs n → (n ≡ length xs → ⊥) → (more : List ℕ) → CanFollow true more → BeginsBad limit (xs ++ more)
-return_at_end limit xs n is part more can = elim is.behind [
+return_at_end limit xs n is part more can = elim is.following [
   | inl none ↦ let rest : length (drop n xs) ≡ 0 = ap length none in absurd (part (omega (arith, is.within, length-drop n xs, rest)))
   | inr one ↦
       let cut : xs ++ more ≡ take n xs ++ 13 ∷ [] = ap (λ (ys : List ℕ). xs ++ ys) (can refl) ∙ cut_before xs [] n ∙ ap (λ (ys : List ℕ). take n xs ++ ys) (append-nil (drop n xs) ∙ one) in

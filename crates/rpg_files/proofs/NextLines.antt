@@ -8,7 +8,7 @@ use Rattle.rpg_files.specs.Reads.{Reads}
 
 -- a line without an end is at most one byte longer than the limit
 pub open_short : (limit : ℕ) (xs : List ℕ) (n : ℕ) → IsIncomplete limit xs n → length xs ≤ limit + 1
-open_short limit xs n is = elim is.behind [
+open_short limit xs n is = elim is.following [
   | inl none ↦ let rest : length (drop n xs) ≡ 0 = ap length none in omega (arith, is.short, is.within, length-drop n xs, rest)
   | inr one ↦ let rest : length (drop n xs) ≡ 1 = ap length one in omega (arith, is.short, is.within, length-drop n xs, rest)
 ]

@@ -18,7 +18,7 @@ pub record IsIncomplete (limit : ℕ) (bytes : List ℕ) (scanned : ℕ) : Type 
   pub short : scanned ≤ limit
   pub within : scanned ≤ length bytes
   pub characters : list_all is_character (take scanned bytes) ≡ true
-  pub behind : (drop scanned bytes ≡ []) ⊎ (drop scanned bytes ≡ 13 ∷ [])
+  pub following : (drop scanned bytes ≡ []) ⊎ (drop scanned bytes ≡ 13 ∷ [])
 
 -- what the bytes begin with: a record, a bad line, or one that isn't complete
 abbrev pub IsFirstLine : ℕ → List ℕ → FirstLine → Type 0

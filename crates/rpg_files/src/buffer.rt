@@ -91,7 +91,7 @@ fn refill<R: Read>(
     ensures faults { faults_of reader.new ≡ faults_after (faults_of reader.old) result }
 {
     move_to_front(buf, start, len);
-    read_behind(reader, buf, len)
+    read_after(reader, buf, len)
 }
 
 /// Moves `len` bytes from `start` on to the front.
@@ -108,7 +108,7 @@ fn move_to_front(buf: &mut [u8], start: usize, len: usize)
 }
 
 /// Reads some bytes after the first `len`.
-fn read_behind<R: Read>(
+fn read_after<R: Read>(
     reader: &mut Counted<R>,
     buf: &mut [u8],
     len: usize,

@@ -146,7 +146,7 @@ impl<'a, R: Read> RecordReader<'a, R> {
         requires { faults_of (reader_of self.old) < 2 ^ 64 - 1 }
         ensures same_reader { self.new.reader.ghost_name ≡ self.old.reader.ghost_name }
         ensures answer { answer_of self.new ≡ result }
-        ensures behind_record { is_record (answer_of self.old) ≡ true → ReadsNext R.remaining self.old result self.new }
+        ensures stands_after_record { is_record (answer_of self.old) ≡ true → ReadsNext R.remaining self.old result self.new }
         ensures sure { is_record (answer_of self.old) ≡ true → is_sure self.old ≡ true → IsOk result }
         ensures repeated { is_record (answer_of self.old) ≡ false → (result ≡ answer_of self.old) × (self.new ≡ self.old) }
     {

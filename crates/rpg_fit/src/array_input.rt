@@ -195,10 +195,10 @@ fn width(card: &Card) -> Option<usize> {
 
 /// Whether a field of a type from a card on has a name.
 fn is_filled_from(kind: &RecordType, field: &Seen, name: &[u8]) -> bool {
-    let mut is_behind = false;
+    let mut is_following = false;
     for one in kind.fields.iter() {
-        is_behind = is_behind || one.at == field.at;
-        if is_behind && one.card.value(53, 58) == name {
+        is_following = is_following || one.at == field.at;
+        if is_following && one.card.value(53, 58) == name {
             return true;
         }
     }

@@ -19,8 +19,8 @@ pub fn or_types(alloc: Global, editor: &mut Editor) -> Result<(), RuleStop> {
         if alternatives(kind) == 1 {
             blank_relations(editor, kind);
         } else {
-            let behind = address_after(&view, last_of(kind).at);
-            separate(alloc, editor, kind, behind)?;
+            let following = address_after(&view, last_of(kind).at);
+            separate(alloc, editor, kind, following)?;
         }
     }
     Ok(())
@@ -130,7 +130,7 @@ fn separate(
     alloc: Global,
     editor: &mut Editor,
     kind: &RecordType,
-    behind: Address,
+    following: Address,
 ) -> Result<(), RuleStop> {
     editor.tell(
         kind.head.number,
@@ -143,7 +143,7 @@ fn separate(
     let cards = others.checked()?;
     remove_others(editor, kind);
     keep_own_fields(editor, kind);
-    put_cards(editor, behind, cards, kind.head.number);
+    put_cards(editor, following, cards, kind.head.number);
     Ok(())
 }
 

@@ -24,7 +24,7 @@ pub(crate) struct Step {
 }
 
 /// A number that no step has: after all.
-const BEHIND_ALL: usize = 100;
+const AFTER_ALL: usize = 100;
 
 /// The steps of numbered types, in the order of their first cards.
 pub(crate) fn steps_of(alloc: Global, numbered: &[Numbered]) -> List<Step> {
@@ -66,7 +66,7 @@ fn are_optional(steps: &[Step], low: usize, high: usize) -> bool {
 fn may_follow(steps: &[Step], last: usize, step: &Step) -> bool {
     last == step.number && step.is_many
         || step.number > last && are_optional(steps, last, step.number)
-        || are_optional(steps, last, BEHIND_ALL) && are_optional(steps, 0, step.number)
+        || are_optional(steps, last, AFTER_ALL) && are_optional(steps, 0, step.number)
 }
 
 /// The numbers after which a record of a step may come, 0 first.
@@ -75,7 +75,7 @@ pub(crate) fn numbers_before(alloc: Global, steps: &[Step], step: &Step) -> List
     if may_follow(steps, 0, step) {
         numbers.push(0);
     }
-    for number in 0..BEHIND_ALL {
+    for number in 0..AFTER_ALL {
         if is_step(steps, number) && may_follow(steps, number, step) {
             numbers.push(number);
         }

@@ -8,10 +8,10 @@ use Rattle.rpg_fit_deck.specs.Kept.{is_kept}
 use Rattle.rpg_fit_deck.specs.New.{made_lines, lines_here, new_cards, is_untold, untold, IsPart, KeepsUntold}
 
 -- more cards in front
-behind : (more xs ys : List (List ℕ)) → IsPart xs ys → IsPart xs (more ++ ys)
-behind [] xs ys part = part
-behind (m ∷ more) [] ys part = tt
-behind (m ∷ more) (x ∷ xs) ys part = inr (behind more (x ∷ xs) ys part)
+following : (more xs ys : List (List ℕ)) → IsPart xs ys → IsPart xs (more ++ ys)
+following [] xs ys part = part
+following (m ∷ more) [] ys part = tt
+following (m ∷ more) (x ∷ xs) ys part = inr (following more (x ∷ xs) ys part)
 
 -- what stands at a card's place, where it is kept
 here : (card : List ℕ) (h : Here) (xs ys : List (List ℕ)) → is_kept h ≡ true → IsPart xs ys → IsPart (card ∷ xs) (lines_here card h ++ ys)
@@ -26,8 +26,8 @@ keeps (card ∷ cards) (slot ∷ slots) =
     let made = made_lines slot.before.items in
     let stands = lines_here card slot.here in
     let P : List (List ℕ) → Type 0 = λ ys. IsPart (untold (card ∷ cards) (slot ∷ slots)) ys in
-    subst P (sym (append_assoc made stands (new_cards cards slots))) (behind made (untold (card ∷ cards) (slot ∷ slots)) (stands ++ new_cards cards slots) (by (is_untold slot) refl (keeps cards slots)))
+    subst P (sym (append_assoc made stands (new_cards cards slots))) (following made (untold (card ∷ cards) (slot ∷ slots)) (stands ++ new_cards cards slots) (by (is_untold slot) refl (keeps cards slots)))
   where
     by : (b : Bool) → is_untold slot ≡ b → IsPart (untold cards slots) (new_cards cards slots) → IsPart (untold (card ∷ cards) (slot ∷ slots)) (lines_here card slot.here ++ new_cards cards slots)
     by true none part = let z : vec_len slot.told ≡ 0 = eqb-true (vec_len slot.told) 0 none in rw none (here card slot.here (untold cards slots) (new_cards cards slots) (slot.told_if_changed z) part)
-    by false some part = rw some (behind (lines_here card slot.here) (untold cards slots) (new_cards cards slots) part)
+    by false some part = rw some (following (lines_here card slot.here) (untold cards slots) (new_cards cards slots) part)

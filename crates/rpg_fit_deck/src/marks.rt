@@ -1,10 +1,10 @@
 //! The lines that begin data and end a source.
 
 /// A character of a line, or another one past its end.
-fn character_at(line: &[u8], place: usize, behind: u8) -> u8 {
+fn character_at(line: &[u8], place: usize, following: u8) -> u8 {
     match line.get(place) {
         Some(character) => *character,
-        None => behind,
+        None => following,
     }
 }
 

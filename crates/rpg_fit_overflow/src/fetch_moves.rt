@@ -290,8 +290,8 @@ impl Moves<'_> {
     /// Puts the lines that EXCPT puts out after all others.
     fn put_tail(&self, alloc: Global, editor: &mut Editor, made: &Made) -> Result<(), RuleStop> {
         let tail = made.tail.checked()?;
-        let behind = behind_output(&editor.view(alloc)?);
-        put_cards(editor, behind, tail, self.card);
+        let following = following_output(&editor.view(alloc)?);
+        put_cards(editor, following, tail, self.card);
         Ok(())
     }
 }
@@ -306,16 +306,16 @@ fn told(moved: usize, copied: usize) -> Sentence {
 }
 
 /// Where the card after the last output card is; the end of the cards if there is none.
-fn behind_output(view: &View) -> Address {
-    let mut behind = view.cards_end;
+fn following_output(view: &View) -> Address {
+    let mut following = view.cards_end;
     let mut is_output = false;
     for seen in view.cards.iter() {
         if is_output {
-            behind = seen.at;
+            following = seen.at;
         }
         is_output = is_card(seen, b'O');
     }
-    if is_output { view.cards_end } else { behind }
+    if is_output { view.cards_end } else { following }
 }
 
 impl Steps {

@@ -55,12 +55,12 @@ pub fn put_cards(editor: &mut Editor, before: Address, cards: &[NewCard], with: 
 
 /// Where the card after a card is; the end of the cards if there is none.
 pub fn address_after(view: &View, at: Address) -> Address {
-    let mut is_behind = false;
+    let mut is_following = false;
     for seen in view.cards.iter() {
-        if is_behind {
+        if is_following {
             return seen.at;
         }
-        is_behind = seen.at == at;
+        is_following = seen.at == at;
     }
     view.cards_end
 }

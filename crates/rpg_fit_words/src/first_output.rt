@@ -54,7 +54,7 @@ fn spaces(card: &Card) -> usize {
 }
 
 /// The line of the page that printing is at after a line's card, at most: `at` before it.
-fn line_behind(at: usize, card: &Card) -> usize {
+fn line_following(at: usize, card: &Card) -> usize {
     let spaces = spaces(card);
     let moved = if card.is_blank(17, 22) { 1 } else { spaces };
     let before = card.number(19, 20).unwrap_or(0).saturating_add(spaces);
@@ -71,7 +71,7 @@ pub fn reaches_overflow(printer: Option<Printer>, lines: &[Line]) -> bool {
             None => false,
         };
         if is_printed && is_put_first(printer, line) {
-            at = line_behind(at, &line.head.card);
+            at = line_following(at, &line.head.card);
         }
     }
     at >= OVERFLOW_LINE

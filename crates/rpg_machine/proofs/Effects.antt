@@ -14,7 +14,7 @@ pub did_effect : (effect : World nat_cmp → Effect nat_cmp) (weight n : ℕ) (r
     Did (ByEffect weight effect) r e (record { program = r.program; config = record r.config { steps = n; world = v.world }; last = v.last; output = q })
 did_effect effect weight n r v q e counted done = record {
   program = refl;
-  behind = λ previous l. let left = done.behind previous l in record {
+  following = λ previous l. let left = done.following previous l in record {
     out = output_of (effect (on_paper previous r.config.world));
     act = record {
       ends = left.ending;

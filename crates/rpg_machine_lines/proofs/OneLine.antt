@@ -46,7 +46,7 @@ module _ (forms : ℕ → Option FieldForm) (words : ℕ → List ℕ) (overflow
       let last = ap (λ (x : Held). x.last) is in
       let left = quiet_done (with_fields d.fields) (Halt k) w v q last (λ p. ap (λ (x : Held). on_paper p x.world) is) in
       record {
-        behind = λ previous e. subst (λ (x : Effect nat_cmp). IsLeft previous x q (Halt k) v q) (sym (line_is previous (Halt k) d h a)) (left.behind previous e);
+        following = λ previous e. subst (λ (x : Effect nat_cmp). IsLeft previous x q (Halt k) v q) (sym (line_is previous (Halt k) d h a)) (left.following previous e);
       }
 
   -- the line was put on its file, and its entries were blanked
@@ -59,7 +59,7 @@ module _ (forms : ℕ → Option FieldForm) (words : ℕ → List ℕ) (overflow
       let cleared : IsDone (λ x. Leaves (blank x)) v o GoesOn u o = quiet_done blank GoesOn v u o last (λ p. ap (on_paper p) world) in
       let both = then_done (put_on overflow l.file l.spacing d.text) (λ x. Leaves (blank x)) (fields_replaced d.fields w) v u q o o GoesOn put cleared in
       record {
-        behind = λ previous e. subst (λ (x : Effect nat_cmp). IsLeft previous x q GoesOn u o) (sym (line_is previous GoesOn d h a)) (both.behind previous e);
+        following = λ previous e. subst (λ (x : Effect nat_cmp). IsLeft previous x q GoesOn u o) (sym (line_is previous GoesOn d h a)) (both.following previous e);
       }
 
   -- the line, where it is asked for
@@ -71,14 +71,14 @@ module _ (forms : ℕ → Option FieldForm) (words : ℕ → List ℕ) (overflow
   unfolding one_out
   not_asked pass h =
       let none = quiet_done (λ x. x) GoesOn w w q refl (λ p. refl) in
-      record { behind = λ previous e. subst (λ b. IsLeft previous (asked_at b previous) q GoesOn w q) (sym h) (none.behind previous e) }
+      record { following = λ previous e. subst (λ b. IsLeft previous (asked_at b previous) q GoesOn w q) (sym h) (none.following previous e) }
 
   -- it is asked for
   pub line_asked : (pass : Pass) (e : End) (v : Held) (o : Bytes) → is_asked overflow pass w.world.data.on l.time l.alternatives ≡ true →
       IsDone (line_out forms words overflow l) w q e v o → IsDone (one_out forms words overflow pass l) w q e v o
   unfolding one_out
   line_asked pass e v o h d =
-      record { behind = λ previous g. subst (λ b. IsLeft previous (asked_at b previous) q e v o) (sym h) (d.behind previous g) }
+      record { following = λ previous g. subst (λ b. IsLeft previous (asked_at b previous) q e v o) (sym h) (d.following previous g) }
 
 -- assembled, whatever the code called its parts
 pub assembled_from : (forms : ℕ → Option FieldForm) (words : ℕ → List ℕ) (on : sets.FinSet nat_cmp) (fields : Fields nat_cmp) (r : rust.End) (e : End)

@@ -106,8 +106,8 @@ first_after_reach forms words len n all fs f w v text out es more r is ok ends l
 -- a line that was blank is still blank after its fields
 pub blank_after_reach : (fs gs : List (LineField ℕ)) (reach len : ℕ) (text out : List ℕ) → reach ≡ reach_of fs → gs ≡ fs → reach_of fs ≤ len → text ≡ replicate len 32 →
     length out ≡ length text → drop (reach_of gs) out ≡ drop (reach_of gs) text → IsBlankAfter reach out
-blank_after_reach fs gs reach len text out is same low blank long behind =
-    let there : drop reach out ≡ drop reach text = subst (λ n. drop n out ≡ drop n text) (ap reach_of same ∙ sym is) behind in
+blank_after_reach fs gs reach len text out is same low blank long following =
+    let there : drop reach out ≡ drop reach text = subst (λ n. drop n out ≡ drop n text) (ap reach_of same ∙ sym is) following in
     let all : length out ≡ len = long ∙ ap length blank ∙ length-replicate len 32 in
     record {
       within = omega (arith, is, low, all);

@@ -151,15 +151,15 @@ pub fn assemble<S: Store + Drop>(
     requires planned { AreFieldPlans memory.old.program.fields fields.now plan.now }
     ensures drafted { drafted_in (end_of result) memory.new text.new to_blank.new ≡ assembled_in memory.old text.old to_blank.old fields.now }
     ensures changes { ChangesValues memory.old memory.new to_blank.new }
-    ensures behind { drop (reach_of fields.now) text.new ≡ drop (reach_of fields.now) text.old }
+    ensures following { drop (reach_of fields.now) text.new ≡ drop (reach_of fields.now) text.old }
 {
     let (mut left, mut found) = (fields, plan);
-    'fields: while let Some((field, behind)) = left.split_first() {
+    'fields: while let Some((field, following)) = left.split_first() {
         match with_planned_field(memory, text, to_blank, field, &found[0]) {
             End::GoesOn => {}
             End::Halt(halt) => return End::Halt(halt),
         }
-        left = behind;
+        left = following;
         found = &found[1..];
     }
     End::GoesOn

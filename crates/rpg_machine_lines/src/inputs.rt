@@ -136,12 +136,12 @@ pub fn fill_all<S: Store + Drop>(
     ensures { DidData (of.record_in (forms_in memory.old) text.now inputs.now memory.old.world.data) memory.old (end_of result) memory.new }
 {
     let (mut left, mut found) = (inputs, fixed);
-    'fields: while let Some((input, behind)) = left.split_first() {
+    'fields: while let Some((input, following)) = left.split_first() {
         match fill_one(memory, text, input, found[0]) {
             End::GoesOn => {}
             End::Halt(halt) => return End::Halt(halt),
         }
-        left = behind;
+        left = following;
         found = &found[1..];
     }
     End::GoesOn

@@ -6,7 +6,7 @@ ghost use Rattle.rpg_program.specs.Object.{Object};
 ghost use Rattle.rpg_object.specs.Program.{body, reading, spelling, FaultStays};
 
 /// Bytes after a fault change neither its offset nor its code, unless they may complete what is cut short.
-pub fn bytes_behind_keep_a_fault(bytes: &[u8], more: &[u8])
+pub fn bytes_after_keep_a_fault(bytes: &[u8], more: &[u8])
     ensures { FaultStays bytes.now more.now }
 {}
 

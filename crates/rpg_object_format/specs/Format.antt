@@ -115,7 +115,7 @@ times_with f next n s = record {
   reading = read_times (λ t bytes. (f t).reading bytes) next n s;
 }
 
--- a row leaves nothing behind
+-- a row leaves no bytes
 abbrev pub keep : {X : Type 0} → Unit {0} → X → Unit {0}
 keep s x = s
 

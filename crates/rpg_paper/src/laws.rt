@@ -5,7 +5,7 @@ ghost use Rattle.rpg_paper.specs.Paper.{Position, Placed, TurnsOverflowOn, turns
 ghost use Rattle.rpg_paper.specs.Form.{FormLine, placed_after, form_bytes};
 
 /// Lines placed after other lines add to the paper what they add after its last line.
-pub fn lines_behind_lines()
+pub fn lines_follow_lines()
     ensures { (xs ys : List Placed) → paper (xs ++ ys) ≡ paper xs ++ bytes_from (last_position xs) ys }
 {}
 

@@ -60,9 +60,9 @@ found_low : search_of (λ n. nat_cmp n 3) low (positions 1 5) ≡ Some (record {
 unfolding search_of first_one last_one
 found_low = refl
 
-not_behind : search_of (λ n. nat_cmp n 3) equal (positions 4 5) ≡ None
+not_after : search_of (λ n. nat_cmp n 3) equal (positions 4 5) ≡ None
 unfolding search_of first_one last_one
-not_behind = refl
+not_after = refl
 
 -- five positions don't fit a table of three
 too_few : holds_positions forms (row_of (form_of forms) (LookUp (whole Amount) (whole Rates) (Some (whole Codes)) equal)) ≡ false

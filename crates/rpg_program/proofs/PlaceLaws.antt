@@ -17,7 +17,7 @@ pub record Last (t : ℕ → Bool) (a n p : ℕ) : Type 0 where
   low : a ≤ p
   high : p < a + n
   passes : t p ≡ true
-  behind : (m : ℕ) → p < m → m < a + n → t m ≡ false
+  following : (m : ℕ) → p < m → m < a + n → t m ≡ false
 
 abbrev Fails : (ℕ → Bool) → ℕ → ℕ → Type 0
 Fails t a n = (m : ℕ) → a ≤ m → m < a + n → t m ≡ false
@@ -68,12 +68,12 @@ last_next t a n (Some p) h k = record {
   low = k.low;
   high = omega (arith, k.high);
   passes = k.passes;
-  behind = λ m low high. at_or_below t (a + n) m h (or_below m (a + n) (omega arith)) (λ l. k.behind m low l);
+  following = λ m low high. at_or_below t (a + n) m h (or_below m (a + n) (omega arith)) (λ l. k.following m low l);
 }
 
 last_at : (t : ℕ → Bool) (a n : ℕ) (b : Bool) → t (a + n) ≡ b → MatchOption (find t (reverse (range_with_len a n))) (Fails t a n) (Last t a n) →
     MatchOption (cond b (Some (a + n)) (find t (reverse (range_with_len a n)))) (Fails t a (suc n)) (Last t a (suc n))
-last_at t a n true h k = record { low = omega arith; high = omega arith; passes = h; behind = λ m low high. absurd (omega arith) }
+last_at t a n true h k = record { low = omega arith; high = omega arith; passes = h; following = λ m low high. absurd (omega arith) }
 last_at t a n false h k = last_next t a n _ h k
 
 last_of : (t : ℕ → Bool) (n a : ℕ) → MatchOption (find t (reverse (range_with_len a n))) (Fails t a n) (Last t a n)
@@ -86,7 +86,7 @@ first_is t from last (Some p) h = record { low = h.low; high = omega (arith, h.l
 
 last_is : (t : ℕ → Bool) (from last : ℕ) (o : Option ℕ) → MatchOption o (Fails t from (last + 1 - from)) (Last t from (last + 1 - from)) → MatchOption o (NonePasses t from last) (IsLast t from last)
 last_is t from last None h = λ m low high. h m low (omega arith)
-last_is t from last (Some p) h = record { low = h.low; high = omega (arith, h.low, h.high); passes = h.passes; behind = λ m low high. h.behind m low (omega (arith, h.low)) }
+last_is t from last (Some p) h = record { low = h.low; high = omega (arith, h.low, h.high); passes = h.passes; following = λ m low high. h.following m low (omega (arith, h.low)) }
 
 pub finds_first : FindsFirst
 unfolding first_one

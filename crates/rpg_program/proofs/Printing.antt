@@ -114,7 +114,7 @@ unfolding put_on
 print_done overflow s text w u v p o h k i l b d =
     let before = spaced_before overflow s w.world in
     let placed : IsDone (λ x. printed_line (spaced_before overflow s x) text) w p GoesOn u o = record {
-      behind = λ previous e. subst (λ (x : World nat_cmp). IsLeft previous (printed_line x text) p GoesOn u o) (sym (before_on overflow previous s w.world))
+      following = λ previous e. subst (λ (x : World nat_cmp). IsLeft previous (printed_line x text) p GoesOn u o) (sym (before_on overflow previous s w.world))
           (placed_left previous w.last before text p o u e h k b d);
     } in
     let moved : IsDone (λ x. Leaves (spaced_after overflow s x)) u o GoesOn v o =
@@ -126,7 +126,7 @@ pub record_done : (overflow : Option ℕ) (s : Spacing) (text : List ℕ) (w : H
     IsDone (put_on overflow Disk s text) w p GoesOn w o
 unfolding put_on
 record_done overflow s text w p o h d = record {
-  behind = λ previous e. record {
+  following = λ previous e. record {
     ending = refl;
     world = refl;
     last = e;

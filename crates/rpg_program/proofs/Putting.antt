@@ -43,11 +43,11 @@ left_both previous one next p q r v u e a b =
 pub then_done : (one go : World nat_cmp → Effect nat_cmp) (w v u : Held) (p q r : Bytes) (e : End) →
     IsDone one w p GoesOn v q → IsDone go v q e u r → IsDone (λ x. then_go (one x) go) w p e u r
 then_done one go w v u p q r e h g = record {
-  behind = λ previous l.
+  following = λ previous l.
       let first = one (on_paper previous w.world) in
-      let a = h.behind previous l in
+      let a = h.following previous l in
       let mid = last_position_from previous first.lines in
-      let b : IsLeft mid (go first.world) q e u r = subst (λ (x : World nat_cmp). IsLeft mid (go x) q e u r) a.world (g.behind mid a.last) in
+      let b : IsLeft mid (go first.world) q e u r = subst (λ (x : World nat_cmp). IsLeft mid (go x) q e u r) a.world (g.following mid a.last) in
       subst (λ (x : End). IsLeft previous (go_on x first go) p e u r) a.ending (left_both previous first (go first.world) p q r v u e a b);
 }
 
@@ -55,9 +55,9 @@ then_done one go w v u p q r e h g = record {
 pub halts_done : (one go : World nat_cmp → Effect nat_cmp) (w v : Held) (p q : Bytes) (k : ℕ) →
     IsDone one w p (Halt k) v q → IsDone (λ x. then_go (one x) go) w p (Halt k) v q
 halts_done one go w v p q k h = record {
-  behind = λ previous l.
+  following = λ previous l.
       let first = one (on_paper previous w.world) in
-      let a = h.behind previous l in
+      let a = h.following previous l in
       subst (λ (x : End). IsLeft previous (go_on x first go) p (Halt k) v q) a.ending a;
 }
 
@@ -65,7 +65,7 @@ halts_done one go w v p q k h = record {
 pub quiet_done : (f : World nat_cmp → World nat_cmp) (e : End) (w v : Held) (q : Bytes) → v.last ≡ w.last →
     ((previous : Option Position) → on_paper previous v.world ≡ f (on_paper previous w.world)) → IsDone (λ x. quiet e (f x)) w q e v q
 quiet_done f e w v q l h = record {
-  behind = λ previous k. record {
+  following = λ previous k. record {
     ending = refl;
     world = h previous;
     last = l ∙ k;
@@ -77,7 +77,7 @@ quiet_done f e w v q l h = record {
 pub data_done : (f : Data nat_cmp → Ended nat_cmp) (e : End) (w v : Held) (q : Bytes) → v.last ≡ w.last → v.world.paper ≡ w.world.paper →
     ends_with e v.world.data ≡ f w.world.data → IsDone (on_data f) w q e v q
 data_done f e w v q l paper is = record {
-  behind = λ previous k. record {
+  following = λ previous k. record {
     ending = ap (λ (o : Ended nat_cmp). o.ending) is;
     world = λ i. on_paper previous (record { «data» = (is i).data; paper = paper i });
     last = l ∙ k;

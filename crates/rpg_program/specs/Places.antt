@@ -15,7 +15,7 @@ pub record IsLast (test : ℕ → Bool) (from last n : ℕ) : Type 0 where
   pub low : from ≤ n
   pub high : n ≤ last
   pub passes : test n ≡ true
-  pub behind : (m : ℕ) → n < m → m ≤ last → test m ≡ false
+  pub following : (m : ℕ) → n < m → m ≤ last → test m ≡ false
 
 -- no position passes
 abbrev pub NonePasses : (ℕ → Bool) → ℕ → ℕ → Type 0

@@ -45,7 +45,7 @@ pub record IsLeft (previous : Option Position) (after : Effect nat_cmp) (old : B
 
 -- an effect was done, whatever was placed before: how it ended, what it left, and its lines' bytes appended
 pub record IsDone (effect : World nat_cmp → Effect nat_cmp) (w : Held) (old : Bytes) (e : End) (v : Held) (new : Bytes) : Type 0 where
-  pub behind : (previous : Option Position) → w.last ≡ line_of previous → IsLeft previous (effect (on_paper previous w.world)) old e v new
+  pub following : (previous : Option Position) → w.last ≡ line_of previous → IsLeft previous (effect (on_paper previous w.world)) old e v new
 
 -- all that a job has put out: the lines on its paper, from the top, and the records on its disk, with the bytes that were sent before
 pub record HasPut (sent : Bytes) (w : Held) (bytes : Bytes) (lines : List Placed) (records : List (List ℕ)) : Type 0 where

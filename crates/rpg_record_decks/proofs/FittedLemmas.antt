@@ -47,8 +47,8 @@ pub last_fitted : (layout : LayoutSeen) (n : ℕ) (text : List ℕ) → position
 last_fitted layout n text h = ap (λ (lines : List (List ℕ)). join_with_byte 10 (fitted_from layout n lines)) (last_line text h)
 
 -- what follows a line feed
-pub rest_behind : (text : List ℕ) (i : ℕ) → take (length text - i) (drop i text) ≡ drop i text
-rest_behind text i = take_all (length text - i) (drop i text) (omega (arith, length-drop i text))
+pub rest_following : (text : List ℕ) (i : ℕ) → take (length text - i) (drop i text) ≡ drop i text
+rest_following text i = take_all (length text - i) (drop i text) (omega (arith, length-drop i text))
 
 -- one more line of the new deck, with its line feed
 pub next_fitted : (layout : LayoutSeen) (n i : ℕ) (text deck more pushed all : List ℕ) → position is_line_feed text ≡ Some i

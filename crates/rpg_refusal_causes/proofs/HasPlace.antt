@@ -24,7 +24,7 @@ use Rattle.rpg_refusal_causes.specs.declared.cause.Column.{Column}
 use Rattle.rpg_refusal_causes.specs.declared.cause.Column.TheVariants as column_names
 use Rattle.rpg_refusal_causes.specs.declared.cause.Placed.{Placed}
 use Rattle.rpg_refusal_causes.specs.declared.cause.RefusalCause.TheVariants as causes
-use Rattle.rpg_verify_rules.specs.PlaceRules.{are_marked, calls_higher, columns_of_kind, has_known_kind, is_ascending, is_ordered, is_searched_well, judged_behind_detail, passing, place_breaks, places_judged, stays_inside, subroutines_judged, those_passing, written_columns, are_asked, holds_found}
+use Rattle.rpg_verify_rules.specs.PlaceRules.{are_marked, calls_higher, columns_of_kind, has_known_kind, is_ascending, is_ordered, is_searched_well, judged_after_detail, passing, place_breaks, places_judged, stays_inside, subroutines_judged, those_passing, written_columns, are_asked, holds_found}
 use Rattle.rpg_verify_rules.specs.declared.rule.PlaceRule.{PlaceRule}
 use Rattle.rpg_verify_rules.specs.declared.rule.PlaceRule.TheVariants.{V16, V17, V18, V19, V20, V21, V22}
 
@@ -164,7 +164,7 @@ subroutines_are r p n (s ∷ ss) =
     ∙ ap (λ bs. map (judged r p) (map (placed_in p (Subroutine n)) s.instructions) ++ bs) (subroutines_are r p (n + 1) ss)
     ∙ sym (map-append (judged r p) (map (placed_in p (Subroutine n)) s.instructions) (placed_in_subroutines p (n + 1) ss))
 
-after_detail_are : (r : PlaceRule) (p : Object) → judged_behind_detail r p ≡ map (judged r p) (placed_after_detail p)
+after_detail_are : (r : PlaceRule) (p : Object) → judged_after_detail r p ≡ map (judged r p) (placed_after_detail p)
 after_detail_are r p =
     ap (λ bs. bs ++ subroutines_judged r p 0 p.subroutines) (section_is r p Total p.total)
     ∙ ap (λ bs. map (judged r p) (map (placed_in p Total) p.total) ++ bs) (subroutines_are r p 0 p.subroutines)
@@ -173,6 +173,6 @@ after_detail_are r p =
 -- the rules judge the instructions place by place
 pub places_are : (r : PlaceRule) (p : Object) → places_judged r p ≡ map (judged r p) (all_placed p)
 places_are r p =
-    ap (λ bs. bs ++ judged_behind_detail r p) (section_is r p Detail p.detail)
+    ap (λ bs. bs ++ judged_after_detail r p) (section_is r p Detail p.detail)
     ∙ ap (λ bs. map (judged r p) (map (placed_in p Detail) p.detail) ++ bs) (after_detail_are r p)
     ∙ sym (map-append (judged r p) (map (placed_in p Detail) p.detail) (placed_after_detail p))

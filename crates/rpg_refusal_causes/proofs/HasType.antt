@@ -100,8 +100,8 @@ module _ (len : ℕ) (all : List ControlField) where
   once_have front [] split e = absurd (false≢true (sym e))
   once_have front (c ∷ cs) split e = by (list_any (is_of_level c.level) cs) refl e (once_have (front ++ c ∷ []) cs)
     where
-      behind : all ≡ (front ++ c ∷ []) ++ cs
-      behind = split ∙ sym (append_assoc front (c ∷ []) cs)
+      following : all ≡ (front ++ c ∷ []) ++ cs
+      following = split ∙ sym (append_assoc front (c ∷ []) cs)
 
       own : list_any (is_of_level c.level) (front ++ c ∷ []) ≡ true
       own = list_any-append (is_of_level c.level) front (c ∷ []) ∙ ap (λ b. list_any (is_of_level c.level) front || (b || false)) (eq-eqb c.level c.level refl) ∙ or_true (list_any (is_of_level c.level) front)
@@ -113,8 +113,8 @@ module _ (len : ℕ) (all : List ControlField) where
 
       by : (b : Bool) → list_any (is_of_level c.level) cs ≡ b → (not b && are_once cs) ≡ false
           → (all ≡ (front ++ c ∷ []) ++ cs → are_once cs ≡ false → is_some (first_cause (match_cause len all) (length (front ++ c ∷ [])) cs) ≡ true) → is_some (first_cause (match_cause len all) (length front) (c ∷ cs)) ≡ true
-      by true is h rest = later (again c.level (front ++ c ∷ []) cs behind own is)
-      by false is h rest = later (rest behind h)
+      by true is h rest = later (again c.level (front ++ c ∷ []) cs following own is)
+      by false is h rest = later (rest following h)
 
 -- each part of the rule of match fields has a cause
 matches_have : (len : ℕ) (first cs : List ControlField) → not (are_matches len (joined_widths first) cs) ≡ true

@@ -13,7 +13,7 @@ use Rattle.rpg_program.specs.declared.row.Row.{Row}
 use Rattle.rpg_program.specs.declared.row.Use.{Use}
 use Rattle.rpg_program.specs.ObjectInstructions.{columns}
 use Rattle.rpg_program.specs.Object.{Object, SubroutineRow}
-use Rattle.rpg_program.specs.Sections.{first_place, level_of, place_behind}
+use Rattle.rpg_program.specs.Sections.{first_place, level_of, place_after}
 use Rattle.rpg_program.specs.declared.section.Section.{Section}
 use Rattle.rpg_program.specs.declared.section.Section.TheVariants.{Detail, Total, Subroutine}
 use Rattle.rpg_program.specs.declared.spans.Span.{Span}
@@ -31,7 +31,7 @@ use Rattle.rpg_verify_rules.specs.declared.rule.PlaceRule.TheVariants.{V16, V17,
 
 -- a section with its level, its first place and its end
 abbrev pub span_of : Object → Section → Span
-span_of p s = record { section = s; level = level_of p s; first = first_place p s; end = place_behind p s }
+span_of p s = record { section = s; level = level_of p s; first = first_place p s; end = place_after p s }
 
 -- an instruction of a section
 abbrev pub placed_in : Object → Section → Instruction ℕ → Placed

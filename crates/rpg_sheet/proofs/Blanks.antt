@@ -28,11 +28,11 @@ among_blank : (a b c d : ℕ) (card : List ℕ) → 1 ≤ a → a ≤ c → c �
 among_blank a b c d card one first some last blank =
     let some_more : b - (a - 1) ≡ (c - a) + (b - (c - 1)) = omega arith in
     let same_place : (a - 1) + (c - a) ≡ c - 1 = omega arith in
-    let behind : drop (c - a) (take (b - (a - 1)) (drop (a - 1) card)) ≡ take (b - (c - 1)) (drop (c - 1) card) =
+    let following : drop (c - a) (take (b - (a - 1)) (drop (a - 1) card)) ≡ take (b - (c - 1)) (drop (c - 1) card) =
     ap (λ (n : ℕ). drop (c - a) (take n (drop (a - 1) card))) some_more
     ∙ drop-take (c - a) (b - (c - 1)) (drop (a - 1) card)
     ∙ ap (take (b - (c - 1))) (drop-drop (c - a) (a - 1) card ∙ ap (λ (n : ℕ). drop n card) same_place) in
-    let all : list_all is_blank (take (b - (c - 1)) (drop (c - 1) card)) ≡ true = rw behind at (all-drop is_blank (c - a) (take (b - (a - 1)) (drop (a - 1) card)) blank) in
+    let all : list_all is_blank (take (b - (c - 1)) (drop (c - 1) card)) ≡ true = rw following at (all-drop is_blank (c - a) (take (b - (a - 1)) (drop (a - 1) card)) blank) in
     let front : take (d - (c - 1)) (take (b - (c - 1)) (drop (c - 1) card)) ≡ take (d - (c - 1)) (drop (c - 1) card) = take-take (d - (c - 1)) (b - (c - 1)) (drop (c - 1) card) (omega arith) in
     rw front at (all-take is_blank (d - (c - 1)) (take (b - (c - 1)) (drop (c - 1) card)) all)
 

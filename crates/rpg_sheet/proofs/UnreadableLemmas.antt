@@ -7,8 +7,8 @@ use Rattle.rpg_sheet.specs.declared.sheet.SheetCode.{SheetCode}
 use Rattle.rpg_sheet.specs.declared.unreadable.UnreadableCard.{UnreadableCard}
 use Rattle.rpg_sheet_specs.specs.Cards.{card_of}
 use Rattle.rpg_sheet.specs.Seen.{AreLinesSeen, code_seen}
-use Rattle.rpg_sheet.specs.Sheet.{fault_behind, sheet_fault_columns, line_code}
-use Rattle.rpg_sheet.specs.Unreadable.{reported_fault, unreadable_at, unreadable_behind}
+use Rattle.rpg_sheet.specs.Sheet.{fault_after, sheet_fault_columns, line_code}
+use Rattle.rpg_sheet.specs.Unreadable.{reported_fault, unreadable_at, unreadable_after}
 use Rattle.rpg_sheet.proofs.SheetLemmas.{code_is_seen, first_code}
 
 few_lines : (n : ℕ) → n ≤ 2000 → nat_lt 2000 n ≡ false
@@ -18,28 +18,28 @@ many_lines : (n : ℕ) → 2000 < n → nat_lt 2000 n ≡ true
 many_lines n h = grind (arith, common_steps)
 
 -- a line more
-pub behind_more : (earlier more : List (List ℕ)) (line : List ℕ) → length earlier ≤ 2000
-    → unreadable_behind earlier (line ∷ more) ≡ unreadable_at earlier line ++ unreadable_behind (earlier ++ line ∷ []) more
-behind_more earlier more line h = rw (few_lines (length earlier) h) refl
+pub after_more : (earlier more : List (List ℕ)) (line : List ℕ) → length earlier ≤ 2000
+    → unreadable_after earlier (line ∷ more) ≡ unreadable_at earlier line ++ unreadable_after (earlier ++ line ∷ []) more
+after_more earlier more line h = rw (few_lines (length earlier) h) refl
 
 -- no line more
-pub behind_many : (earlier more : List (List ℕ)) → 2000 < length earlier → unreadable_behind earlier more ≡ []
-behind_many earlier [] h = refl
-behind_many earlier (line ∷ more) h = rw (many_lines (length earlier) h) refl
+pub after_many : (earlier more : List (List ℕ)) → 2000 < length earlier → unreadable_after earlier more ≡ []
+after_many earlier [] h = refl
+after_many earlier (line ∷ more) h = rw (many_lines (length earlier) h) refl
 
-pub behind_last : (earlier : List (List ℕ)) (line : List ℕ) → length earlier ≤ 2000 → unreadable_behind earlier (line ∷ []) ≡ unreadable_at earlier line
-behind_last earlier line h = rw (few_lines (length earlier) h) (append-nil (unreadable_at earlier line))
+pub after_last : (earlier : List (List ℕ)) (line : List ℕ) → length earlier ≤ 2000 → unreadable_after earlier (line ∷ []) ≡ unreadable_at earlier line
+after_last earlier line h = rw (few_lines (length earlier) h) (append-nil (unreadable_at earlier line))
 
 -- a line without a fault, and one with a fault
-pub at_good : (earlier : List (List ℕ)) (count latest : ℕ) (behind : Bool) (line : List ℕ) → AreLinesSeen earlier count latest behind → code_seen count latest behind line ≡ None → unreadable_at earlier line ≡ []
-at_good earlier count latest behind line seen good = rw (sym (code_is_seen earlier count latest behind line seen) ∙ good) refl
+pub at_good : (earlier : List (List ℕ)) (count latest : ℕ) (data_begun : Bool) (line : List ℕ) → AreLinesSeen earlier count latest data_begun → code_seen count latest data_begun line ≡ None → unreadable_at earlier line ≡ []
+at_good earlier count latest data_begun line seen good = rw (sym (code_is_seen earlier count latest data_begun line seen) ∙ good) refl
 
-pub at_bad : (earlier : List (List ℕ)) (count latest : ℕ) (behind : Bool) (line : List ℕ) (code : SheetCode) → AreLinesSeen earlier count latest behind → code_seen count latest behind line ≡ Some code
-    → unreadable_at earlier line ≡ record { card = count + 1; code = code; columns = sheet_fault_columns behind (card_of line) code } ∷ []
-at_bad earlier count latest behind line code seen bad = rw (sym (code_is_seen earlier count latest behind line seen) ∙ bad, seen.count_is, seen.behind_is) refl
+pub at_bad : (earlier : List (List ℕ)) (count latest : ℕ) (data_begun : Bool) (line : List ℕ) (code : SheetCode) → AreLinesSeen earlier count latest data_begun → code_seen count latest data_begun line ≡ Some code
+    → unreadable_at earlier line ≡ record { card = count + 1; code = code; columns = sheet_fault_columns data_begun (card_of line) code } ∷ []
+at_bad earlier count latest data_begun line code seen bad = rw (sym (code_is_seen earlier count latest data_begun line seen) ∙ bad, seen.count_is, seen.data_begun_is) refl
 
-pub cut_short : (found all : List UnreadableCard) (earlier more : List (List ℕ)) (count : ℕ) → found ++ unreadable_behind earlier more ≡ all → count ≡ length earlier → 2000 < count → found ≡ all
-cut_short found all earlier more count so_far same many = sym (append-nil found) ∙ ap (λ cards. found ++ cards) (sym (behind_many earlier more (omega arith))) ∙ so_far
+pub cut_short : (found all : List UnreadableCard) (earlier more : List (List ℕ)) (count : ℕ) → found ++ unreadable_after earlier more ≡ all → count ≡ length earlier → 2000 < count → found ≡ all
+cut_short found all earlier more count so_far same many = sym (append-nil found) ∙ ap (λ cards. found ++ cards) (sym (after_many earlier more (omega arith))) ∙ so_far
 
 -- ---- the least one
 
@@ -59,12 +59,12 @@ few_if_good earlier line h = by (nat_le 2000 (length earlier)) refl
     by true e = absurd (never_good _ _ _ _ _ (rw e at h))
     by false e = grind (arith, common_steps)
 
-pub first_is : (earlier more : List (List ℕ)) → length earlier ≤ 2000 → fault_behind earlier more ≡ option_map reported_fault (slice_get (unreadable_behind earlier more) 0)
+pub first_is : (earlier more : List (List ℕ)) → length earlier ≤ 2000 → fault_after earlier more ≡ option_map reported_fault (slice_get (unreadable_after earlier more) 0)
 first_is earlier [] few = refl
 first_is earlier (line ∷ more) few = rw (few_lines (length earlier) few) (by (line_code earlier line) refl (λ fewer. first_is (earlier ++ line ∷ []) more fewer))
   where
     by : (code : Option SheetCode) → line_code earlier line ≡ code
-        → (length (earlier ++ line ∷ []) ≤ 2000 → fault_behind (earlier ++ line ∷ []) more ≡ option_map reported_fault (slice_get (unreadable_behind (earlier ++ line ∷ []) more) 0))
-        → fault_behind earlier (line ∷ more) ≡ option_map reported_fault (slice_get (unreadable_at earlier line ++ unreadable_behind (earlier ++ line ∷ []) more) 0)
+        → (length (earlier ++ line ∷ []) ≤ 2000 → fault_after (earlier ++ line ∷ []) more ≡ option_map reported_fault (slice_get (unreadable_after (earlier ++ line ∷ []) more) 0))
+        → fault_after earlier (line ∷ more) ≡ option_map reported_fault (slice_get (unreadable_at earlier line ++ unreadable_after (earlier ++ line ∷ []) more) 0)
     by (Some code) e later = rw e refl
     by None e later = rw e (later (let f = few_if_good earlier line e in omega (arith, length-append earlier (line ∷ []))))

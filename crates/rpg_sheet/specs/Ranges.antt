@@ -13,10 +13,10 @@ cols_from first width card = cols first (first + (width - 1)) card
 abbrev pub line_from : {X : Type 0} → ℕ → ℕ → (List ℕ → Option X) → Columns X
 line_from first width rule = at first (first + (width - 1)) rule
 
--- three conditions, one behind the other
+-- three conditions, one after the other
 abbrev pub conditions_from : ℕ → Columns (Three (Option ConditionSpec))
 conditions_from first = conditions first (first + 2) (first + 3) (first + 3 + 2) (first + 6) (first + 6 + 2)
 
--- three indicators, one behind the other
+-- three indicators, one after the other
 abbrev pub indicators_from : ℕ → Columns (Three (Option ℕ))
 indicators_from first = three_indicators first (first + 1) (first + 2) (first + 2 + 1) (first + 4) (first + 4 + 1)

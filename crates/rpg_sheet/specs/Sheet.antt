@@ -25,24 +25,24 @@ source text = through (λ line. ends_source (card_of line)) (lines text)
 -- ---- what is wrong with a line that follows others
 
 -- one of these lines begins data, so what follows is data
-abbrev pub is_data_behind : List (List ℕ) → Bool
-is_data_behind earlier = list_any (λ e. begins_data (card_of e)) earlier
+abbrev pub has_begun_data : List (List ℕ) → Bool
+has_begun_data earlier = list_any (λ e. begins_data (card_of e)) earlier
 
 -- a card before all data is on a sheet that follows the one at place n
 abbrev pub comes_after : ℕ → List ℕ → Bool
 comes_after n card = option_map_or (λ f. nat_lt n (sheet_place f)) (sheet_of false card) false
 
 -- the sheet that a line is on
-abbrev pub sheet_behind : List (List ℕ) → List ℕ → Option FormType
-sheet_behind earlier line = sheet_of (is_data_behind earlier) (card_of line)
+abbrev pub sheet_after : List (List ℕ) → List ℕ → Option FormType
+sheet_after earlier line = sheet_of (has_begun_data earlier) (card_of line)
 
 -- the line has that fault
 abbrev pub has_sheet_fault : List (List ℕ) → List ℕ → SheetCode → Bool
 has_sheet_fault earlier line S1 = nat_lt 80 (length line)
 has_sheet_fault earlier line S2 = not (list_all is_character line)
-has_sheet_fault earlier line S3 = is_sheet (is_data_behind earlier) (card_of line) && is_none (form_type (card_of line))
-has_sheet_fault earlier line S4 = option_map_or (λ f. list_any (λ e. comes_after (sheet_place f) (card_of e)) earlier) (sheet_behind earlier line) false
-has_sheet_fault earlier line S5 = option_map_or (λ f. has_bad_column f (card_of line)) (sheet_behind earlier line) false
+has_sheet_fault earlier line S3 = is_sheet (has_begun_data earlier) (card_of line) && is_none (form_type (card_of line))
+has_sheet_fault earlier line S4 = option_map_or (λ f. list_any (λ e. comes_after (sheet_place f) (card_of e)) earlier) (sheet_after earlier line) false
+has_sheet_fault earlier line S5 = option_map_or (λ f. has_bad_column f (card_of line)) (sheet_after earlier line) false
 has_sheet_fault earlier line S6 = nat_le 2000 (length earlier)
 
 -- the least code of a line
@@ -51,25 +51,25 @@ line_code earlier line = find (has_sheet_fault earlier line) (S1 ∷ S2 ∷ S3 �
 
 -- with S5 the columns of a card's least bad value
 abbrev pub sheet_fault_columns : Bool → List ℕ → SheetCode → Option ColumnFault
-sheet_fault_columns behind card S1 = None
-sheet_fault_columns behind card S2 = None
-sheet_fault_columns behind card S3 = None
-sheet_fault_columns behind card S4 = None
-sheet_fault_columns behind card S5 = option_and_then (λ f. bad_value_columns f card) (sheet_of behind card)
-sheet_fault_columns behind card S6 = None
+sheet_fault_columns data_begun card S1 = None
+sheet_fault_columns data_begun card S2 = None
+sheet_fault_columns data_begun card S3 = None
+sheet_fault_columns data_begun card S4 = None
+sheet_fault_columns data_begun card S5 = option_and_then (λ f. bad_value_columns f card) (sheet_of data_begun card)
+sheet_fault_columns data_begun card S6 = None
 
 -- a fault with its card and its columns
 abbrev pub fault_under : List (List ℕ) → List ℕ → SheetCode → SheetFault
-fault_under earlier line code = At (length earlier + 1) code (sheet_fault_columns (is_data_behind earlier) (card_of line) code)
+fault_under earlier line code = At (length earlier + 1) code (sheet_fault_columns (has_begun_data earlier) (card_of line) code)
 
 -- the first line with a fault, of lines that follow others
-abbrev pub fault_behind : List (List ℕ) → List (List ℕ) → Option SheetFault
-fault_behind earlier [] = None
-fault_behind earlier (line ∷ more) = option_or (option_map (fault_under earlier line) (line_code earlier line)) (fault_behind (earlier ++ line ∷ []) more)
+abbrev pub fault_after : List (List ℕ) → List (List ℕ) → Option SheetFault
+fault_after earlier [] = None
+fault_after earlier (line ∷ more) = option_or (option_map (fault_under earlier line) (line_code earlier line)) (fault_after (earlier ++ line ∷ []) more)
 
 -- the first line with a fault, with the lowest code of it
 abbrev pub first_sheet_fault : List (List ℕ) → Option SheetFault
-first_sheet_fault all = fault_behind [] all
+first_sheet_fault all = fault_after [] all
 
 -- what a refusal states about a source: nothing where memory ran out
 abbrev pub IsSheetRefusal : SheetFault → List ℕ → Type 0

@@ -44,7 +44,7 @@ fn file_with(
     let record_length = card.number(ranges::RECORD_LENGTH)?;
     let overflow = file_overflow(card)?;
     let device = rpg_sheet_values::device(card.columns(ranges::DEVICE));
-    card.blank(ranges::BEHIND_DEVICE)?;
+    card.blank(ranges::AFTER_DEVICE)?;
     Ok(FileSpec {
         name,
         role,
@@ -61,7 +61,7 @@ fn file_overflow(card: &Card) -> Result<Option<Within<112, 119>>, ColumnFault>
 {
     card.blank(ranges::BEFORE_OVERFLOW)?;
     let overflow = overflow(card)?;
-    card.blank(ranges::BEHIND_OVERFLOW)?;
+    card.blank(ranges::AFTER_OVERFLOW)?;
     Ok(overflow)
 }
 

@@ -37,10 +37,10 @@ fn is_empty(card: &[u8; 80]) -> bool
     has_only_blanks(card)
 }
 
-fn is_sheet(card: &[u8; 80], behind: bool) -> bool
-    ensures { result ≡ cards.is_sheet behind card.now }
+fn is_sheet(card: &[u8; 80], data_begun: bool) -> bool
+    ensures { result ≡ cards.is_sheet data_begun card.now }
 {
-    !(behind || begins_data(card) || ends_source(card) || is_skipped(card))
+    !(data_begun || begins_data(card) || ends_source(card) || is_skipped(card))
 }
 
 fn form_type(card: &[u8; 80]) -> Option<FormType>
@@ -49,10 +49,10 @@ fn form_type(card: &[u8; 80]) -> Option<FormType>
     rpg_sheet_values::form_type_of(&card[5..6])
 }
 
-pub(crate) fn sheet(card: &[u8; 80], behind: bool) -> Option<FormType>
-    ensures { result ≡ cards.sheet_of behind card.now }
+pub(crate) fn sheet(card: &[u8; 80], data_begun: bool) -> Option<FormType>
+    ensures { result ≡ cards.sheet_of data_begun card.now }
 {
-    if is_sheet(card, behind) {
+    if is_sheet(card, data_begun) {
         form_type(card)
     } else {
         None
@@ -81,11 +81,11 @@ impl Card {
         is_skipped(self.as_array())
     }
 
-    /// Whether it must have a form type. `behind` says whether a card before it begins data.
-    pub fn is_sheet(&self, behind: bool) -> bool
-        ensures { result ≡ cards.is_sheet behind self.now }
+    /// Whether it must have a form type. `data_begun` says whether a card before it begins data.
+    pub fn is_sheet(&self, data_begun: bool) -> bool
+        ensures { result ≡ cards.is_sheet data_begun self.now }
     {
-        is_sheet(self.as_array(), behind)
+        is_sheet(self.as_array(), data_begun)
     }
 
     pub fn form_type(&self) -> Option<FormType>
@@ -95,9 +95,9 @@ impl Card {
     }
 
     /// The sheet that the card is on: none where it is data or skipped, or ends the source.
-    pub fn sheet(&self, behind: bool) -> Option<FormType>
-        ensures { result ≡ cards.sheet_of behind self.now }
+    pub fn sheet(&self, data_begun: bool) -> Option<FormType>
+        ensures { result ≡ cards.sheet_of data_begun self.now }
     {
-        sheet(self.as_array(), behind)
+        sheet(self.as_array(), data_begun)
     }
 }

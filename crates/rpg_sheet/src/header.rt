@@ -12,7 +12,7 @@ use rpg_sheet_specs::{ColumnFault, HeaderSpec, ranges};
 pub(crate) fn header(card: &Card) -> Result<HeaderSpec, ColumnFault>
     ensures { result ≡ tables.header.reading card.now }
 {
-    card.blank(ranges::BEHIND_HEADER)?;
+    card.blank(ranges::AFTER_HEADER)?;
     Ok(HeaderSpec)
 }
 

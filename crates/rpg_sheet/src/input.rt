@@ -68,7 +68,7 @@ fn type_card(card: &Card) -> Result<RecordType, ColumnFault>
     card.blank(ranges::BEFORE_INDICATOR)?;
     let indicator = card.optional_indicator(ranges::TYPE_INDICATOR)?;
     let codes = record_codes(card)?;
-    card.blank(ranges::BEHIND_CODES)?;
+    card.blank(ranges::AFTER_CODES)?;
     Ok(RecordType {
         file,
         sequence,
@@ -82,7 +82,7 @@ fn type_and_card(card: &Card) -> Result<Three<Option<RecordCode>>, ColumnFault>
 {
     card.blank(ranges::BEFORE_CODES)?;
     let codes = further_codes(card)?;
-    card.blank(ranges::BEHIND_CODES)?;
+    card.blank(ranges::AFTER_CODES)?;
     Ok(codes)
 }
 
@@ -138,9 +138,9 @@ fn field_with(
 {
     let level = card.optional_level(b'L', ranges::INPUT_LEVEL)?;
     let match_level = card.optional_level(b'M', ranges::INPUT_MATCH)?;
-    card.blank(ranges::BEHIND_MATCH)?;
+    card.blank(ranges::AFTER_MATCH)?;
     let indicators = indicators(card, ranges::INPUT_INDICATORS)?;
-    card.blank(ranges::BEHIND_INDICATORS)?;
+    card.blank(ranges::AFTER_INDICATORS)?;
     Ok(InputFieldSpec {
         from,
         to,

@@ -46,7 +46,7 @@ fn line_or_card(card: &Card) -> Result<OutputSpec, ColumnFault>
     ensures { result ≡ tables.line_or_card.reading card.now }
 {
     if is_or_card(card) {
-        card.blank(ranges::BEHIND_TIME)?;
+        card.blank(ranges::AFTER_TIME)?;
         Ok(OutputSpec::Or(line_conditions(card)?))
     } else {
         line_or_field_card(card)
@@ -69,10 +69,10 @@ fn record_card(card: &Card) -> Result<OutputRecord, ColumnFault>
     let file = card.optional_name(ranges::LINE_FILE)?;
     let text = card.columns(ranges::LINE_TIME);
     let time = at(ranges::LINE_TIME, rpg_sheet_values::line_time(text))?;
-    card.blank(ranges::BEHIND_TIME)?;
+    card.blank(ranges::AFTER_TIME)?;
     let movement = movement(card)?;
     let conditions = conditions(card, ranges::LINE_CONDITIONS)?;
-    card.blank(ranges::BEHIND_CONDITIONS)?;
+    card.blank(ranges::AFTER_CONDITIONS)?;
     Ok(OutputRecord {
         file,
         time,
@@ -102,7 +102,7 @@ fn line_conditions(card: &Card) -> Result<Three<Option<ConditionSpec>>, ColumnFa
 {
     card.blank(ranges::MOVEMENT)?;
     let conditions = conditions(card, ranges::LINE_CONDITIONS)?;
-    card.blank(ranges::BEHIND_CONDITIONS)?;
+    card.blank(ranges::AFTER_CONDITIONS)?;
     Ok(conditions)
 }
 

@@ -162,13 +162,13 @@ impl Cards {
     }
 }
 
-/// What a card means after a sheet at place `latest`, or what is wrong with its form type and its columns. `behind` says whether data has begun.
-pub(crate) fn read(card: &Card, latest: u8, behind: bool) -> Result<Option<Spec>, CardFault>
-    ensures ok { IfOk result (λ spec. (spec ≡ spec_of behind card.now) × (sheet_code latest behind card.now ≡ None)) }
-    ensures err { IfErr result (λ fault. (sheet_code latest behind card.now ≡ Some fault.code) × (fault.columns ≡ sheet_fault_columns behind card.now fault.code)) }
+/// What a card means after a sheet at place `latest`, or what is wrong with its form type and its columns. `data_begun` says whether data has begun.
+pub(crate) fn read(card: &Card, latest: u8, data_begun: bool) -> Result<Option<Spec>, CardFault>
+    ensures ok { IfOk result (λ spec. (spec ≡ spec_of data_begun card.now) × (sheet_code latest data_begun card.now ≡ None)) }
+    ensures err { IfErr result (λ fault. (sheet_code latest data_begun card.now ≡ Some fault.code) × (fault.columns ≡ sheet_fault_columns data_begun card.now fault.code)) }
 {
-    if !card.is_sheet(behind) {
-        return Ok(data(card, behind).map(Spec::Data));
+    if !card.is_sheet(data_begun) {
+        return Ok(data(card, data_begun).map(Spec::Data));
     }
     let Some(sheet) = card.form_type() else {
         return Err(SheetCode::S3.into());
@@ -180,14 +180,14 @@ pub(crate) fn read(card: &Card, latest: u8, behind: bool) -> Result<Option<Spec>
 }
 
 /// What a card that is on no sheet means.
-fn data(card: &Card, behind: bool) -> Option<DataSpec>
-    ensures { result ≡ data_spec_of behind card.now }
+fn data(card: &Card, data_begun: bool) -> Option<DataSpec>
+    ensures { result ≡ data_spec_of data_begun card.now }
 {
     if card.ends_source() {
         None
     } else if card.begins_data() {
         Some(DataSpec::Begin)
-    } else if behind {
+    } else if data_begun {
         Some(DataSpec::Card(DataCard::new(card.as_slice())))
     } else {
         None

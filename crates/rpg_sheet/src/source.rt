@@ -23,26 +23,26 @@ pub(crate) const CARDS: u16 = 2000;
 pub(crate) struct Earlier {
     pub count: u16,
     pub latest: u8,
-    pub behind: bool,
+    pub data_begun: bool,
 }
 
 /// No lines.
 pub(crate) const NO_LINES: Earlier = Earlier {
     count: 0,
     latest: 0,
-    behind: false,
+    data_begun: false,
 };
 
 impl Earlier {
     /// The same with one more line, which has these columns.
     pub(crate) fn with(self, columns: &[u8; 80]) -> Self
         requires { self.count ≤ 2000 }
-        ensures { (lines : List (List ℕ)) → (line : List ℕ) → columns.now ≡ card_of line → AreLinesSeen lines self.count self.latest self.behind → AreLinesSeen (lines ++ line ∷ []) result.count result.latest result.behind }
+        ensures { (lines : List (List ℕ)) → (line : List ℕ) → columns.now ≡ card_of line → AreLinesSeen lines self.count self.latest self.data_begun → AreLinesSeen (lines ++ line ∷ []) result.count result.latest result.data_begun }
     {
         Earlier {
             count: self.count + 1,
             latest: latest_with(self.latest, columns),
-            behind: self.behind | begins_data(columns),
+            data_begun: self.data_begun | begins_data(columns),
         }
     }
 }
@@ -103,10 +103,10 @@ pub(crate) fn checked(
     columns: &[u8; 80],
 ) -> Result<Option<Spec>, CardFault>
     requires { columns.now ≡ card_of line.now }
-    ensures spec { IfOk result (λ spec. spec ≡ spec_of earlier.behind columns.now) }
-    ensures good { OnOk result (code_seen earlier.count earlier.latest earlier.behind line.now ≡ None) }
-    ensures code { IfErr result (λ fault. code_seen earlier.count earlier.latest earlier.behind line.now ≡ Some fault.code) }
-    ensures columns { IfErr result (λ fault. fault.columns ≡ sheets.sheet_fault_columns earlier.behind columns.now fault.code) }
+    ensures spec { IfOk result (λ spec. spec ≡ spec_of earlier.data_begun columns.now) }
+    ensures good { OnOk result (code_seen earlier.count earlier.latest earlier.data_begun line.now ≡ None) }
+    ensures code { IfErr result (λ fault. code_seen earlier.count earlier.latest earlier.data_begun line.now ≡ Some fault.code) }
+    ensures columns { IfErr result (λ fault. fault.columns ≡ sheets.sheet_fault_columns earlier.data_begun columns.now fault.code) }
 {
     if line.len() > 80 {
         return Err(SheetCode::S1.into());
@@ -116,17 +116,17 @@ pub(crate) fn checked(
     }
     let card = Card::of(columns);
     if earlier.count >= CARDS {
-        return Err(past_last(&card, earlier.latest, earlier.behind));
+        return Err(past_last(&card, earlier.latest, earlier.data_begun));
     }
-    read(&card, earlier.latest, earlier.behind)
+    read(&card, earlier.latest, earlier.data_begun)
 }
 
 /// What is wrong with card 2,001: that it is that card, unless it can't be read.
-fn past_last(card: &Card, latest: u8, behind: bool) -> CardFault
-    ensures code { Some result.code ≡ option_or (sheet_code latest behind card.now) (Some S6) }
-    ensures columns { result.columns ≡ sheets.sheet_fault_columns behind card.now result.code }
+fn past_last(card: &Card, latest: u8, data_begun: bool) -> CardFault
+    ensures code { Some result.code ≡ option_or (sheet_code latest data_begun card.now) (Some S6) }
+    ensures columns { result.columns ≡ sheets.sheet_fault_columns data_begun card.now result.code }
 {
-    match read(card, latest, behind) {
+    match read(card, latest, data_begun) {
         Ok(_) => SheetCode::S6.into(),
         Err(fault) => fault,
     }

@@ -58,7 +58,7 @@ fn put_if_unreadable(
 ) -> Result<(), AllocError>
     requires few { earlier.count ≤ 2000 }
     requires columns { columns.now ≡ card_of line.now }
-    ensures { OnOk result ((lines : List (List ℕ)) → AreLinesSeen lines earlier.count earlier.latest earlier.behind → found.new.items ≡ found.old.items ++ every.unreadable_at lines line.now) }
+    ensures { OnOk result ((lines : List (List ℕ)) → AreLinesSeen lines earlier.count earlier.latest earlier.data_begun → found.new.items ≡ found.old.items ++ every.unreadable_at lines line.now) }
 {
     match checked(earlier, line, columns) {
         Ok(_) => Ok(()),

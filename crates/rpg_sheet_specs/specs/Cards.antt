@@ -37,13 +37,13 @@ form_type_of = one_of (
 abbrev pub form_type : List ℕ → Option FormType
 form_type card = form_type_of (cols 6 6 card)
 
--- a card that must have a form type; `behind` says whether one before it begins data
+-- a card that must have a form type; `data_begun` says whether one before it begins data
 abbrev pub is_sheet : Bool → List ℕ → Bool
-is_sheet behind card = not (behind || begins_data card || ends_source card || is_skipped card)
+is_sheet data_begun card = not (data_begun || begins_data card || ends_source card || is_skipped card)
 
 -- the sheet that a card is on
 abbrev pub sheet_of : Bool → List ℕ → Option FormType
-sheet_of behind card = if is_sheet behind card then form_type card else None
+sheet_of data_begun card = if is_sheet data_begun card then form_type card else None
 
 -- the order of the sheets
 abbrev pub sheet_place : FormType → ℕ

@@ -14,6 +14,6 @@ pub record Numeral : Type 0 where
 pub record IsNumeral (value : ℤ) (length decimals : ℕ) : Type 0 where
   pub has_digits : 1 ≤ length
   pub has_columns : length ≤ 10
-  pub behind_point : decimals ≤ length
+  pub after_point : decimals ≤ length
   pub has_point : decimals ≤ 9
   pub fits : unsigned_abs value < 10 ^ length

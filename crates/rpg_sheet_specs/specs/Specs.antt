@@ -20,24 +20,24 @@ card_on form.Input = values spec.Input ⊛ input_card
 card_on form.Calculation = values spec.Calculation ⊛ calculation_card
 card_on form.Output = values spec.Output ⊛ output_card
 
--- what a card that is on no sheet means; `behind` says whether one before it begins data
+-- what a card that is on no sheet means; `data_begun` says whether one before it begins data
 abbrev pub data_spec_of : Bool → List ℕ → Option DataSpec
-data_spec_of behind card =
+data_spec_of data_begun card =
     if ends_source card then None
     else if begins_data card then Some data_spec.Begin
-    else if behind then Some (data_spec.Card card)
+    else if data_begun then Some (data_spec.Card card)
     else None
 
 -- what a card means: nothing where a column is bad, where it is skipped and where it ends the source
 abbrev pub spec_of : Bool → List ℕ → Option Spec
-spec_of behind card =
-    if is_sheet behind card then option_and_then (λ sheet. result_ok ((card_on sheet).reading card)) (form_type card)
-    else option_map spec.Data (data_spec_of behind card)
+spec_of data_begun card =
+    if is_sheet data_begun card then option_and_then (λ sheet. result_ok ((card_on sheet).reading card)) (form_type card)
+    else option_map spec.Data (data_spec_of data_begun card)
 
 -- what cards mean
 abbrev pub specs_from : Bool → List (List ℕ) → List (Option Spec)
-specs_from behind [] = []
-specs_from behind (card ∷ cards) = spec_of behind card ∷ specs_from (behind || begins_data card) cards
+specs_from data_begun [] = []
+specs_from data_begun (card ∷ cards) = spec_of data_begun card ∷ specs_from (data_begun || begins_data card) cards
 
 -- what the cards of a source mean; none for a card without a meaning
 abbrev pub specs_of : List (List ℕ) → List (Option Spec)

@@ -136,10 +136,10 @@ with_sign minus n = if minus then neg_ℤ (pos n) else pos n
 
 -- the number of these digits before its point and these after it; there must be at least one digit
 abbrev pub numeral : Bool → List ℕ → List ℕ → Option Numeral
-numeral minus whole behind = when (all_digits (whole ++ behind)) (record {
-  value = with_sign minus (digits_value 10 (whole ++ behind));
-  length = length (whole ++ behind);
-  decimals = length behind;
+numeral minus whole following = when (all_digits (whole ++ following)) (record {
+  value = with_sign minus (digits_value 10 (whole ++ following));
+  length = length (whole ++ following);
+  decimals = length following;
 })
 
 -- a sign or none, and digits with a point or none

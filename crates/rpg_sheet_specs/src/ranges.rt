@@ -4,7 +4,7 @@ use crate::card_columns::CardColumns;
 
 // ---- H
 
-pub const BEHIND_HEADER: CardColumns<60> = CardColumns { first: 15 };
+pub const AFTER_HEADER: CardColumns<60> = CardColumns { first: 15 };
 
 // ---- F
 
@@ -26,11 +26,11 @@ pub const BEFORE_OVERFLOW: CardColumns<5> = CardColumns { first: 28 };
 
 pub const OVERFLOW: CardColumns<2> = CardColumns { first: 33 };
 
-pub const BEHIND_OVERFLOW: CardColumns<5> = CardColumns { first: 35 };
+pub const AFTER_OVERFLOW: CardColumns<5> = CardColumns { first: 35 };
 
 pub const DEVICE: CardColumns<7> = CardColumns { first: 40 };
 
-pub const BEHIND_DEVICE: CardColumns<28> = CardColumns { first: 47 };
+pub const AFTER_DEVICE: CardColumns<28> = CardColumns { first: 47 };
 
 // ---- E
 
@@ -91,7 +91,7 @@ pub const SECOND_CODE: CardColumns<7> = CardColumns { first: 28 };
 
 pub const THIRD_CODE: CardColumns<7> = CardColumns { first: 35 };
 
-pub const BEHIND_CODES: CardColumns<33> = CardColumns { first: 42 };
+pub const AFTER_CODES: CardColumns<33> = CardColumns { first: 42 };
 /// What stands before the codes of an AND card.
 pub const BEFORE_CODES: CardColumns<4> = CardColumns { first: 17 };
 
@@ -109,7 +109,7 @@ pub const INPUT_LEVEL: CardColumns<2> = CardColumns { first: 59 };
 
 pub const INPUT_MATCH: CardColumns<2> = CardColumns { first: 61 };
 
-pub const BEHIND_MATCH: CardColumns<2> = CardColumns { first: 63 };
+pub const AFTER_MATCH: CardColumns<2> = CardColumns { first: 63 };
 /// All three indicators of a field.
 pub const INPUT_INDICATORS: CardColumns<6> = CardColumns { first: 65 };
 
@@ -119,7 +119,7 @@ pub const INPUT_MINUS: CardColumns<2> = CardColumns { first: 67 };
 
 pub const INPUT_ZERO: CardColumns<2> = CardColumns { first: 69 };
 
-pub const BEHIND_INDICATORS: CardColumns<4> = CardColumns { first: 71 };
+pub const AFTER_INDICATORS: CardColumns<4> = CardColumns { first: 71 };
 
 // ---- C
 
@@ -161,7 +161,7 @@ pub const LINE_FILE: CardColumns<8> = CardColumns { first: 7 };
 
 pub const LINE_TIME: CardColumns<1> = CardColumns { first: 15 };
 
-pub const BEHIND_TIME: CardColumns<1> = CardColumns { first: 16 };
+pub const AFTER_TIME: CardColumns<1> = CardColumns { first: 16 };
 
 pub const SPACE_BEFORE: CardColumns<1> = CardColumns { first: 17 };
 
@@ -181,7 +181,7 @@ pub const SECOND_LINE_CONDITION: CardColumns<3> = CardColumns { first: 26 };
 
 pub const THIRD_LINE_CONDITION: CardColumns<3> = CardColumns { first: 29 };
 
-pub const BEHIND_CONDITIONS: CardColumns<39> = CardColumns { first: 32 };
+pub const AFTER_CONDITIONS: CardColumns<39> = CardColumns { first: 32 };
 
 pub const OUTPUT_NAME: CardColumns<6> = CardColumns { first: 32 };
 

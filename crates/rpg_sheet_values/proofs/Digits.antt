@@ -69,8 +69,8 @@ pub nothing_has_room : (n : ℕ) → 0 < 10 ^ n
 nothing_has_room n = one-le-pow n 10 (lit< tt)
 
 -- digits in two parts
-pub both_fit : (whole behind : List ℕ) → IsTrue (list_all is_ascii_digit whole) → IsTrue (list_all is_ascii_digit behind)
-    → digits_value 10 (whole ++ behind) < 10 ^ (length whole + length behind)
-both_fit whole behind all more =
-    rw (sym (length-append whole behind))
-    (digits_fit (whole ++ behind) (rw (list_all-append is_ascii_digit whole behind, all, more) refl))
+pub both_fit : (whole following : List ℕ) → IsTrue (list_all is_ascii_digit whole) → IsTrue (list_all is_ascii_digit following)
+    → digits_value 10 (whole ++ following) < 10 ^ (length whole + length following)
+both_fit whole following all more =
+    rw (sym (length-append whole following))
+    (digits_fit (whole ++ following) (rw (list_all-append is_ascii_digit whole following, all, more) refl))

@@ -40,11 +40,11 @@ size_of_sign true zero = refl
 size_of_sign true (suc n) = refl
 size_of_sign false n = refl
 
-pub numeral_is : (minus : Bool) (whole behind : List ℕ) (value : ℤ) → list_all is_ascii_digit whole ≡ true → list_all is_ascii_digit behind ≡ true → 0 < length whole + length behind
-    → value ≡ with_sign minus (digits_value 10 (whole ++ behind)) → numeral minus whole behind ≡ Some (record { value = value; length = length whole + length behind; decimals = length behind })
-numeral_is minus whole behind value all more some e =
-    let digits : all_digits (whole ++ behind) ≡ true = rw (length-append whole behind, list_all-append is_ascii_digit whole behind, all, more) (grind (arith, common_steps)) in
-    rw (digits, length-append whole behind, e) refl
+pub numeral_is : (minus : Bool) (whole following : List ℕ) (value : ℤ) → list_all is_ascii_digit whole ≡ true → list_all is_ascii_digit following ≡ true → 0 < length whole + length following
+    → value ≡ with_sign minus (digits_value 10 (whole ++ following)) → numeral minus whole following ≡ Some (record { value = value; length = length whole + length following; decimals = length following })
+numeral_is minus whole following value all more some e =
+    let digits : all_digits (whole ++ following) ≡ true = rw (length-append whole following, list_all-append is_ascii_digit whole following, all, more) (grind (arith, common_steps)) in
+    rw (digits, length-append whole following, e) refl
 
 -- ---- texts
 
@@ -138,10 +138,10 @@ quoted_writes text t = (there (is_enclosed text) refl, back)
         rw (h.0, enclosed (doubled t) some, between (doubled t)) (undoubled-doubled t)
 
 -- one more character is done
-pub one_more : (text word behind : List ℕ) (c : ℕ) (rest : Option (List ℕ))
-    → rest ≡ option_map (λ (t : List ℕ). c ∷ t) (undoubled behind) → undoubled text ≡ option_map (λ (t : List ℕ). word ++ t) rest
-    → undoubled text ≡ option_map (λ (t : List ℕ). (word ++ c ∷ []) ++ t) (undoubled behind)
-one_more text word behind c rest first so_far = by (undoubled behind) (rw first at so_far)
+pub one_more : (text word following : List ℕ) (c : ℕ) (rest : Option (List ℕ))
+    → rest ≡ option_map (λ (t : List ℕ). c ∷ t) (undoubled following) → undoubled text ≡ option_map (λ (t : List ℕ). word ++ t) rest
+    → undoubled text ≡ option_map (λ (t : List ℕ). (word ++ c ∷ []) ++ t) (undoubled following)
+one_more text word following c rest first so_far = by (undoubled following) (rw first at so_far)
   where
     by : (o : Option (List ℕ)) → undoubled text ≡ option_map (λ (t : List ℕ). word ++ t) (option_map (λ (t : List ℕ). c ∷ t) o)
         → undoubled text ≡ option_map (λ (t : List ℕ). (word ++ c ∷ []) ++ t) o

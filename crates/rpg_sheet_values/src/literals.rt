@@ -41,8 +41,8 @@ fn numeric_literal(text: &[u8]) -> Option<NumericLiteral>
 {
     let text = trimmed(text);
     let (minus, unsigned) = without_sign(text);
-    let (whole, behind) = around_point(unsigned);
-    numeral(minus, whole, behind)
+    let (whole, following) = around_point(unsigned);
+    numeral(minus, whole, following)
 }
 
 /// Whether a minus sign comes first, and what follows a sign.
@@ -61,7 +61,7 @@ fn without_sign(text: &[u8]) -> (bool, &[u8])
 /// The text before the first point, and the text after it.
 fn around_point(text: &[u8]) -> (&[u8], &[u8])
     ensures before { result.0.now ≡ before_first values.is_point text.now }
-    ensures behind { result.1.now ≡ after_first values.is_point text.now }
+    ensures following { result.1.now ≡ after_first values.is_point text.now }
     ensures shorter { length result.0.now + length result.1.now ≤ length text.now }
     ensures point { length result.1.now ≤ length text.now - 1 }
 {
@@ -80,17 +80,17 @@ fn point(text: &[u8]) -> Option<usize>
 }
 
 /// The number of these digits before its point and these after it.
-fn numeral(minus: bool, whole: &[u8], behind: &[u8]) -> Option<NumericLiteral>
-    requires short { length whole.now + length behind.now ≤ 10 }
-    requires point { length behind.now ≤ 9 }
-    ensures { result ≡ values.numeral minus whole.now behind.now }
+fn numeral(minus: bool, whole: &[u8], following: &[u8]) -> Option<NumericLiteral>
+    requires short { length whole.now + length following.now ≤ 10 }
+    requires point { length following.now ≤ 9 }
+    ensures { result ≡ values.numeral minus whole.now following.now }
 {
-    let digits = whole.len() + behind.len();
-    if digits == 0 || !has_only_digits(whole) || !has_only_digits(behind) {
+    let digits = whole.len() + following.len();
+    if digits == 0 || !has_only_digits(whole) || !has_only_digits(following) {
         return None;
     }
-    let size = value_after(value_after(0, whole), behind);
-    Some(NumericLiteral::new(with_sign(minus, size), digits as u8, behind.len() as u8))
+    let size = value_after(value_after(0, whole), following);
+    Some(NumericLiteral::new(with_sign(minus, size), digits as u8, following.len() as u8))
 }
 
 fn with_sign(minus: bool, size: u64) -> i64
@@ -132,9 +132,9 @@ fn undoubled<const N: usize>(text: &[u8]) -> Option<Word<N>>
     let mut word = Word::new(b"");
     let mut rest = text;
     while !rest.is_empty() {
-        let (character, behind) = first_undoubled(rest)?;
+        let (character, following) = first_undoubled(rest)?;
         word.push(character);
-        rest = behind;
+        rest = following;
     }
     Some(word)
 }
@@ -147,8 +147,8 @@ fn first_undoubled(text: &[u8]) -> Option<(u8, &[u8])>
     ensures alone { IfNone result (values.undoubled text.now ≡ None) }
 {
     match text {
-        [b'\'', b'\'', behind @ ..] => Some((b'\'', behind)),
+        [b'\'', b'\'', following @ ..] => Some((b'\'', following)),
         [b'\'', ..] | [] => None,
-        [character, behind @ ..] => Some((*character, behind)),
+        [character, following @ ..] => Some((*character, following)),
     }
 }

@@ -17,7 +17,7 @@ use Rattle.rpg_store.specs.Flat.{flat_contents, written_at}
 use Rattle.rpg_store.specs.Slots.{forms_of, slot_at, slot_start}
 use Rattle.rpg_store.specs.declared.slot.Slot.{Slot}
 use Rattle.rpg_store.proofs.ByEntry.{by_entry-set, cut, length-positions_from, there, within_field}
-use Rattle.rpg_store.proofs.Bytes.{before_stays, behind_stays, here_written, length-written}
+use Rattle.rpg_store.proofs.Bytes.{before_stays, after_stays, here_written, length-written}
 
 -- ---- parts and entries go side by side
 
@@ -146,7 +146,7 @@ other_stays ps area n p w a h l j b i ne =
     let room = a.inside n p h in
     elim (a.apart j n b p i h ne) [
       | inl before ↦ before_stays area p.at w b.at b.len before (omega arith)
-      | inr behind ↦ behind_stays area p.at w b.at b.len (omega arith) (omega arith)
+      | inr following ↦ after_stays area p.at w b.at b.len (omega arith) (omega arith)
     ]
 
 value_of_bytes : (area area' : List ℕ) (b : AreaPart) → bytes_in area' b ≡ bytes_in area b → part_value area' b ≡ part_value area b

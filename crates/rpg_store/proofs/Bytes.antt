@@ -56,8 +56,8 @@ between area at w h = grind (arith, common_steps)
 pub here_written : (area : List ℕ) (at : ℕ) (w : List ℕ) (len : ℕ) → at + len ≤ length area → length w ≡ len → bytes_at (written_at area at w) at len ≡ w
 here_written area at w len h l = grind (arith, common_steps, between)
 
-pub behind_stays : (area : List ℕ) (at : ℕ) (w : List ℕ) (b len : ℕ) → at + length w ≤ b → at + length w ≤ length area → bytes_at (written_at area at w) b len ≡ bytes_at area b len
-behind_stays area at w b len h l =
+pub after_stays : (area : List ℕ) (at : ℕ) (w : List ℕ) (b len : ℕ) → at + length w ≤ b → at + length w ≤ length area → bytes_at (written_at area at w) b len ≡ bytes_at area b len
+after_stays area at w b len h l =
     let s = at + length w in
     let r = b - s in
     let x : List ℕ = take at area ++ w in

@@ -14,6 +14,6 @@ last_ends at (q ∷ []) r ordered is =
     let place : q.first ≡ at = ordered.0 in
     omega arith
 last_ends at (q ∷ s ∷ rs) r ordered is =
-    let behind : length (q ∷ s ∷ rs) - 1 ≡ suc (length (s ∷ rs) - 1) = omega arith in
-    let others = last_ends (at + q.form.entries) (s ∷ rs) r ordered.1 (ap (slice_get (q ∷ s ∷ rs)) (sym behind) ∙ is) in
+    let following : length (q ∷ s ∷ rs) - 1 ≡ suc (length (s ∷ rs) - 1) = omega arith in
+    let others = last_ends (at + q.form.entries) (s ∷ rs) r ordered.1 (ap (slice_get (q ∷ s ∷ rs)) (sym following) ∙ is) in
     omega arith

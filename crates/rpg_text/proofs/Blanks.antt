@@ -9,8 +9,8 @@ use Rattle.rpg_text.specs.Texts.{is_blank}
 abbrev pub eight_blanks : List ℕ
 eight_blanks = 32 ∷ 32 ∷ 32 ∷ 32 ∷ 32 ∷ 32 ∷ 32 ∷ 32 ∷ []
 
-behind_eight : (front : List ℕ) → suffix_len is_blank (front ++ eight_blanks) ≡ 8 + suffix_len is_blank front
-behind_eight front =
+after_eight : (front : List ℕ) → suffix_len is_blank (front ++ eight_blanks) ≡ 8 + suffix_len is_blank front
+after_eight front =
     let counted : suffix_len is_blank (front ++ eight_blanks) ≡ 1 + (1 + (1 + (1 + (1 + (1 + (1 + (1 + suffix_len is_blank front))))))) =
     ap (prefix_len is_blank) (reverse-append front eight_blanks) in
     omega (arith, counted)
@@ -20,4 +20,4 @@ pub eight_more : (end : ℕ) (text : List ℕ) → 8 ≤ end → take (end - (en
 eight_more end text some blanks =
     let whole : end ≡ (end - 8) + (end - (end - 8)) = omega arith in
     ap (λ n. suffix_len is_blank (take n text)) whole ∙ ap (suffix_len is_blank) (take-add (end - 8) (end - (end - 8)) text ∙ ap (λ t. take (end - 8) text ++ t) blanks)
-    ∙ behind_eight (take (end - 8) text)
+    ∙ after_eight (take (end - 8) text)

@@ -22,12 +22,12 @@ pub none_before : (text : List ℕ) (at : ℕ) → at + 16 ≤ length text → p
 none_before text at within before none =
     let sixteen : at + 16 - at ≡ 16 = omega arith in
     let more = none_in_front 16 (drop at text) (omega (arith, length-drop at text)) (rw sixteen at none) in
-    let behind : prefix_len is_no_line_feed (drop 16 (drop at text)) ≡ prefix_len is_no_line_feed (drop (at + 16) text) = ap (prefix_len is_no_line_feed) (drop-drop 16 at text) in
+    let following : prefix_len is_no_line_feed (drop 16 (drop at text)) ≡ prefix_len is_no_line_feed (drop (at + 16) text) = ap (prefix_len is_no_line_feed) (drop-drop 16 at text) in
     omega arith
 
-pub first_behind : (text : List ℕ) (at : ℕ) → at ≤ length text → prefix_len is_no_line_feed text ≡ at + prefix_len is_no_line_feed (drop at text)
+pub first_after : (text : List ℕ) (at : ℕ) → at ≤ length text → prefix_len is_no_line_feed text ≡ at + prefix_len is_no_line_feed (drop at text)
     → position is_line_feed text ≡ option_map (λ i. at + i) (position is_line_feed (drop at text))
-first_behind text at within before = by (cases_lt (prefix_len is_no_line_feed (drop at text)) (length (drop at text)))
+first_after text at within before = by (cases_lt (prefix_len is_no_line_feed (drop at text)) (length (drop at text)))
   where
     size : length (drop at text) ≡ length text - at
     size = length-drop at text

@@ -44,8 +44,8 @@ lines_last text more h = by (cases_lt (position_or_len is_line_feed text) (lengt
     by (inr le) = rw (none_split text le) (one text more)
 
 -- the rest of a text, up to its end
-pub lines_behind : (text : List ℕ) (i : ℕ) → lines (take (length text - i) (drop i text)) ≡ lines (drop i text)
-lines_behind text i = rw (take_all (length text - i) (drop i text) (omega (arith, length-drop i text))) refl
+pub lines_following : (text : List ℕ) (i : ℕ) → lines (take (length text - i) (drop i text)) ≡ lines (drop i text)
+lines_following text i = rw (take_all (length text - i) (drop i text) (omega (arith, length-drop i text))) refl
 
 -- ---- a text that is put together of lines
 
@@ -63,6 +63,6 @@ pub by_lines : LinesEndAtLineFeeds
 by_lines [] rest all other = no_line rest other
 by_lines (part ∷ more) rest all other =
     let both = and_parts _ _ all in
-    let behind : List ℕ = flat_map with_line_feed more ++ rest in
-    let regrouped : flat_map with_line_feed (part ∷ more) ++ rest ≡ part ++ 10 ∷ behind = append_assoc (part ++ 10 ∷ []) (flat_map with_line_feed more) rest ∙ append_assoc part (10 ∷ []) behind in
-    ap lines regrouped ∙ one_line part behind both.0 ∙ ap (λ (later : List (List ℕ)). strip_carriage_return part ∷ later) (by_lines more rest both.1 other)
+    let following : List ℕ = flat_map with_line_feed more ++ rest in
+    let regrouped : flat_map with_line_feed (part ∷ more) ++ rest ≡ part ++ 10 ∷ following = append_assoc (part ++ 10 ∷ []) (flat_map with_line_feed more) rest ∙ append_assoc part (10 ∷ []) following in
+    ap lines regrouped ∙ one_line part following both.0 ∙ ap (λ (later : List (List ℕ)). strip_carriage_return part ∷ later) (by_lines more rest both.1 other)

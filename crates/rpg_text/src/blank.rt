@@ -27,7 +27,7 @@ pub fn trimmed(text: &[u8]) -> &[u8]
 /// Where what is left ends once blanks are cut off eight by eight.
 fn end_by_eight(text: &[u8]) -> usize
     ensures within { result ≤ length text.now }
-    ensures behind { suffix_len is_blank text.now ≡ length text.now - result + suffix_len is_blank (take result text.now) }
+    ensures following { suffix_len is_blank text.now ≡ length text.now - result + suffix_len is_blank (take result text.now) }
 {
     let mut end = text.len();
     while end >= 8 && &text[end - 8..end] == EIGHT_BLANKS {

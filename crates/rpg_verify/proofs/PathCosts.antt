@@ -78,8 +78,8 @@ module _ (weight : Instruction ℕ → ℕ) where
       omega (arith, here, there)
 
   -- the cost of a place after the first one is that in what is left
-  behind : (n : ℕ) (i : Instruction ℕ) (is : List (Instruction ℕ)) (x c : ℕ) → n < x → IsCost weight (stretch_of (n + 1) is) x c → IsCost weight (stretch_of n (i ∷ is)) x c
-  behind n i is x c h g = record { above = above; reached = (g.reached.0, reach g.reached.0 g.reached.1 g.reached.2, g.reached.2, sums g.reached.0 g.reached.1 g.reached.2 ∙ g.reached.3) }
+  following : (n : ℕ) (i : Instruction ℕ) (is : List (Instruction ℕ)) (x c : ℕ) → n < x → IsCost weight (stretch_of (n + 1) is) x c → IsCost weight (stretch_of n (i ∷ is)) x c
+  following n i is x c h g = record { above = above; reached = (g.reached.0, reach g.reached.0 g.reached.1 g.reached.2, g.reached.2, sums g.reached.0 g.reached.1 g.reached.2 ∙ g.reached.3) }
     where
       above : (path : List ℕ) → IsPath (stretch_of n (i ∷ is)) path → IsFrom x path → weight_along weight (stretch_of n (i ∷ is)) path ≤ c
       above [] p f = omega arith
@@ -160,7 +160,7 @@ module _ (weight : Instruction ℕ → ℕ) where
   straight n i is costs g one f = best_of_one (stretch_of (n + 1) is) (Follows n i) (n + 1) (slice_index costs 0) (next_cost n is costs g) one f
 
   branching : (n : ℕ) (k : Bool) (cs : Conditions) (t : ℕ) (is : List (Instruction ℕ)) (costs : List ℕ) → AreCosts weight (stretch_of (n + 1) is) costs → IsBest (stretch_of (n + 1) is) (Follows n (Branch k cs t)) (cost_onward n (Branch k cs t) costs)
-  branching n k cs t is costs g = best_of_both s Target Behind (Follows n (Branch k cs t)) _ _ (to_target (nat_lt n t) refl) (behind_it (always_goes k cs) refl) split left right
+  branching n k cs t is costs g = best_of_both s Target FallsThrough (Follows n (Branch k cs t)) _ _ (to_target (nat_lt n t) refl) (after_it (always_goes k cs) refl) split left right
     where
       s : Stretch
       s = stretch_of (n + 1) is
@@ -168,24 +168,24 @@ module _ (weight : Instruction ℕ → ℕ) where
       Target : ℕ → Type 0
       Target y = (n < y) × (y ≡ t)
 
-      Behind : ℕ → Type 0
-      Behind y = (y ≡ n + 1) × (always_goes k cs ≡ false)
+      FallsThrough : ℕ → Type 0
+      FallsThrough y = (y ≡ n + 1) × (always_goes k cs ≡ false)
 
       to_target : (b : Bool) → nat_lt n t ≡ b → IsBest s Target (cond b (slice_index costs (t - (n + 1))) 0)
       to_target true h = let up : n < t = omega (arith, ltb-true) in best_of_one s Target t _ (g t (omega arith)) (λ y x. x.1) (up, refl)
       to_target false h = let down : t ≤ n = omega (arith, ltb-false) in best_of_none s Target (λ y x. (let e = x.1 in let l = x.0 in omega arith))
 
-      behind_it : (b : Bool) → always_goes k cs ≡ b → IsBest s Behind (cond b 0 (slice_index costs 0))
-      behind_it true h = best_of_none s Behind (λ y x. (let e = x.1 in cc))
-      behind_it false h = best_of_one s Behind (n + 1) _ (next_cost n is costs g) (λ y x. x.0) (refl, h)
+      after_it : (b : Bool) → always_goes k cs ≡ b → IsBest s FallsThrough (cond b 0 (slice_index costs 0))
+      after_it true h = best_of_none s FallsThrough (λ y x. (let e = x.1 in cc))
+      after_it false h = best_of_one s FallsThrough (n + 1) _ (next_cost n is costs g) (λ y x. x.0) (refl, h)
 
-      split : (y : ℕ) → Follows n (Branch k cs t) y → Target y ⊎ Behind y
+      split : (y : ℕ) → Follows n (Branch k cs t) y → Target y ⊎ FallsThrough y
       split y f = elim f.1 [ inl e ↦ inl (f.0, e) | inr e ↦ inr e ]
 
       left : (y : ℕ) → Target y → Follows n (Branch k cs t) y
       left y x = (x.0, inl x.1)
 
-      right : (y : ℕ) → Behind y → Follows n (Branch k cs t) y
+      right : (y : ℕ) → FallsThrough y → Follows n (Branch k cs t) y
       right y x = ((let e = x.0 in omega arith), inr x)
 
   onward : (n : ℕ) (i : Instruction ℕ) (is : List (Instruction ℕ)) (costs : List ℕ) → AreCosts weight (stretch_of (n + 1) is) costs → IsBest (stretch_of (n + 1) is) (Follows n i) (cost_onward n i costs)
@@ -235,7 +235,7 @@ module _ (weight : Instruction ℕ → ℕ) where
       all = with_cost weight n i rest
 
       ahead : n < x → x - n ≡ suc (x - (n + 1)) → IsCost weight (stretch_of n (i ∷ is)) x (slice_index all (x - n))
-      ahead up e = subst (λ k. IsCost weight (stretch_of n (i ∷ is)) x (slice_index all k)) (sym e) (behind n i is x _ up (g x (omega arith)))
+      ahead up e = subst (λ k. IsCost weight (stretch_of n (i ∷ is)) x (slice_index all k)) (sym e) (following n i is x _ up (g x (omega arith)))
 
       at_itself : n ≡ x → 0 ≡ x - n → IsCost weight (stretch_of n (i ∷ is)) x (slice_index all (x - n))
       at_itself e z = subst (λ y. IsCost weight (stretch_of n (i ∷ is)) y (slice_index all (x - n))) e (subst (λ k. IsCost weight (stretch_of n (i ∷ is)) n (slice_index all k)) z (at_front n i is _ (onward n i is rest g)))

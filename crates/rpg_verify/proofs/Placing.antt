@@ -6,7 +6,7 @@ use Rattle.std.proofs.lemmas.List.{get_or_append_left, get_or-append_right}
 use Rattle.rpg_program.specs.declared.operation.Instruction.{Instruction}
 use Rattle.rpg_program.specs.ObjectInstructions.{weight}
 use Rattle.rpg_program.specs.Object.{Object, SubroutineRow}
-use Rattle.rpg_program.specs.Sections.{body_of, first_in, first_place, instructions_in, place_behind, places_of, section_instructions}
+use Rattle.rpg_program.specs.Sections.{body_of, first_in, first_place, instructions_in, place_after, places_of, section_instructions}
 use Rattle.rpg_program.specs.declared.section.Place.{Place}
 use Rattle.rpg_program.specs.declared.section.Section.{Section}
 use Rattle.rpg_program.specs.declared.section.Section.TheVariants.{Detail, Total, Subroutine}
@@ -51,8 +51,8 @@ main_long p =
     omega (arith, d, t, both)
 
 -- by its section, where the section's first place is `first`
-by_section : (p : Object) (s : Section) (x : ℕ) → first_place p s ≤ x → x < place_behind p s → slice_index (costs p) x ≡ slice_index (costs_at p (first_place p s) (section_instructions p s)) (x - first_place p s)
-unfolding first_place place_behind
+by_section : (p : Object) (s : Section) (x : ℕ) → first_place p s ≤ x → x < place_after p s → slice_index (costs p) x ≡ slice_index (costs_at p (first_place p s) (section_instructions p s)) (x - first_place p s)
+unfolding first_place place_after
 by_section p Detail x low high =
     let d = length_costs (weight p) 0 p.detail in
     let all = main_long p in
@@ -77,7 +77,7 @@ cost_there p x low = by_test (nat_le (first_place p x.section) x.number) (le-leb
     by_test false e = cc
 
 -- the costs of all places have the cost of each
-pub stored : (p : Object) (x : Place) → first_place p x.section ≤ x.number → x.number < place_behind p x.section → slice_index (costs p) x.number ≡ cost p x
+pub stored : (p : Object) (x : Place) → first_place p x.section ≤ x.number → x.number < place_after p x.section → slice_index (costs p) x.number ≡ cost p x
 stored p x low high = by_section p x.section x.number low high ∙ sym (cost_there p x low)
 
 -- ---- all places have a cost
@@ -102,20 +102,20 @@ end_in b [] n = omega arith
 end_in b (s ∷ ss) zero = omega arith
 end_in b (s ∷ ss) (suc n) = let h = end_in (b + length s.instructions) ss n in omega (arith, h)
 
-pub ends_within : (p : Object) (s : Section) → place_behind p s ≤ places_of p
-unfolding place_behind first_place
+pub ends_within : (p : Object) (s : Section) → place_after p s ≤ places_of p
+unfolding place_after first_place
 ends_within p Detail = omega arith
 ends_within p Total = omega arith
 ends_within p (Subroutine n) = end_in (length p.detail + length p.total) p.subroutines n
 
 -- ---- as they are stored
 
-pub in_stored : (p : Object) (s : Section) (n : ℕ) (all : List ℕ) → all ≡ costs p → n < place_behind p s → n < length all
+pub in_stored : (p : Object) (s : Section) (n : ℕ) (all : List ℕ) → all ≡ costs p → n < place_after p s → n < length all
 in_stored p s n all e h =
     let l = length_all p in
     let w = ends_within p s in
     let same : length all ≡ length (costs p) = ap length e in
     omega (arith, l, w, same, h)
 
-pub read_stored : (p : Object) (x : Place) (all : List ℕ) → all ≡ costs p → first_place p x.section ≤ x.number → x.number < place_behind p x.section → slice_index all x.number ≡ cost p x
+pub read_stored : (p : Object) (x : Place) (all : List ℕ) → all ≡ costs p → first_place p x.section ≤ x.number → x.number < place_after p x.section → slice_index all x.number ≡ cost p x
 read_stored p x all e low high = ap (λ xs. slice_index xs x.number) e ∙ stored p x low high

@@ -31,39 +31,41 @@ pub(crate) fn cost_in(costs: &[u64], k: usize) -> u64
 }
 
 /// The cost of a later place, from the costs after a place; 0 of one that isn't later.
-fn cost_ahead(place: usize, behind: &[u64], next: usize) -> u64
+fn cost_ahead(place: usize, following: &[u64], next: usize) -> u64
     requires { place ≤ 8192 }
-    ensures { result ≡ paths.cost_ahead place behind.now next }
+    ensures { result ≡ paths.cost_ahead place following.now next }
 {
     if place < next {
-        cost_in(behind, next - (place + 1))
+        cost_in(following, next - (place + 1))
     } else {
         0
     }
 }
 
 /// The cost of the next place, if a branch can be passed.
-fn cost_passed(always: bool, behind: &[u64]) -> u64
-    ensures { result ≡ paths.cost_passed always behind.now }
+fn cost_passed(always: bool, following: &[u64]) -> u64
+    ensures { result ≡ paths.cost_passed always following.now }
 {
-    if always { 0 } else { cost_in(behind, 0) }
+    if always { 0 } else { cost_in(following, 0) }
 }
 
 /// The greatest cost of what can come right after a place.
-fn cost_onward(place: usize, instruction: Instruction<u16>, behind: &[u64]) -> u64
+fn cost_onward(place: usize, instruction: Instruction<u16>, following: &[u64]) -> u64
     requires { place ≤ 8192 }
-    ensures { result ≡ paths.cost_onward place instruction behind.now }
+    ensures { result ≡ paths.cost_onward place instruction following.now }
 {
     match instruction {
         Instruction::Branch {
             is_taken_where,
             conditions,
             target,
-        } => cost_ahead(place, behind, usize::from(target)).max(cost_passed(
+        } => cost_ahead(place, following, usize::from(target)).max(cost_passed(
             always_goes(is_taken_where, conditions),
-            behind,
+            following,
         )),
-        Instruction::Act(_) | Instruction::Except | Instruction::Call { .. } => cost_in(behind, 0),
+        Instruction::Act(_) | Instruction::Except | Instruction::Call { .. } => cost_in(
+            following, 0,
+        ),
         Instruction::Return { .. } => 0,
     }
 }
@@ -75,17 +77,17 @@ fn cost_at(
     exceptions: u64,
     place: usize,
     instruction: Instruction<u16>,
-    behind: &[u64],
+    following: &[u64],
 ) -> u64
     requires exceptions { exceptions ≤ 201000 }
     requires place { place ≤ 8192 }
-    requires under { (k : ℕ) → slice_index behind.now k ≤ 1728512000 }
-    ensures { result ≡ instruction_weight (form_at rows.now.fields.items) exceptions instruction + paths.cost_onward place instruction behind.now }
+    requires under { (k : ℕ) → slice_index following.now k ≤ 1728512000 }
+    ensures { result ≡ instruction_weight (form_at rows.now.fields.items) exceptions instruction + paths.cost_onward place instruction following.now }
 {
-    weight_of(rows, exceptions, instruction) + cost_onward(place, instruction, behind)
+    weight_of(rows, exceptions, instruction) + cost_onward(place, instruction, following)
 }
 
-fn behind(costs: &[u64], n: usize) -> &[u64]
+fn following(costs: &[u64], n: usize) -> &[u64]
     requires { n ≤ length costs.now }
     ensures { result.now ≡ drop n costs.now }
 {
@@ -113,7 +115,7 @@ pub(crate) fn costs_of(
             exceptions,
             first + (i - 1),
             code[i - 1],
-            behind(&costs, i),
+            following(&costs, i),
         );
         i -= 1;
         costs[i] = cost;

@@ -25,13 +25,13 @@ pub(crate) fn first_place(rule: PlaceRule, rows: &Rows) -> Option<usize>
 {
     match first_in_detail(rule, rows) {
         Some(at) => Some(at),
-        None => first_behind_detail(rule, rows),
+        None => first_after_detail(rule, rows),
     }
 }
 
-fn first_behind_detail(rule: PlaceRule, rows: &Rows) -> Option<usize>
+fn first_after_detail(rule: PlaceRule, rows: &Rows) -> Option<usize>
     requires { IsProgram (seen rows.now) }
-    ensures { result ≡ first_true (length rows.now.detail.items) (words.judged_behind_detail rule (seen rows.now)) }
+    ensures { result ≡ first_true (length rows.now.detail.items) (words.judged_after_detail rule (seen rows.now)) }
 {
     let detail = rows.detail.len();
     match first_in_total(rule, rows) {

@@ -3,7 +3,7 @@
 ghost use Rattle.std.specs.Prelude.{◌≡◌, ◌<◌, ◌≤◌, ◌^◌, IfErr, IfOk};
 ghost use Rattle.rpg_program.specs.ObjectInstructions.{weight};
 ghost use Rattle.rpg_program.specs.Kept.{IsProgram};
-ghost use Rattle.rpg_program.specs.Sections.{first_place, place_behind};
+ghost use Rattle.rpg_program.specs.Sections.{first_place, place_after};
 ghost use Rattle.rpg_verify_rules.specs.Accepted.{IsAccepted};
 ghost use Rattle.rpg_verify_rules.specs.Sound.{IsSound};
 ghost use Rattle.rpg_verify.specs.Bound as words;
@@ -91,7 +91,7 @@ impl Verified {
     /// The greatest sum of weights along a forward path from a place that has an instruction.
     pub fn path_cost(&self, place: Place) -> u64
         requires first { first_place self.now place.section ≤ place.number }
-        requires last { place.number < place_behind self.now place.section }
+        requires last { place.number < place_after self.now place.section }
         ensures cost { result ≡ words.cost self.now place }
         ensures greatest { IsCost (weight self.now) (words.stretch self.now place.section) place.number result }
     {

@@ -8,13 +8,13 @@ use Rattle.rpg_program.specs.declared.section.Section.TheVariants as sections
 use Rattle.rpg_verify_rules.specs.Least.{first_true}
 use Rattle.rpg_verify_rules.specs.PlaceRules.{place_breaks, subroutines_judged}
 use Rattle.rpg_verify_rules.specs.declared.rule.PlaceRule.{PlaceRule}
-use Rattle.rpg_verify_rules.proofs.Lists.{or_behind, found_in_both}
+use Rattle.rpg_verify_rules.proofs.Lists.{or_after, found_in_both}
 
 pub in_first : {X : Type 0} (test : X → Bool) (n : ℕ) (xs : List X) (bs : List Bool) (at : ℕ) → Some at ≡ position test xs → first_true n (map test xs ++ bs) ≡ Some (n + at)
-in_first test n xs bs at e = found_in_both test n xs bs ∙ ap (λ o. or_behind n o (first_true (n + length xs) bs)) (sym e)
+in_first test n xs bs at e = found_in_both test n xs bs ∙ ap (λ o. or_after n o (first_true (n + length xs) bs)) (sym e)
 
 pub in_later : {X : Type 0} (test : X → Bool) (n : ℕ) (xs : List X) (bs : List Bool) → None ≡ position test xs → first_true n (map test xs ++ bs) ≡ first_true (n + length xs) bs
-in_later test n xs bs e = found_in_both test n xs bs ∙ ap (λ o. or_behind n o (first_true (n + length xs) bs)) (sym e)
+in_later test n xs bs e = found_in_both test n xs bs ∙ ap (λ o. or_after n o (first_true (n + length xs) bs)) (sym e)
 
 -- ---- subroutines, of which some are left
 

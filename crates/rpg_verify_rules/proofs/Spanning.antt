@@ -3,17 +3,17 @@ use Rattle.std.proofs.Common.{◌≡◌, ℕ, zero, suc, ◌+◌, ◌<◌, List,
 use Rattle.std.proofs.lemmas.Option.{slice_get-get_or, slice_get-map}
 use Rattle.std.specs.Option.{option_map}
 use Rattle.rpg_program.specs.Object.{Object, SubroutineRow, subroutine_row}
-use Rattle.rpg_program.specs.Sections.{body_of, first_in, first_place, level_in, place_behind}
+use Rattle.rpg_program.specs.Sections.{body_of, first_in, first_place, level_in, place_after}
 use Rattle.rpg_program.specs.declared.rows.Subroutine.{Subroutine}
 use Rattle.rpg_program.specs.declared.section.Section.TheVariants as sections
 use Rattle.rpg_program.specs.Spans.{IsSpan}
 
 pub detail_span : (p : Object) (n : ℕ) → n ≡ length p.detail → IsSpan p (record { section = sections.Detail; level = 0; first = 0; end = n })
-unfolding first_place place_behind
+unfolding first_place place_after
 detail_span p n e = record { level = refl; first = refl; end = omega (arith, e) }
 
 pub total_span : (p : Object) (m n : ℕ) → m ≡ length p.detail → n ≡ length p.total → IsSpan p (record { section = sections.Total; level = 0; first = m; end = m + n })
-unfolding first_place place_behind
+unfolding first_place place_after
 total_span p m n e f = record { level = refl; first = e; end = omega (arith, e, f) }
 
 -- the subroutine at a number
@@ -22,7 +22,7 @@ subroutine_at subs i s h e = slice_get-map subroutine_row subs i ∙ ap (option_
 
 pub subroutine_span : (p : Object) (n first : ℕ) (s : SubroutineRow) → slice_get p.subroutines n ≡ Some s → first ≡ first_in (length p.detail + length p.total) p.subroutines n →
     IsSpan p (record { section = sections.Subroutine n; level = s.level; first = first; end = first + length s.instructions })
-unfolding first_place place_behind
+unfolding first_place place_after
 subroutine_span p n first s at e =
     let body : length s.instructions ≡ length (body_of (slice_get p.subroutines n)) = ap (λ o. length (body_of o)) (sym at) in
     record { level = ap level_in (sym at); first = e; end = omega (arith, e, body) }
@@ -41,5 +41,5 @@ next_first b (x ∷ ss) zero s h = at_zero (b + length x.instructions) ss ∙ ap
     same e = cc
 next_first b (x ∷ ss) (suc n) s h = next_first (b + length x.instructions) ss n s h
 
-pub first_behind : (b : ℕ) (ss : List SubroutineRow) (n : ℕ) (s : SubroutineRow) → slice_get ss n ≡ Some s → first_in b ss (n + 1) ≡ first_in b ss n + length s.instructions
-first_behind b ss n s h = ap (first_in b ss) (add-one n) ∙ next_first b ss n s h
+pub first_after : (b : ℕ) (ss : List SubroutineRow) (n : ℕ) (s : SubroutineRow) → slice_get ss n ≡ Some s → first_in b ss (n + 1) ≡ first_in b ss n + length s.instructions
+first_after b ss n s h = ap (first_in b ss) (add-one n) ∙ next_first b ss n s h

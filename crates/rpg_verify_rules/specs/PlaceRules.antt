@@ -141,12 +141,12 @@ subroutines_judged r p n [] = []
 subroutines_judged r p n (s ∷ ss) = map (place_breaks r p (Subroutine n)) s.instructions ++ subroutines_judged r p (n + 1) ss
 
 -- of each place after detail calculations
-abbrev pub judged_behind_detail : PlaceRule → Object → List Bool
-judged_behind_detail r p = section_judged r p Total ++ subroutines_judged r p 0 p.subroutines
+abbrev pub judged_after_detail : PlaceRule → Object → List Bool
+judged_after_detail r p = section_judged r p Total ++ subroutines_judged r p 0 p.subroutines
 
 -- of each place of the program, in order
 abbrev pub places_judged : PlaceRule → Object → List Bool
-places_judged r p = section_judged r p Detail ++ judged_behind_detail r p
+places_judged r p = section_judged r p Detail ++ judged_after_detail r p
 
 -- ---- subroutines
 

@@ -63,12 +63,12 @@ pub fn has_level(level: u8, fields: &[ControlField]) -> bool
 fn are_once(fields: &[ControlField]) -> bool
     ensures { result ≡ words.are_once fields.now }
 {
-    let mut behind = 1;
+    let mut following = 1;
     for field in fields {
-        if has_level(field.level, &fields[behind..]) {
+        if has_level(field.level, &fields[following..]) {
             return false;
         }
-        behind += 1;
+        following += 1;
     }
     true
 }

@@ -23,9 +23,9 @@ IsAtEnd c Over = Unit {0}
 abbrev pub left : Sections Key → Part → ℕ → ℕ
 left c part n = length (calculations_in c part) - n
 
-abbrev pub behind : Sections Key → List (Part × ℕ) → ℕ
-behind c [] = 0
-behind c (b ∷ bs) = (left c b.0 b.1 + 1) + behind c bs
+abbrev pub following : Sections Key → List (Part × ℕ) → ℕ
+following c [] = 0
+following c (b ∷ bs) = (left c b.0 b.1 + 1) + following c bs
 
 one_less : (a m : ℕ) → a * m + m ≡ suc a * m
 one_less a m = grind arith
@@ -40,7 +40,7 @@ some_left (suc n) h = omega arith
 
 module _ (source : Source) (most : ℕ) (long : (part : Part) → length (calculations_in source.sections part) ≤ most) where
   abbrev pub work : State → ℕ
-  work s = s.allowance * (most + 2) + left source.sections s.part s.next + behind source.sections s.back
+  work s = s.allowance * (most + 2) + left source.sections s.part s.next + following source.sections s.back
 
   abbrev Less : State → MeantOutcome → Type 0
   Less s (On t o) = work t < work s
@@ -55,7 +55,7 @@ module _ (source : Source) (most : ℕ) (long : (part : Part) → length (calcul
   ended_less (Halt k) s w o h = tt
   ended_less (Wrong f) s w o h = tt
 
-  spending_less : (s t : State) → left source.sections t.part t.next + behind source.sections t.back < most + 2 + (left source.sections s.part s.next + behind source.sections s.back) → Less s (spending s t)
+  spending_less : (s t : State) → left source.sections t.part t.next + following source.sections t.back < most + 2 + (left source.sections s.part s.next + following source.sections s.back) → Less s (spending s t)
   spending_less s t h = by_left (eqb s.allowance 0) refl
     where
       by_left : (b : Bool) → eqb s.allowance 0 ≡ b → Less s (cond b (Stops 5 s no_output) (On (record t { allowance = s.allowance - 1 }) no_output))
@@ -71,7 +71,7 @@ module _ (source : Source) (most : ℕ) (long : (part : Part) → length (calcul
 
   back_less : (s : State) → s.next < length (calculations_in source.sections s.part) → (bs : List (Part × ℕ)) → s.back ≡ bs → Less s (come_back s bs)
   back_less s h [] e = tt
-  back_less s h (b ∷ bs) e = let same = ap (behind source.sections) e in omega arith
+  back_less s h (b ∷ bs) e = let same = ap (following source.sections) e in omega arith
 
   deed_less : (s : State) (g : Calculation Key) → slice_get (calculations_in source.sections s.part) s.next ≡ Some g → (x : Deed Key) → g.deed ≡ x → Less s (deed_done source s x)
   deed_less s g e (Marks l) f = one_on s s.world no_output s.allowance refl (slice_get_within _ _ g e)

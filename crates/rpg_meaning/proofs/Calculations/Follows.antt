@@ -25,7 +25,7 @@ use Rattle.rpg_machine.specs.Step.{Next, Stop, effect, outcome_of, step}
 use Rattle.rpg_machine.specs.declared.control.Control.TheVariants.{Goes, GoesBack}
 use Rattle.rpg_program.specs.ObjectInstructions.{weight}
 use Rattle.rpg_meaning.proofs.Calculations.Accepted.{fit_after, never_ends}
-use Rattle.rpg_meaning.proofs.Calculations.Leads.{HasAt, Reaches, at, has_back, here_is, level_leads, one_step, one_stop, stands, step_of, stop_behind, then_comes}
+use Rattle.rpg_meaning.proofs.Calculations.Leads.{HasAt, Reaches, at, has_back, here_is, level_leads, one_step, one_stop, stands, step_of, stop_after, then_comes}
 use Rattle.rpg_meaning.proofs.Calculations.Named.{all_at, lines_named, uses_at}
 use Rattle.rpg_meaning.proofs.Calculations.Parts.{code_of_part, own_number}
 use Rattle.rpg_meaning.proofs.Calculations.Placed.{cut, label_there, not_own, parts, place_low, place_next, place_up, size_none, size_some}
@@ -41,9 +41,9 @@ use Rattle.rpg_effect_renaming.proofs.Lines.{data_same, lines_same}
 use Rattle.rpg_effect_renaming.proofs.Operations.{operate_same}
 use Rattle.rpg_effect_renaming.specs.Naming.{SameEffect, renamed_action, renamed_line}
 
-at_end : {X : Type 0} (before : List X) (x : X) (behind : List X) → slice_get (before ++ x ∷ behind) (length before) ≡ Some x
-at_end [] x behind = refl
-at_end (y ∷ ys) x behind = at_end ys x behind
+at_end : {X : Type 0} (before : List X) (x : X) (following : List X) → slice_get (before ++ x ∷ following) (length before) ≡ Some x
+at_end [] x following = refl
+at_end (y ∷ ys) x following = at_end ys x following
 
 module _ {p : Object} {source : Source} {number : Key → ℕ} (orderly : IsOrderly p) (is : IsTranslation p source number) where
   -- the first place of the section, and the calculations of the part
@@ -65,14 +65,14 @@ module _ {p : Object} {source : Source} {number : Key → ℕ} (orderly : IsOrde
 
   -- ---- a calculation's code stands at its place
 
-  code_stands : (d : Config) (code before behind : List (Instruction ℕ)) → section_instructions p d.section ≡ before ++ (code ++ behind) → HasAt p orderly d (first_place p d.section + length before) code
+  code_stands : (d : Config) (code before following : List (Instruction ℕ)) → section_instructions p d.section ≡ before ++ (code ++ following) → HasAt p orderly d (first_place p d.section + length before) code
   unfolding instruction_at
-  code_stands d [] before behind e = tt
-  code_stands d (i ∷ code) before behind e =
+  code_stands d [] before following e = tt
+  code_stands d (i ∷ code) before following e =
       let n : first_place p d.section + length before - first_place p d.section ≡ length before = omega arith in
       let more : first_place p d.section + length (before ++ i ∷ []) ≡ first_place p d.section + length before + 1 = (let l = pushed before i in omega arith) in (
-        ap (slice_get (section_instructions p d.section)) n ∙ ap (λ (x : List (Instruction ℕ)). slice_get x (length before)) e ∙ at_end before i (code ++ behind),
-        subst (λ m. HasAt p orderly d m code) more (code_stands d code (before ++ i ∷ []) behind (e ∙ sym (append_assoc before (i ∷ []) (code ++ behind)))),
+        ap (slice_get (section_instructions p d.section)) n ∙ ap (λ (x : List (Instruction ℕ)). slice_get x (length before)) e ∙ at_end before i (code ++ following),
+        subst (λ m. HasAt p orderly d m code) more (code_stands d code (before ++ i ∷ []) following (e ∙ sym (append_assoc before (i ∷ []) (code ++ following)))),
       )
     where
       pushed : (xs : List (Instruction ℕ)) (x : Instruction ℕ) → length (xs ++ x ∷ []) ≡ length xs + 1
@@ -105,8 +105,8 @@ module _ {p : Object} {source : Source} {number : Key → ℕ} (orderly : IsOrde
       let deed = step_code number (own_label s) callee_of (own s) g.deed in
       let alternatives = tests_code (d.place + waits g.level) op (op + 1) g.alternatives in
       let h = subst (HasAt p orderly d d.place) (parts number (own_label s) callee_of (own s) d.place op g f refl) (calculation_stands s d g a e) in
-      let behind = has_back p orderly d d.place (level_code (op + 1) g.level) (alternatives ++ deed) h in
-      let last = has_back p orderly d _ alternatives deed behind in
+      let following = has_back p orderly d d.place (level_code (op + 1) g.level) (alternatives ++ deed) h in
+      let last = has_back p orderly d _ alternatives deed following in
       let l = level_length (op + 1) g.level in
       let t = tests_length (d.place + waits g.level) op (op + 1) g.alternatives in
       let there : d.place + length (level_code (op + 1) g.level) + length alternatives ≡ op = omega arith in
@@ -167,7 +167,7 @@ module _ {p : Object} {source : Source} {number : Key → ℕ} (orderly : IsOrde
       by_end (Halt k) is_halt =
           let left = record (charged (weight p i) before) { world = (effect p i d.world).world } in
           let stop = stepped ∙ ap (λ x. outcome_of x (charged (weight p i) before) after (effect p i d.world).world made) is_halt ∙ ap (Stop (Halt k) left) same_out in
-          (left, stop_behind p orderly d before left out k b.1 (one_stop p orderly before left out k i b.2 there stop), record { world = same.world; allowance = a.allowance })
+          (left, stop_after p orderly d before left out k b.1 (one_stop p orderly before left out k i b.2 there stop), record { world = same.world; allowance = a.allowance })
       by_end (Wrong f) is_wrong = never_ends p orderly before i f b.2 there (ap spends goes) is_wrong
 
   -- an operation on fields
@@ -232,7 +232,7 @@ module _ {p : Object} {source : Source} {number : Key → ℕ} (orderly : IsOrde
               let none = ap (λ n. eqb n 0) a.allowance ∙ z in
               let left = charged (weight p i) before in
               let stop = stepped ∙ ap (λ y. cond y (Stop (Halt 5) left no_output) (Next (record d { place = target; steps = b.0 + weight p i; allowance = d.allowance - 1 }) no_output)) none in
-              (left, stop_behind p orderly d before left no_output 5 b.1 (one_stop p orderly before left no_output 5 i b.2 there stop), record { world = a.world; allowance = a.allowance })
+              (left, stop_after p orderly d before left no_output 5 b.1 (one_stop p orderly before left no_output 5 i b.2 there stop), record { world = a.world; allowance = a.allowance })
           by_left stepped false z =
               let some = ap (λ n. eqb n 0) a.allowance ∙ z in
               let left = record d { place = target; steps = b.0 + weight p i; allowance = d.allowance - 1 } in

@@ -53,8 +53,8 @@ module _ (p : Object) (orderly : IsOrderly p) where
   one_stop c d o k i ready at is =
       ap (λ b. cond b (Stop GoesOn c no_output) (onward (step p c) (run p 0))) (more_there p c i ready.0.place at) ∙ ap (λ x. onward x (run p 0)) is
 
-  pub stop_behind : (c d e : Config) (o : Output) (k : ℕ) → Comes p c d no_output → run p 1 d ≡ Stop (Halt k) e o → (j : ℕ) × (run p j c ≡ Stop (Halt k) e o)
-  stop_behind c d e o k x r = let a = x.by 1 in (a.0, a.1 ∙ nothing_before (run p 1 d) ∙ r)
+  pub stop_after : (c d e : Config) (o : Output) (k : ℕ) → Comes p c d no_output → run p 1 d ≡ Stop (Halt k) e o → (j : ℕ) × (run p j c ≡ Stop (Halt k) e o)
+  stop_after c d e o k x r = let a = x.by 1 in (a.0, a.1 ∙ nothing_before (run p 1 d) ∙ r)
 
   -- the step of an instruction with which nothing is wrong
   pub step_of : (c : Config) (i : Instruction ℕ) (k : Control) → IsRunnable p c → instruction_at p (here c) ≡ Some i → control_in c i ≡ k →

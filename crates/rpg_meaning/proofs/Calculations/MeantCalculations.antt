@@ -201,21 +201,21 @@ module _ (cs : List SpecCard) where
   grown rest g k xs true e = e ∙ rest (joined_group g k)
   grown rest g k xs false e = λ i. calculation_of g ∷ (e ∙ alone_same rest k) i
 
-  behind_group : ((g : CalculationGroup) → tail_of g cs ≡ calculation_of (completed g cs) ∷ meant_from true cs) → calculations_from None cs [] ≡ meant_from false cs → (g : CalculationGroup) (o : Option CalculationSpec) (xs : List (Calculation Key))
+  after_group : ((g : CalculationGroup) → tail_of g cs ≡ calculation_of (completed g cs) ∷ meant_from true cs) → calculations_from None cs [] ≡ meant_from false cs → (g : CalculationGroup) (o : Option CalculationSpec) (xs : List (Calculation Key))
       → xs ≡ option_to_list (option_map calculation_of (cond (goes_on cs) None (option_map (group_with (Some g)) o))) ++ calculations_from (option_map (group_with (Some g)) o) cs []
       → option_to_list (option_map calculation_of (cond (option_map_or (λ k. joins k.control_level) o false) None (Some g))) ++ xs
       ≡ calculation_of (option_map_or (λ k. cond (joins k.control_level) (completed (joined_group g k) cs) g) o g)
       ∷ (option_map_or (λ k. cond (is_continuation k.control_level) [] (meant_calculation k (joined_after cs) ∷ [])) o [] ++ meant_from (is_some o) cs)
   unfolding Grows tail_of
-  behind_group go none g None xs e = λ i. calculation_of g ∷ (e ∙ no_group none) i
-  behind_group go none g (Some k) xs e = subst (λ b. Grows g k xs b (is_continuation k.control_level)) (sym (joins_same k.control_level)) (grown go g k xs (is_continuation k.control_level)) e
+  after_group go none g None xs e = λ i. calculation_of g ∷ (e ∙ no_group none) i
+  after_group go none g (Some k) xs e = subst (λ b. Grows g k xs b (is_continuation k.control_level)) (sym (joins_same k.control_level)) (grown go g k xs (is_continuation k.control_level)) e
 
-  behind_none : ((g : CalculationGroup) → tail_of g cs ≡ calculation_of (completed g cs) ∷ meant_from true cs) → calculations_from None cs [] ≡ meant_from false cs → (o : Option CalculationSpec)
+  following_none : ((g : CalculationGroup) → tail_of g cs ≡ calculation_of (completed g cs) ∷ meant_from true cs) → calculations_from None cs [] ≡ meant_from false cs → (o : Option CalculationSpec)
       → option_to_list (option_map calculation_of (cond (goes_on cs) None (option_map (group_with None) o))) ++ calculations_from (option_map (group_with None) o) cs []
       ≡ option_map_or (λ k. meant_calculation k (joined_after cs) ∷ []) o [] ++ meant_from (is_some o) cs
   unfolding tail_of
-  behind_none go none None = no_group none
-  behind_none go none (Some k) = alone_same go k
+  following_none go none None = no_group none
+  following_none go none (Some k) = alone_same go k
 
 first_card : (o : Option CalculationGroup) (c : SpecCard) (cs : List SpecCard)
     → calculations_from o (c ∷ cs) [] ≡ option_to_list (option_map calculation_of (cond (goes_on cs) None (open_with o c.spec))) ++ calculations_from (open_with o c.spec) cs []
@@ -231,8 +231,8 @@ each_same [] = record { go = λ g. refl; none = refl }
 each_same (c ∷ cs) =
     let r = each_same cs in
     record {
-      go = λ g. behind_group cs r.go r.none g (calculation_on c.spec) (calculations_from (Some g) (c ∷ cs) []) (first_card (Some g) c cs);
-      none = first_card None c cs ∙ behind_none cs r.go r.none (calculation_on c.spec);
+      go = λ g. after_group cs r.go r.none g (calculation_on c.spec) (calculations_from (Some g) (c ∷ cs) []) (first_card (Some g) c cs);
+      none = first_card None c cs ∙ following_none cs r.go r.none (calculation_on c.spec);
     }
 
 pub calculations_are_meant : (cards : List SpecCard) → calculations cards ≡ meant_calculations cards

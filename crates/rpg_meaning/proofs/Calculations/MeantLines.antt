@@ -5,7 +5,7 @@ use Rattle.std.specs.Option.{option_map, option_or, option_to_list}
 use Rattle.rpg_cards.specs.Calculations.{standing}
 use Rattle.rpg_cards.specs.Cards.{output_field_in, output_field_on, output_record_on}
 use Rattle.rpg_cards.specs.Files.{file_by}
-use Rattle.rpg_cards.specs.Groups.{followers, following, groups_from, opening, output_role}
+use Rattle.rpg_cards.specs.Groups.{followers, followers_with, groups_from, opening, output_role}
 use Rattle.rpg_cards.specs.Keys.{Named, key_index}
 use Rattle.rpg_cards.specs.Times.{time_of}
 use Rattle.rpg_cards.specs.declared.spec_card.SpecCard.{SpecCard}
@@ -68,7 +68,7 @@ alternatives_same so_far (c ∷ cs) = by c.spec (λ so_far. alternatives_same so
     own : List SpecCard
     own = cards_before begins_line cs
 
-    by : (s : Spec) → ((so_far : List Condition) → line_alternatives so_far (followers output_role cs) ≡ (so_far ++ further (cards_before begins_line cs)) ∷ others (cards_before begins_line cs)) → line_alternatives so_far (following (output_role s) (followers output_role cs))
+    by : (s : Spec) → ((so_far : List Condition) → line_alternatives so_far (followers output_role cs) ≡ (so_far ++ further (cards_before begins_line cs)) ∷ others (cards_before begins_line cs)) → line_alternatives so_far (followers_with (output_role s) (followers output_role cs))
         ≡ (so_far ++ further (cards_before begins_line (record { number = c.number; spec = s } ∷ cs))) ∷ others (cards_before begins_line (record { number = c.number; spec = s } ∷ cs))
     by (spec.Header x) rest = rest so_far
     by (spec.File x) rest = rest so_far
@@ -85,7 +85,7 @@ fields_same : (cs : List SpecCard) → filter_map output_field_in (followers out
 fields_same [] = refl
 fields_same (c ∷ cs) = by c.spec (fields_same cs)
   where
-    by : (s : Spec) → (filter_map output_field_in (followers output_role cs) ≡ filter_map (λ c. output_field_on c.spec) (cards_before begins_line cs)) → filter_map output_field_in (following (output_role s) (followers output_role cs)) ≡ filter_map (λ c. output_field_on c.spec) (cards_before begins_line (record { number = c.number; spec = s } ∷ cs))
+    by : (s : Spec) → (filter_map output_field_in (followers output_role cs) ≡ filter_map (λ c. output_field_on c.spec) (cards_before begins_line cs)) → filter_map output_field_in (followers_with (output_role s) (followers output_role cs)) ≡ filter_map (λ c. output_field_on c.spec) (cards_before begins_line (record { number = c.number; spec = s } ∷ cs))
     by (spec.Header x) rest = rest
     by (spec.File x) rest = rest
     by (spec.Extension x) rest = rest

@@ -12,7 +12,7 @@ use Rattle.rpg_cards.specs.Sections.{begun_by, is_detail, is_same_name, is_subro
 use Rattle.rpg_cards.specs.Cards.{Numbered, calculation_on}
 use Rattle.rpg_cards.specs.Groups.{joins}
 use Rattle.rpg_cards.specs.declared.spec_card.SpecCard.{SpecCard}
-use Rattle.rpg_faults_flow.proofs.Walk.{open_behind-push}
+use Rattle.rpg_faults_flow.proofs.Walk.{open_after-push}
 use Rattle.rpg_meaning.proofs.Calculations.Named.{all_at}
 use Rattle.rpg_meaning.specs.Calculations.NextCard.{BeginsOn, NumbersAreTheirs, NumbersGoUp, after_begsr, numbered_calculation, numbered_from, numbered_group, open_at, those_in, up_to_next}
 use Rattle.rpg_meaning.specs.Calculations.Parts.{InDetail, InSubroutine, InTotal, Part, body_named, calculations_in}
@@ -46,11 +46,11 @@ open_same o c = by (calculation_on c.spec)
     by None = refl
     by (Some k) = ap Some (group_same o c.number k)
 
-ended_same : (b : Bool) (x : Option (ℕ × CalculationGroup)) (rest : List Entry) (behind : List (Calculation Key)) → map calculation rest ≡ behind
-    → map calculation (option_to_list (option_map numbered_calculation (cond b None x)) ++ rest) ≡ option_to_list (option_map calculation_of (cond b None (option_map group x))) ++ behind
-ended_same true x rest behind e = e
-ended_same false None rest behind e = e
-ended_same false (Some y) rest behind e = ap (λ gs. calculation_of y.1 ∷ gs) e
+ended_same : (b : Bool) (x : Option (ℕ × CalculationGroup)) (rest : List Entry) (following : List (Calculation Key)) → map calculation rest ≡ following
+    → map calculation (option_to_list (option_map numbered_calculation (cond b None x)) ++ rest) ≡ option_to_list (option_map calculation_of (cond b None (option_map group x))) ++ following
+ended_same true x rest following e = e
+ended_same false None rest following e = e
+ended_same false (Some y) rest following e = ap (λ gs. calculation_of y.1 ∷ gs) e
 
 all_same : (o : Option (ℕ × CalculationGroup)) (cs : List SpecCard) → map calculation (numbered_from o cs) ≡ calculations_from (option_map group o) cs []
 all_same o [] = refl
@@ -78,9 +78,9 @@ next_same (e ∷ es) = by (begun_by e.1.deed) (next_same es)
     by None r = ap (λ gs. e.1 ∷ gs) r
     by (Some n) r = refl
 
-behind_same : (name : Option Name) (es : List Entry) → map calculation (after_begsr name es) ≡ body_named name (subroutines_of (map calculation es))
-behind_same name [] = refl
-behind_same name (e ∷ es) = by (begun_by e.1.deed) (behind_same name es)
+after_same : (name : Option Name) (es : List Entry) → map calculation (after_begsr name es) ≡ body_named name (subroutines_of (map calculation es))
+after_same name [] = refl
+after_same name (e ∷ es) = by (begun_by e.1.deed) (after_same name es)
   where
     named : (b : Bool) → map calculation (after_begsr name es) ≡ body_named name (subroutines_of (map calculation es))
         → map calculation (cond b (up_to_next es) (after_begsr name es)) ≡ cond b (up_to_begin (map calculation es)) (body_named name (subroutines_of (map calculation es)))
@@ -95,7 +95,7 @@ behind_same name (e ∷ es) = by (begun_by e.1.deed) (behind_same name es)
 part_same : (part : Part) (es : List Entry) → map calculation (those_in part es) ≡ calculations_in (sections_of (map calculation es)) part
 part_same InDetail es = filter_same is_detail es
 part_same InTotal es = filter_same is_total es
-part_same (InSubroutine name) es = behind_same name (filter (λ e. is_subroutine e.1.control) es) ∙ ap (λ gs. body_named name (subroutines_of gs)) (filter_same is_subroutine es)
+part_same (InSubroutine name) es = after_same name (filter (λ e. is_subroutine e.1.control) es) ∙ ap (λ gs. body_named name (subroutines_of gs)) (filter_same is_subroutine es)
 
 -- ---- what holds of all holds of those of a part
 
@@ -116,9 +116,9 @@ module _ (P : Entry → Type 0) where
       by true r = All-nil P
       by false r = All-cons P e (up_to_next es) (All-head P e es h) r
 
-  behind_all : (name : Option Name) (es : List Entry) → All P es → All P (after_begsr name es)
-  behind_all name [] h = h
-  behind_all name (e ∷ es) h = by (option_map_or (is_same_name name) (begun_by e.1.deed) false) (next_all es (All-tail P e es h)) (behind_all name es (All-tail P e es h))
+  after_all : (name : Option Name) (es : List Entry) → All P es → All P (after_begsr name es)
+  after_all name [] h = h
+  after_all name (e ∷ es) h = by (option_map_or (is_same_name name) (begun_by e.1.deed) false) (next_all es (All-tail P e es h)) (after_all name es (All-tail P e es h))
     where
       by : (b : Bool) → All P (up_to_next es) → All P (after_begsr name es) → All P (cond b (up_to_next es) (after_begsr name es))
       by true r s = r
@@ -127,7 +127,7 @@ module _ (P : Entry → Type 0) where
   part_all : (part : Part) (es : List Entry) → All P es → All P (those_in part es)
   part_all InDetail es h = filter_all (λ e. is_detail e.1.control) es h
   part_all InTotal es h = filter_all (λ e. is_total e.1.control) es h
-  part_all (InSubroutine name) es h = behind_all name (filter (λ e. is_subroutine e.1.control) es) (filter_all (λ e. is_subroutine e.1.control) es h)
+  part_all (InSubroutine name) es h = after_all name (filter (λ e. is_subroutine e.1.control) es) (filter_all (λ e. is_subroutine e.1.control) es h)
 
 -- ---- each begins on its card
 
@@ -186,7 +186,7 @@ one_more before c (Some e) known k is = by (joins k.control_level) refl
     by false j = fresh before c k is (ap (λ b. b && is_some (open_calculation_group before)) j)
 
 known_more : (before : List SpecCard) (c : SpecCard) (o : Option (ℕ × CalculationGroup)) → AreKnown before o → AreKnown (before ++ c ∷ []) (open_at o c)
-known_more before c o known = (open_same o c ∙ ap (λ x. open_with x c.spec) known.0 ∙ sym (open_behind-push None before c), by (calculation_on c.spec) refl)
+known_more before c o known = (open_same o c ∙ ap (λ x. open_with x c.spec) known.0 ∙ sym (open_after-push None before c), by (calculation_on c.spec) refl)
   where
     by : (x : Option CalculationSpec) → calculation_on c.spec ≡ x → (e : ℕ × CalculationGroup) → option_map (numbered_group o c.number) x ≡ Some e → IsOpen (before ++ c ∷ []) e
     by None is e h = cc
@@ -273,11 +273,11 @@ next_up low (e ∷ es) h = by (is_some (begun_by e.1.deed)) (next_up (e.0 + 1) e
     by true r = tt
     by false r = (h.0, r)
 
-behind_up : (name : Option Name) (low : ℕ) (es : List Entry) → GoUp low es → GoUp low (after_begsr name es)
-behind_up name low [] h = tt
-behind_up name low (e ∷ es) h =
+following_up : (name : Option Name) (low : ℕ) (es : List Entry) → GoUp low es → GoUp low (after_begsr name es)
+following_up name low [] h = tt
+following_up name low (e ∷ es) h =
     let a = h.0 in
-    by (option_map_or (is_same_name name) (begun_by e.1.deed) false) (go_lower low (e.0 + 1) (up_to_next es) (omega arith) (next_up (e.0 + 1) es h.1)) (go_lower low (e.0 + 1) (after_begsr name es) (omega arith) (behind_up name (e.0 + 1) es h.1))
+    by (option_map_or (is_same_name name) (begun_by e.1.deed) false) (go_lower low (e.0 + 1) (up_to_next es) (omega arith) (next_up (e.0 + 1) es h.1)) (go_lower low (e.0 + 1) (after_begsr name es) (omega arith) (following_up name (e.0 + 1) es h.1))
   where
     by : (b : Bool) → GoUp low (up_to_next es) → GoUp low (after_begsr name es) → GoUp low (cond b (up_to_next es) (after_begsr name es))
     by true r s = r
@@ -286,7 +286,7 @@ behind_up name low (e ∷ es) h =
 part_up : (part : Part) (low : ℕ) (es : List Entry) → GoUp low es → GoUp low (those_in part es)
 part_up InDetail low es h = filter_up (λ e. is_detail e.1.control) low es h
 part_up InTotal low es h = filter_up (λ e. is_total e.1.control) low es h
-part_up (InSubroutine name) low es h = behind_up name low (filter (λ e. is_subroutine e.1.control) es) (filter_up (λ e. is_subroutine e.1.control) low es h)
+part_up (InSubroutine name) low es h = following_up name low (filter (λ e. is_subroutine e.1.control) es) (filter_up (λ e. is_subroutine e.1.control) low es h)
 
 -- the open group began before, and where it goes on no earlier than that
 abbrev IsBetween : ℕ → ℕ → List SpecCard → Option (ℕ × CalculationGroup) → Type 0

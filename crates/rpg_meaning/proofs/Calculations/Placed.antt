@@ -25,14 +25,14 @@ module _ (number : Key → ℕ) (place_of callee_of : Option Name → ℕ) (own 
   unfolding group_code
   parts place op g e o =
       let z = size_some g e in
-      let behind : place + size g ≡ op + 1 = omega arith in
+      let following : place + size g ≡ op + 1 = omega arith in
       ap (λ b. cond b (level_code (place + size g) g.level ++ (tests_code (place + waits g.level) (place + waits g.level + tests g.alternatives) (place + size g) g.alternatives ++ step_code number place_of callee_of own g.deed)) []) e
-      ∙ (λ i. level_code (behind i) g.level ++ (tests_code (place + waits g.level) (sym o i) (behind i) g.alternatives ++ step_code number place_of callee_of own g.deed))
+      ∙ (λ i. level_code (following i) g.level ++ (tests_code (place + waits g.level) (sym o i) (following i) g.alternatives ++ step_code number place_of callee_of own g.deed))
 
   -- the code of all of them is that of those before, of the n-th, and of those after it
   pub cut : (gs : List (Calculation Key)) (place n : ℕ) (g : Calculation Key) → slice_get gs n ≡ Some g →
-      (before : List (Instruction ℕ)) × (behind : List (Instruction ℕ))
-      × (code_from number place_of callee_of own place gs ≡ before ++ (group_code number place_of callee_of own (place_at place gs n) g ++ behind)) × (place + length before ≡ place_at place gs n)
+      (before : List (Instruction ℕ)) × (following : List (Instruction ℕ))
+      × (code_from number place_of callee_of own place gs ≡ before ++ (group_code number place_of callee_of own (place_at place gs n) g ++ following)) × (place + length before ≡ place_at place gs n)
   unfolding code_from
   cut [] place n g e = absurd cc
   cut (x ∷ xs) place zero g e =

@@ -20,7 +20,7 @@ use Rattle.rpg_program.specs.ObjectInstructions.{weight}
 use Rattle.rpg_meaning.proofs.Calculations.Counted.{cards_run, followed}
 use Rattle.rpg_meaning.proofs.Calculations.Accepted.{fit_after, calls_up, returns_own}
 use Rattle.rpg_meaning.proofs.Calculations.Follows.{IsReached, calculation_follows, callee_of, own, own_label, passed, reached}
-use Rattle.rpg_meaning.proofs.Calculations.Leads.{HasAt, Reaches, at, one_step, one_stop, stays, step_of, stop_behind, then_comes}
+use Rattle.rpg_meaning.proofs.Calculations.Leads.{HasAt, Reaches, at, one_step, one_stop, stays, step_of, stop_after, then_comes}
 use Rattle.rpg_meaning.proofs.Calculations.Parts.{code_of_part, own_number, section_length}
 use Rattle.rpg_meaning.proofs.Calculations.Placed.{place_start}
 use Rattle.rpg_meaning.specs.Calculations.Agreement.{AgreeAt, AgreeEnded, Comes, IsRunnable, MachineFollows, part_section, place_at}
@@ -31,7 +31,7 @@ use Rattle.rpg_meaning.specs.Calculations.Sections.{AreOpen, return_place}
 use Rattle.rpg_meaning.specs.Calculations.Translation.{IsTranslation}
 use Rattle.rpg_program.specs.Object.{Object}
 use Rattle.rpg_program.specs.Sections as places
-use Rattle.rpg_program.specs.Sections.{first_place, is_place, level_of, place_behind, section_instructions}
+use Rattle.rpg_program.specs.Sections.{first_place, is_place, level_of, place_after, section_instructions}
 use Rattle.rpg_program.specs.declared.section.Place.{Place}
 use Rattle.rpg_program.specs.declared.section.Section.TheVariants as sections
 
@@ -160,7 +160,7 @@ module _ {p : Object} {source : Source} {number : Key → ℕ} (orderly : IsOrde
           let none = ap (λ n. eqb n 0) a.allowance ∙ z in
           let halted = charged (weight p (Call q)) before in
           let stop = stepped ∙ ap (λ y. cond y (Stop (Halt 5) halted no_output) (Next left no_output)) none in
-          (halted, stop_behind p orderly d before halted no_output 5 b.1 (one_stop p orderly before halted no_output 5 (Call q) b.2 there.0 stop), record { world = a.world; allowance = a.allowance })
+          (halted, stop_after p orderly d before halted no_output 5 b.1 (one_stop p orderly before halted no_output 5 (Call q) b.2 there.0 stop), record { world = a.world; allowance = a.allowance })
       by_left false z =
           let some = ap (λ n. eqb n 0) a.allowance ∙ z in
           let on = stepped ∙ ap (λ y. cond y (Stop (Halt 5) (charged (weight p (Call q)) before) no_output) (Next left no_output)) some in (
@@ -255,8 +255,8 @@ module _ {p : Object} {source : Source} {number : Key → ℕ} (orderly : IsOrde
   past (g ∷ gs) place zero h = absurd (omega arith)
   past (g ∷ gs) place (suc n) h = let r = past gs (place + size g) n (omega arith) in omega arith
 
-  at_the_end : (s : State) (d : Config) → Agrees s d → length (calculations_in source.sections s.part) ≤ s.next → d.place ≡ place_behind p d.section
-  unfolding place_behind
+  at_the_end : (s : State) (d : Config) → Agrees s d → length (calculations_in source.sections s.part) ≤ s.next → d.place ≡ place_after p d.section
+  unfolding place_after
   at_the_end s d a h =
       let gs = calculations_in source.sections s.part in
       let first = first_place p (part_section source.sections s.part) in
@@ -287,8 +287,8 @@ module _ {p : Object} {source : Source} {number : Key → ℕ} (orderly : IsOrde
           let sub : d.section ≡ sections.Subroutine m = a.section ∙ e in
           let there = a.fit.0.place in
           let end = at_the_end s d a low in
-          no_way_out (first_place p d.section) d.place (place_behind p d.section) end
-          (subst (λ y. (nat_le (first_place p d.section) d.place && (nat_lt d.place (place_behind p d.section) || (places.has_end y && d.place == place_behind p d.section))) ≡ true) sub there)
+          no_way_out (first_place p d.section) d.place (place_after p d.section) end
+          (subst (λ y. (nat_le (first_place p d.section) d.place && (nat_lt d.place (place_after p d.section) || (places.has_end y && d.place == place_after p d.section))) ≡ true) sub there)
 
       by_group : (o : Option (Calculation Key)) → slice_get (calculations_in source.sections s.part) s.next ≡ o → Did_so d (cards_step source s)
       by_group None e = absurd (missing (none_left (calculations_in source.sections s.part) s.next e) s.back opened)
@@ -347,4 +347,4 @@ module _ {p : Object} {source : Source} {number : Key → ℕ} (orderly : IsOrde
           let low : length (calculations_in source.sections t.part) ≤ t.next = omega (arith, leb-true _ _ q.1) in
           let end = at_the_end t e b low in
           let has : places.has_end e.section ≡ true = ap places.has_end b.section ∙ same_end t.part q.0 in
-          ap (λ b. cond b (Stop GoesOn e no_output) (onward (step p e) (run p 0))) (ap (λ b. b && eqb e.place (place_behind p e.section)) has ∙ eq-eqb e.place (place_behind p e.section) end)
+          ap (λ b. cond b (Stop GoesOn e no_output) (onward (step p e) (run p 0))) (ap (λ b. b && eqb e.place (place_after p e.section)) has ∙ eq-eqb e.place (place_after p e.section) end)

@@ -122,9 +122,9 @@ front : (n : ℕ) (ps : List Pair) (s u t : ℕ) → IsCallAmong s u ps → reac
 front n ps s u t h r = or_right (s == t) (list_any (λ (p : Pair). p.0 == s && reaches_in n ps p.1 t) ps) (any_call (λ (p : Pair). p.0 == s && reaches_in n ps p.1 t) s u ps h (and_from (s == s) (reaches_in n ps u t) (same_itself s) r))
 
 -- one call after
-behind : (n : ℕ) (ps : List Pair) (s a t : ℕ) → reaches_in n ps s a ≡ true → IsCallAmong a t ps → reaches_in (suc n) ps s t ≡ true
-behind zero ps s a t r h = let same = eqb-true s a r in front zero ps s t t (subst (λ x. IsCallAmong x t ps) (sym same) h) (reaches_itself zero ps t)
-behind (suc n) ps s a t r h = by_first (s == a) refl r (λ u. behind n ps u a t)
+following : (n : ℕ) (ps : List Pair) (s a t : ℕ) → reaches_in n ps s a ≡ true → IsCallAmong a t ps → reaches_in (suc n) ps s t ≡ true
+following zero ps s a t r h = let same = eqb-true s a r in front zero ps s t t (subst (λ x. IsCallAmong x t ps) (sym same) h) (reaches_itself zero ps t)
+following (suc n) ps s a t r h = by_first (s == a) refl r (λ u. following n ps u a t)
   where
     by_first : (b : Bool) → (s == a) ≡ b → (b || list_any (λ (p : Pair). p.0 == s && reaches_in n ps p.1 a) ps) ≡ true
         → ((u : ℕ) → reaches_in n ps u a ≡ true → IsCallAmong a t ps → reaches_in (suc n) ps u t ≡ true) → reaches_in (suc (suc n)) ps s t ≡ true
@@ -138,7 +138,7 @@ behind (suc n) ps s a t r h = by_first (s == a) refl r (λ u. behind n ps u a t)
 short_reaches : (ps : List Pair) (n a s : ℕ) (callers : List ℕ) → length callers ≤ n → IsChainAmong ps s callers → chain_start s callers ≡ a → reaches_in n ps a s ≡ true
 short_reaches ps n a s [] few c e = subst (λ x. reaches_in n ps x s ≡ true) e (reaches_itself n ps s)
 short_reaches ps zero a s (x ∷ callers) few c e = absurd (omega arith)
-short_reaches ps (suc n) a s (x ∷ callers) few c e = behind n ps a x s (short_reaches ps n a x callers (omega arith) c.1 e) c.0
+short_reaches ps (suc n) a s (x ∷ callers) few c e = following n ps a x s (short_reaches ps n a x callers (omega arith) c.1 e) c.0
 
 -- ---- a chain without a subroutine twice
 

@@ -91,7 +91,7 @@ module _ {p : Object} {job : Job} {number : Key → ℕ} (orderly : IsOrderly p)
     next_same : (f : InputFile) (rs : List (List ℕ)) → runs.next_of (machine.needs_record p c i f) rs ≡ meant_next job (meant_begun job v i) f rs
     next_same f rs = ap (λ b. runs.next_of b rs) (needs_same f)
 
-    left_same : (rs : runs.Records) → runs.left_behind p c i rs ≡ meant_left job (meant_begun job v i) rs
+    left_same : (rs : runs.Records) → runs.left_following p c i rs ≡ meant_left job (meant_begun job v i) rs
     left_same rs = λ k. record { primary = runs.rest_where_needed (needs_same Primary k) rs.primary; secondary = runs.rest_where_needed (needs_same Secondary k) rs.secondary }
 
     cycle_of : (earlier : List Selected) (rs : runs.Records) → Holds p c.world.data → c.cells ≡ map.empty → AreWaiting p i → (e : PhaseEnd) (d : UnderWay) (out : Output)
@@ -112,13 +112,13 @@ module _ {p : Object} {job : Job} {number : Key → ℕ} (orderly : IsOrderly p)
       by e d out (cycle_of v c i a earlier rs holds none waiting e d out cycle) ends (λ rs earlier v c i a holds none waiting course ran. runs_follow n rs earlier v c i a holds none waiting course ran)
     where
       by : (e : PhaseEnd) (d : UnderWay) (out : Output) → Followed p job number (cards.MeantCycle job earlier (meant_next job (meant_begun job v i) Primary rs.primary) (meant_next job (meant_begun job v i) Secondary rs.secondary)) IsAny (meant_begun job v i) e d out
-          → runs.ends_or e d out (λ d rest. runs.RunsIn n p (with_record d.selected earlier) (runs.left_behind p c i rs) d.config d.inputs rest) course
+          → runs.ends_or e d out (λ d rest. runs.RunsIn n p (with_record d.selected earlier) (runs.left_following p c i rs) d.config d.inputs rest) course
           → ((rs : runs.Records) (earlier : List Selected) (v : World key_cmp) (c : Config) (i : Inputs) → Agree job.source.forms number v c.world → Holds p c.world.data → c.cells ≡ map.empty → AreWaiting p i → (course : runs.Course)
           → runs.RunsIn n p earlier rs c i course → HasCourse earlier rs v i course)
           → HasCourse earlier rs v i course
       by GoesOn d out f (rest, ran, is) later =
           let settled = f.settled refl in
-          let k = later (runs.left_behind p c i rs) (with_record d.selected earlier) f.state.world d.config d.inputs f.same.world settled.values settled.no_cell settled.waiting rest ran in
+          let k = later (runs.left_following p c i rs) (with_record d.selected earlier) f.state.world d.config d.inputs f.same.world settled.values settled.no_cell settled.waiting rest ran in
           record {
             meant = with_meant_cycle out k.meant;
             runs = Then earlier rs v i f.state out k.meant f.meets

@@ -9,7 +9,7 @@ use Rattle.std.specs.Cmp.Lexicographic.{pointwise}
 use Rattle.std.specs.List.{cons_option, filter_map, flat_map, range_with_len, zip}
 use Rattle.std.specs.Map.{lookup}
 use Rattle.std.specs.Option.{option_map, option_map_or}
-use Rattle.rpg_cards.specs.Groups.{Group, data_role, followers, following, groups_from, opening}
+use Rattle.rpg_cards.specs.Groups.{Group, data_role, followers, followers_with, groups_from, opening}
 use Rattle.rpg_cards.specs.Names.{tables_on}
 use Rattle.rpg_cards.specs.declared.constants.Constant.{Constant}
 use Rattle.rpg_cards.specs.declared.constants.Constant.TheVariants as constant
@@ -82,7 +82,7 @@ followers_are_meant : (cs : List SpecCard) → followers data_role cs ≡ data_c
 followers_are_meant [] = refl
 followers_are_meant (c ∷ cs) = by c.spec (followers_are_meant cs)
   where
-    by : (s : Spec) → followers data_role cs ≡ data_cards (cards_before begins_deck cs) → following (data_role s) (followers data_role cs) ≡ data_cards (cards_before begins_deck (record { number = c.number; spec = s } ∷ cs))
+    by : (s : Spec) → followers data_role cs ≡ data_cards (cards_before begins_deck cs) → followers_with (data_role s) (followers data_role cs) ≡ data_cards (cards_before begins_deck (record { number = c.number; spec = s } ∷ cs))
     by (spec.Header x) rest = rest
     by (spec.File x) rest = rest
     by (spec.Extension x) rest = rest

@@ -3,7 +3,7 @@ use Rattle.std.proofs.Common.{◌≡◌, ℕ, List, [], ◌∷◌, ◌++◌, map
 use Rattle.std.specs.List.{filter_map, flat_map}
 use Rattle.std.specs.Option.{option_map, option_or, option_to_list}
 use Rattle.rpg_cards.specs.Cards.{input_field_in, input_field_on, type_on}
-use Rattle.rpg_cards.specs.Groups.{followers, following, groups_from, input_role, opening}
+use Rattle.rpg_cards.specs.Groups.{followers, followers_with, groups_from, input_role, opening}
 use Rattle.rpg_cards.specs.declared.spec_card.SpecCard.{SpecCard}
 use Rattle.rpg_sheet_specs.specs.declared.indicator.Three.{Three}
 use Rattle.rpg_sheet_specs.specs.declared.input.InputSpec.TheVariants as input
@@ -24,7 +24,7 @@ fields_are_meant : (cs : List SpecCard) → filter_map input_field_in (followers
 fields_are_meant [] = refl
 fields_are_meant (c ∷ cs) = by c.spec (fields_are_meant cs)
   where
-    by : (s : Spec) → (filter_map input_field_in (followers input_role cs) ≡ filter_map (λ c. input_field_on c.spec) (cards_before begins_type cs)) → filter_map input_field_in (following (input_role s) (followers input_role cs)) ≡ filter_map (λ c. input_field_on c.spec) (cards_before begins_type (record { number = c.number; spec = s } ∷ cs))
+    by : (s : Spec) → (filter_map input_field_in (followers input_role cs) ≡ filter_map (λ c. input_field_on c.spec) (cards_before begins_type cs)) → filter_map input_field_in (followers_with (input_role s) (followers input_role cs)) ≡ filter_map (λ c. input_field_on c.spec) (cards_before begins_type (record { number = c.number; spec = s } ∷ cs))
     by (spec.Header x) rest = rest
     by (spec.File x) rest = rest
     by (spec.Extension x) rest = rest
@@ -39,7 +39,7 @@ codes_are_meant : (cs : List SpecCard) → flat_map and_card_codes (followers in
 codes_are_meant [] = refl
 codes_are_meant (c ∷ cs) = by c.spec (codes_are_meant cs)
   where
-    by : (s : Spec) → (flat_map and_card_codes (followers input_role cs) ≡ map asked_for (flat_map codes_on (cards_before begins_type cs))) → flat_map and_card_codes (following (input_role s) (followers input_role cs)) ≡ map asked_for (flat_map codes_on (cards_before begins_type (record { number = c.number; spec = s } ∷ cs)))
+    by : (s : Spec) → (flat_map and_card_codes (followers input_role cs) ≡ map asked_for (flat_map codes_on (cards_before begins_type cs))) → flat_map and_card_codes (followers_with (input_role s) (followers input_role cs)) ≡ map asked_for (flat_map codes_on (cards_before begins_type (record { number = c.number; spec = s } ∷ cs)))
     by (spec.Header x) rest = rest
     by (spec.File x) rest = rest
     by (spec.Extension x) rest = rest

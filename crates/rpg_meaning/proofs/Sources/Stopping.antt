@@ -46,5 +46,5 @@ module _ (p : Object) (cards : List SpecCard) (allowance : ℕ) (day : ℤ) (giv
   stops_of none_failed each (Err e) o = record {
     primary = o.primary;
     secondary = o.secondary;
-    fact = λ more behind can can_too. each e (o.primary.read ++ more) (o.secondary.read ++ behind) (let stops = o.fact.stops more behind can can_too in stops.parts);
+    fact = λ more following can can_too. each e (o.primary.read ++ more) (o.secondary.read ++ following) (let stops = o.fact.stops more following can can_too in stops.parts);
   }

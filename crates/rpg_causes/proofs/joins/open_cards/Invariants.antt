@@ -1,10 +1,10 @@
 use Rattle.std.proofs.Common.{◌≡◌, ◌≤◌, [], length}
-use Rattle.rpg_causes.specs.Joins.{behind_last}
+use Rattle.rpg_causes.specs.Joins.{after_last}
 use Rattle.rpg_causes.proofs.joins.open_cards.Given as goal
 
 abbrev pub invariant-loop-card : goal.invariant-loop-card
 invariant-loop-card l = record {
-  cards : behind_last l.own l.rest ≡ behind_last [] l.before;
+  cards : after_last l.own l.rest ≡ after_last [] l.before;
   few : length l.own ≤ length l.before;
   few_left : length l.rest ≤ length l.before;
 }

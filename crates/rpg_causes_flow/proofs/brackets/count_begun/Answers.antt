@@ -28,14 +28,14 @@ loop-card-preserved c =
       begun = λ after whole.
           let known = c.loop-card.invariant.begun after whole in
           let cards : c.loop-card.cards.now ≡ card ∷ (left ++ after) = known.2 ∙ ap (λ (cs : List SpecCard). cs ++ after) split in
-          let behind = c.behind_first-behind.ensures card (left ++ after) cards in
-          let here = c.bracket_on.ensures ∙ ap (λ l. bracket_on l card c.behind_first-behind.result.now) known.1 ∙ ap (bracket_on (level_of_group known.0) card) behind in
+          let following = c.following_first-following.ensures card (left ++ after) cards in
+          let here = c.bracket_on.ensures ∙ ap (λ l. bracket_on l card c.following_first-following.result.now) known.1 ∙ ap (bracket_on (level_of_group known.0) card) following in
           let more : c.one_if-count.result ≡ one_if (opens (bracket_on (level_of_group known.0) card (left ++ after))) = c.one_if-count.ensures ∙ ap one_if (c.opens.ensures ∙ ap opens here) in
           let step : begun_count (calculations_from known.0 c.loop-card.front.now after) ≡ one_if (opens (bracket_on (level_of_group known.0) card (left ++ after))) + begun_count (calculations_from (open_with known.0 card.spec) left after) =
           ap (λ (cs : List SpecCard). begun_count (calculations_from known.0 cs after)) split ∙ begun_step known.0 card left after in (
             open_with known.0 card.spec,
             c.level_with-group.ensures ∙ ap (λ l. level_with l card) known.1 ∙ sym (level_with-is known.0 card),
-            behind,
+            following,
             omega (arith, known.3),
           );
     }

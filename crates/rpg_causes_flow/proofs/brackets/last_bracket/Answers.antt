@@ -16,11 +16,11 @@ loop-card-preserved c = λ after whole.
     let group = c.loop-card.group in
     let split : c.loop-card.front.now ≡ card ∷ left = search rules in
     let cards : c.loop-card.cards.now ≡ card ∷ (left ++ after) = known.0 ∙ ap (λ (cs : List SpecCard). cs ++ after) split in
-    let behind = c.behind_first-behind.ensures card (left ++ after) cards in
+    let following = c.following_first-following.ensures card (left ++ after) cards in
     let later = last_bracket (level_with group card) left after in (
-      behind,
+      following,
       ap (λ g. option_or (last_bracket g left after) c.or-found.result) c.level_with-group.ensures
-          ∙ ap (option_or later) (c.or-found.ensures ∙ ap (λ (b : Option Bracket). option_or b old) (c.bracket_on.ensures ∙ ap (bracket_on group card) behind))
+          ∙ ap (option_or later) (c.or-found.ensures ∙ ap (λ (b : Option Bracket). option_or b old) (c.bracket_on.ensures ∙ ap (bracket_on group card) following))
           ∙ sym (or_assoc later (bracket_on group card (left ++ after)) old)
           ∙ ap (λ (cs : List SpecCard). option_or (last_bracket group cs after) old) (sym split)
           ∙ known.1,

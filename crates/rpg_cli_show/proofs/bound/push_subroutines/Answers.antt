@@ -1,9 +1,9 @@
 use Rattle.std.proofs.Common.{rules, ◌≡◌, ◌+◌, ◌<◌, ◌≤◌, map, length, get_or, refl, sym, ap, ◌∙◌, subst, arith}
 use Rattle.rpg_program.specs.Object.{seen, subroutine_row}
-use Rattle.rpg_program.specs.Sections.{first_in, first_place, instructions_in, place_behind}
+use Rattle.rpg_program.specs.Sections.{first_in, first_place, instructions_in, place_after}
 use Rattle.rpg_program.specs.declared.section.Section.TheVariants as sections
 use Rattle.rpg_verify_rules.proofs.Sectioning.{left, fewer_left}
-use Rattle.rpg_verify_rules.proofs.Spanning.{at_zero, first_behind, subroutine_at, subroutine_span}
+use Rattle.rpg_verify_rules.proofs.Spanning.{at_zero, first_after, subroutine_at, subroutine_span}
 use Rattle.rpg_cli_show.proofs.bound.push_subroutines.Goals as goal
 
 pub loop-subroutine-init : goal.loop-subroutine-init
@@ -60,8 +60,8 @@ push_section-requires-clause-end c =
     c.loop-subroutine.invariant.begins ∙ ap (λ b. first_in b p.subroutines i) c.requires.begin in
     let span = subroutine_span p i f (subroutine_row s) (subroutine_at subs i s low is) begins in
     let end = ap (λ n. f + n) long ∙ span.end in
-    subst (λ n. f + c.len-count.result ≡ place_behind c.args.verified.now (sections.Subroutine n)) (sym c.loop-subroutine.invariant.counted)
-    (subst (λ q. f + c.len-count.result ≡ place_behind q (sections.Subroutine i)) c.requires.same end)
+    subst (λ n. f + c.len-count.result ≡ place_after c.args.verified.now (sections.Subroutine n)) (sym c.loop-subroutine.invariant.counted)
+    (subst (λ q. f + c.len-count.result ≡ place_after q (sections.Subroutine i)) c.requires.same end)
 
 pub loop-subroutine-preserved : goal.loop-subroutine-preserved
 loop-subroutine-preserved c =
@@ -77,7 +77,7 @@ loop-subroutine-preserved c =
     let few : f + instructions_in (left subs i) ≤ 8192 = c.loop-subroutine.invariant.few in
     let long : c.len-count.result ≡ length s.instructions.items = search rules in
     let counted = c.loop-subroutine.invariant.counted in
-    let next = first_behind c.args.begin p.subroutines i (subroutine_row s) (subroutine_at subs i s low is) in
+    let next = first_after c.args.begin p.subroutines i (subroutine_row s) (subroutine_at subs i s low is) in
     let begins : f ≡ first_in c.args.begin p.subroutines i = c.loop-subroutine.invariant.begins in
     record {
       few = omega (arith, fewer, few, long);

@@ -6,7 +6,7 @@ use Rattle.rpg_compile.proofs.group.followers_of.Given as goal
 
 abbrev pub invariant-loop-i : goal.invariant-loop-i
 invariant-loop-i l = record {
-  within : l.i ≤ length l.behind;
-  count : joining l.behind ≡ l.i + joining (drop l.i l.behind);
-  last : l.last ≡ unwrap_or (last_or None (calculation_specs_in (take l.i l.behind))) l.first;
+  within : l.i ≤ length l.following;
+  count : joining l.following ≡ l.i + joining (drop l.i l.following);
+  last : l.last ≡ unwrap_or (last_or None (calculation_specs_in (take l.i l.following))) l.first;
 }

@@ -12,16 +12,16 @@ loop-group-preserved c =
     let s = c.args.section.now in
     let g = calculation_of c.in-Some.group in
     let rest = section_in c.args.part c.loop-group.rest.now in
-    let behind = section_in c.args.part c.in-Some.behind.now in
+    let following = section_in c.args.part c.in-Some.following.now in
     let split = c.in-Some.ensures.0 in
     let counts = ap sizes split in
     let made = c.size-place.ensures in
     let places = c.loop-group.invariant.places in
     let left = code_from (key_number s.table.now) (number_by s.labels.now) (number_by s.subroutines.now) s.own in
-    let done = one_more (key_number s.table.now) (number_by s.labels.now) (number_by s.subroutines.now) s.own c.loop-group.code c.push_group.new.code _ c.loop-group.place g rest behind split c.in_ok-push_group.ensures c.loop-group.invariant.so_far in
+    let done = one_more (key_number s.table.now) (number_by s.labels.now) (number_by s.subroutines.now) s.own c.loop-group.code c.push_group.new.code _ c.loop-group.place g rest following split c.in_ok-push_group.ensures c.loop-group.invariant.so_far in
     record {
       places = omega arith;
-      so_far = ap (λ n. c.push_group.new.code ++ left (c.loop-group.place + n) behind) made ∙ done;
+      so_far = ap (λ n. c.push_group.new.code ++ left (c.loop-group.place + n) following) made ∙ done;
     }
 
 pub returns : goal.returns

@@ -5,5 +5,5 @@ use Rattle.rpg_compile.proofs.tests.push_last.Given as goal
 
 abbrev pub invariant-loop-card : goal.invariant-loop-card
 invariant-loop-card l = record {
-  so_far : l.code ++ map (skip_code l.behind) (tests_in (drop l.card-index l.cards)) ≡ l.initial.code ++ map (skip_code l.behind) (tests_in l.cards);
+  so_far : l.code ++ map (skip_code l.following) (tests_in (drop l.card-index l.cards)) ≡ l.initial.code ++ map (skip_code l.following) (tests_in l.cards);
 }

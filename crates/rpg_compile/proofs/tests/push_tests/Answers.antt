@@ -18,5 +18,5 @@ loop-end-preserved c =
     record {
       some = some;
       places = omega (arith, c.count_tests-count.ensures);
-      so_far = pushed c.loop-end.code c.push_alternative.new.code _ c.loop-end.at c.count_tests-count.result c.args.operation c.args.behind c.loop-end.rest.now c.split_at.result.0.now c.split_at.result.1.now i.so_far split some c.count_tests-count.ensures (search rules);
+      so_far = pushed c.loop-end.code c.push_alternative.new.code _ c.loop-end.at c.count_tests-count.result c.args.operation c.args.following c.loop-end.rest.now c.split_at.result.0.now c.split_at.result.1.now i.so_far split some c.count_tests-count.ensures (search rules);
     }

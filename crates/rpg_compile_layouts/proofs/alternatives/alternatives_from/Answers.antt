@@ -7,7 +7,7 @@ use Rattle.rpg_compile_layouts.proofs.LineFollowers.{alternatives_and, alternati
 use Rattle.rpg_compile_layouts.proofs.Rows.{one_more_row}
 use Rattle.rpg_compile_layouts.proofs.alternatives.alternatives_from.Goals as goal
 use Rattle.rpg_compile_layouts.proofs.alternatives.alternatives_from.Goals.{in-None, in-Some-And+in_ok-push_conditions-in-Some-And, in-Some-Field, in-Some-Or+in_ok-push-in-Some-Or+in_ok-open-in-Some-Or}
-use Rattle.rpg_compile_layouts.specs.Rows.{alternatives_behind}
+use Rattle.rpg_compile_layouts.specs.Rows.{alternatives_after}
 use Rattle.rpg_program.specs.declared.condition.Condition.{Condition}
 use Rattle.rpg_program.specs.Kept.{IsConditionRow}
 use Rattle.rpg_sheet_specs.specs.declared.output.OutputSpec.TheVariants as output
@@ -21,7 +21,7 @@ found v = map (λ (a : Vec Condition Global). a.items) v.items
 
 pub loop-card-preserved : goal.loop-card-preserved
 loop-card-preserved c =
-    let cards = c.args.behind.now in
+    let cards = c.args.following.now in
     let i = c.loop-card.card-index in
     let card = c.card-item.result in
     let later = drop (i + 1) cards in
@@ -31,8 +31,8 @@ loop-card-preserved c =
           let on : Some (output.And more) ≡ output_on card.spec = cc in
           record {
             so_far =
-                ap (λ (v : Vec (Vec Condition Global) Global). found v ++ alternatives_behind c.match-output.open.items later) w.alternatives-is
-                ∙ ap (λ (v : Vec Condition Global). found c.loop-card.alternatives ++ alternatives_behind v.items later) w.open-is
+                ap (λ (v : Vec (Vec Condition Global) Global). found v ++ alternatives_after c.match-output.open.items later) w.alternatives-is
+                ∙ ap (λ (v : Vec Condition Global). found c.loop-card.alternatives ++ alternatives_after v.items later) w.open-is
                 ∙ ap (λ alts. found c.loop-card.alternatives ++ alts) (sym (alternatives_and cards i card more c.loop-card.open.items _ c.loop-card-test.true c.card-item.is on w.in_ok-push_conditions-in-Some-And.ensures.value))
                 ∙ c.loop-card.invariant.so_far;
             last = subst (λ (v : Vec Condition Global). All IsConditionRow v.items) (sym w.open-is) w.in_ok-push_conditions-in-Some-And.ensures.kept;
@@ -45,8 +45,8 @@ loop-card-preserved c =
           let pushed = w.in_ok-push-in-Some-Or.ensures.items in
           record {
             so_far =
-                ap (λ (v : Vec (Vec Condition Global) Global). found v ++ alternatives_behind c.match-output.open.items later) w.alternatives-is
-                ∙ ap (λ (v : Vec Condition Global). found w.push.new.self ++ alternatives_behind v.items later) w.open-is
+                ap (λ (v : Vec (Vec Condition Global) Global). found v ++ alternatives_after c.match-output.open.items later) w.alternatives-is
+                ∙ ap (λ (v : Vec Condition Global). found w.push.new.self ++ alternatives_after v.items later) w.open-is
                 ∙ one_more_row (λ (a : Vec Condition Global). a.items) c.loop-card.alternatives.items w.push.new.self.items c.loop-card.open c.loop-card.open.items _ _ _ pushed refl first c.loop-card.invariant.so_far;
             last = subst (λ (v : Vec Condition Global). All IsConditionRow v.items) (sym w.open-is) w.in_ok-open-in-Some-Or.ensures.kept;
             rows =
@@ -58,8 +58,8 @@ loop-card-preserved c =
           let none : None ≡ output_on card.spec = cc in
           record {
             so_far =
-                ap (λ (v : Vec (Vec Condition Global) Global). found v ++ alternatives_behind c.match-output.open.items later) w.alternatives-is
-                ∙ ap (λ (v : Vec Condition Global). found c.loop-card.alternatives ++ alternatives_behind v.items later) w.open-is
+                ap (λ (v : Vec (Vec Condition Global) Global). found v ++ alternatives_after c.match-output.open.items later) w.alternatives-is
+                ∙ ap (λ (v : Vec Condition Global). found c.loop-card.alternatives ++ alternatives_after v.items later) w.open-is
                 ∙ ap (λ alts. found c.loop-card.alternatives ++ alts) (sym (alternatives_none cards i card c.loop-card.open.items c.loop-card-test.true c.card-item.is none))
                 ∙ c.loop-card.invariant.so_far;
             last = subst (λ (v : Vec Condition Global). All IsConditionRow v.items) (sym w.open-is) c.loop-card.invariant.last;

@@ -7,7 +7,7 @@ use Rattle.rpg_sheet_specs.specs.declared.input.InputSpec.TheVariants as input
 
 pub loop-card-preserved : goal.loop-card-preserved
 loop-card-preserved c =
-    let cards = c.args.behind.now in
+    let cards = c.args.following.now in
     let i = c.loop-card.card-index in
     let card = c.card-item.result in
     let field = c.in-Some-Field.field in

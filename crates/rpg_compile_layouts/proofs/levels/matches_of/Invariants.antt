@@ -1,12 +1,12 @@
 use Rattle.std.proofs.Common.{◌≡◌, ◌++◌, drop}
 use Rattle.std.specs.Prelude.{All}
 use Rattle.rpg_cards.specs.Levels.{match_level}
-use Rattle.rpg_compile_layouts.specs.Parts.{levels_behind}
+use Rattle.rpg_compile_layouts.specs.Parts.{levels_after}
 use Rattle.rpg_program.specs.Kept.{IsControlRow}
 use Rattle.rpg_compile_layouts.proofs.levels.matches_of.Given as goal
 
 abbrev pub invariant-loop-card : goal.invariant-loop-card
 invariant-loop-card l = record {
-  so_far : l.matches.items ++ levels_behind match_level (drop l.card-index l.behind) ≡ levels_behind match_level l.behind;
+  so_far : l.matches.items ++ levels_after match_level (drop l.card-index l.following) ≡ levels_after match_level l.following;
   rows : All IsControlRow l.matches.items;
 }

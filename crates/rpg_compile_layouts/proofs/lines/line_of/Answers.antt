@@ -10,10 +10,10 @@ fields_of-requires c = c.requires.indices
 
 pub returns-clause-row : goal.returns-clause-row
 returns-clause-row c =
-    line_same c.args.table.now c.args.file c.args.heading.now c.args.behind.now c.time_of.result c.spacing_of.result (map (λ a. a.items) c.in_ok-alternatives_of.field-0.items) c.in_ok-fields_of.field-0.items
+    line_same c.args.table.now c.args.file c.args.heading.now c.args.following.now c.time_of.result c.spacing_of.result (map (λ a. a.items) c.in_ok-alternatives_of.field-0.items) c.in_ok-fields_of.field-0.items
     c.time_of.ensures c.spacing_of.ensures.value c.in_ok-alternatives_of.ensures.alternatives c.in_ok-fields_of.ensures.fields
 
 pub returns-clause-kept : goal.returns-clause-kept
 returns-clause-kept c =
-    line_kept c.args.table.now c.args.file c.args.heading.now c.args.behind.now c.time_of.result c.spacing_of.result (map (λ a. a.items) c.in_ok-alternatives_of.field-0.items) c.in_ok-fields_of.field-0.items
+    line_kept c.args.table.now c.args.file c.args.heading.now c.args.following.now c.time_of.result c.spacing_of.result (map (λ a. a.items) c.in_ok-alternatives_of.field-0.items) c.in_ok-fields_of.field-0.items
     c.requires c.spacing_of.ensures.kept c.in_ok-alternatives_of.ensures.alternatives (All-map (λ a. All IsConditionRow a) (λ a. a.items) c.in_ok-alternatives_of.field-0.items c.in_ok-alternatives_of.ensures.kept) c.in_ok-fields_of.ensures.fields c.in_ok-fields_of.ensures.kept

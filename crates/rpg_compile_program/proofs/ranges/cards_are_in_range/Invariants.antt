@@ -4,5 +4,5 @@ use Rattle.rpg_compile_program.specs.Ranges.{AreCards}
 
 abbrev pub invariant-loop-card : goal.invariant-loop-card
 invariant-loop-card l = record {
-  behind : AreCards (drop l.card-index l.cards) → AreCards l.cards;
+  following : AreCards (drop l.card-index l.cards) → AreCards l.cards;
 }

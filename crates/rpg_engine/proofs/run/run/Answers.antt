@@ -12,9 +12,9 @@ use Rattle.rpg_engine.specs.declared.report.Report.{Report}
 use Rattle.rpg_engine.proofs.Flows.{cycled, flow_begins, flow_goes_on, flow_sends}
 use Rattle.rpg_engine.proofs.Outputs.{can_fail, none_for, unsent}
 use Rattle.rpg_engine.proofs.Sent.{all_sent, front_is, goes_out}
-use Rattle.rpg_engine.proofs.Stopping.{moved_by, none_waits, some_have, some_of_run, some_parts, stays_there, stop_counts, stop_has, stop_needs, stop_of_run, stop_parts, stopped_behind, stopped_between, stream_reports, writers_count, writers_of, writers_read}
+use Rattle.rpg_engine.proofs.Stopping.{moved_by, none_waits, some_have, some_of_run, some_parts, stays_there, stop_counts, stop_has, stop_needs, stop_of_run, stop_parts, stopped_after, stopped_between, stream_reports, writers_count, writers_of, writers_read}
 use Rattle.rpg_engine.proofs.Streams.{few_given, stays_bounded}
-use Rattle.rpg_engine.proofs.Taking.{faults_stay, needs_still, ready_behind, ready_still, source_of, takes_next, went}
+use Rattle.rpg_engine.proofs.Taking.{faults_stay, needs_still, ready_after, ready_still, source_of, takes_next, went}
 use Rattle.rpg_engine.proofs.Whose.{none_rises, some_faults, stop_faults}
 use Rattle.rpg_engine.proofs.run.run.Goals as goal
 
@@ -30,8 +30,8 @@ cycles-init g c =
           one.buffered one.ended one.count two.buffered two.ended two.count unsent;
       ready = record {
         going = ap (λ (j : AtWork). is_going j.stage) first;
-        behind_primary = λ _. one.answer;
-        behind_secondary = λ _. two.answer;
+        after_primary = λ _. one.answer;
+        after_secondary = λ _. two.answer;
         limit_primary = one.limit;
         limit_secondary = two.limit;
       };
@@ -88,13 +88,13 @@ next_cycle-requires g c =
     record {
       going = ready.going;
       needs = needs_still c.needs-need.result c.cycles.job job rest (record { primary = c.needs-need.ensures.primary; secondary = c.needs-need.ensures.secondary });
-      primary = record { behind = ready.behind_primary; faults = omega (arith, i.primary, c.requires.devices.primary_faults) };
-      secondary = record { behind = ready.behind_secondary; faults = omega (arith, i.secondary, c.requires.devices.secondary_faults) };
+      primary = record { following = ready.after_primary; faults = omega (arith, i.primary, c.requires.devices.primary_faults) };
+      secondary = record { following = ready.after_secondary; faults = omega (arith, i.secondary, c.requires.devices.secondary_faults) };
     }
 
 -- a cycle that wasn't done
-pub fault_behind-requires-clause-ready : goal.fault_behind-requires-clause-ready
-fault_behind-requires-clause-ready g c =
+pub fault_after-requires-clause-ready : goal.fault_after-requires-clause-ready
+fault_after-requires-clause-ready g c =
     let i = c.cycles.invariant in
     let out = c.in_ok-send_before_reading.ensures.sends.out in
     record {
@@ -116,7 +116,7 @@ returns-in-Err-clause-early g c =
     let grows = c.next_cycle.ensures.grows in
     let lines = front_is job.output.print c.next_cycle.new.job.output.print grows.more.print c.waiting_in-waiting.result.print grows.print (c.waiting_in-waiting.ensures.print ∙ ap length c.output.ensures.print) in
     let records = front_is job.output.disk c.next_cycle.new.job.output.disk grows.more.disk c.waiting_in-waiting.result.disk grows.disk (c.waiting_in-waiting.ensures.disk ∙ ap length c.output.ensures.disk) in
-    let stop = rw (lines, records) at (rw (c.output-in-Err.ensures.print, c.output-in-Err.ensures.disk) at c.fault_behind.ensures.1) in
+    let stop = rw (lines, records) at (rw (c.output-in-Err.ensures.print, c.output-in-Err.ensures.disk) at c.fault_after.ensures.1) in
     stopped_between c.args.job.now job _ _ a b _ _ c.cycles.cycles c.cycles.most s moved.0 moved.1 _ _ _ _
     (stop_counts _ _ _ _ _ f.sent c.in-Err.fault _ _ stop)
     (stop_parts _ _ _ _ _ f.sent c.in-Err.fault _ _ stop)
@@ -126,7 +126,7 @@ returns-in-Err-clause-early g c =
     c.in-Err.fault _ _ stop none (none_waits job _ _ c.in-Err.fault c.in_ok-send_before_reading.ensures.ready c.in-Err.ensures.sure))
 
 pub returns-in-Err-clause-only : goal.returns-in-Err-clause-only
-returns-in-Err-clause-only g c = stop_of_run c.in-Err.fault _ _ _ _ _ c.fault_behind.ensures.1
+returns-in-Err-clause-only g c = stop_of_run c.in-Err.fault _ _ _ _ _ c.fault_after.ensures.1
 
 pub returns-in-Err-clause-faults : goal.returns-in-Err-clause-faults
 returns-in-Err-clause-faults g c =
@@ -134,7 +134,7 @@ returns-in-Err-clause-faults g c =
     let streams = i.flows.streams in
     let out = c.in_ok-send_before_reading.ensures.sends.out in
     stop_faults g.R1.Read.remaining g.R2.Read.remaining c.cycles.primary c.next_cycle.new.primary c.cycles.secondary c.next_cycle.new.secondary _ _ streams.primary streams.secondary c.send_before_reading.new.job
-    _ _ i.primary i.secondary refl refl c.in-Err.fault _ _ _ _ _ Report c.in-Err.ensures.none c.fault_behind.ensures.1 (λ file. (out file).faults ∙ (i.flows.sent file).faults) (λ file. refl)
+    _ _ i.primary i.secondary refl refl c.in-Err.fault _ _ _ _ _ Report c.in-Err.ensures.none c.fault_after.ensures.1 (λ file. (out file).faults ∙ (i.flows.sent file).faults) (λ file. refl)
 
 -- after a cycle
 pub send_where_enough-requires : goal.send_where_enough-requires
@@ -164,7 +164,7 @@ returns-in_err-send_where_enough-clause-early g c =
     (takes_next g.R1.Read.remaining g.R2.Read.remaining job mid c.cycles.primary c.next_cycle.new.primary c.cycles.secondary c.next_cycle.new.secondary _
     (ready_still c.cycles.job job sends.rest c.cycles.primary c.cycles.secondary c.cycles.invariant.ready) c.in-Ok.ensures.cycle s.earlier s.left s.orderly (last_position s.out.lines) s.last) in
     let fails = c.in_err-send_where_enough.ensures.sends in
-    rw (e.1, e.2) (stopped_behind c.args.job.now job mid _ _ a b a' b' c.cycles.cycles c.cycles.most _ _ k.ending _ _ s k.takes
+    rw (e.1, e.2) (stopped_after c.args.job.now job mid _ _ a b a' b' c.cycles.cycles c.cycles.most _ _ k.ending _ _ s k.takes
     (some_parts _ _ _ _ _ k.sent _ fails) (some_have _ _ _ _ _ k.sent _ _ fails) (writers_of _ _ _ _ fails))
 
 pub returns-in_err-send_where_enough-clause-only : goal.returns-in_err-send_where_enough-clause-only
@@ -235,7 +235,7 @@ cycles-preserved g c =
     let stage = takes.cycle.stage ∙ ap ended_stage c.in_default.is in
     let most = c.max-most.ensures ∙ ap (max c.cycles.most) c.steps.ensures in
     let few = stays_bounded c.args.job.now job mid _ _ a b a' b' c.cycles.cycles c.cycles.most k.ending s k.takes i.bounded takes.cycle.bounded in
-    let behind = ready_behind g.R1.Read.remaining g.R2.Read.remaining job mid c.cycles.primary c.next_cycle.new.primary c.cycles.secondary c.next_cycle.new.secondary _
+    let following = ready_after g.R1.Read.remaining g.R2.Read.remaining job mid c.cycles.primary c.next_cycle.new.primary c.cycles.secondary c.next_cycle.new.secondary _
     ready takes s.earlier s.left s.orderly (last_position s.out.lines) s.last stage in
     let all = c.in_ok-send_where_enough.ensures.sends in
     let next = c.send_where_enough.new.job in
@@ -243,7 +243,7 @@ cycles-preserved g c =
     let later = flow_sends c.args.job.now mid _ _ a' b' _ _ _ _ on next _ all in
     record {
       flows = later;
-      ready = ready_still mid next all.rest c.next_cycle.new.primary c.next_cycle.new.secondary behind;
+      ready = ready_still mid next all.rest c.next_cycle.new.primary c.next_cycle.new.secondary following;
       same_primary = c.in-Ok.ensures.same.0 ∙ i.same_primary;
       same_secondary = c.in-Ok.ensures.same.1 ∙ i.same_secondary;
       alone = λ none. c.in-Ok.ensures.alone (ap (λ (p : Object). p.secondary_length) s.program ∙ none) ∙ i.alone none;

@@ -9,7 +9,7 @@ cards-init c = ([], none_so_far, refl)
 pub returns-in-OtherType : goal.returns-in-OtherType
 returns-in-OtherType c =
     let card = c.in-Some.card.now in
-    let rest = c.in-Some.behind.now in
+    let rest = c.in-Some.following.now in
     let split : c.cards.rest.now ≡ card ∷ rest = search rules in
     let so_far = c.cards.invariant in
     c.in-OtherType.ensures so_far.0 so_far.1 rest ∙ ap (matches_up_to so_far.0) (sym split) ∙ so_far.2
@@ -17,7 +17,7 @@ returns-in-OtherType c =
 pub returns-in-Bad : goal.returns-in-Bad
 returns-in-Bad c =
     let card = c.in-Some.card.now in
-    let rest = c.in-Some.behind.now in
+    let rest = c.in-Some.following.now in
     let split : c.cards.rest.now ≡ card ∷ rest = search rules in
     let so_far = c.cards.invariant in
     c.in-Bad.ensures so_far.0 so_far.1 rest ∙ ap (matches_up_to so_far.0) (sym split) ∙ so_far.2
@@ -25,7 +25,7 @@ returns-in-Bad c =
 pub cards-preserved : goal.cards-preserved
 cards-preserved c =
     let card = c.in-Some.card.now in
-    let rest = c.in-Some.behind.now in
+    let rest = c.in-Some.following.now in
     let split : c.cards.rest.now ≡ card ∷ rest = search rules in
     let so_far = c.cards.invariant in
     let more = c.in-Found.ensures so_far.0 so_far.1 in

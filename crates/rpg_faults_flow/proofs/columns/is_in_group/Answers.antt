@@ -2,7 +2,7 @@ use Rattle.std.proofs.Common.{◌≡◌, ◌-◌, List, [], ◌∷◌, length, O
 use Rattle.std.specs.Borrow.{Bor}
 use Rattle.std.specs.Option.{option_map}
 use Rattle.std.specs.Prelude.{is_some, option_copied, slice_get}
-use Rattle.rpg_cards.specs.Calculations.{CalculationGroup, group_with, open_behind, open_calculation_group, open_with}
+use Rattle.rpg_cards.specs.Calculations.{CalculationGroup, group_with, open_after, open_calculation_group, open_with}
 use Rattle.rpg_cards.specs.Cards.{calculation_on}
 use Rattle.rpg_cards.specs.declared.spec_card.SpecCard.{SpecCard}
 use Rattle.rpg_faults_flow.proofs.columns.is_in_group.Goals as goal
@@ -11,7 +11,7 @@ mapped : {X Y : Type 0} (f : X → Y) (o : Option X) → is_some (option_map f o
 mapped f None = refl
 mapped f (Some x) = refl
 
-last_open : (o : Option CalculationGroup) (c x : SpecCard) (cs : List SpecCard) → Some x ≡ slice_get (c ∷ cs) (length cs) → is_some (open_behind o (c ∷ cs)) ≡ is_some (calculation_on x.spec)
+last_open : (o : Option CalculationGroup) (c x : SpecCard) (cs : List SpecCard) → Some x ≡ slice_get (c ∷ cs) (length cs) → is_some (open_after o (c ∷ cs)) ≡ is_some (calculation_on x.spec)
 last_open o c x [] is = let same : c ≡ x = cc in mapped (group_with o) (calculation_on c.spec) ∙ ap (λ (k : SpecCard). is_some (calculation_on k.spec)) same
 last_open o c x (d ∷ ds) is = last_open (open_with o c.spec) d x ds is
 

@@ -21,7 +21,7 @@ fields-init g c = record {
   planned = c.requires.planned;
   room = c.requires.room;
   ends = ends_in_reach c.args.fields.now;
-  behind = refl;
+  following = refl;
   onward = refl;
 }
 
@@ -30,7 +30,7 @@ fields-preserved g c =
     let m = c.args.memory.now in
     let new = c.with_planned_field.new.memory in
     let left = c.fields.left.now in
-    let behind = c.in-Some.behind.now in
+    let following = c.in-Some.following.now in
     let f = c.in-Some.field.now in
     let is = c.in-Some.ensures.cases.0 in
     let same = c.fields.invariant.rest in
@@ -41,24 +41,24 @@ fields-preserved g c =
       len = c.with_planned_field.auto.text ∙ c.fields.invariant.len;
       entries = subst (λ (p : Object). AreFieldEntries p.fields c.with_planned_field.new.to_blank) (ap (λ (x : Working). x.program) same)
           c.with_planned_field.ensures.changes.each;
-      right = All-rest (λ x. field_fault (forms_in m) (word_at m.program) len x ≡ None) f behind left is c.fields.invariant.right;
-      planned = plan_after_first m.program.fields left behind f c.fields.found.now is c.fields.invariant.planned;
+      right = All-rest (λ x. field_fault (forms_in m) (word_at m.program) len x ≡ None) f following left is c.fields.invariant.right;
+      planned = plan_after_first m.program.fields left following f c.fields.found.now is c.fields.invariant.planned;
       room = omega (arith, c.in-Some.ensures.cases.1, c.with_planned_field.ensures.changes.few, c.fields.invariant.room);
-      ends = All-rest (λ x. x.end ≤ reach) f behind left is c.fields.invariant.ends;
-      behind = first_after_reach (forms_in m) (word_at m.program) len reach left behind f c.fields.memory new c.fields.text c.with_planned_field.new.text
+      ends = All-rest (λ x. x.end ≤ reach) f following left is c.fields.invariant.ends;
+      following = first_after_reach (forms_in m) (word_at m.program) len reach left following f c.fields.memory new c.fields.text c.with_planned_field.new.text
           c.fields.to_blank c.with_planned_field.new.to_blank (end_of c.with_planned_field.result) is c.fields.invariant.right c.fields.invariant.ends
           c.fields.invariant.len c.with_planned_field.auto.text c.with_planned_field.ensures.drafted
-          ∙ c.fields.invariant.behind;
-      onward = field_next m len c.fields.memory left behind f _ _ c.with_planned_field.result _
+          ∙ c.fields.invariant.following;
+      onward = field_next m len c.fields.memory left following f _ _ c.with_planned_field.result _
           same is c.in-GoesOn.is c.fields.invariant.len c.with_planned_field.ensures.drafted
           ∙ c.fields.invariant.onward;
     }
 
-pub returns-in-Halt-clause-behind : goal.returns-in-Halt-clause-behind
-returns-in-Halt-clause-behind g c =
+pub returns-in-Halt-clause-following : goal.returns-in-Halt-clause-following
+returns-in-Halt-clause-following g c =
     let m = c.args.memory.now in
-    first_after_reach (forms_in m) (word_at m.program) (length c.args.text.now) (reach_of c.args.fields.now) c.fields.left.now c.in-Some.behind.now c.in-Some.field.now
+    first_after_reach (forms_in m) (word_at m.program) (length c.args.text.now) (reach_of c.args.fields.now) c.fields.left.now c.in-Some.following.now c.in-Some.field.now
     c.fields.memory c.with_planned_field.new.memory c.fields.text c.with_planned_field.new.text
     c.fields.to_blank c.with_planned_field.new.to_blank (end_of c.with_planned_field.result) c.in-Some.ensures.cases.0 c.fields.invariant.right
     c.fields.invariant.ends c.fields.invariant.len c.with_planned_field.auto.text c.with_planned_field.ensures.drafted
-    ∙ c.fields.invariant.behind
+    ∙ c.fields.invariant.following

@@ -17,7 +17,7 @@ invariant-fields g l = record {
   planned : AreFieldPlans l.fn.memory.program.fields l.left l.found;
   room : length l.to_blank + length l.left ≤ 200;
   ends : EndWithin (reach_of l.fields) l.left;
-  behind : drop (reach_of l.fields) l.text ≡ drop (reach_of l.fields) l.fn.text;
+  following : drop (reach_of l.fields) l.text ≡ drop (reach_of l.fields) l.fn.text;
   onward : fields_drafted l.fn.memory (length l.fn.text) l.left (draft_in l.memory l.text l.to_blank)
       ≡ fields_drafted l.fn.memory (length l.fn.text) l.fields (draft_in l.fn.memory l.fn.text l.fn.to_blank);
 }

@@ -19,14 +19,14 @@ fields-preserved g c =
     let m = c.args.memory.now in
     let new = c.fill_one.new.memory in
     let left = c.fields.left.now in
-    let behind = c.in-Some.behind.now in
+    let following = c.in-Some.following.now in
     let f = c.in-Some.input.now in
     let is = c.in-Some.ensures.cases.0 in
     let same = c.fields.invariant.rest in
     record {
       rest = c.fill_one.ensures.rest ∙ ap (data_put new.world.data) same;
-      right = All-rest (λ x. input_fault (forms_in m) (length c.args.text.now) x ≡ None) f behind left is c.fields.invariant.right;
-      found = inputs_after_first m.program.fields left behind f c.fields.found.now is c.fields.invariant.found;
-      onward = field_next m c.fields.memory c.args.text.now left behind f c.fill_one.result new.world.data same is c.in-GoesOn.is c.fill_one.ensures.leaves
+      right = All-rest (λ x. input_fault (forms_in m) (length c.args.text.now) x ≡ None) f following left is c.fields.invariant.right;
+      found = inputs_after_first m.program.fields left following f c.fields.found.now is c.fields.invariant.found;
+      onward = field_next m c.fields.memory c.args.text.now left following f c.fill_one.result new.world.data same is c.in-GoesOn.is c.fill_one.ensures.leaves
           ∙ c.fields.invariant.onward;
     }

@@ -25,7 +25,7 @@ put_on-requires g c =
       spacing = right_moves _ _ c.requires.right.fault;
       near = subst (λ (m : Working). IsNear m.world.paper.here) (sym c.assemble.ensures.changes.rest) c.requires.near;
       blank = blank_after_reach l.fields.items c.deref.result.now c.args.plan.now.reach len c.fill_blanks.new.text c.assemble.new.text c.requires.planned.reach c.deref.ensures.value
-          (reach_in_line (form_at p.fields) (word_at p) len l.fields.items c.requires.right.fields) blank c.assemble.auto.text c.assemble.ensures.behind;
+          (reach_in_line (form_at p.fields) (word_at p) len l.fields.items c.requires.right.fields) blank c.assemble.auto.text c.assemble.ensures.following;
     }
 
 pub returns-in-Halt-clause-done : goal.returns-in-Halt-clause-done

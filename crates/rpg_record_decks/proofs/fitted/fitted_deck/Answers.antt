@@ -2,7 +2,7 @@ use Rattle.std.proofs.Common.{◌≡◌, ◌+◌, ◌-◌, ◌++◌, List, ℕ, 
 use Rattle.std.specs.List.{join_with_byte, slice_split}
 use Rattle.rpg_text.specs.Lines.{is_line_feed}
 use Rattle.rpg_records.specs.Seen.{layout_seen}
-use Rattle.rpg_record_decks.proofs.FittedLemmas.{next_fitted, rest_behind}
+use Rattle.rpg_record_decks.proofs.FittedLemmas.{next_fitted, rest_following}
 use Rattle.rpg_record_decks.specs.Fitted.{fitted, fitted_from}
 use Rattle.rpg_record_decks.proofs.fitted.fitted_deck.Goals as goal
 
@@ -10,7 +10,7 @@ pub loop-end-preserved : goal.loop-end-preserved
 loop-end-preserved c =
     let rest = c.loop-end.rest.now in
     let end = c.in-Some.end in
-    let same = rest_behind rest (end + 1) in
+    let same = rest_following rest (end + 1) in
     record {
       few = omega (arith, ap (λ (l : List ℕ). length l) same, length-drop (end + 1) rest, c.loop-end.invariant.few, c.in-Some.ensures.within);
       deck = subst (λ (l : List ℕ). c.push.new.self.items ++ join_with_byte 10 (fitted_from (layout_seen c.args.layout.now) (c.loop-end.number + 1) (slice_split is_line_feed l)) ≡ fitted (layout_seen c.args.layout.now) c.args.source.now) (sym same)

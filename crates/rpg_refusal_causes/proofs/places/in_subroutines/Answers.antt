@@ -7,7 +7,7 @@ use Rattle.rpg_program.specs.declared.section.Section.TheVariants as sections
 use Rattle.rpg_refusal_causes.proofs.Placing.{either_left}
 use Rattle.rpg_refusal_causes.specs.PlaceCauses.{placed_in, placed_in_subroutines}
 use Rattle.rpg_verify_rules.proofs.Sectioning.{left, fewer_left}
-use Rattle.rpg_verify_rules.proofs.Spanning.{at_zero, first_behind, subroutine_at, subroutine_span}
+use Rattle.rpg_verify_rules.proofs.Spanning.{at_zero, first_after, subroutine_at, subroutine_span}
 use Rattle.rpg_refusal_causes.proofs.places.in_subroutines.Goals as goal
 
 pub loop-subroutine-init : goal.loop-subroutine-init
@@ -86,7 +86,7 @@ loop-subroutine-preserved c =
     let k = c.loop-subroutine.rest in
     let f = c.loop-subroutine.first in
     let counted = c.loop-subroutine.invariant.counted in
-    let next = first_behind c.args.begin p.subroutines i (subroutine_row s) (subroutine_at subs i s low is) in
+    let next = first_after c.args.begin p.subroutines i (subroutine_row s) (subroutine_at subs i s low is) in
     let begins : f ≡ first_in c.args.begin p.subroutines i = c.loop-subroutine.invariant.begins in
     let rest = slice_get (placed_in_subroutines p (n + 1) (left subs (i + 1))) (k - length s.instructions.items) in
     record {

@@ -8,23 +8,23 @@ use Rattle.rpg_sheet.proofs.source.checked.Goals as goal
 pub returns-then-not-has_only_characters-clause-code : goal.returns-then-not-has_only_characters-clause-code
 returns-then-not-has_only_characters-clause-code c =
     let e = c.args.earlier in
-    code_unfit e.count e.latest e.behind c.args.line.now c.args.columns.now (omega arith) c.requires (sym c.has_only_characters.ensures ∙ c.if-not-has_only_characters.true)
+    code_unfit e.count e.latest e.data_begun c.args.line.now c.args.columns.now (omega arith) c.requires (sym c.has_only_characters.ensures ∙ c.if-not-has_only_characters.true)
     ∙ sym (ap (λ (code : SheetCode). Some code) c.into-then-not-has_only_characters.ensures.0)
 
 pub returns-then-earlier-ge-CARDS-clause-code : goal.returns-then-earlier-ge-CARDS-clause-code
 returns-then-earlier-ge-CARDS-clause-code c =
     let e = c.args.earlier in
-    code_past e.count e.latest e.behind c.args.line.now c.args.columns.now _ (omega arith) c.requires (sym c.has_only_characters.ensures ∙ c.if-not-has_only_characters.false) (omega arith)
+    code_past e.count e.latest e.data_begun c.args.line.now c.args.columns.now _ (omega arith) c.requires (sym c.has_only_characters.ensures ∙ c.if-not-has_only_characters.false) (omega arith)
     (rw c.of-card.ensures at c.past_last.ensures.code)
 
 pub returns-clause-good : goal.returns-clause-good
 returns-clause-good c =
     let e = c.args.earlier in
-    code_if_read e.count e.latest e.behind c.args.line.now c.args.columns.now (λ spec. spec ≡ spec_of e.behind c.args.columns.now) c.read.result (omega arith) c.requires
+    code_if_read e.count e.latest e.data_begun c.args.line.now c.args.columns.now (λ spec. spec ≡ spec_of e.data_begun c.args.columns.now) c.read.result (omega arith) c.requires
     (sym c.has_only_characters.ensures ∙ c.if-not-has_only_characters.false) (omega arith) (rw c.of-card.ensures at c.read.ensures.ok)
 
 pub returns-clause-code : goal.returns-clause-code
 returns-clause-code c =
     let e = c.args.earlier in
-    code_if_bad e.count e.latest e.behind c.args.line.now c.args.columns.now (λ fault. fault.columns ≡ sheet_fault_columns e.behind c.args.columns.now fault.code) c.read.result (omega arith) c.requires
+    code_if_bad e.count e.latest e.data_begun c.args.line.now c.args.columns.now (λ fault. fault.columns ≡ sheet_fault_columns e.data_begun c.args.columns.now fault.code) c.read.result (omega arith) c.requires
     (sym c.has_only_characters.ensures ∙ c.if-not-has_only_characters.false) (rw c.of-card.ensures at c.read.ensures.err)

@@ -8,13 +8,13 @@ use Rattle.rpg_sheet_values.proofs.literals.around_point.Goals as goal
 pub returns-in-Some-clause-before : goal.returns-in-Some-clause-before
 returns-in-Some-clause-before c = rw (first_place is_point c.args.text.now c.in-Some.point (sym c.in-Some.ensures.place)) refl
 
-pub returns-in-Some-clause-behind : goal.returns-in-Some-clause-behind
-returns-in-Some-clause-behind c =
+pub returns-in-Some-clause-following : goal.returns-in-Some-clause-following
+returns-in-Some-clause-following c =
     rw (first_place is_point c.args.text.now c.in-Some.point (sym c.in-Some.ensures.place))
     (take_all _ (drop (c.in-Some.point + 1) c.args.text.now) (omega (arith, length-drop (c.in-Some.point + 1) c.args.text.now)))
 
 pub returns-in-None-clause-before : goal.returns-in-None-clause-before
 returns-in-None-clause-before c = sym (before_none is_point c.args.text.now (sym c.in-None.ensures.place))
 
-pub returns-in-None-clause-behind : goal.returns-in-None-clause-behind
-returns-in-None-clause-behind c = sym (after_none is_point c.args.text.now (sym c.in-None.ensures.place))
+pub returns-in-None-clause-following : goal.returns-in-None-clause-following
+returns-in-None-clause-following c = sym (after_none is_point c.args.text.now (sym c.in-None.ensures.place))

@@ -15,7 +15,7 @@ at_most_one n (Err fault.TooMany) = omega arith
 pub returns : goal.returns
 returns g c = elim (cases_Bool (is_record (answer_of c.args.reader.now))) [
   | inl is ↦
-      let reads = c.next.ensures.behind_record is in
+      let reads = c.next.ensures.stands_after_record is in
       let few = at_most_one (faults_of (reader_of c.args.reader.now)) c.next.result in
       omega (arith, reads.faults, few, c.requires.faults)
   | inr not ↦

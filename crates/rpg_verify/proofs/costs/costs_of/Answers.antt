@@ -13,5 +13,5 @@ cost_at-cost-requires-clause-under c k =
     let w = instruction_weight (form_at fields) c.args.exceptions in
     let few = c.requires.few in
     let long : length (drop i c.args.code.now) ≤ 8192 = simp length-drop (omega arith) in
-    let done : c.behind.result.now ≡ costs_from w (c.args.first + i) (drop i c.args.code.now) = c.behind.ensures ∙ ap (drop i) c.deref.ensures.value ∙ c.loop-i.invariant.done in
+    let done : c.following.result.now ≡ costs_from w (c.args.first + i) (drop i c.args.code.now) = c.following.ensures ∙ ap (drop i) c.deref.ensures.value ∙ c.loop-i.invariant.done in
     subst (λ xs. slice_index xs k ≤ 1728512000) (sym done) (costs_under fields c.requires.fields c.args.exceptions c.requires.exceptions (c.args.first + i) (drop i c.args.code.now) long k)

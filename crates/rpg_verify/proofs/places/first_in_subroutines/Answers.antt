@@ -6,7 +6,7 @@ use Rattle.rpg_verify_rules.specs.Least.{first_true}
 use Rattle.rpg_verify_rules.specs.PlaceRules.{subroutines_judged}
 use Rattle.rpg_program.specs.Spans.{IsSpan}
 use Rattle.rpg_verify_rules.proofs.Sectioning.{left, found_here, found_later, fewer_left}
-use Rattle.rpg_verify_rules.proofs.Spanning.{at_zero, first_behind, subroutine_at, subroutine_span}
+use Rattle.rpg_verify_rules.proofs.Spanning.{at_zero, first_after, subroutine_at, subroutine_span}
 use Rattle.rpg_verify.proofs.places.first_in_subroutines.Goals as goal
 
 pub loop-subroutine-init : goal.loop-subroutine-init
@@ -74,7 +74,7 @@ loop-subroutine-preserved c =
     let n = c.loop-subroutine.number in
     let f = c.loop-subroutine.first in
     let counted = c.loop-subroutine.invariant.counted in
-    let next = first_behind c.args.begin p.subroutines i (subroutine_row s) (subroutine_at subs i s low is) in
+    let next = first_after c.args.begin p.subroutines i (subroutine_row s) (subroutine_at subs i s low is) in
     let begins : f ≡ first_in c.args.begin p.subroutines i = c.loop-subroutine.invariant.begins in
     record {
       so_far =

@@ -9,8 +9,8 @@ use Rattle.rpg_compile.specs.Walk.{subroutines_in}
 use Rattle.rpg_program.specs.Object.{subroutine_row}
 use Rattle.rpg_compile_program.specs.Table.{key_number}
 
-abbrev pub invariant-loop-behind : goal.invariant-loop-behind
-invariant-loop-behind l = record {
+abbrev pub invariant-loop-following : goal.invariant-loop-following
+invariant-loop-following l = record {
   count : l.own + length (subroutines_in l.rest) ≡ length l.levels;
   places : l.place + body_sizes (subroutines_in l.rest) ≡ l.first + body_sizes (subroutines_in l.cards);
   table : l.self.table ≡ l.initial.self.table;
@@ -20,5 +20,5 @@ invariant-loop-behind l = record {
   kept : All IsMarkedRow (map subroutine_row l.rows.items);
 }
 
-abbrev pub decreases-loop-behind : goal.decreases-loop-behind
-decreases-loop-behind l = length l.rest
+abbrev pub decreases-loop-following : goal.decreases-loop-following
+decreases-loop-following l = length l.rest

@@ -26,7 +26,7 @@ returns-in-Ok-clause-done g c =
     let x = next_text c.args.primary in
     let y = next_text c.args.secondary in
     let going = ap (λ (r : of.AtWork). is_going r.stage) c.self.view_is ∙ c.requires.going in
-    let behind = c.self.invariant.behind going in
+    let following = c.self.invariant.following going in
     let same = c.self.invariant.program going in
     let t = c.in-Ok.selected in
     let kept = c.run_cycle.new.kept in
@@ -35,7 +35,7 @@ returns-in-Ok-clause-done g c =
     let was = job p i.machine (left_of i.kept) (inputs_of i.kept) (stage_of i.progress) in
     let new = job p c.run_cycle.new.machine (left_of c.note.new.self) (inputs_of c.note.new.self) Going in
     subst (λ (old : of.AtWork). of.Cycles old x y new) c.self.view_is (record {
-      behind = behind;
+      following = following;
       does = λ earlier leave orderly previous l. (
         GoesOn,
         subst (λ (j : Inputs). of.DoesCycle was earlier previous x y GoesOn (job p c.run_cycle.new.machine (left_of c.note.new.self) j Going)) (sym c.note.ensures.inputs)
@@ -52,13 +52,13 @@ returns-in_ok-finish-in-Err-Ends-clause-done g c =
     let y = next_text c.args.secondary in
     let e = c.in-Err-Ends.end in
     let going = ap (λ (r : of.AtWork). is_going r.stage) c.self.view_is ∙ c.requires.going in
-    let behind = c.self.invariant.behind going in
+    let following = c.self.invariant.following going in
     let same = c.self.invariant.program going in
     let kept = c.run_cycle.new.kept in
     let d = subst (λ (o : Object). CycleEnds o i.kept c.args.primary c.args.secondary (refilled i.machine) (job_end e) c.run_cycle.new.machine) same (rw c.in-Err-Ends.field-0-is at c.in-Err-Ends.ensures.stops) in
     let new = job p c.finish.new.self (left_of kept) (inputs_of kept) (Ended (job_end e)) in
     subst (λ (old : of.AtWork). of.Cycles old x y new) c.self.view_is (record {
-      behind = behind;
+      following = following;
       does = λ earlier leave orderly previous l. (
         job_end e,
         ends p earlier previous x y i.machine c.run_cycle.new.machine c.finish.new.self (left_of i.kept) (left_of kept) (inputs_of i.kept) (inputs_of kept) (stage_of i.progress) d.0 e
@@ -73,7 +73,7 @@ invariant_of-self g c =
     let x = next_text c.args.primary in
     let y = next_text c.args.secondary in
     let going = ap (λ (r : of.AtWork). is_going r.stage) c.self.view_is ∙ c.requires.going in
-    let behind = c.self.invariant.behind going in
+    let following = c.self.invariant.following going in
     let same = c.self.invariant.program going in
     let t = c.in-Ok.selected in
     let kept = c.run_cycle.new.kept in
@@ -81,13 +81,13 @@ invariant_of-self g c =
     let renewed = subst (λ (o : Object). RenewsLeft o t i.kept kept) same c.in-Ok.ensures.goes.left in
     let o = some_before i.machine.last in
     let old = job p i.machine (left_of i.kept) (inputs_of i.kept) (stage_of i.progress) in
-    let done = goes_on p behind.earlier o.0 x y i.machine c.run_cycle.new.machine (left_of i.kept) (left_of c.note.new.self) (inputs_of i.kept) (inputs_of kept) (stage_of i.progress) t (text_in p kept t)
-    same behind.leave behind.orderly o.1 (c.note.ensures.left ∙ ap (noted p t) renewed) went in
+    let done = goes_on p following.earlier o.0 x y i.machine c.run_cycle.new.machine (left_of i.kept) (left_of c.note.new.self) (inputs_of i.kept) (inputs_of kept) (stage_of i.progress) t (text_in p kept t)
+    same following.leave following.orderly o.1 (c.note.ensures.left ∙ ap (noted p t) renewed) went in
     record {
       program = λ on. c.in-Ok.ensures.goes.goes.program ∙ same;
       ready = λ on. c.in-Ok.ensures.goes.ready;
-      behind = λ on. subst (λ (j : Inputs). of.IsBehind p (left_of c.note.new.self) j) (sym c.note.ensures.inputs)
-          (one_more old (job p c.run_cycle.new.machine (left_of c.note.new.self) (inputs_of kept) Going) behind.earlier o.0 x y behind.orderly done);
+      following = λ on. subst (λ (j : Inputs). of.IsFollowing p (left_of c.note.new.self) j) (sym c.note.ensures.inputs)
+          (one_more old (job p c.run_cycle.new.machine (left_of c.note.new.self) (inputs_of kept) Going) following.earlier o.0 x y following.orderly done);
       files = λ on. c.note.ensures.kept (subst (λ (o : Object). AreFilesKept o kept) same c.in-Ok.ensures.goes.kept);
       few = λ on. subst (λ (o : Object). c.run_cycle.new.machine.config.steps ≤ bound o) same c.in-Ok.ensures.few;
     }
@@ -101,7 +101,7 @@ pub run_cycle-requires-clause-kept : goal.run_cycle-requires-clause-kept
 run_cycle-requires-clause-kept g c =
     let going = ap (λ (r : of.AtWork). is_going r.stage) c.self.view_is ∙ c.requires.going in
     record {
-      nine = sym (length-map c.self.inside.kept.levels.items seen_bytes) ∙ ap (λ (l : Left). length l.bytes) (c.self.invariant.behind going).leave;
+      nine = sym (length-map c.self.inside.kept.levels.items seen_bytes) ∙ ap (λ (l : Left). length l.bytes) (c.self.invariant.following going).leave;
       files = subst (λ (o : Object). AreFilesKept o c.self.inside.kept) (sym (c.self.invariant.program going)) (c.self.invariant.files going);
     }
 

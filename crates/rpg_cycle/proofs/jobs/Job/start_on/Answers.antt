@@ -13,7 +13,7 @@ invariant_of-result g c =
     record {
       program = λ on. ap (λ (r : Running). r.program) start;
       ready = λ on. c.in_ok-machine.ensures.ready;
-      behind = λ on. record {
+      following = λ on. record {
         earlier = [];
         leave = c.in_ok-kept.ensures.left;
         orderly = subst (λ (i : Inputs). AreMergedInOrder p [] i) (sym c.in_ok-kept.ensures.inputs) (at_first p);

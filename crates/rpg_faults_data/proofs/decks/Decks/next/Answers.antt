@@ -13,12 +13,12 @@ use Rattle.rpg_faults_data.proofs.decks.Decks.next.Goals as goal
 abbrev texts : List (Group (Unit {0}) (List ℕ)) → Option (List (List ℕ))
 texts gs = option_map (λ g. g.followers) (slice_get gs 0)
 
-first : (gs : List (Group (Unit {0}) (List ℕ))) (o : Option (Bor (List SpecCard))) → MatchOption o (gs ≡ []) (λ behind. gs ≡ deck behind.now ∷ groups data_role behind.now)
-    → option_map (λ (behind : Bor (List SpecCard)). followers data_role behind.now) o ≡ texts gs
+first : (gs : List (Group (Unit {0}) (List ℕ))) (o : Option (Bor (List SpecCard))) → MatchOption o (gs ≡ []) (λ following. gs ≡ deck following.now ∷ groups data_role following.now)
+    → option_map (λ (following : Bor (List SpecCard)). followers data_role following.now) o ≡ texts gs
 first gs None e = sym (ap texts e)
-first gs (Some behind) e = sym (ap texts e)
+first gs (Some following) e = sym (ap texts e)
 
 pub returns : goal.returns
 returns c = λ cards before was.
-    first _ c.behind_next.result c.behind_next.ensures
+    first _ c.after_next.result c.after_next.ensures
     ∙ ap texts was.rest ∙ sym (ap (option_map (λ g. g.followers)) (get-drop (wanted before) (groups data_role cards)))

@@ -5,7 +5,7 @@ use Rattle.rpg_faults_data.proofs.decks.Decks.with.Goals as goal
 
 pub returns-then-wants_data : goal.returns-then-wants_data
 returns-then-wants_data c = λ cards before was.
-    with_taken cards before c.args.card.now c.args.self c.behind_next.result _ c.unwrap_or.result c.behind_next.ensures c.unwrap_or.ensures refl (sym c.wants_data.ensures ∙ c.if-wants_data.true) was
+    with_taken cards before c.args.card.now c.args.self c.after_next.result _ c.unwrap_or.result c.after_next.ensures c.unwrap_or.ensures refl (sym c.wants_data.ensures ∙ c.if-wants_data.true) was
 
 pub returns-then-begins_deck : goal.returns-then-begins_deck
 returns-then-begins_deck c = λ cards before was.

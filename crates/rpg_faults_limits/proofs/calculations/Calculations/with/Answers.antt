@@ -6,4 +6,4 @@ pub returns : goal.returns
 returns c =
     let old = c.args.self in
     calculations-push c.args.before.now c.args.card.now c.args.after.now old _ c.is_some.result c.begins.result c.requires.calculations
-    (search rules) (ap (λ n. old.cards + n) c.one_if.ensures) c.begins.ensures (ap (λ n. old.subroutines + n) c.one_if-2.ensures) c.is_subroutine_behind.ensures
+    (search rules) (ap (λ n. old.cards + n) c.one_if.ensures) c.begins.ensures (ap (λ n. old.subroutines + n) c.one_if-2.ensures) c.is_subroutine_after.ensures

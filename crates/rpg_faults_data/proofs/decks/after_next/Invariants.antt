@@ -1,6 +1,6 @@
 use Rattle.std.proofs.Common.{◌≡◌, length}
 use Rattle.rpg_cards.specs.Groups.{data_role, groups}
-use Rattle.rpg_faults_data.proofs.decks.behind_next.Given as goal
+use Rattle.rpg_faults_data.proofs.decks.after_next.Given as goal
 
 abbrev pub invariant-loop-card : goal.invariant-loop-card
 invariant-loop-card l = groups data_role l.cards ≡ groups data_role l.rest

@@ -4,7 +4,7 @@ use Rattle.rpg_program.specs.declared.section.Section.TheVariants.{Total}
 use Rattle.rpg_verify_rules.specs.Least.{first_true}
 use Rattle.rpg_verify_rules.specs.PlaceRules.{place_breaks, subroutines_judged}
 use Rattle.rpg_verify_rules.proofs.Sectioning.{in_first, in_later}
-use Rattle.rpg_verify.proofs.places.first_behind_detail.Goals as goal
+use Rattle.rpg_verify.proofs.places.first_after_detail.Goals as goal
 
 pub returns-in-Some : goal.returns-in-Some
 returns-in-Some c =
