@@ -24,6 +24,7 @@ use Rattle.rpg_program.specs.declared.line.Time.TheVariants as times
 use Rattle.rpg_program.specs.declared.operation.Index.{Index}
 use Rattle.rpg_program.specs.declared.operation.Index.TheVariants as index
 use Rattle.rpg_program.specs.declared.operation.Operand.{Operand}
+use Rattle.rpg_edit_marks.specs.Code.{fill_by}
 use Rattle.rpg_edit_marks.specs.declared.code.EditCode.{EditCode}
 use Rattle.rpg_edit_marks.specs.declared.code.EditCode.TheVariants as edit
 use Rattle.rpg_edit_marks.specs.declared.code.Fill.{Fill}
@@ -143,7 +144,7 @@ meant_editing None None text = editing.Plain
 abbrev pub meant_fill : Option EditCode → Option (List ℕ) → Fill
 meant_fill None text = fills.Blank
 meant_fill (Some code) None = fills.Blank
-meant_fill (Some code) (Some text) = if pointwise nat_eq text (codes "*") then fills.Star else (if pointwise nat_eq text (codes "$") then fills.Dollar else fills.Blank)
+meant_fill (Some code) (Some text) = unwrap_or (fill_by text) fills.Blank
 
 -- PAGE is increased by one before it is printed
 abbrev pub meant_source : Option Entry → Source
