@@ -66,7 +66,7 @@ pub fn root_of(source: SourceCards<'_>, line: &[u8], fault: CardFault) -> Option
     };
     let spot = Spot::of(source, line, fault.card, fault.columns)?;
     match code {
-        FaultCode::F1 | FaultCode::F4 | FaultCode::F12 => { root_in(spot, &spot.cause(code)?) }
+        FaultCode::F1 | FaultCode::F4 | FaultCode::F12 => root_in(spot, &spot.cause(code)?),
         FaultCode::F17 => text_root(spot),
         _ => None,
     }

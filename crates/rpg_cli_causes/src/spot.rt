@@ -8,7 +8,7 @@ use rpg_program::form::FieldForm;
 use rpg_sheet::{ColumnFault, ColumnRange, DataSpec, Entry, Factor, Word};
 use rpg_text::{first_line, trimmed};
 
-/// A source's text and its cards: none where only the card of the fault is known.
+/// A source's text and its cards. There are no cards where only the card of the fault is known.
 #[derive(Clone, Copy)]
 pub struct SourceCards<'a> {
     pub cards: Option<&'a AnalyzedCards<'a>>,

@@ -1,4 +1,4 @@
--- The code of calculations, where names stand for what a section's names do.
+-- The code of calculations, with the numbers that a section has for fields, labels and subroutines.
 use Rattle.std.specs.Prelude.{ℕ, List}
 use Rattle.rpg_cards.specs.Calculations.{calculations}
 use Rattle.rpg_cards.specs.Deeds.{Calculation, Deed}
@@ -15,11 +15,11 @@ use Rattle.rpg_compile.specs.declared.instruction.Section.{Section}
 use Rattle.rpg_program.specs.declared.operation.Instruction.{Instruction}
 use Rattle.rpg_program.specs.Object.{SubroutineRow}
 
--- calculations that begin at a place
+-- the code of calculations, the first of which begins at a place
 abbrev pub code_in : Section → ℕ → List (Calculation Key) → List (Instruction ℕ)
 code_in s place gs = code_from (key_number s.table.now) (number_by s.labels.now) (number_by s.subroutines.now) s.own place gs
 
--- a calculation that begins at a place
+-- the code of one calculation, which begins at a place
 abbrev pub calculation_code : Section → ℕ → Calculation Key → List (Instruction ℕ)
 calculation_code s place g = group_code (key_number s.table.now) (number_by s.labels.now) (number_by s.subroutines.now) s.own place g
 

@@ -114,7 +114,7 @@ impl EditCode {
         }
     }
 
-    /// Whether the code edits numbers of this form with this fill: Y edits six digits without decimals.
+    /// Whether the code edits numbers of this form with this fill: X, Y and Z take no fill, and Y edits six digits without decimals.
     pub fn fits(self, fill: Fill, length: u16, decimals: u8) -> bool
         ensures { result ≡ fits_code length decimals self fill }
     {

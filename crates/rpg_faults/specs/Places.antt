@@ -182,7 +182,7 @@ own_file before (input.Type t) = option_or t.file (open_file input_role before)
 own_file before (input.And codes) = open_file input_role before
 own_file before (input.Field f) = open_file input_role before
 
--- the answer is the record length of that file, where this is known of the open one's
+-- the answer is the record length of an I card's own file, where `file` is the file of the type that is open before the card
 abbrev pub TellsOwnLength : List SpecCard → InputSpec → Option GroupFile → Option ℕ → Type 0
 TellsOwnLength cards i file answer =
     (before : List SpecCard) → file ≡ option_map group_file (file_by (open_file input_role before) cards) → answer ≡ option_map (λ f. f.record_length) (file_by (own_file before i) cards)

@@ -10,7 +10,7 @@ use rpg_cards::SpecCard;
 use rpg_sheet::{Cards, Spec};
 use std::alloc::{AllocError, Global};
 
-/// The cards of a source that are on a sheet, each with its number.
+/// The cards of a source that are on a sheet: at most 2,000, numbered, and in the order of the sheets.
 #[derive(Drop)]
 pub(crate) struct OrderedCards {
     pub cards: Vec<SpecCard>,
@@ -19,6 +19,7 @@ pub(crate) struct OrderedCards {
     pub ghost few: { length cards.items ≤ 2000 },
 }
 
+/// Gives each card that is on a sheet its number. An error is for want of memory.
 #[tactic(auto, using(crate::proofs::Numbering::numbers_go_up, crate::proofs::Numbering::no_more_than_cards))]
 pub(crate) fn spec_cards(alloc: Global, cards: Cards) -> Result<OrderedCards, AllocError>
     requires { IsInOrder 0 (specs_of.numbered_cards 1 cards) }

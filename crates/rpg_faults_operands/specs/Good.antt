@@ -18,16 +18,16 @@ pub record IsGoodOperand (cards : List SpecCard) (o : Option Operand) : Type 0 w
   pub name : option_map_or (names_nothing cards) o false ≡ false
   pub index : option_map_or (bad_index_of cards) o false ≡ false
 
--- it is so, and its form is known
+-- an operand is good, and its form is known
 pub record IsGoodForm (cards : List SpecCard) (o : Option Operand) (known found : Option FieldForm) : Type 0 where
   pub operand : IsGoodOperand cards o
   pub form : found ≡ known
 
--- what is in a factor of such a column is so, and this form is found
+-- what stands in a factor of such a column is good, and this form is found for it
 abbrev pub IsGoodFactor : List SpecCard → Column → Option Factor → Option FieldForm → Type 0
 IsGoodFactor cards column f found = IsGoodForm cards (operand_in column (option_and_then factor_entry f)) (factor_form cards column f) found
 
--- the same of a result field
+-- what stands in the result field is good, and this form is found for it
 abbrev pub IsGoodResult : List SpecCard → Column → Option Entry → Option FieldForm → Type 0
 IsGoodResult cards column e found = IsGoodForm cards (operand_in column e) (result_form cards column e) found
 

@@ -16,7 +16,7 @@ use std::alloc::{AllocError, Global};
 /// No source has more cards.
 const MOST_CARDS: usize = 2000;
 
-/// The cards of a source, and which of them break F10 and F12 to F15.
+/// The cards of a source, which of them break F10 and F12 to F15, and an index of their labels.
 #[derive(Drop)]
 pub struct AnalyzedCards<'a> {
     pub cards: &'a IndexedCards<'a>,
@@ -37,7 +37,7 @@ impl<'a> AnalyzedCards<'a> {
         Ok(AnalyzedCards { cards, found })
     }
 
-    /// Of cards that may be no source's: nothing if they are out of order, or more than 2,000.
+    /// The same for cards that may not be a source's: nothing if they are out of order, or more than 2,000. An error is for want of memory.
     pub fn if_in_order(
         alloc: Global,
         cards: &'a IndexedCards<'a>,

@@ -100,7 +100,7 @@ impl<'a, S: Store + Drop> Machine<'a, S> {
     ghost use Rattle.rpg_memory.specs.Memory.{first_working};
 
     /// A machine before its first cycle: no indicator on but L0 and 1P, the form at its first line, and the values that are in the memory.
-    /// Apart from the run's loop, which has the more registers.
+    /// Not inlined, so that the run's loop has more registers.
     #[inline(never)]
     pub fn new(
         alloc: Global,

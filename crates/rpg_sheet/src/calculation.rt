@@ -13,7 +13,6 @@ use rpg_sheet_specs::{
     CalculationSpec, ColumnFault, ConditionSpec, ControlLevel, Factor, Operation, Three, ranges,
 };
 
-#[inline(never)]
 pub(crate) fn calculation_card(card: &Card) -> Result<CalculationSpec, ColumnFault>
     ensures { result ≡ tables.calculation_card.reading card.now }
 {

@@ -75,7 +75,7 @@ impl Card {
         &self.characters[start..start + WIDTH]
     }
 
-    /// Columns without a value of their own.
+    /// Columns that must be blank. An error is the first column that is filled.
     #[inline(always)]
     pub(crate) fn blank<const WIDTH: usize>(&self, columns: CardColumns<WIDTH>) -> Read<()>
         ensures { result ≡ fault_if_some columns.entry.first (position is_filled (cols_from columns.entry.first WIDTH self.now)) }

@@ -49,6 +49,7 @@ pub const ENTRY_FORMAT: CardColumns<1> = CardColumns { first: 43 };
 pub const ENTRY_DECIMALS: CardColumns<1> = CardColumns { first: 44 };
 
 pub const ENTRY_SEQUENCE: CardColumns<1> = CardColumns { first: 45 };
+
 /// All columns of the alternating table.
 pub const ALTERNATING: CardColumns<12> = CardColumns { first: 46 };
 
@@ -70,6 +71,7 @@ pub const BEFORE_WORD: CardColumns<7> = CardColumns { first: 7 };
 pub const AND_WORD: CardColumns<3> = CardColumns { first: 14 };
 
 pub const OR_WORD: CardColumns<2> = CardColumns { first: 14 };
+
 /// What only the card of a record type or of a line has.
 pub const TYPE_OR_LINE: CardColumns<10> = CardColumns { first: 7 };
 
@@ -82,6 +84,7 @@ pub const TYPE_SEQUENCE: CardColumns<2> = CardColumns { first: 15 };
 pub const BEFORE_INDICATOR: CardColumns<2> = CardColumns { first: 17 };
 
 pub const TYPE_INDICATOR: CardColumns<2> = CardColumns { first: 19 };
+
 /// All three codes.
 pub const CODES: CardColumns<21> = CardColumns { first: 21 };
 
@@ -92,6 +95,7 @@ pub const SECOND_CODE: CardColumns<7> = CardColumns { first: 28 };
 pub const THIRD_CODE: CardColumns<7> = CardColumns { first: 35 };
 
 pub const AFTER_CODES: CardColumns<33> = CardColumns { first: 42 };
+
 /// What stands before the codes of an AND card.
 pub const BEFORE_CODES: CardColumns<4> = CardColumns { first: 17 };
 
@@ -110,6 +114,7 @@ pub const INPUT_LEVEL: CardColumns<2> = CardColumns { first: 59 };
 pub const INPUT_MATCH: CardColumns<2> = CardColumns { first: 61 };
 
 pub const AFTER_MATCH: CardColumns<2> = CardColumns { first: 63 };
+
 /// All three indicators of a field.
 pub const INPUT_INDICATORS: CardColumns<6> = CardColumns { first: 65 };
 
@@ -124,6 +129,7 @@ pub const AFTER_INDICATORS: CardColumns<4> = CardColumns { first: 71 };
 // ---- C
 
 pub const CONTROL_LEVEL: CardColumns<2> = CardColumns { first: 7 };
+
 /// All three conditions.
 pub const CONDITIONS: CardColumns<9> = CardColumns { first: 9 };
 
@@ -146,6 +152,7 @@ pub const RESULT_LENGTH: CardColumns<3> = CardColumns { first: 49 };
 pub const RESULT_DECIMALS: CardColumns<1> = CardColumns { first: 52 };
 
 pub const HALF_ADJUST: CardColumns<1> = CardColumns { first: 53 };
+
 /// All three resulting indicators.
 pub const RESULTING_INDICATORS: CardColumns<6> = CardColumns { first: 54 };
 
@@ -170,8 +177,10 @@ pub const SPACE_AFTER: CardColumns<1> = CardColumns { first: 18 };
 pub const SKIP_BEFORE: CardColumns<2> = CardColumns { first: 19 };
 
 pub const SKIP_AFTER: CardColumns<2> = CardColumns { first: 21 };
+
 /// All columns of spaces and skips.
 pub const MOVEMENT: CardColumns<6> = CardColumns { first: 17 };
+
 /// All three conditions.
 pub const LINE_CONDITIONS: CardColumns<9> = CardColumns { first: 23 };
 
