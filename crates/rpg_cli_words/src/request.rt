@@ -311,10 +311,7 @@ pub fn is_standard(path: &str) -> bool {
 }
 
 pub(crate) fn may_be_standard(path: Option<&str>) -> bool {
-    match path {
-        Some(path) => is_standard(path),
-        None => false,
-    }
+    path.is_some_and(is_standard)
 }
 
 /// The date of a job whose program doesn't use it.
