@@ -14,7 +14,7 @@ abbrev pub answer_text : Format → Answer → List ℕ
 answer_text Text answer = line_text answer
 answer_text Json answer = json_text answer
 
--- a line and the answer's status; where not all of the line could be written, a first part of it and status 1
+-- a line and the answer's status; if not all of the line could be written, a first part of it and status 1
 abbrev pub SaysLine : Option (List ℕ) → Option (List ℕ) → ℕ → Answer → List ℕ → Type 0
 SaysLine old new status answer text =
     (Appends old new (with_line_feed text) × (status ≡ exit_status answer)) ⊎ (AppendsPrefix old new (with_line_feed text) × (status ≡ 1))
@@ -23,7 +23,7 @@ SaysLine old new status answer text =
 abbrev pub Says : Format → Option (List ℕ) → Option (List ℕ) → ℕ → Answer → Type 0
 Says format old new status answer = SaysLine old new status answer (answer_text format answer)
 
--- its line and its status; or, where the words are quiet, nothing of a good end
+-- its line and its status; or, if the words are quiet, nothing of a good end
 abbrev pub SaysOrIsQuiet : Bool → Format → Option (List ℕ) → Option (List ℕ) → ℕ → Answer → Type 0
 SaysOrIsQuiet is_quiet format old new status answer = Says format old new status answer ⊎ ((is_quiet ≡ true) × Keeps old new × (status ≡ 0) × (exit_status answer ≡ 0))
 

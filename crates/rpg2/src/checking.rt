@@ -9,7 +9,7 @@ use rpg_faults::faultless_cards;
 use std::alloc::{AllocError, Global};
 use std::rt::Files;
 
-/// Reports all faults of a source, or its warnings, and returns the answer of one that is rejected.
+/// Reports all faults of a source, or its warnings. The error is the answer for a rejected source.
 fn check_source<R: Files + Input + AllocGlobal, L: Listener>(
     rt: &R,
     path: &str,
@@ -38,7 +38,7 @@ fn answer_of<R: Files + Input + AllocGlobal, L: Listener>(
     }
 }
 
-/// The line of one source among several.
+/// Returns the line for one of several sources.
 fn source_line(alloc: Global, path: &str, answer: &Answer) -> Result<String, AllocError> {
     let mut out = TextWriter::new(alloc);
     out.write_shown(path.as_bytes());
@@ -48,7 +48,7 @@ fn source_line(alloc: Global, path: &str, answer: &Answer) -> Result<String, All
     out.finish()
 }
 
-/// The same as an object of JSON.
+/// Returns the JSON object for one of several sources.
 fn object_line(alloc: Global, path: &str, answer: &Answer) -> Result<String, AllocError> {
     let line = line(answer);
     let mut words = TextWriter::new(alloc);
@@ -69,7 +69,7 @@ fn shown_answer(
     }
 }
 
-/// Shows the line of one source among several, and reports why a file failed.
+/// Prints the line for one of several sources, and reports why a file failed.
 fn show_source<L: Listener>(
     alloc: Global,
     format: Format,
@@ -86,7 +86,7 @@ fn show_source<L: Listener>(
     }
 }
 
-/// How the sources fared so far.
+/// The results of the sources so far.
 #[derive(Clone, Copy)]
 struct Tally {
     sources: u64,
@@ -102,7 +102,7 @@ impl Tally {
         status: 0,
     };
 
-    /// The tally with one more source.
+    /// Returns the tally after one more source.
     fn with(self, status: u8) -> Tally {
         Tally {
             sources: self.sources.saturating_add(1),
@@ -120,7 +120,7 @@ impl Tally {
     }
 }
 
-/// Checks sources one after another, and shows the line of each; of a source without a fault only if the command isn't quiet.
+/// Checks sources one after another, and prints a line for each; if the command is quiet, only for those with a fault.
 fn check_each<R: Files + Input + AllocGlobal, L: Listener>(
     rt: &R,
     words: &CheckWords,
@@ -138,7 +138,7 @@ fn check_each<R: Files + Input + AllocGlobal, L: Listener>(
     Ok(tally.answer())
 }
 
-/// Standard input, where two sources are it.
+/// Returns standard input, if two of the sources name it.
 fn shared_input(sources: &[&str]) -> Option<SameFile> {
     let mut is_taken = false;
     for source in sources {

@@ -1,17 +1,17 @@
-//! Marks in colour, for a terminal.
+//! Coloured marks, for a terminal.
 
 use rpg_cli_text::TextWriter;
 use std::alloc::{AllocError, Global};
 
-/// What stands before a mark.
+/// The margin before a mark.
 const MARGIN: &str = "      | ";
 
-/// What turns bold red on, and all colours off.
+/// The escape sequence for bold red.
 const BOLD_RED: &str = "\x1b[1;31m";
 
 const PLAIN: &str = "\x1b[0m";
 
-/// Whether a text has marks, and whole lines alone.
+/// Whether a text has marks, and consists of whole lines.
 pub(crate) fn has_marks(text: &str) -> bool {
     text.ends_with('\n') && text.contains("^\n")
 }
@@ -29,7 +29,7 @@ fn write_line(out: &mut TextWriter, line: &str) {
     out.write_char('\n');
 }
 
-/// Lines with their marks in colour.
+/// Returns lines with their marks coloured.
 pub(crate) fn coloured(alloc: Global, text: &str) -> Result<String, AllocError> {
     let mut out = TextWriter::new(alloc);
     for line in text.lines() {

@@ -1,4 +1,4 @@
-//! The date of a job: today's, or one that may be none.
+//! The date of a job: today's or a given one, which may not be a real date.
 
 use rpg_cli_answers::{Answer, CommandStop, Listener};
 use rpg_cli_text::TextWriter;
@@ -10,14 +10,14 @@ use std::alloc::{AllocError, Global};
 use std::rt::{Clock, Env, Files};
 use std::str;
 
-/// A date that was read from the clock, or the one that the words have.
+/// The date from the clock, or from the arguments.
 #[derive(Clone, Copy)]
 pub(crate) struct JobDate {
-    /// The digits of today's date; none where the words have the date, or none is needed.
+    /// Today's date as digits; None if the arguments have a date, or none is needed.
     today: Option<[u8; 6]>,
 }
 
-/// Today's date, in an order.
+/// Returns today's date in an order.
 fn todays_digits<R: Clock + Env + Files + AllocGlobal>(
     rt: &R,
     order: DateOrder,
@@ -29,7 +29,7 @@ fn todays_digits<R: Clock + Env + Files + AllocGlobal>(
 }
 
 impl JobDate {
-    /// Reads the clock, if the words want today's date.
+    /// Reads the clock if the arguments ask for today's date.
     pub fn of<R: Clock + Env + Files + AllocGlobal>(
         rt: &R,
         words: &RunWords,
@@ -41,7 +41,7 @@ impl JobDate {
         Ok(JobDate { today })
     }
 
-    /// The words, with the date of today if they want it.
+    /// Returns the arguments, with today's date if they ask for it.
     pub fn words<'b>(&'b self, words: &'b RunWords<'b>) -> RunWords<'b> {
         match &self.today {
             Some(digits) => words.on(str::from_utf8(digits).unwrap_or("")),
@@ -50,19 +50,19 @@ impl JobDate {
     }
 }
 
-/// The number that a digit is.
+/// Returns the value of a digit.
 fn digit(byte: u8) -> Option<u8> {
     byte.is_ascii_digit().then_some(byte.saturating_sub(b'0'))
 }
 
-/// The number of two digits, from a place on.
+/// Returns the two-digit number at a place.
 fn two_digits(text: &[u8], place: usize) -> Option<u8> {
     let tens = digit(*text.get(place)?)?;
     let ones = digit(*text.get(place.saturating_add(1))?)?;
     Some(tens.saturating_mul(10).saturating_add(ones))
 }
 
-/// Whether six digits are a date in no order.
+/// Whether six digits aren't a date in any order.
 fn is_odd(text: &str) -> bool {
     let text = text.as_bytes();
     if text.len() != 6 {
@@ -87,7 +87,7 @@ fn odd_date_message(alloc: Global, text: &str) -> Result<String, AllocError> {
     out.finish()
 }
 
-/// Warns of six digits that are no date of a calendar.
+/// Warns about six digits that aren't a calendar date.
 pub(crate) fn tell_odd_date<L: Listener>(alloc: Global, words: &RunWords, listener: &mut L) {
     if let Some(DateWord::Written(text)) = words.date {
         if is_odd(text) {

@@ -1,4 +1,4 @@
-//! The command that makes cards of shorthand, and shorthand of cards.
+//! The command that converts shorthand to cards, and cards to shorthand.
 
 use rpg_cli_answers::{Answer, CommandStop, Listener, named, source_bytes};
 use rpg_cli_columns::{RULER, ShorthandFault, deck_of, line_message, shorthand_of};
@@ -8,7 +8,7 @@ use rpg_faults::{CardFault, SourceFault};
 use std::alloc::Global;
 use std::rt::Files;
 
-/// The cards that lines of shorthand stand for. The first line that is no card is reported.
+/// Converts shorthand to cards. Reports the first line that isn't a card.
 fn deck_text<L: Listener>(
     alloc: Global,
     path: &str,
@@ -27,7 +27,7 @@ fn deck_text<L: Listener>(
     }
 }
 
-/// The shorthand of cards. The first that is no card is reported.
+/// Converts cards to shorthand. Reports the first one that isn't a card.
 fn shorthand_text<L: Listener>(
     alloc: Global,
     path: &str,
@@ -68,7 +68,7 @@ fn tell_card<L: Listener>(
     }
 }
 
-/// What the arguments ask for: a file's cards, or its shorthand.
+/// Converts a file to cards or shorthand, as the arguments ask.
 fn wanted_text<L: Listener>(
     alloc: Global,
     words: &CardsWords,
@@ -83,7 +83,7 @@ fn wanted_text<L: Listener>(
     }
 }
 
-/// Shows cards, below a ruler if the words want one, or shorthand.
+/// Prints cards, below a ruler if the arguments ask for one, or shorthand.
 fn show_text<L: Listener>(
     words: &CardsWords,
     text: &str,
@@ -95,7 +95,7 @@ fn show_text<L: Listener>(
     Ok(listener.show(text)?)
 }
 
-/// Shows the cards of a file of shorthand, or the shorthand of a file of cards.
+/// Prints the cards of a shorthand file, or the shorthand of a file of cards.
 pub(crate) fn cards_file<R: Files + Input + AllocGlobal, L: Listener>(
     rt: &R,
     words: &CardsWords,

@@ -5,18 +5,18 @@ use rpg_cli_explain::{HALTS, Topic, all_pages, list_text, pages_text, topic_of};
 use rpg_cli_words::ExplainWords;
 use std::alloc::{AllocError, Global};
 
-/// The halt whose number a word is.
+/// Returns the halt with this number.
 fn halt_of(alloc: Global, number: &str) -> Result<Option<Topic>, AllocError> {
     let name = format!(in alloc; "halt{number}")?;
     Ok(topic_of(name.as_str()))
 }
 
-/// What the words so far are about.
+/// The topics of the arguments so far.
 #[derive(Drop)]
 struct Topics {
     alloc: Global,
     topics: Vec<Topic>,
-    /// Whether the last word is `halt`, which a number may follow.
+    /// Whether the last argument is `halt`, which a number may follow.
     is_halt: bool,
 }
 
@@ -28,7 +28,7 @@ impl Topics {
         Ok(())
     }
 
-    /// Ends the word `halt` without a number, which is all halts.
+    /// Ends a `halt` without a number, which stands for all halts.
     fn end_halt(&mut self) -> Result<(), AllocError> {
         if !self.is_halt {
             return Ok(());
@@ -37,7 +37,7 @@ impl Topics {
         self.push_halts()
     }
 
-    /// Takes a word that is no number of a halt, and returns whether it is a code or `halt`.
+    /// Takes an argument that isn't the number of a halt. Returns whether it is a code or `halt`.
     fn take_code(&mut self, word: &str) -> Result<bool, AllocError> {
         self.end_halt()?;
         if word.eq_ignore_ascii_case("halts") {
@@ -52,7 +52,7 @@ impl Topics {
         Ok(true)
     }
 
-    /// Takes a word, and returns whether it is a code, or part of one.
+    /// Takes an argument. Returns whether it is a code or part of one.
     fn take(&mut self, word: &str) -> Result<bool, AllocError> {
         if !self.is_halt {
             return self.take_code(word);
@@ -68,7 +68,8 @@ impl Topics {
     }
 }
 
-/// What the words are about: codes, and `halt` with the number after it; `halt` without one, and `halts`, are all of them. None where one is no code.
+/// Returns the topics of the arguments: codes, and `halt` with the number after it; a bare `halt` and `halts` stand for all halts. None if
+/// one isn't a code.
 fn topics_of(alloc: Global, words: &[&str]) -> Result<Option<Vec<Topic>>, AllocError> {
     let mut topics = Topics {
         alloc,
@@ -85,7 +86,7 @@ fn topics_of(alloc: Global, words: &[&str]) -> Result<Option<Vec<Topic>>, AllocE
     Ok(Some(topics))
 }
 
-/// The pages that the words ask for, or all of them, or the list of codes; none where there is no such code.
+/// Returns the requested pages, all of them, or the list of codes; None if a code doesn't exist.
 fn text_of(alloc: Global, words: &ExplainWords) -> Result<Option<String>, AllocError> {
     if words.lists {
         return Ok(Some(list_text(alloc)?));
@@ -99,7 +100,7 @@ fn text_of(alloc: Global, words: &ExplainWords) -> Result<Option<String>, AllocE
     }
 }
 
-/// Shows the pages of codes.
+/// Prints the pages of codes.
 pub(crate) fn explain<L: Listener>(
     alloc: Global,
     words: &ExplainWords,

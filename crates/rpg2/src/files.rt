@@ -1,4 +1,4 @@
-//! The commands that read one file, and the object that one of them writes.
+//! The commands that read one file, and the object file that one of them writes.
 
 use rpg_cli_answers::{
     Answer, CommandStop, Listener, NamedFile, named, refuse_same_file, source_bytes, system_path,
@@ -14,7 +14,7 @@ use rpg_engine::{Program, decode_object};
 use std::alloc::{AllocError, Global};
 use std::rt::Files;
 
-/// Writes a compiled object to its file, unless a warning rejects its source or that is the file.
+/// Writes a compiled object to its file, unless a warning rejects the source or the two are the same file.
 fn write_object<R: Files + AllocGlobal, L: Listener>(
     rt: &R,
     words: &CompileWords,
@@ -42,8 +42,8 @@ fn write_object<R: Files + AllocGlobal, L: Listener>(
 
 /// Compiles a source to an object file.
 ///
-/// The object file is written once the source is compiled and its warnings don't reject it: a rejected source leaves it as it was, and all its
-/// faults are reported.
+/// The object file is written only after the source compiles and its warnings don't reject it: a rejected source leaves it unchanged, and
+/// all its faults are reported.
 pub(crate) fn compile_files<R: Files + Input + AllocGlobal, L: Listener>(
     rt: &R,
     words: &CompileWords,
@@ -60,7 +60,7 @@ pub(crate) fn compile_files<R: Files + Input + AllocGlobal, L: Listener>(
     }
 }
 
-/// Verifies an object file: the bound of its program.
+/// Verifies an object file. The answer has the bound of its program.
 pub(crate) fn verify_file<R: Files + AllocGlobal, L: Listener>(
     rt: &R,
     words: &VerifyWords,
@@ -74,7 +74,7 @@ pub(crate) fn verify_file<R: Files + AllocGlobal, L: Listener>(
     bound
 }
 
-/// The text of a program: with names and cards, if its source is known.
+/// Returns the text of a program, with names and cards if its source is known.
 fn program_shown(
     alloc: Global,
     words: &ShowWords,
@@ -91,7 +91,7 @@ fn program_shown(
     program_text(alloc, program, rows)
 }
 
-/// The text of the program that the bytes of an object file spell, where they spell one: with names and cards, if the words name its source.
+/// Returns the text of an object file's program, if it encodes one, with names and cards if the arguments name its source.
 fn shown_text<R: Files + AllocGlobal, L: Listener>(
     rt: &R,
     words: &ShowWords,
@@ -106,7 +106,7 @@ fn shown_text<R: Files + AllocGlobal, L: Listener>(
     }
 }
 
-/// The same, and what is wrong with the bytes is reported.
+/// Like `shown_text`, but reports what is wrong with the bytes.
 fn text_or_told<R: Files + AllocGlobal, L: Listener>(
     rt: &R,
     words: &ShowWords,
@@ -120,7 +120,7 @@ fn text_or_told<R: Files + AllocGlobal, L: Listener>(
     text
 }
 
-/// Reports the rule that a program breaks as an object of JSON, if the words want that: the line for people stands among the rows.
+/// Reports a broken rule as a JSON object, if the arguments ask for JSON; the line for people is among the rows.
 fn tell_as_object<R: Files + AllocGlobal, L: Listener>(
     rt: &R,
     words: &ShowWords,
@@ -133,7 +133,7 @@ fn tell_as_object<R: Files + AllocGlobal, L: Listener>(
     }
 }
 
-/// Shows the program of an object file, and returns what `verify_file` does.
+/// Prints the program of an object file, and answers as `verify_file` does.
 pub(crate) fn show_file<R: Files + AllocGlobal, L: Listener>(
     rt: &R,
     words: &ShowWords,

@@ -1,4 +1,4 @@
-//! The commands that show a source.
+//! The commands that print a source.
 
 use rpg_cli_answers::{Answer, CommandStop, Listener, named, source_bytes};
 use rpg_cli_list::source_listing;
@@ -8,14 +8,14 @@ use rpg_faults::{SourceFault, faultless_cards};
 use std::alloc::Global;
 use std::rt::Files;
 
-/// Reports all faults of a source as objects of JSON, if the words want them: lines for people stand in the listing.
+/// Reports all faults of a source as JSON objects, if the arguments ask for them; the lines for people are in the listing.
 fn tell_as_objects<L: Listener>(alloc: Global, words: &ListWords, source: &[u8], listener: &mut L) {
     if words.format == Format::Json {
         tell_faults(alloc, words.source, source, u16::MAX, listener);
     }
 }
 
-/// Shows the listing of a source by its text.
+/// Prints the listing of a source, given its text.
 fn show_listing<L: Listener>(
     alloc: Global,
     words: &ListWords,
@@ -35,7 +35,8 @@ fn show_listing<L: Listener>(
     }
 }
 
-/// Shows the listing of a source, with or without faults, and returns the least fault. If memory runs out, nothing is shown.
+/// Prints the listing of a source, with or without faults, and returns the first fault. If memory runs out, nothing is
+/// printed.
 pub(crate) fn list_file<R: Files + Input + AllocGlobal, L: Listener>(
     rt: &R,
     words: &ListWords,

@@ -1,4 +1,5 @@
-//! The program `rpg2`: its commands over files, and their lines and exit statuses.
+//! The program `rpg2`: its commands on files, and the lines and exit statuses that
+//! they end with.
 #![tactic(auto)]
 
 mod checking;

@@ -1,4 +1,4 @@
-//! The form of a command's diagnostics, and the files that they may be about.
+//! The form of a command's diagnostics, and the files that they may name.
 
 use rpg_cli_answers::{Form, Severity};
 use rpg_cli_words::{FileWord, FitWords, Format, Request};
@@ -19,7 +19,8 @@ const WORDS: [FileWord; 12] = [
     FileWord::NewDeck,
 ];
 
-/// How severe diagnostics without a code are: `records` has no codes, and its diagnostics say why it stops.
+/// Returns the severity of diagnostics without a code: `records` has no codes, and its diagnostics say why
+/// it stops.
 fn uncoded_severity(request: &Request) -> Severity {
     match request {
         Request::Records(_) => Severity::Error,
@@ -27,7 +28,7 @@ fn uncoded_severity(request: &Request) -> Severity {
     }
 }
 
-/// The form that the words want.
+/// Returns the form that the arguments ask for.
 pub(crate) fn form_of(request: &Request) -> Form {
     match request.format() {
         Format::Text => Form::Text,
@@ -37,7 +38,7 @@ pub(crate) fn form_of(request: &Request) -> Form {
     }
 }
 
-/// Adds the new deck of an old one, and its table files.
+/// Adds an old deck's new deck and table files.
 fn push_fitted<'a>(files: &mut Vec<&'a str>, words: &FitWords<'a>) -> Result<(), AllocError> {
     files.push(words.new_name())?;
     for table in &words.tables {
@@ -46,7 +47,7 @@ fn push_fitted<'a>(files: &mut Vec<&'a str>, words: &FitWords<'a>) -> Result<(),
     Ok(())
 }
 
-/// The files that the words name, if objects are to have them.
+/// Returns the files that the arguments name, if JSON objects need them.
 pub(crate) fn files_of<'a>(
     alloc: Global,
     request: &'a Request<'a>,

@@ -2,11 +2,11 @@
 
 use rpg_cli_words::Request;
 
-/// Where the line of an answer goes, and what a command shows before it.
+/// Where the line of an answer and the text before it go.
 #[derive(Clone, Copy)]
 pub(crate) struct Outlet {
     pub name: &'static str,
-    /// Who reads it may go when enough was seen, as `head` does.
+    /// Whether its reader may close it early, as `head` does.
     pub may_close: bool,
 }
 

@@ -1,4 +1,4 @@
-//! What the program does with its arguments: the command that they ask for, or why they are refused.
+//! Carries out the command of the arguments, or explains why they are rejected.
 
 ghost use Rattle.std.specs.Prelude.{◌≡◌, ◌⊎◌};
 ghost use Rattle.std.specs.Io.KnownBytes.{Appends};
@@ -29,7 +29,7 @@ use std::process::ExitCode;
 use std::rt::{Clock, Env, Files};
 use std::{env, io};
 
-/// Runs an object program on the date that the words want.
+/// Runs an object program on the date of the arguments.
 fn run_on_date<R: Clock + Env + Files + Input + Print + AllocGlobal, L: Listener>(
     rt: &R,
     words: &RunWords,
@@ -40,7 +40,7 @@ fn run_on_date<R: Clock + Env + Files + Input + Print + AllocGlobal, L: Listener
     Ok(run_files(rt, &date.words(words), listener)?.into())
 }
 
-/// Runs a source on the date that the words want.
+/// Runs a source on the date of the arguments.
 fn go_on_date<R: Clock + Env + Files + Input + Print + AllocGlobal, L: Listener>(
     rt: &R,
     words: &GoWords,
@@ -87,7 +87,7 @@ fn answer_to<R: Clock + Env + Files + Input + Print + AllocGlobal, L: Listener>(
     }
 }
 
-/// Sends a line, and returns the status, or 1 if the line can't be written, which is reported.
+/// Writes a line, and returns the status, or reports that it can't be written and returns 1.
 fn send<W: Write, L: Listener>(
     out: &mut W,
     outlet: Outlet,
@@ -106,7 +106,7 @@ fn send<W: Write, L: Listener>(
     }
 }
 
-/// Prints the line of an answer, or its object, and returns the exit status. If it can't be written, this is reported.
+/// Prints the line or the object of an answer, and returns the exit status. Reports it if that can't be written.
 fn say<W: Write, L: Listener>(
     out: &mut W,
     outlet: Outlet,
@@ -128,7 +128,7 @@ fn say<W: Write, L: Listener>(
     }
 }
 
-/// Prints the line of an answer, except that of a good end if the command is quiet, and returns the exit status.
+/// Prints the line of an answer, except that of a success if the command is quiet, and returns the exit status.
 fn say_if_wanted<W: Write, L: Listener>(
     out: &mut W,
     outlet: Outlet,
@@ -146,7 +146,7 @@ fn say_if_wanted<W: Write, L: Listener>(
     }
 }
 
-/// Explains a fault of the command line, or prints the requested help, and returns the exit status.
+/// Reports a fault of the command line, or prints the requested help, and returns the exit status.
 fn refuse<R: Print + Eprint + AllocGlobal, W: Write, L: Listener>(
     rt: &R,
     refusal: &Refusal,
@@ -186,7 +186,7 @@ fn conclude<W: Write, L: Listener>(
     status
 }
 
-/// Runs a command, prints one line to `out`, and returns the exit status. Where the words want JSON, diagnostics are objects.
+/// Runs a command, prints one line to `out`, and returns the exit status. If the arguments ask for JSON, diagnostics are objects.
 fn obey<R: Clock + Env + Files + Input + Print + Eprint + AllocGlobal, W: Write, L: Listener>(
     rt: &R,
     request: &Request,
@@ -259,8 +259,8 @@ fn obey_on_streams<R: Clock + Env + Files + Input + Print + Eprint + AllocGlobal
     }
 }
 
-/// Runs the command of the arguments over the standard streams, and returns the exit status. The line goes to standard output, or to standard error
-/// where a run writes records or lines to standard output.
+/// Runs the command of the arguments over the standard streams, and returns the exit status. The line goes to standard output, or to
+/// standard error if a run writes records or printed lines to standard output.
 fn run_on_streams<R: Clock + Env + Files + Input + Print + Eprint + AllocGlobal>(
     rt: &R,
     words: &[String],
@@ -273,7 +273,7 @@ fn run_on_streams<R: Clock + Env + Files + Input + Print + Eprint + AllocGlobal>
     }
 }
 
-/// Rejects arguments that can't be read: one isn't UTF-8, or memory ran out.
+/// Rejects arguments that can't be read, since one isn't UTF-8 or memory ran out.
 fn refuse_words<R: Print + Eprint + AllocGlobal>(rt: &R, error: &Error) -> u8 {
     let mut out = io::writer(rt);
     let mut listener = StandardStreams::new(rt, false);
@@ -290,7 +290,7 @@ fn refuse_words<R: Print + Eprint + AllocGlobal>(rt: &R, error: &Error) -> u8 {
     }
 }
 
-/// Whether the environment asks for no colours.
+/// Whether the environment turns colours off.
 fn refuses_colours<R: Env + AllocGlobal>(rt: &R) -> bool {
     match env::var(rt, "NO_COLOR") {
         Ok(value) => !value.is_empty(),
@@ -298,8 +298,8 @@ fn refuses_colours<R: Env + AllocGlobal>(rt: &R) -> bool {
     }
 }
 
-/// The whole program. Words that aren't UTF-8 are a fault of the command line. If standard error is a terminal, marks are in colour, unless the
-/// variable NO_COLOR is set.
+/// The whole program. Arguments that aren't UTF-8 are a fault of the command line. If standard error is a terminal, marks are coloured,
+/// unless the variable NO_COLOR is set.
 pub(crate) fn main_with<R: Clock + Env + Files + Input + Print + Eprint + AllocGlobal>(
     rt: &R,
     is_terminal: bool,

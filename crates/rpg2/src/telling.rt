@@ -1,4 +1,4 @@
-//! Diagnostics about files that failed and about a bad date. If there is no memory for one, only the line is printed.
+//! Diagnostics about failed files and bad dates. If memory runs out for one, only the line is printed.
 
 use crate::outlet::Outlet;
 use rpg_cli_answers::{Answer, Listener, Reasons};
@@ -8,17 +8,17 @@ use rpg_cli_words::{DateWord, FileWord, Request, RunWords};
 use rpg_engine::{InputFile, OutputFile, ReadFault, RunFault};
 use std::alloc::{AllocError, Global};
 
-/// A file by its path and its word.
+/// Writes a file: its path and its argument.
 fn write_path(out: &mut TextWriter, path: &str, word: FileWord) {
     out.fill("{} ({})", &[path.as_bytes().into(), word.name().into()]);
 }
 
-/// A file that the words name.
+/// Writes a file that the arguments name.
 fn write_name(out: &mut TextWriter, request: &Request, word: FileWord) {
     write_path(out, request.path(word).unwrap_or(""), word);
 }
 
-/// A file, and why it failed.
+/// Writes a file, and why it failed.
 fn write_fault(out: &mut TextWriter, request: &Request, word: FileWord, reason: &str) {
     write_name(out, request, word);
     out.fill(": {}\n", &[reason.into()]);
@@ -35,7 +35,7 @@ fn write_file_fault(out: &mut TextWriter, path: &str, word: FileWord, fault: Fil
     out.fill(": {}{}\n", &[begin.into(), reason.into()]);
 }
 
-/// The system's reason for a fault, if it's known, and the line's end.
+/// Writes the system's reason for a fault, if it is known, and ends the line.
 fn write_reason(out: &mut TextWriter, reason: Option<Reason>) {
     match reason {
         Some(reason) => out.fill(": {}\n", &[reason.text().into()]),
@@ -43,7 +43,7 @@ fn write_reason(out: &mut TextWriter, reason: Option<Reason>) {
     }
 }
 
-/// Reports a file that couldn't be written while the job ran.
+/// Reports a file that couldn't be written during the job.
 fn write_write_fault(
     out: &mut TextWriter,
     request: &Request,
@@ -56,7 +56,7 @@ fn write_write_fault(
     write_reason(out, reason);
 }
 
-/// Reports an input that couldn't be read while the job ran, or had too many records.
+/// Reports an input that couldn't be read during the job, or had too many records.
 fn write_read_fault(
     out: &mut TextWriter,
     request: &Request,
@@ -118,7 +118,7 @@ fn write_bad_date(out: &mut TextWriter, words: &RunWords) {
     out.write_str("'\n");
 }
 
-/// Reports a device that failed while the job ran, or a bad date.
+/// Reports a device that failed during the job, or a bad date.
 fn write_run_fault(out: &mut TextWriter, request: &Request, fault: RunFault, reasons: Reasons) {
     match (fault, request) {
         (RunFault::Read { file, fault }, _) => {
@@ -162,7 +162,7 @@ fn source_fault_message(alloc: Global, path: &str, fault: FileFault) -> Result<S
     out.finish()
 }
 
-/// Reports why a source among several can't be read.
+/// Reports why one of several sources can't be read.
 pub(crate) fn tell_source_fault<L: Listener>(
     alloc: Global,
     path: &str,
@@ -174,7 +174,7 @@ pub(crate) fn tell_source_fault<L: Listener>(
     }
 }
 
-/// Tells which file failed and why.
+/// Reports which file failed and why.
 pub(crate) fn tell_answer<L: Listener>(
     alloc: Global,
     request: &Request,
@@ -187,7 +187,7 @@ pub(crate) fn tell_answer<L: Listener>(
     }
 }
 
-/// Tells that not all of a text could be written, unless who read it has gone on purpose.
+/// Reports that a text couldn't be written completely, unless its reader closed the pipe on purpose.
 pub(crate) fn tell_unwritten<L: Listener>(outlet: Outlet, reason: Reason, listener: &mut L) {
     if let (Reason::Closed, true) = (reason, outlet.may_close) {
         return;

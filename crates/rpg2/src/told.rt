@@ -1,4 +1,4 @@
-//! The standard streams, for diagnostics and for texts before the line of an answer.
+//! The standard streams, for diagnostics and for text before the line of an answer.
 
 use crate::colours::{coloured, has_marks};
 use rpg_cli_answers::Listener;
@@ -10,7 +10,7 @@ use std::str;
 #[derive(Drop)]
 pub(crate) struct StandardStreams<'a, R> {
     rt: &'a R,
-    /// Whether marks on standard error are in colour.
+    /// Whether marks on standard error are coloured.
     has_colours: bool,
 }
 
@@ -36,7 +36,7 @@ impl<R: Print + Eprint + AllocGlobal> Listener for StandardStreams<'_, R> {
     }
 }
 
-/// Standard error as a writer of texts.
+/// Standard error as a writer of text.
 #[derive(Drop)]
 pub(crate) struct StandardError<'a, R> {
     rt: &'a R,
@@ -48,7 +48,8 @@ impl<'a, R: Eprint> StandardError<'a, R> {
     }
 }
 
-/// A fault after a part of the text may have been written: the writer must not try again, as it would after an interruption.
+/// Makes a fault final, since part of the text may be written: the writer mustn't try again, as it would after an
+/// interruption.
 fn final_fault(error: &Error) -> Error {
     match error.kind() {
         ErrorKind::Interrupted => Error::from(ErrorKind::Other),
@@ -57,7 +58,7 @@ fn final_fault(error: &Error) -> Error {
 }
 
 impl<R: Eprint> Write for StandardError<'_, R> {
-    /// Writes all of a text. Bytes that are none are a fault.
+    /// Writes a whole text. Bytes that aren't text are a fault.
     fn write(&mut self, buf: &[u8]) -> io::Result<usize> {
         let Ok(text) = str::from_utf8(buf) else {
             return Err(Error::from(ErrorKind::InvalidData));

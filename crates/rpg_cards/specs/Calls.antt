@@ -34,7 +34,7 @@ calls_after given before (g ∷ gs) = option_to_list (call_at given before g) ++
 abbrev pub calls : List (Calculation Key) → List (ℕ × ℕ)
 calls gs = calls_after (labels gs) [] gs
 
--- a chain of at most so many calls leads from one to the other
+-- a chain of at most a given number of calls leads from one to the other
 abbrev pub reaches_in : ℕ → List (ℕ × ℕ) → ℕ → ℕ → Bool
 reaches_in zero cs a b = a == b
 reaches_in (suc n) cs a b = a == b || list_any (λ (p : ℕ × ℕ). p.0 == a && reaches_in n cs p.1 b) cs

@@ -16,7 +16,7 @@ use Rattle.rpg_sheet_specs.specs.declared.calculation.Operation.{Operation}
 use Rattle.rpg_sheet_specs.specs.declared.calculation.Operation.TheVariants as op
 use Rattle.rpg_sheet_specs.specs.declared.indicator.Three.{Three}
 
--- Labels and subroutines go by name; none where the card has none.
+-- Labels and subroutines go by name; none if the card has none.
 pub data Deed (K : Type 0) : Type 0 where
   Acts : Action (Operand K) → Deed K
   PutsOut : Deed K  -- EXCPT
@@ -38,8 +38,8 @@ has_instruction (Begins s) = false
 has_instruction (Ends l) = true
 has_instruction Nothing = false
 
--- A group of C cards. It is done where its level indicator is on and all conditions of one of its alternatives hold: of each alternative
--- those of its cards, one empty alternative where no card has any.
+-- A group of C cards. It is done if its level indicator is on and all conditions of one of its alternatives hold: of each alternative
+-- those of its cards, one empty alternative if no card has any.
 pub record Calculation (K : Type 0) : Type 0 where
   pub control : ControlLevel
   pub level : Option ℕ

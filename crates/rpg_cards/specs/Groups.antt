@@ -89,7 +89,7 @@ module _ {H F : Type 0} (role : Spec → Role H F) where
 abbrev pub with_followers : {H F : Type 0} → List F → Group H F → Group H F
 with_followers fs g = record { heading = g.heading; followers = g.followers ++ fs; file = g.file }
 
--- the open group once a card has been read: a heading begins one, and takes over the file where it names none
+-- the open group once a card has been read: a heading begins one, and takes over the file if it names none
 abbrev pub with_card : {H F : Type 0} → Option (Group H F) → Role H F → Option (Group H F)
 with_card o (Heading h name) = Some (record { heading = h; followers = []; file = option_or name (file_of_group o) })
 with_card o (Follower f) = option_map (with_followers (f ∷ [])) o

@@ -26,11 +26,11 @@ placed_definition i d = record { place = i; form = d.form }
 abbrev pub place_of_constant : ℕ → Constant → ℕ
 place_of_constant i x = i
 
--- these definitions are noted, the first of them at place i, where their names have none before
+-- these definitions are noted, the first of them at place i, if their names have none before
 abbrev pub NotesNames : ℕ → List Definition → List (List ℕ × FirstDefinition) → List (List ℕ × FirstDefinition) → Type 0
 NotesNames i ds old new = (name : List ℕ) → lookup (pointwise nat_eq name) new ≡ option_or (lookup (pointwise nat_eq name) old) (first_at (is_of name) placed_definition i ds)
 
--- these constants are noted, the first of them at place i, where they have none before
+-- these constants are noted, the first of them at place i, if they have none before
 abbrev pub NotesConstants : ℕ → List Constant → List (Constant × ℕ) → List (Constant × ℕ) → Type 0
 NotesConstants i xs old new = (x : Constant) → lookup (is_same x) new ≡ option_or (lookup (is_same x) old) (first_at (is_same x) place_of_constant i xs)
 

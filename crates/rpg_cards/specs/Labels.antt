@@ -123,6 +123,6 @@ labels_after before (g ∷ gs) = option_to_list (label_at before g) ++ labels_af
 abbrev pub labels : List (Calculation Key) → List Label
 labels gs = labels_after [] gs
 
--- a name that is given twice counts where it stands first
+-- a name that is defined twice counts where it stands first
 abbrev pub label_named : Name → List Label → Option Label
 label_named name ls = find (λ (l : Label). is_same_name (Some name) (Some l.named.name)) ls

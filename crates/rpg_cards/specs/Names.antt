@@ -28,7 +28,7 @@ use Rattle.rpg_text.specs.Texts.{is_between}
 abbrev pub form_with : Class → Bool → ℕ → Kind → ℕ → ℕ → FieldForm
 form_with c ascending n k len d = record { kind = k; class = c; length = len; decimals = d; is_ascending = ascending; entries = n }
 
--- A field of that length: a text where the decimals are blank. A text has 1 to 256 characters; a number has 1 to 15 digits,
+-- A field of that length: a text if the decimals are blank. A text has 1 to 256 characters; a number has 1 to 15 digits,
 -- of which at most 9 are decimals.
 abbrev pub sized : (Kind → ℕ → ℕ → FieldForm) → ℕ → Option ℕ → Option FieldForm
 sized made len None = if is_between 1 256 len then Some (made kind.Text len 0) else None
@@ -48,7 +48,7 @@ field_form f = if nat_le f.from f.to then sized_form (f.to + 1 - f.from) f.decim
 abbrev pub definition_of : InputFieldSpec → Definition
 definition_of f = record { name = f.name; form = field_form f }
 
--- a result field, or the array of an entry, is defined where the card has a length
+-- a result field, or the array of an entry, is defined if the card has a length
 abbrev pub definition_by : CalculationSpec → Option Definition
 definition_by k = option_and_then (λ len. option_map (λ e. record { name = e.name; form = sized_form len k.decimals }) k.result_field) k.length
 
@@ -60,7 +60,7 @@ is_table_name name = pointwise nat_eq (codes "TAB") (take 3 name)
 abbrev pub table_class : List ℕ → Class
 table_class name = if is_table_name name then class.Table else class.Array
 
--- the form of a table or array of so many entries
+-- the form of a table or array with this many entries
 abbrev pub table_form : ℕ → TableSpec → Option FieldForm
 table_form entries t = if is_between 1 9999 entries then sized (form_with (table_class t.name) t.ascending entries) t.length t.decimals else None
 

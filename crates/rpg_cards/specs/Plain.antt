@@ -70,7 +70,7 @@ call_in (Begins n) = None
 call_in (Ends l) = None
 call_in Nothing = None
 
--- the calls, with one more where there is one
+-- the calls, with one more if there is one
 abbrev pub with_call : List (Subroutine Key) → ℕ → Option (Option Name) → List Pair → List Pair
 with_call all caller None ps = ps
 with_call all caller (Some n) ps = (caller, callee n all) ∷ ps
@@ -99,7 +99,7 @@ abbrev pub IsChainAmong : List Pair → ℕ → List ℕ → Type 0
 IsChainAmong ps s [] = Unit {0}
 IsChainAmong ps s (a ∷ chain) = IsCallAmong a s ps × IsChainAmong ps a chain
 
--- no subroutine calls one that reaches it by so many calls
+-- no subroutine calls one that reaches it by this many calls
 abbrev pub NoneComesBack : ℕ → List Pair → Type 0
 NoneComesBack most ps = (s : ℕ) (chain : List ℕ) → length chain ≤ most → IsChainAmong ps s chain → list_any (nat_eq s) chain ≡ false
 

@@ -46,7 +46,7 @@ abbrev pub is_named : Name → Option Name → Bool
 is_named n None = false
 is_named n (Some m) = pointwise nat_eq m n
 
--- the same name, where there is one
+-- the same name, if there is one
 abbrev pub is_same_name : Option Name → Option Name → Bool
 is_same_name m None = false
 is_same_name m (Some n) = is_named n m
@@ -70,7 +70,7 @@ module _ {K : Type 0} where
   begun_by (Ends l) = None
   begun_by Nothing = None
 
-  -- none of the calculations where a subroutine begins
+  -- none of the calculations if a subroutine begins
   abbrev pub unless_begun : Option (Option Name) → List (Calculation K) → List (Calculation K)
   unless_begun None gs = gs
   unless_begun (Some n) gs = []
@@ -80,7 +80,7 @@ module _ {K : Type 0} where
   up_to_begin [] = []
   up_to_begin (g ∷ gs) = unless_begun (begun_by g.deed) (g ∷ up_to_begin gs)
 
-  -- the subroutines, with one more in front where one begins
+  -- the subroutines, with one more in front if one begins
   abbrev pub with_begun : Option (Option Name) → List (Calculation K) → List (Subroutine K) → List (Subroutine K)
   with_begun None body ss = ss
   with_begun (Some n) body ss = record { name = n; body = body } ∷ ss

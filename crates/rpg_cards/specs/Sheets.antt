@@ -34,7 +34,7 @@ pub record AreSheets (cards before : List SpecCard) (s : Sheets) : Type 0 where
   pub types : HasGroups RecordType InputSpec input_role cards before s.types
   pub lines : HasGroups OutputRecord OutputSpec output_role cards before s.lines
 
--- the file with the name, or the one before where there is no name
+-- the file with the name, or the one before if there is no name
 abbrev pub file_or : List SpecCard → Option (List ℕ) → Option GroupFile → Option GroupFile
 file_or cards None file = file
 file_or cards (Some name) file = option_map group_file (file_named name cards)

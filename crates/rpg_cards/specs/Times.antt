@@ -1,4 +1,4 @@
--- When a line is put out.
+-- When a line is output.
 use Rattle.std.specs.Prelude.{Option}
 use Rattle.rpg_program.specs.declared.line.Time.{Time}
 use Rattle.rpg_program.specs.declared.line.Time.TheVariants as times

@@ -1,4 +1,4 @@
-//! When a calculation is done.
+//! The conditions of a calculation.
 
 ghost use Rattle.std.specs.Prelude.{◌≡◌, IfSome};
 ghost use Rattle.std.specs.Option.{ForSome, option_to_list};
@@ -8,7 +8,8 @@ ghost use Rattle.rpg_program.specs.Kept.{AreConditions, IsConditionRow, IsIndica
 use rpg_program::condition::{Condition, Conditions, has_conditions};
 use rpg_sheet_specs::{CalculationSpec, ControlLevel, Three};
 
-/// The level indicator that a calculation waits for, 101 to 110 (L1 to L9 and LR). L0 is always on.
+/// Returns the level indicator that a calculation waits for, 101 to 110 (L1 to L9 and LR). L0 is
+/// always on.
 pub fn level(control_level: ControlLevel) -> Option<u8>
     ensures value { result ≡ calculations.awaited_level control_level }
     ensures kept { ForSome result IsIndicator }
@@ -36,7 +37,7 @@ pub fn is_or(calculation: &CalculationSpec) -> bool
     }
 }
 
-/// The conditions of columns 9 to 17, filled from the first place on.
+/// Returns the conditions of columns 9 to 17, moved up to fill the first places.
 pub fn conditions(calculation: &CalculationSpec) -> Conditions
     ensures value { result ≡ calculations.conditions_on calculation.now }
     ensures kept { AreConditions result }
@@ -51,7 +52,7 @@ pub fn depends(calculation: &CalculationSpec) -> bool
     has_conditions(conditions(calculation))
 }
 
-/// The conditions of a card, if it has any.
+/// Returns the conditions of a card, if it has any.
 pub fn test(calculation: &CalculationSpec) -> Option<Conditions>
     ensures value { option_to_list result ≡ calculations.tests_on calculation.now }
     ensures kept { IfSome result AreConditions }
@@ -74,7 +75,7 @@ pub fn condition_of(condition: rpg_sheet_specs::ConditionSpec) -> Condition
     }
 }
 
-/// Conditions in three places, filled from the first on.
+/// Returns conditions in three places, moved up to fill the first ones.
 pub fn in_places(conditions: Three<Option<rpg_sheet_specs::ConditionSpec>>) -> Conditions
     ensures value { result ≡ calculations.in_places (calculations.standing conditions) }
     ensures kept { AreConditions result }

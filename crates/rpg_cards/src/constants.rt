@@ -1,4 +1,4 @@
-//! The constants that stand on the cards themselves.
+//! The constants on the cards themselves.
 
 ghost use Rattle.std.specs.Prelude.{◌≡◌, ◌≤◌, [], None, length, IsTrue};
 ghost use Rattle.std.specs.Bool.{OnFalse};
@@ -59,7 +59,7 @@ impl ConstantText {
     }
 }
 
-/// A number or a text that a card has in place of a name.
+/// A number or a text that a card has instead of a name.
 #[derive(Drop)]
 pub enum Constant {
     Number(NumericLiteral),
@@ -107,7 +107,7 @@ impl Constant {
         }
     }
 
-    /// What a constant keeps of its digits or characters. It does nothing: its contract is the law.
+    /// The limits of a constant's digits or characters. Does nothing: its contract is the law.
     pub fn keeps_limits(&self)
         ensures { constants.IsConstant self.now }
     {
@@ -124,14 +124,14 @@ impl Constant {
     }
 }
 
-/// What lies in an unused place of a list.
+/// The value of an unused place in a list.
 impl Default for Constant {
     fn default() -> Self {
         Constant::Number(NumericLiteral::new(0, 1, 0))
     }
 }
 
-/// Equal where one field can stand for both: their kind, length, decimals and value are the same.
+/// Equal if one field can serve for both: their kind, length, decimals and value are the same.
 impl PartialEq for Constant {
     ghost eq = { constants.is_same };
 
@@ -166,7 +166,7 @@ impl Hash for Constant {
     }
 }
 
-/// The constant in place of a name, where it is one.
+/// Returns the constant in a factor, if it is one.
 pub fn factor_constant(factor: &Factor) -> Option<Constant>
     ensures { result ≡ constants.factor_constant factor.now }
 {
@@ -180,7 +180,7 @@ pub fn factor_constant(factor: &Factor) -> Option<Constant>
 }
 
 impl SpecCard {
-    /// The constants of the card: those of factor 1 and factor 2, or the constant or the edit word of an output field.
+    /// Returns the constants of the card: those of factor 1 and factor 2, or the constant or edit word of an output field.
     #[inline(always)]
     pub fn constants(&self) -> Few<Constant>
         ensures { result ≡ constants.constants_on self.now.spec }
@@ -195,7 +195,7 @@ impl SpecCard {
         }
     }
 
-    /// Whether the card may have a constant. Most cards have none, and this costs less than the list of their constants.
+    /// Whether the card may have a constant. Most cards have none, and this test is cheaper than the list of their constants.
     fn may_have_constants(&self) -> bool
         ensures { OnFalse result (constants.constants_on self.now.spec ≡ []) }
     {
@@ -235,7 +235,7 @@ fn of_factor(factor: &Option<Factor>) -> Option<Constant>
     factor_constant(factor.as_ref()?)
 }
 
-/// The text beside a code is its fill, and no constant.
+/// A text beside an edit code is its fill, not a constant.
 fn of_field(field: &OutputField) -> Option<Constant>
     ensures { result ≡ constants.text_constant field.now }
 {

@@ -5,7 +5,8 @@ ghost use Rattle.rpg_cards.specs.Deeds as deeds;
 
 use rpg_sheet_specs::{CalculationSpec, Operation};
 
-/// Whether an operation becomes an instruction: not TAG and BEGSR.
+/// Whether an operation compiles to an instruction, as all but TAG and BEGSR
+/// do.
 pub fn has_instruction(calculation: &CalculationSpec) -> bool
     ensures { result ≡ deeds.has_instruction (deeds.deed_of calculation.now) }
 {

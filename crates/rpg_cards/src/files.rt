@@ -6,7 +6,7 @@ ghost use Rattle.rpg_cards.specs.Files as files;
 use crate::spec_card::SpecCard;
 use rpg_sheet_specs::{Device, FileRole, FileSpec, Word};
 
-/// What a file serves as.
+/// What a file is used for.
 #[derive(Clone, Copy, PartialEq, Eq)]
 pub enum FileUse {
     Primary,
@@ -26,7 +26,7 @@ pub const fn use_of(file: &FileSpec) -> FileUse
     }
 }
 
-/// The first F card of that file.
+/// Returns the first F card with this name.
 pub fn file_named<'a>(name: &Word<8>, cards: &'a [SpecCard]) -> Option<&'a FileSpec>
     ensures { option_copied result ≡ files.file_named name.now cards.now }
 {
@@ -39,7 +39,7 @@ pub fn file_named<'a>(name: &Word<8>, cards: &'a [SpecCard]) -> Option<&'a FileS
     None
 }
 
-/// The first file that serves as that.
+/// Returns the first file with this use.
 pub fn file_for(file_use: FileUse, cards: &[SpecCard]) -> Option<&FileSpec>
     ensures { option_copied result ≡ files.file_for file_use cards.now }
 {

@@ -1,4 +1,4 @@
-//! Groups: a calculation card with the AN and OR cards right after it.
+//! Groups: a calculation card with the AN and OR cards that follow it.
 
 ghost use Rattle.std.specs.Prelude.{◌≡◌, option_copied};
 ghost use Rattle.rpg_cards.specs.Calculations as calculations;
@@ -17,7 +17,7 @@ pub fn joins(calculation: &CalculationSpec) -> bool
     }
 }
 
-/// Whether an AN or OR card comes right after.
+/// Whether the next card is an AN or OR card.
 pub fn goes_on(after: &[SpecCard]) -> bool
     ensures { result ≡ calculations.goes_on after.now }
 {
@@ -30,7 +30,7 @@ pub fn goes_on(after: &[SpecCard]) -> bool
     }
 }
 
-/// The last card of the group that a card belongs to.
+/// Returns the last card of the group that a card belongs to.
 pub fn group_end<'a>(card: &'a CalculationSpec, after: &'a [SpecCard]) -> &'a CalculationSpec
     ensures { result.now ≡ calculations.group_end card.now after.now }
 {
@@ -49,7 +49,8 @@ pub fn group_end<'a>(card: &'a CalculationSpec, after: &'a [SpecCard]) -> &'a Ca
     }
 }
 
-/// The calculation card itself, where it is the last of its group: the card with the operation.
+/// Returns the calculation on a card, if it is the last of its group: the card with the
+/// operation.
 pub fn last_card<'a>(card: &'a SpecCard, after: &[SpecCard]) -> Option<&'a CalculationSpec>
     ensures { option_copied result ≡ calculations.card_ending card.now after.now }
 {

@@ -27,23 +27,23 @@ use std::collections::HashMap;
 use std::hash::Hash;
 use std::marker::Model;
 
-/// The place of a name's first definition among all definitions, and its form: none where it is past a limit.
+/// The place of a name's first definition among all definitions, and its form: None if that is over a limit.
 #[derive(Clone, Copy)]
 pub struct FirstDefinition {
     place: usize,
     form: Option<FieldForm>,
 }
 
-/// No memory has room for more.
+/// More cards than memory can hold.
 const MOST_CARDS: usize = usize::MAX / 2;
 
-/// The cards of a source, in which a name or a constant is found at once.
+/// The cards of a source, with constant-time lookup of names and constants.
 #[derive(Drop)]
 pub struct IndexedCards<'a> {
     cards: &'a [SpecCard],
     names: HashMap<Name, FirstDefinition>,
     constants: HashMap<Constant, usize>,
-    /// Those from the first F card to the last.
+    /// The cards from the first F card to the last.
     around_files: &'a [SpecCard],
     has_match_field: bool,
 }
@@ -92,7 +92,7 @@ impl<'a> IndexedCards<'a> {
         self.cards
     }
 
-    /// The form of a name, by its first definition; UDATE and PAGE are defined before all cards.
+    /// Returns the form of a name's first definition. UDATE and PAGE are defined before all cards.
     pub fn form_of_name(&self, name: &Name) -> Defined
         ensures { result ≡ names.form_of_name name.now self.now }
     {
@@ -102,7 +102,7 @@ impl<'a> IndexedCards<'a> {
         }
     }
 
-    /// The form of a name, by the definitions at the front, so many of them.
+    /// Returns the form of a name by the first `place` definitions.
     pub fn form_before(&self, name: &Name, place: usize) -> Defined
         ensures { result ≡ names.form_by name.now (take place (names.definitions self.now)) }
     {
@@ -112,7 +112,7 @@ impl<'a> IndexedCards<'a> {
         }
     }
 
-    /// Whether a name is neither given nor among so many definitions at the front.
+    /// Whether a name is neither predefined nor among the first `place` definitions.
     pub fn is_new_name(&self, place: usize, name: &Name) -> bool
         ensures { result ≡ names.is_new_name name.now (take place (names.definitions self.now)) }
     {
@@ -125,7 +125,7 @@ impl<'a> IndexedCards<'a> {
         self.names.get(name).copied()
     }
 
-    /// The first definition of a name, if it is among so many at the front.
+    /// Returns the first definition of a name, if it is among the first `place`.
     fn first_before(&self, name: &Name, place: usize) -> Option<FirstDefinition>
         ensures { result ≡ first_at (is_of name.now) placed_definition 0 (take place (names.definitions self.now)) }
     {
@@ -135,7 +135,7 @@ impl<'a> IndexedCards<'a> {
         }
     }
 
-    /// The form of what stands in a factor: of a name by its first definition.
+    /// Returns the form of a factor: a literal's own, or that of a name's first definition.
     pub fn form_of_factor(&self, factor: &Factor) -> Defined
         ensures { result ≡ constants.form_of_factor factor.now self.now }
     {
@@ -148,7 +148,7 @@ impl<'a> IndexedCards<'a> {
         }
     }
 
-    /// Whether a constant isn't among so many at the front.
+    /// Whether a constant isn't among the first `place`.
     pub fn is_new_constant(&self, place: usize, constant: &Constant) -> bool
         ensures { result ≡ not (list_any (is_same constant.now) (take place (constants.constants_in self.now))) }
     {
@@ -158,21 +158,21 @@ impl<'a> IndexedCards<'a> {
         }
     }
 
-    /// The first F card of that file.
+    /// Returns the first F card with this name.
     pub fn file_named(&self, name: &Word<8>) -> Option<&'a FileSpec>
         ensures { option_copied result ≡ files.file_named name.now self.now }
     {
         file_named(name, self.around_files)
     }
 
-    /// The first file that serves as that.
+    /// Returns the first file with this use.
     pub fn file_for(&self, file_use: FileUse) -> Option<&'a FileSpec>
         ensures { option_copied result ≡ files.file_for file_use self.now }
     {
         file_for(file_use, self.around_files)
     }
 
-    /// Whether a field has a match level, so that conditions may ask for MR.
+    /// Whether a field has a match level, so that conditions may test MR.
     pub fn has_match_field(&self) -> bool
         ensures { result ≡ levels.has_match_field self.now }
     {
@@ -180,7 +180,7 @@ impl<'a> IndexedCards<'a> {
     }
 }
 
-/// These cards without those before the first F card.
+/// Drops the cards before the first F card.
 fn from_first_file(cards: &[SpecCard]) -> &[SpecCard]
     ensures { HasSameFiles result.now cards.now }
 {
@@ -194,7 +194,7 @@ fn from_first_file(cards: &[SpecCard]) -> &[SpecCard]
     rest
 }
 
-/// These cards without those after the last F card.
+/// Drops the cards after the last F card.
 fn up_to_last_file(cards: &[SpecCard]) -> &[SpecCard]
     ensures { HasSameFiles result.now cards.now }
 {
@@ -220,7 +220,7 @@ fn defined_first(first: Option<FirstDefinition>) -> Defined
     }
 }
 
-/// Notes the definitions of a card, whose places are counted on from this one, where their names have none before. Returns the place after them.
+/// Notes each definition of a card whose name is new; their places count up from `start`. Returns the place after them.
 fn note_names(
     names: &mut HashMap<Name, FirstDefinition>,
     start: usize,
@@ -244,7 +244,7 @@ fn note_names(
     Ok(place)
 }
 
-/// Notes the constants of a card, whose places are counted on from this one, where they have none before. Returns the place after them.
+/// Notes each constant of a card that is new; their places count up from `start`. Returns the place after them.
 fn note_constants(
     constants: &mut HashMap<Constant, usize>,
     start: usize,
@@ -269,7 +269,7 @@ fn copied(name: &Name) -> Name
     Name::new(name.as_slice())
 }
 
-/// Puts a value at a key that has none.
+/// Stores a value under a key that has none.
 fn note<K: Eq + Hash + Drop, V: Drop>(
     map: &mut HashMap<K, V>,
     key: K,

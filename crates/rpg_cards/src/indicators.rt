@@ -1,4 +1,4 @@
-//! Indicators by their numbers.
+//! Indicators by number.
 
 ghost use Rattle.std.specs.Prelude.{◌≡◌};
 ghost use Rattle.std.specs.Option.{ForSome};
@@ -8,7 +8,7 @@ ghost use Rattle.rpg_program.specs.Kept.{AreIndicators, IsIndicator};
 use rpg_program::operation::Shows;
 use rpg_sheet_specs::{Indicator, Three};
 
-/// The number of an indicator that may be missing.
+/// Returns the number of an indicator, which may be missing.
 pub fn number_of(indicator: Option<Indicator>) -> Option<u8>
     ensures value { result ≡ indicator }
     ensures kept { ForSome result IsIndicator }

@@ -1,4 +1,4 @@
-//! The names of labels and subroutines, and where they stand.
+//! The names of labels and subroutines, and the sections that they are in.
 
 ghost use Rattle.std.specs.Prelude.{◌≡◌, option_copied, option_and_then};
 ghost use Rattle.rpg_cards.specs.Deeds as deeds;
@@ -8,26 +8,26 @@ ghost use Rattle.rpg_cards.specs.Sections as sections;
 
 use rpg_sheet_specs::{CalculationSpec, ControlLevel, Factor, Operation, Word};
 
-/// Where a calculation stands.
+/// The section of a calculation.
 #[derive(Clone, Copy)]
 pub enum Section {
     Detail,
     Total,
-    /// The subroutine with this number, from 0.
+    /// The subroutine with this number, counted from 0.
     Subroutine(u16),
     /// SR in columns 7 and 8, but not between a BEGSR and its ENDSR.
     Outside,
 }
 
-/// A name that a card gives or wants.
+/// A name that a card defines or refers to.
 #[derive(Drop)]
 pub struct Named {
     pub name: Word<6>,
-    /// Whether it is a subroutine's, and not a label's.
+    /// Whether it names a subroutine, not a label.
     pub is_subroutine: bool,
 }
 
-/// A name with the section of the calculation that gives it.
+/// A name with the section of the calculation that defines it.
 #[derive(Drop)]
 pub struct Label {
     pub named: Named,
@@ -59,7 +59,7 @@ pub fn ends_subroutine(calculation: &CalculationSpec) -> bool
     calculation.operation == Some(Operation::EndSubroutine)
 }
 
-/// An entry's name, where it has no index.
+/// Returns the name of an entry without an index.
 pub fn plain_name(factor: &Factor) -> Option<&Word<6>>
     ensures { option_copied result ≡ keys.plain_name factor.now }
 {
@@ -72,7 +72,7 @@ pub fn plain_name(factor: &Factor) -> Option<&Word<6>>
     }
 }
 
-/// The name of a TAG, ENDSR or BEGSR.
+/// Returns the name that a TAG, ENDSR or BEGSR defines.
 pub fn gives(calculation: &CalculationSpec) -> Option<Named>
     ensures { result ≡ labels.gives (deeds.deed_of calculation.now) }
 {
@@ -83,7 +83,7 @@ pub fn gives(calculation: &CalculationSpec) -> Option<Named>
     }
 }
 
-/// The name that a GOTO or EXSR goes to.
+/// Returns the name that a GOTO or EXSR refers to.
 pub fn wants(calculation: &CalculationSpec) -> Option<Named>
     ensures { result ≡ labels.wants (deeds.deed_of calculation.now) }
 {

@@ -5,7 +5,7 @@ ghost use Rattle.rpg_cards.specs.Levels as levels;
 
 use crate::spec_card::SpecCard;
 
-/// Whether a field of the cards has a match level.
+/// Whether any field has a match level.
 pub fn has_match_field(cards: &[SpecCard]) -> bool
     ensures { result ≡ levels.has_match_field cards.now }
 {

@@ -1,5 +1,5 @@
-//! What the cards of a source stand for together: names, constants, files, groups.
-//! What calculation cards say, by names.
+//! What the cards of a source mean together: names, constants, files, groups. What calculation
+//! cards mean, by name.
 #![tactic(auto)]
 
 mod alternatives;

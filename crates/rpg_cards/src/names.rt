@@ -13,14 +13,14 @@ use rpg_sheet_specs::{
 };
 use rpg_symbols::{Name, number_form};
 
-/// A name that a card defines, with its form: none where its length, decimals or entries are past their limit.
+/// A name that a card defines, with its form: None if its length, decimals or entries are over their limit.
 #[derive(Drop)]
 pub struct Definition {
     pub name: Name,
     pub form: Option<FieldForm>,
 }
 
-/// What lies in an unused place of a list.
+/// The value of an unused place in a list.
 impl Default for Definition {
     fn default() -> Self {
         Definition {
@@ -30,24 +30,24 @@ impl Default for Definition {
     }
 }
 
-/// What the first definition of a name says of its form.
+/// The form of a name, by its first definition.
 #[derive(Clone, Copy)]
 pub enum Defined {
     /// There is no definition.
     Missing,
-    /// Its length, decimals or entries are past their limit.
+    /// Its length, decimals or entries are over their limit.
     Bad,
     Good(FieldForm),
 }
 
-/// The form of a plain field of that length; without decimals it is a text. None where a limit is passed.
+/// Returns the form of a plain field; without decimals it is a text. None if a limit is passed.
 pub fn sized_form(length: u16, decimals: Option<u8>) -> Option<FieldForm>
     ensures { result ≡ names.sized_form length decimals }
 {
     sized(Class::Plain, false, 1, length, decimals)
 }
 
-/// The form of an input field: none where its columns are turned round.
+/// Returns the form of an input field, or None if its columns are reversed.
 pub fn field_form(field: &InputFieldSpec) -> Option<FieldForm>
     ensures { result ≡ names.field_form field.now }
 {
@@ -58,14 +58,14 @@ pub fn field_form(field: &InputFieldSpec) -> Option<FieldForm>
     }
 }
 
-/// Whether a name is that of a table: it begins with TAB.
+/// Whether a name is a table's: it begins with TAB.
 pub fn is_table(name: &Name) -> bool
     ensures { result ≡ names.is_table_name name.now }
 {
     matches!(name.as_slice(), [b'T', b'A', b'B', ..])
 }
 
-/// The form of an array or a table of so many entries.
+/// Returns the form of an array or a table with this many entries.
 pub fn table_form(entries: u16, table: &TableSpec) -> Option<FieldForm>
     ensures { result ≡ names.table_form entries table.now }
 {
@@ -114,7 +114,7 @@ fn sized(
 }
 
 impl SpecCard {
-    /// What the card defines: the tables or arrays of an E card, an input field, or a result field.
+    /// Returns what the card defines: the tables or arrays of an E card, an input field, or a result field.
     #[inline(always)]
     pub fn definitions(&self) -> Few<Definition>
         ensures { result ≡ names.definitions_on self.now.spec }
@@ -130,7 +130,8 @@ impl SpecCard {
         }
     }
 
-    /// Whether the card may define a name. Most cards don't, and this costs less than the list of their definitions.
+    /// Whether the card may define a name. Most cards don't, and this test is cheaper than the list of their
+    /// definitions.
     fn may_define(&self) -> bool
         ensures { OnFalse result (names.definitions_on self.now.spec ≡ []) }
     {
@@ -183,7 +184,7 @@ fn of_result(calculation: &CalculationSpec) -> Option<Definition>
     })
 }
 
-/// The form of a name that every program has.
+/// Returns the form of a name that every program has.
 pub(crate) fn given_form(name: &Name) -> Option<FieldForm>
     ensures { result ≡ fields.defined_form fields.given name.now }
 {

@@ -1,4 +1,4 @@
-//! What the groups of the cards before a card come to.
+//! The groups of the cards before a card.
 
 ghost use Rattle.std.specs.Prelude.{◌≡◌, ◌+◌, ◌≤◌, [], ◌∷◌, ◌++◌, length, true, List};
 ghost use Rattle.std.specs.Option.{option_map};
@@ -12,7 +12,7 @@ use crate::index::IndexedCards;
 use crate::spec_card::SpecCard;
 use rpg_sheet_specs::{InputSpec, OutputSpec, Word};
 
-/// What the cards of a group need of its file.
+/// What the cards of a group need from its file.
 #[derive(Clone, Copy)]
 pub struct GroupFile {
     pub record_length: u16,
@@ -23,13 +23,13 @@ pub struct GroupFile {
 #[derive(Clone, Copy)]
 pub struct Groups {
     pub number: u16,
-    /// Whether there is one that a further card would follow.
+    /// Whether one is open, so that a further card would belong to it.
     pub is_open: bool,
     /// The open group's file, if an F card describes it.
     pub file: Option<GroupFile>,
 }
 
-/// Record types and lines.
+/// The groups of record types and of lines.
 #[derive(Clone, Copy)]
 pub struct Sheets {
     pub types: Groups,
@@ -43,7 +43,7 @@ const NO_GROUPS: Groups = Groups {
 };
 
 impl Sheets {
-    /// Before all cards.
+    /// Returns the groups before the first card.
     pub fn none() -> Self
         ensures { (cards : List SpecCard) → AreSheets cards [] result }
     {
@@ -53,7 +53,7 @@ impl Sheets {
         }
     }
 
-    /// With the card after those before.
+    /// Returns the groups after one more card.
     #[inline(always)]
     pub fn with(&self, source: &IndexedCards, before: &[SpecCard], card: &SpecCard) -> Self
         requires few { length before.now ≤ 2000 }
@@ -90,7 +90,7 @@ impl Groups {
         }
     }
 
-    /// With one more group, and the file that its heading names.
+    /// Begins one more group, of the file that its heading names.
     fn opened(self, source: &IndexedCards, file: &Option<Word<8>>) -> Self
         requires { self.number ≤ 2000 }
         ensures { result ≡ record { number = self.number + 1; is_open = true; file = file_or source.now file.now self.file } }

@@ -1,4 +1,4 @@
-//! Cards that are on a sheet.
+//! Cards of the sheets.
 
 ghost use Rattle.std.specs.Prelude.{◌≡◌, option_copied};
 ghost use Rattle.rpg_cards.specs.Cards as cards_of;
@@ -8,7 +8,7 @@ use rpg_sheet_specs::{
     OutputRecord, OutputSpec, RecordType, Spec,
 };
 
-/// A card with its number in the source, counted from 1, and what it stands for.
+/// A card with its number in the source, counted from 1, and its meaning.
 #[derive(Drop)]
 pub struct SpecCard {
     pub number: u16,

@@ -1,4 +1,4 @@
-//! When lines are put out.
+//! The times of lines.
 
 ghost use Rattle.std.specs.Prelude.{◌≡◌};
 ghost use Rattle.rpg_cards.specs.Times as times;
@@ -6,7 +6,7 @@ ghost use Rattle.rpg_cards.specs.Times as times;
 use rpg_program::line::Time;
 use rpg_sheet_specs::{ConditionSpec, LineTime, OutputSpec, Three};
 
-/// When a line of a card is put out.
+/// Returns the time of a card's line.
 pub fn time_of(time: LineTime) -> Time
     ensures { result ≡ times.time_of time }
 {
@@ -18,7 +18,8 @@ pub fn time_of(time: LineTime) -> Time
     }
 }
 
-/// The conditions of a card, be it of a line, of an AND or OR, or of a field.
+/// Returns the conditions of a card: of a line, of an AND or OR card, or of a
+/// field.
 pub fn line_conditions_on(output: &OutputSpec) -> Three<Option<ConditionSpec>>
     ensures { result ≡ times.line_conditions_on output.now }
 {

@@ -47,7 +47,7 @@ file_of_use u cards = first_file (λ f. same_use u (file_use f)) cards
 abbrev pub of_length : FileUse → ℕ → Option FileCause
 of_length u n = if is_between 1 (longest_in_file u) n then None else Some (Length u n)
 
--- columns 17 of the two input files differ, or the length is past its limit
+-- columns 17 of the two input files differ, or the length is over its limit
 abbrev pub of_rest : List SpecCard → FileSpec → Option FileCause
 of_rest before f = if ends_apart before f then Some EndsApart else of_length (file_use f) f.record_length
 

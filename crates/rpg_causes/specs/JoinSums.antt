@@ -25,6 +25,6 @@ abbrev pub any_bad : List InputFieldSpec → Bool
 any_bad [] = false
 any_bad (f ∷ fs) = (input_columns f == 0 || repeats fs f) || any_bad fs
 
--- the lengths of all match levels, where there are match fields and none is bad
+-- the lengths of all match levels, if there are match fields and none is bad
 abbrev pub good_lengths : List InputFieldSpec → Option (List ℕ)
 good_lengths fs = if are_some fs && not (any_bad fs) then Some (match_lengths fs) else None

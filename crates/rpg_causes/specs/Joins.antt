@@ -43,7 +43,7 @@ first_on level [] = None
 first_on level (c ∷ cs) =
     if opens_type c then option_or (option_map (length_on_card c) (level_length level (followers input_role cs))) (first_on level cs) else first_on level cs
 
--- two joined lengths of a level, where they differ
+-- two joined lengths of a level, if they differ
 abbrev pub of_lengths : ℕ → Option FirstLength → Option ℕ → Option JoinCause
 of_lengths level None own = None
 of_lengths level (Some f) None = None
@@ -57,7 +57,7 @@ of_level before after level = of_lengths level (first_on level before) (level_le
 abbrev pub other_length : List SpecCard → List SpecCard → Option JoinCause
 other_length before after = first_cause_in_list (of_level before after) levels
 
--- a field at a level whose fields before it have so many columns
+-- a field at a level whose earlier fields have this many columns
 abbrev pub long_level : ℕ → ℕ → ℕ → Option JoinCause
 long_level level joined n = if nat_le joined 256 && nat_lt 256 (joined + n) then Some (LongLevel level (joined + n)) else None
 
@@ -71,7 +71,7 @@ level_cause own f = option_and_then (λ level. long_level level (joined_length l
 abbrev pub matched : List SpecCard → List InputFieldSpec
 matched cards = matched_fields (followers input_role cards)
 
--- the card, where its field is of that match level
+-- the card, if its field is of that match level
 abbrev pub if_matched : ℕ → SpecCard → Option ℕ
 if_matched level c = option_and_then (λ f. if is_at match_level level f then Some c.number else None) (input_field_on c.spec)
 
@@ -80,7 +80,7 @@ abbrev pub matched_on : ℕ → List SpecCard → Option ℕ
 matched_on level [] = None
 matched_on level (c ∷ cs) = if opens_type c then None else option_or (if_matched level c) (matched_on level cs)
 
--- match fields of so many columns, and one more
+-- match fields of this many columns, and one more
 abbrev pub long_matches : ℕ → ℕ → Option JoinCause
 long_matches joined n = if nat_le joined 256 && nat_lt 256 (joined + n) then Some (LongMatches (joined + n)) else None
 

@@ -12,6 +12,6 @@ use Rattle.rpg_sheet_specs.specs.declared.output.OutputRecord.{OutputRecord}
 abbrev pub if_disk : FileOnCard → Option FileOnCard
 if_disk f = if same_use Disk f.serves_as then Some f else None
 
--- the disk file, where a line of it has spaces or skips
+-- the disk file, if a line of it has spaces or skips
 abbrev pub moved_disk : List SpecCard → List SpecCard → OutputRecord → Option FileOnCard
 moved_disk cards before r = if moves r.movement then option_and_then if_disk (file_of_line cards before r.file) else None

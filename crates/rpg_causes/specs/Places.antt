@@ -46,7 +46,7 @@ of_codes file t =
     (option_or (option_and_then (of_code file range.SecondCode) t.second)
     (option_and_then (of_code file range.ThirdCode) t.third))
 
--- of a field: columns from 0 or to 0, turned round, or past the record
+-- of a field: columns from 0 or to 0, reversed, or past the record
 abbrev pub of_field : Option FileOnCard → InputFieldSpec → Option PlaceCause
 of_field file f =
     if f.from == 0 || f.to == 0 then Some NoColumn

@@ -65,7 +65,7 @@ pub enum Cause {
     Order(OrderCause),
     /// F12 of an I or O card.
     Stray(StrayCause),
-    /// F13: the label, which is of another section.
+    /// F13: the label, which is in another section.
     Apart(Target),
     /// F14: the subroutine that is called.
     Recursion(Target),
@@ -81,7 +81,7 @@ pub enum Cause {
     Data(DataCause),
 }
 
-/// Why the first card with this number breaks the rule of a code; nothing where it doesn't.
+/// Returns why the first card with this number breaks the rule of a code, or None if it doesn't.
 pub fn fault_cause(source: &AnalyzedCards, number: u16, code: FaultCode) -> Option<Cause>
     ensures cause { result ≡ causes.cause_at [] source.now.cards.now number code }
     ensures rule { is_some result ≡ causes.is_broken_at [] source.now.cards.now number code }
@@ -137,7 +137,7 @@ fn cause_of(
     }
 }
 
-/// F6: which limit is passed with the card.
+/// F6: which limit is exceeded with the card.
 fn passed_limit(
     source: &AnalyzedCards,
     before: &[SpecCard],
@@ -168,7 +168,7 @@ fn wrong_file(
     file_cause(source.cards, &sheets, before, card)
 }
 
-/// F14: the subroutine that the calculation calls, if that one leads back.
+/// F14: the subroutine that the calculation calls, if its calls lead back.
 fn recursion_cause(
     source: &AnalyzedCards,
     before: &[SpecCard],
@@ -198,7 +198,7 @@ fn recursion(
     }
 }
 
-/// F9: of a calculation, of fields, or of a line.
+/// F9: the cause in a calculation, in fields, or in a line.
 #[tactic(auto, unfolding(rpg_faults::specs::Rules::rule))]
 fn missing(
     source: &IndexedCards,
@@ -219,7 +219,7 @@ fn missing(
     Some(Cause::Movement(moved_disk(source, before, card)?))
 }
 
-/// F12: of a calculation card, or of an I or O card.
+/// F12: the cause on a calculation card, or on an I or O card.
 #[tactic(auto, unfolding(rpg_faults::specs::Rules::rule))]
 fn misordered(
     source: &AnalyzedCards,
@@ -239,7 +239,7 @@ fn misordered(
     Some(Cause::Stray(stray_cause(cards, &sheets, before, card)?))
 }
 
-/// F16: of the card's own columns, or of control fields and match fields.
+/// F16: the cause in the card's own columns, or in control fields and match fields.
 #[tactic(auto, unfolding(rpg_faults::specs::Rules::rule), using(crate::proofs::JoinRule::misplaces_is))]
 fn misplaced(
     source: &AnalyzedCards,

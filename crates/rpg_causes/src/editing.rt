@@ -16,18 +16,19 @@ use rpg_sheet_specs::{Entry, OutputField, Word};
 /// Why a code or a word doesn't fit a field.
 #[derive(Clone, Copy)]
 pub enum Misfit {
-    /// The field is a text of so many characters.
+    /// The field is a text with this many characters.
     Text {
         length: u16,
     },
-    /// The text beside a code is no fill that it takes.
+    /// The text beside a code isn't a fill that it allows.
     Fill,
-    /// Code Y beside a number that isn't one of 6 digits without decimals.
+    /// Code Y for anything but a number of 6 digits without decimals.
     Date {
         length: u16,
         decimals: u8,
     },
-    /// A word with places for so many digits, or that fits no number, beside a number of other ones.
+    /// A word with places for this many digits, or that fits no number, for a number of another
+    /// length.
     Word {
         places: Option<u8>,
         length: u16,
@@ -98,7 +99,7 @@ fn fits(word: &[u8], digits: u8) -> bool
     (!word.is_empty() && word.len() <= 24) && EditWord::fits(word, digits)
 }
 
-/// How many digits a word has places for; none where it fits no number.
+/// Returns how many digits a word has places for, or None if it fits no number.
 #[tactic(auto, using(crate::proofs::Ranges::fitting_from))]
 fn places_of(word: &[u8]) -> Option<u8>
     ensures { result ≡ causes.digits_that_fit word.now }

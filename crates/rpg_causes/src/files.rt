@@ -1,4 +1,4 @@
-//! F7: files that are unknown, given twice or of the wrong use.
+//! F7: files that are unknown, described twice or of the wrong use.
 
 ghost use Rattle.std.specs.Prelude.{◌≡◌, is_some, option_and_then, option_copied};
 ghost use Rattle.std.specs.Option.{option_map};
@@ -34,19 +34,19 @@ pub enum FileUser {
 /// What is wrong with a file.
 #[derive(Drop)]
 pub enum FileCause {
-    /// The name is that of this file.
+    /// This file already has the name.
     Twice(FileOnCard),
-    /// The file of this name would be the second of its use.
+    /// The file with this name would be the second of its use.
     Second { name: Word<8>, first: FileOnCard },
-    /// Of two input files one alone has E in column 17.
+    /// Of two input files only one has E in column 17.
     EndsApart,
-    /// No record, or no line, is so long.
+    /// This record or line length isn't allowed.
     Length { serves_as: FileUse, length: u16 },
-    /// The first of its kind names no file.
+    /// The first of its kind doesn't name a file.
     Unnamed(FileUser),
     /// No F card has that name.
     Unknown { user: FileUser, name: Word<8> },
-    /// That file is for the others.
+    /// The file has the other use.
     WrongUse { user: FileUser, file: FileOnCard },
 }
 
@@ -81,7 +81,7 @@ fn file_with(card: &SpecCard, file: &FileSpec) -> FileOnCard
     }
 }
 
-/// The first file of a name.
+/// Returns the first file with this name.
 pub(crate) fn file_of_name(name: &Word<8>, cards: &[SpecCard]) -> Option<FileOnCard>
     ensures file { result ≡ causes.file_of_name name.now cards.now }
     ensures known { is_some result ≡ is_some (known.file_named name.now cards.now) }
@@ -97,7 +97,7 @@ pub(crate) fn file_of_name(name: &Word<8>, cards: &[SpecCard]) -> Option<FileOnC
     None
 }
 
-/// The first file of a use.
+/// Returns the first file with this use.
 fn file_of_use(serves_as: FileUse, cards: &[SpecCard]) -> Option<FileOnCard>
     ensures file { result ≡ causes.file_of_use serves_as cards.now }
     ensures known { is_some result ≡ is_some (known.file_for serves_as cards.now) }
@@ -128,7 +128,7 @@ fn of_file(before: &[SpecCard], file: &FileSpec) -> Option<FileCause>
     of_length(use_of(file), file.record_length)
 }
 
-/// Whether the other input file is before, and only one of the two ends the job.
+/// Whether the other input file comes before, and just one of the two ends the job.
 fn ends_apart(before: &[SpecCard], file: &FileSpec) -> bool
     ensures { result ≡ rules.ends_apart before.now file.now }
 {
@@ -242,7 +242,7 @@ fn moves(movement: &Movement) -> bool
         || movement.skip_after.is_some()
 }
 
-/// The file that the last line before a card is for.
+/// Returns the file of the last line before a card.
 pub(crate) fn open_line_file(before: &[SpecCard]) -> Option<&Word<8>>
     ensures { option_copied result ≡ open_file output_role before.now }
 {
@@ -253,7 +253,7 @@ pub(crate) fn open_line_file(before: &[SpecCard]) -> Option<&Word<8>>
     name
 }
 
-/// The file of the open line, with one more card.
+/// Returns the file of the open line after one more card.
 fn line_file<'a>(card: &'a SpecCard, kept: Option<&'a Word<8>>) -> Option<&'a Word<8>>
     ensures { option_copied result ≡ causes.with_line_file card.now (option_copied kept.entry) }
 {

@@ -1,4 +1,4 @@
-//! F16 of control fields and match fields: joined lengths that differ or are too long, and match levels that stand twice.
+//! F16 of control fields and match fields: joined lengths that differ or are too long, and repeated match levels.
 
 ghost use Rattle.std.specs.Prelude.{◌≡◌, ◌≤◌, false, is_some, length, sum_by};
 ghost use Rattle.std.specs.Option.{option_map_or};
@@ -13,34 +13,34 @@ ghost use Rattle.rpg_faults.specs.Places as rules;
 use rpg_cards::SpecCard;
 use rpg_sheet_specs::{InputFieldSpec, InputSpec};
 
-/// The most columns of a level, and of all match fields.
+/// The most columns of a level, and of all match fields together.
 const LIMIT: u32 = 256;
 
-/// What of control fields and match fields is wrong.
+/// What is wrong with control fields and match fields.
 #[derive(Clone, Copy)]
 pub enum JoinCause {
-    /// With the field its control level has so many columns in its type.
+    /// With this field its control level has this many columns in its type.
     LongLevel {
         level: u8,
         columns: u32,
     },
-    /// The control level has another joined length than in the type of that card.
+    /// The joined length of the control level differs from the type of that card.
     OtherLength {
         level: u8,
         length: u32,
         first: u32,
         card: u16,
     },
-    /// The match level stands on that card before.
+    /// That card already has the match level.
     MatchedTwice {
         level: u8,
         card: u16,
     },
-    /// With the field the match fields of its type have so many columns.
+    /// With this field the match fields of its type have this many columns.
     LongMatches {
         columns: u32,
     },
-    /// The match level has another length than in the type of that card; 0 is none.
+    /// The length of the match level differs from the type of that card; 0 is none.
     OtherMatches {
         level: u8,
         length: u32,
@@ -107,7 +107,7 @@ fn on_field(own: &[SpecCard], field: &InputFieldSpec) -> Option<JoinCause>
     match_cause(own, field)
 }
 
-/// The cards of the open type, after its own.
+/// Returns the cards of the open type, without its own.
 fn open_cards(before: &[SpecCard]) -> &[SpecCard]
     ensures own { result.now ≡ causes.open_cards before.now }
     ensures few { length result.now ≤ length before.now }
@@ -123,7 +123,7 @@ fn open_cards(before: &[SpecCard]) -> &[SpecCard]
     own
 }
 
-/// How many columns a field has: 0 where they begin at 0 or are turned round.
+/// Returns how many columns a field has: 0 if they begin at 0 or are reversed.
 fn columns_of(field: &InputFieldSpec) -> u32
     ensures value { result ≡ rules.input_columns field.now }
     ensures few { result ≤ 65535 }
@@ -151,7 +151,7 @@ fn some_length(sum: u32) -> Option<u32>
     if sum == 0 { None } else { Some(sum) }
 }
 
-/// The joined length of a level up to the next type: none without a field, or with bad columns.
+/// Returns the joined length of a level up to the next type; None without a field, or with bad columns.
 fn level_length(level: u8, cards: &[SpecCard]) -> Option<u32>
     requires { length cards.now ≤ 2000 }
     ensures { result ≡ rules.level_length level (followers input_role cards.now) }
@@ -173,7 +173,7 @@ fn level_length(level: u8, cards: &[SpecCard]) -> Option<u32>
     some_length(sum)
 }
 
-/// That of the first of these types that has the level.
+/// Returns that of the first of these types with the level.
 fn first_on(level: u8, cards: &[SpecCard]) -> Option<FirstLength>
     requires { length cards.now ≤ 2000 }
     ensures { result ≡ causes.first_on level cards.now }
@@ -191,7 +191,7 @@ fn first_on(level: u8, cards: &[SpecCard]) -> Option<FirstLength>
     None
 }
 
-/// A level of a type, where its joined length isn't the first one.
+/// Returns a level of a type, if its joined length differs from the first one.
 fn of_level(before: &[SpecCard], after: &[SpecCard], level: u8) -> Option<JoinCause>
     requires few { length before.now ≤ 2000 }
     requires few_after { length after.now ≤ 2000 }
@@ -210,7 +210,7 @@ fn of_level(before: &[SpecCard], after: &[SpecCard], level: u8) -> Option<JoinCa
     })
 }
 
-/// The first such level.
+/// Returns the first such level.
 #[tactic(auto, using(crate::proofs::Ranges::level_from))]
 fn other_length(before: &[SpecCard], after: &[SpecCard]) -> Option<JoinCause>
     requires few { length before.now ≤ 2000 }
@@ -226,7 +226,7 @@ fn other_length(before: &[SpecCard], after: &[SpecCard]) -> Option<JoinCause>
     None
 }
 
-/// The columns of a level up to the next type.
+/// Returns the columns of a level up to the next type.
 fn joined_length(level: u8, cards: &[SpecCard]) -> u32
     requires { length cards.now ≤ 2000 }
     ensures value { result ≡ rules.joined_length level (followers input_role cards.now) }
@@ -243,7 +243,7 @@ fn joined_length(level: u8, cards: &[SpecCard]) -> u32
     sum
 }
 
-/// The field with which its level is too long.
+/// Returns the cause if a field makes its level too long.
 fn level_cause(own: &[SpecCard], field: &InputFieldSpec) -> Option<JoinCause>
     requires { length own.now ≤ 2000 }
     ensures { result ≡ causes.level_cause own.now field.now }
@@ -268,7 +268,7 @@ fn is_matched_at(level: u8, field: &InputFieldSpec) -> bool
     }
 }
 
-/// The first card up to the next type that has the match level.
+/// Returns the first card up to the next type with the match level.
 fn matched_on(level: u8, cards: &[SpecCard]) -> Option<u16>
     ensures { result ≡ causes.matched_on level cards.now }
 {
@@ -284,7 +284,7 @@ fn matched_on(level: u8, cards: &[SpecCard]) -> Option<u16>
     None
 }
 
-/// The columns of all match fields up to the next type.
+/// Returns the columns of all match fields up to the next type.
 fn matched_columns(cards: &[SpecCard]) -> u32
     requires { length cards.now ≤ 2000 }
     ensures value { result ≡ sum_by rules.input_columns (causes.matched cards.now) }
@@ -303,7 +303,7 @@ fn matched_columns(cards: &[SpecCard]) -> u32
     sum
 }
 
-/// A match level that stands before, or a field with which all match fields are too long.
+/// Returns the cause if a field repeats a match level, or makes the match fields too long.
 fn match_cause(own: &[SpecCard], field: &InputFieldSpec) -> Option<JoinCause>
     requires { length own.now ≤ 2000 }
     ensures { result ≡ causes.match_level_cause own.now field.now }
@@ -334,7 +334,7 @@ fn has_matches(cards: &[SpecCard]) -> bool
     false
 }
 
-/// Whether a field is a match field without columns, or one whose level stands on the cards after it.
+/// Whether a field is a match field without columns, or the cards after it repeat its level.
 #[tactic(auto, using(crate::proofs::JoinRule::matched_on_some))]
 fn is_bad_match(field: &InputFieldSpec, following: &[SpecCard]) -> bool
     ensures { result ≡ sums.is_bad_match field.now (causes.matched following.now) }
@@ -361,7 +361,7 @@ fn has_bad_match(cards: &[SpecCard]) -> bool
     false
 }
 
-/// The columns of a match level up to the next type.
+/// Returns the columns of a match level up to the next type.
 fn match_length(level: u8, cards: &[SpecCard]) -> u32
     requires { length cards.now ≤ 2000 }
     ensures { result ≡ sums.match_length level cards.now }
@@ -379,7 +379,7 @@ fn match_length(level: u8, cards: &[SpecCard]) -> u32
     sum
 }
 
-/// The lengths of the match levels up to the next type, if they are good.
+/// Returns the lengths of the match levels up to the next type, if they are valid.
 fn good_matches(cards: &[SpecCard]) -> Option<[u32; 9]>
     requires { length cards.now ≤ 2000 }
     ensures { result ≡ rules.good_matches (causes.matched cards.now) }
@@ -408,7 +408,7 @@ fn good_lengths(cards: &[SpecCard]) -> Option<[u32; 9]>
     ])
 }
 
-/// Those of the first of these types that has some.
+/// Returns those of the first of these types that has any.
 fn first_matched(cards: &[SpecCard]) -> Option<FirstMatched>
     requires { length cards.now ≤ 2000 }
     ensures { result ≡ causes.first_matched cards.now }
@@ -426,7 +426,7 @@ fn first_matched(cards: &[SpecCard]) -> Option<FirstMatched>
     None
 }
 
-/// The first level at which the lengths differ.
+/// Returns the first level at which the lengths differ.
 fn apart(first: FirstMatched, own: &[u32; 9]) -> Option<JoinCause>
     ensures { result ≡ causes.first_difference first.card 1 first.lengths own.now }
 {
@@ -444,7 +444,7 @@ fn apart(first: FirstMatched, own: &[u32; 9]) -> Option<JoinCause>
     None
 }
 
-/// A level of other match fields than in the first type with some.
+/// Returns a level at which the match fields differ from the first type with any.
 fn other_matches(before: &[SpecCard], after: &[SpecCard]) -> Option<JoinCause>
     requires few { length before.now ≤ 2000 }
     requires few_after { length after.now ≤ 2000 }

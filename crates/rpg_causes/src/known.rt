@@ -1,4 +1,4 @@
-//! What the cards before a card come to, for the codes whose causes need it.
+//! The state after the cards before a card, for the codes whose causes need it.
 
 ghost use Rattle.std.specs.Prelude.{◌≡◌, [], ◌∷◌, ◌++◌};
 ghost use Rattle.rpg_cards.specs.Sheets.{AreSheets};
@@ -9,14 +9,14 @@ use rpg_causes_operands::with_card;
 use rpg_faults_limits::Limits;
 use rpg_faults_tree::AnalyzedCards;
 
-/// The cards before the first one.
+/// Returns no cards, as before the first one.
 pub(crate) fn no_cards<'a>(source: &IndexedCards<'a>) -> &'a [SpecCard]
     ensures { result.now ≡ [] }
 {
     &source.as_slice()[..0]
 }
 
-/// The record types and the lines.
+/// Returns the record types and the lines.
 pub(crate) fn sheets_before(
     source: &AnalyzedCards,
     before: &[SpecCard],
@@ -43,7 +43,7 @@ pub(crate) fn sheets_before(
     sheets
 }
 
-/// What limits need.
+/// Returns the state of the limits.
 pub(crate) fn limits_before(
     source: &AnalyzedCards,
     before: &[SpecCard],

@@ -1,4 +1,4 @@
-//! Why a card has a fault: the cause of each code as a value, as the rule of the code has it.
+//! Explains why a card has a fault: the cause of each code, in terms of the code's rule.
 #![tactic(auto)]
 
 mod cause;

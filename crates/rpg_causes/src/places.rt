@@ -1,4 +1,4 @@
-//! F16: columns outside the record, ends outside the line, and fields that are too wide.
+//! F16: columns outside the record, end positions outside the line, and fields that are too wide.
 
 ghost use Rattle.std.specs.Prelude.{◌≡◌, Option, is_some, option_copied, option_and_then, Some};
 ghost use Rattle.rpg_cards.specs.Files.{file_by};
@@ -40,14 +40,14 @@ pub enum PlaceCause {
         to: u16,
         file: FileOnCard,
     },
-    /// An end in place 0.
+    /// An end position of 0.
     NoEnd,
-    /// An end past the lines of that file.
+    /// An end position past the lines of that file.
     PastLine {
         end: u16,
         file: FileOnCard,
     },
-    /// A field or a constant that takes more places than there are up to its end.
+    /// A field or a constant that is wider than its end position allows.
     Wider {
         places: usize,
         end: u16,
@@ -83,7 +83,7 @@ fn open_type_file(before: &[SpecCard]) -> Option<&Word<8>>
     name
 }
 
-/// The file of the open record type, with one more card.
+/// Returns the file of the open record type after one more card.
 fn type_file<'a>(card: &'a SpecCard, kept: Option<&'a Word<8>>) -> Option<&'a Word<8>>
     ensures { option_copied result ≡ files.with_type_file card.now (option_copied kept.entry) }
 {
@@ -127,7 +127,7 @@ fn copied(file: &FileOnCard) -> FileOnCard
     }
 }
 
-/// The file, if a column is past its records.
+/// Returns the file, if a column is past its records.
 fn if_past(file: &Option<FileOnCard>, column: u16) -> Option<FileOnCard>
     ensures file { result ≡ causes.file_passed column file.now }
     ensures rule { (known : Option FileSpec) → SameLength file.now known → is_some result ≡ rules.is_past known column }

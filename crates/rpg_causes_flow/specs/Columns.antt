@@ -37,7 +37,7 @@ of_column at (May c) f = option_and_then (unless_plain at c) f
 of_column at (Must c) None = Some (Needed at)
 of_column at (Must c) (Some f) = unless_plain at c f
 
--- resulting indicators where the operation has none, none where it needs one, or high with low
+-- resulting indicators if the operation has none, none if it needs one, or high with low
 abbrev pub of_shown : Shown → Three (Option ℕ) → Option ColumnCause
 of_shown shown.Unused t = if nat_lt 0 (filled_count t) then Some NoIndicators else None
 of_shown shown.Any t = None
@@ -64,7 +64,7 @@ abbrev pub end_column_cause : Bool → CalculationSpec → Option ColumnCause
 end_column_cause true k = if has_more k then Some (LastCardAlone (further_range k)) else None
 end_column_cause false k = last_card_column_cause k k.operation
 
--- of several cards each has conditions, and none has any where the operation has none
+-- of several cards each has conditions, and none has any if the operation has none
 abbrev pub of_conditions : Option CalculationGroup → CalculationSpec → List SpecCard → Option ColumnCause
 of_conditions group k after =
     if depends k then (if may_depend (group_end k after) then None else Some Unconditioned)

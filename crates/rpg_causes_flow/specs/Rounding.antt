@@ -25,7 +25,7 @@ of_last (Some last) = of_operation last.operation
 abbrev pub of_half_adjust : CalculationSpec → Option CalculationSpec → Option RoundingCause
 of_half_adjust k last = if k.half_adjust then of_last last else None
 
--- MVR in a group of several cards, or where no division without H comes right before
+-- MVR in a group of several cards, or if no division without H comes right before
 abbrev pub unless_after_division : Bool → Bool → Option RoundingCause
 unless_after_division true following = Some SeveralCards
 unless_after_division false following = if following then None else Some NoDivision

@@ -22,7 +22,7 @@ use Rattle.rpg_sheet_specs.specs.declared.calculation.ControlLevel.TheVariants a
 abbrev pub section_on : List SpecCard → SpecCard → List SpecCard → CalculationSpec → Section
 section_on front c after k = section_of (calculations_before front (c ∷ after)) (calculation_of (group_with (open_calculation_group front) k))
 
--- of an SR group: the subroutine that it begins, or the open one; outside where there is none
+-- of an SR group: the subroutine that it begins, or the open one; outside if there is none
 abbrev pub subroutine_by : Bool → Bool → ℕ → Section
 subroutine_by true inside begun = Subroutine begun
 subroutine_by false inside begun = if inside then Subroutine (begun - 1) else Outside

@@ -16,7 +16,7 @@ use Rattle.rpg_sheet_specs.specs.declared.output.OutputSpec.TheVariants as outpu
 abbrev pub number_before : List SpecCard → Option ℕ
 number_before before = option_map (λ (c : SpecCard). c.number) (card_right_before before)
 
--- an AND card that continues no type, or a field where none is open
+-- an AND card that continues no type, or a field if none is open
 abbrev pub input_stray_cause : Bool → List SpecCard → InputSpec → Option StrayCause
 input_stray_cause is_open before (input.Type t) = None
 input_stray_cause is_open before (input.And codes) = if follows_codes before then None else Some (OtherThanType (number_before before))
@@ -26,7 +26,7 @@ input_stray_cause is_open before (input.Field f) = if is_open then None else Som
 abbrev pub unless_after_conditions : List SpecCard → Option StrayCause
 unless_after_conditions before = if follows_conditions before then None else Some (OtherThanLine (number_before before))
 
--- such a card, or a field where no line is open
+-- such a card, or a field if no line is open
 abbrev pub output_stray_cause : Bool → List SpecCard → OutputSpec → Option StrayCause
 output_stray_cause is_open before (output.Record r) = None
 output_stray_cause is_open before (output.And t) = unless_after_conditions before

@@ -1,4 +1,4 @@
-//! BEGSR and ENDSR of SR groups, by their cards.
+//! The BEGSR and ENDSR of SR groups, by card.
 
 ghost use Rattle.std.specs.Prelude.{◌≡◌, ◌∷◌, ◌++◌, ◌≤◌, List, None, Some, false, length, if◌then◌else◌};
 ghost use Rattle.std.specs.Option.{option_map_or};
@@ -23,7 +23,7 @@ pub(crate) struct Bracket {
 
 // ---- the section of a group
 
-/// Columns 7 and 8 of the first card of a card's group.
+/// Returns columns 7 and 8 of the first card of a card's group.
 pub(crate) fn level_in(group: &Option<ControlLevel>, calculation: &CalculationSpec) -> ControlLevel
     ensures { result ≡ by_card.calculation_level group.now calculation.now }
 {
@@ -39,14 +39,14 @@ pub(crate) fn level_in(group: &Option<ControlLevel>, calculation: &CalculationSp
     }
 }
 
-/// The same of the group that a card opens or continues.
+/// Returns those of the group that a card opens or continues.
 fn level_with(group: &Option<ControlLevel>, card: &SpecCard) -> Option<ControlLevel>
     ensures { result ≡ by_card.level_with group.now card.now }
 {
     Some(level_in(group, card.calculation()?))
 }
 
-/// The same of the group that the card right before a card belongs to.
+/// Returns those of the group that the previous card belongs to.
 pub(crate) fn open_level(before: &[SpecCard]) -> Option<ControlLevel>
     ensures { result ≡ level_of_group (open_calculation_group before.now) }
 {
@@ -65,7 +65,7 @@ pub(crate) fn is_bracket(calculation: &CalculationSpec) -> bool
     begins_subroutine(calculation) || ends_subroutine(calculation)
 }
 
-/// The one that ends on a card.
+/// Returns the BEGSR or ENDSR that ends on a card.
 fn bracket_on(group: &Option<ControlLevel>, card: &SpecCard, after: &[SpecCard]) -> Option<Bracket>
     ensures { result ≡ causes.bracket_on group.now card.now after.now }
 {
@@ -80,7 +80,7 @@ fn bracket_on(group: &Option<ControlLevel>, card: &SpecCard, after: &[SpecCard])
     }
 }
 
-/// The cards after the first.
+/// Returns the cards after the first.
 fn following_first(cards: &[SpecCard]) -> &[SpecCard]
     ensures { (c : SpecCard) (cs : List SpecCard) → cards.now ≡ c ∷ cs → result.now ≡ cs }
 {
@@ -90,7 +90,7 @@ fn following_first(cards: &[SpecCard]) -> &[SpecCard]
     }
 }
 
-/// The last one on the cards at the front of these.
+/// Returns the last one on the `front` cards.
 pub(crate) fn last_bracket(front: &[SpecCard], cards: &[SpecCard]) -> Option<Bracket>
     ensures { (after : List SpecCard) → cards.now ≡ front.now ++ after → result ≡ causes.last_bracket None front.now after }
 {
@@ -108,7 +108,7 @@ pub(crate) fn last_bracket(front: &[SpecCard], cards: &[SpecCard]) -> Option<Bra
     found
 }
 
-/// The first one on the cards after a group of that section.
+/// Returns the first one on the cards after a group of this section.
 pub(crate) fn next_bracket(level: &ControlLevel, after: &[SpecCard]) -> Option<Bracket>
     ensures { result ≡ causes.next_bracket (Some level.now) after.now }
 {
@@ -127,7 +127,7 @@ pub(crate) fn next_bracket(level: &ControlLevel, after: &[SpecCard]) -> Option<B
 
 // ---- subroutines
 
-/// How many BEGSRs end on the cards at the front of these.
+/// Counts the BEGSRs that end on the `front` cards.
 pub fn count_begun(front: &[SpecCard], cards: &[SpecCard]) -> u16
     requires { length front.now ≤ 2000 }
     ensures { (after : List SpecCard) → cards.now ≡ front.now ++ after → result ≡ begun_count (calculations_before front.now after) }

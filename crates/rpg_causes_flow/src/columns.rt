@@ -19,25 +19,25 @@ use rpg_sheet_specs::{CalculationSpec, ColumnRange, Entry, Factor, Indicator, Op
 /// Why columns of a calculation are missing or not allowed.
 #[derive(Clone, Copy)]
 pub enum ColumnCause {
-    /// The operation has nothing there.
+    /// The operation allows nothing there.
     NotAllowed(ColumnRange),
-    /// The operation needs something there.
+    /// The operation requires something there.
     Needed(ColumnRange),
-    /// The operation has a name there, without an index.
+    /// The operation requires a name without an index there.
     NotPlain(ColumnRange),
-    /// The operation has no resulting indicators.
+    /// The operation allows no resulting indicators.
     NoIndicators,
-    /// The operation needs a resulting indicator.
+    /// The operation requires a resulting indicator.
     IndicatorNeeded,
-    /// LOKUP searches for high or for low.
+    /// LOKUP searches for high or low, not both.
     HighAndLow,
     /// The last card of a group has no operation.
     NoOperation,
-    /// Of a group the last card alone has something there.
+    /// Only the last card of a group has something there.
     LastCardAlone(ColumnRange),
-    /// Of a group each card has conditions.
+    /// Each card of a group has conditions.
     ConditionsNeeded,
-    /// The operation has no conditions.
+    /// The operation allows no conditions.
     Unconditioned,
     /// A length without a result field.
     LengthAlone,
@@ -58,7 +58,7 @@ pub fn on_calculation(
     }
 }
 
-/// Whether a C card stands right before.
+/// Whether the previous card is a C card.
 #[tactic(auto, using(crate::proofs::Groups::is_open_after))]
 pub(crate) fn is_in_group(before: &[SpecCard]) -> bool
     ensures { result ≡ is_some (open_calculation_group before.now) }
@@ -193,7 +193,7 @@ fn of_result(column: Column, entry: &Option<Entry>) -> Option<ColumnCause>
     }
 }
 
-/// Whether a column has a label or the name of a subroutine.
+/// Whether a column holds the name of a label or a subroutine.
 fn is_for_name(content: Content) -> bool
     ensures { result ≡ rules.is_for_name content }
 {

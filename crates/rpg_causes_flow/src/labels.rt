@@ -1,4 +1,4 @@
-//! F10 and F11: labels and subroutines that aren't there, and names that are given twice.
+//! F10 and F11: undefined labels and subroutines, and names that are defined twice.
 
 ghost use Rattle.std.specs.Prelude.{◌≡◌, List, [], ◌∷◌, ◌++◌, is_some, false, option_and_then};
 ghost use Rattle.std.specs.Option.{option_map_or};
@@ -15,43 +15,43 @@ use rpg_causes_operands::{first_defining, with_card};
 use rpg_sheet_specs::{CalculationSpec, Word};
 use rpg_symbols::Name;
 
-/// The card that gives a name to a label or a subroutine.
+/// The card that defines a label or a subroutine.
 #[derive(Clone, Copy)]
 pub struct Giver {
     pub card: u16,
     pub is_subroutine: bool,
 }
 
-/// Why GOTO or EXSR leads nowhere.
+/// Why the target of a GOTO or EXSR doesn't exist.
 #[derive(Drop)]
 pub enum NowhereCause {
-    /// No card gives that name.
+    /// No card defines the name.
     Absent(Named),
-    /// The name is the other of label and subroutine.
+    /// The name is a label instead of a subroutine, or the other way around.
     Other { name: Name, giver: Giver },
 }
 
-/// What a name was before.
+/// What defined a name before.
 #[derive(Drop)]
 pub enum TwiceCause {
-    /// That of a label or a subroutine.
+    /// A label or a subroutine has it.
     Given { name: Name, giver: Giver },
-    /// That of a field of this card.
+    /// A field of this card has it.
     Field { name: Name, card: u16 },
-    /// That of a field that every program has.
+    /// A field that every program has.
     EveryProgram(Name),
 }
 
-/// A label or a subroutine that a card names, with the card that gives it.
+/// A label or a subroutine that a card names, with the card that defines it.
 #[derive(Drop)]
 pub struct Target {
     pub name: Name,
     pub card: u16,
 }
 
-// ---- the card that gives a name
+// ---- the card that defines a name
 
-/// The name that the calculation that ends on a card gives.
+/// Returns the name that the calculation that ends on a card defines.
 fn given_on(card: &SpecCard, after: &[SpecCard]) -> Option<Named>
     ensures { result ≡ causes.name_given_on card.now after.now }
 {
@@ -71,7 +71,7 @@ fn giver_on(name: &Name, card: &SpecCard, after: &[SpecCard]) -> Option<Giver>
     None
 }
 
-/// The first of the cards at the front of these that gives a name.
+/// Returns the first of the `front` cards that defines a name.
 fn first_giver(name: &Name, front: &[SpecCard], cards: &[SpecCard]) -> Option<Giver>
     ensures { (after : List SpecCard) → cards.now ≡ front.now ++ after → result ≡ causes.giver name.now front.now after }
 {
@@ -91,7 +91,7 @@ fn first_giver(name: &Name, front: &[SpecCard], cards: &[SpecCard]) -> Option<Gi
 
 // ---- F10
 
-/// F10: the label or the subroutine that isn't there, or is the other of the two.
+/// F10: the label or the subroutine that isn't defined, or is the other of the two.
 pub fn nowhere_cause(
     source: &IndexedCards,
     before: &[SpecCard],
@@ -132,7 +132,7 @@ fn of_wanted(source: &IndexedCards, wanted: Named) -> Option<NowhereCause>
 
 // ---- F11
 
-/// F11: what a name was before.
+/// F11: what defined a name before.
 pub fn twice_cause(
     source: &IndexedCards,
     before: &[SpecCard],
@@ -167,7 +167,7 @@ fn of_given_on(
     }
 }
 
-/// A name that is a label's or a subroutine's before a card.
+/// Returns the cause if a label or a subroutine before a card has the name.
 #[tactic(auto, using(crate::proofs::LabelLemmas::is_given_is))]
 fn if_given(
     source: &IndexedCards,
@@ -187,7 +187,7 @@ fn if_given(
     })
 }
 
-/// A name that is a field's, on a card at the latest.
+/// Returns the cause if a field up to a card has the name.
 fn if_field(
     source: &IndexedCards,
     before: &[SpecCard],
@@ -227,7 +227,7 @@ fn of_definitions(
     of_definitions_among(source, before, card, after, definitions.as_slice())
 }
 
-/// The first of these whose name is given before the card.
+/// Returns the first of these whose name is defined before the card.
 fn of_definitions_among(
     source: &IndexedCards,
     before: &[SpecCard],
@@ -250,7 +250,7 @@ fn of_definitions_among(
 
 // ---- F13, F14
 
-/// The label or the subroutine that a card names.
+/// Returns the label or the subroutine that a card names.
 pub fn target_on(source: &IndexedCards, card: &SpecCard, after: &[SpecCard]) -> Option<Target>
     ensures { result ≡ causes.card_target source.now card.now after.now }
 {

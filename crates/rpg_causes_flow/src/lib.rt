@@ -1,4 +1,4 @@
-//! Why calculations, and where control goes, are faults: causes as values, as the rules have them.
+//! Explains why calculations and transfers of control have faults, in terms of the rules.
 #![tactic(auto)]
 
 mod brackets;

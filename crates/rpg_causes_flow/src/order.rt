@@ -1,4 +1,4 @@
-//! F12 of calculation cards: sections out of order, BEGSR and ENDSR that aren't paired, AN and OR cards that need one before them.
+//! F12 of calculation cards: sections out of order, unpaired BEGSR and ENDSR, and AN and OR cards without a card to continue.
 
 ghost use Rattle.std.specs.Prelude.{◌≡◌, ◌∷◌, ◌++◌, is_some, option_and_then};
 ghost use Rattle.rpg_cards.specs.Calculations.{card_ending};
@@ -28,13 +28,13 @@ pub enum OrderCause {
         later: ControlLevel,
         card: u16,
     },
-    /// SR in no subroutine: after the ENDSR of that card, or before the first BEGSR.
+    /// SR outside all subroutines: after the ENDSR of that card, or before the first BEGSR.
     Outside(Option<u16>),
-    /// ENDSR, or else BEGSR, on a card without SR.
+    /// ENDSR, or otherwise BEGSR, on a card without SR.
     OutsideSection {
         is_end: bool,
     },
-    /// ENDSR without BEGSR: after the ENDSR of that card, or the first of all.
+    /// ENDSR without BEGSR: after the ENDSR of that card, or as the first.
     NoBegsr(Option<u16>),
     /// BEGSR without ENDSR, with its name: the BEGSR of that card comes next, or none.
     NoEndsr {
@@ -105,7 +105,7 @@ fn of_group(
     }
 }
 
-/// AN or OR where no calculation stands right before.
+/// Returns the cause for AN or OR without a calculation right before it.
 fn unless_open(before: &[SpecCard]) -> Option<OrderCause>
     ensures { result ≡ causes.unless_open before.now }
 {
@@ -115,7 +115,7 @@ fn unless_open(before: &[SpecCard]) -> Option<OrderCause>
     Some(OrderCause::Unjoined)
 }
 
-/// The order of the sections.
+/// Returns the rank of a section in the order of sections.
 fn rank(control_level: ControlLevel) -> u8
     ensures { result ≡ rules.section_rank control_level }
 {
@@ -126,7 +126,7 @@ fn rank(control_level: ControlLevel) -> u8
     }
 }
 
-/// The first card of a later section.
+/// Returns the first card of a later section.
 fn first_later(own: &ControlLevel, before: &[SpecCard]) -> Option<OrderCause>
     ensures { result ≡ causes.first_later own.now before.now }
 {
@@ -170,7 +170,7 @@ fn card_of(bracket: Option<Bracket>) -> Option<u16>
     Some(bracket?.card)
 }
 
-/// SR in no subroutine, by the last BEGSR or ENDSR before.
+/// Returns the cause for SR outside all subroutines, by the last BEGSR or ENDSR before.
 fn if_outside(
     calculation: &CalculationSpec,
     after: &[SpecCard],
@@ -210,7 +210,7 @@ fn on_last(
     }
 }
 
-/// BEGSR or ENDSR without SR.
+/// Returns the cause for BEGSR or ENDSR without SR.
 fn if_elsewhere(calculation: &CalculationSpec) -> Option<OrderCause>
     ensures { result ≡ causes.if_elsewhere calculation.now }
 {
@@ -222,7 +222,7 @@ fn if_elsewhere(calculation: &CalculationSpec) -> Option<OrderCause>
     })
 }
 
-/// ENDSR without BEGSR.
+/// Returns the cause for ENDSR without BEGSR.
 fn if_unbegun(calculation: &CalculationSpec, last: Option<Bracket>) -> Option<OrderCause>
     ensures { result ≡ causes.if_unbegun calculation.now last }
 {
@@ -232,7 +232,7 @@ fn if_unbegun(calculation: &CalculationSpec, last: Option<Bracket>) -> Option<Or
     None
 }
 
-/// BEGSR without ENDSR.
+/// Returns the cause for BEGSR without ENDSR.
 fn if_unended(calculation: &CalculationSpec, next: Option<Bracket>) -> Option<OrderCause>
     ensures { result ≡ causes.if_unended calculation.now next }
 {

@@ -1,4 +1,4 @@
-//! F15: H where nothing is rounded, and MVR without a division.
+//! F15: H on an operation that can't half-adjust, and MVR without a division.
 
 ghost use Rattle.std.specs.Prelude.{◌≡◌, is_some, false, option_copied};
 ghost use Rattle.std.specs.Option.{option_map_or};
@@ -9,22 +9,22 @@ ghost use Rattle.rpg_faults_flow.specs.Rounding as rules;
 use rpg_cards::{SpecCard, columns, joins, last_card};
 use rpg_sheet_specs::{CalculationSpec, Operation};
 
-/// Why H, or MVR, isn't allowed.
+/// Why H or MVR isn't allowed.
 #[derive(Clone, Copy)]
 pub enum RoundingCause {
-    /// H on a card that AN or OR cards follow.
+    /// H on a card followed by AN or OR cards.
     LastCardAlone,
     /// H without an operation.
     NoOperation,
-    /// H with an operation that isn't half adjusted.
+    /// H with an operation that can't half-adjust.
     NotRounded,
     /// MVR with AN or OR cards.
     SeveralCards,
-    /// MVR without a DIV without H right before.
+    /// MVR without a DIV without H right before it.
     NoDivision,
 }
 
-/// F15: why H, or MVR, isn't allowed.
+/// F15: why H or MVR isn't allowed.
 pub fn rounding_cause(
     before: &[SpecCard],
     card: &SpecCard,
@@ -81,7 +81,7 @@ fn of_remainder(
     }
 }
 
-/// Whether the card right before is the last one of a division without H.
+/// Whether the previous card is the last one of a division without H.
 #[tactic(auto, using(crate::proofs::Groups::is_division_after))]
 fn follows_division(before: &[SpecCard]) -> bool
     ensures { result ≡ rules.follows_division before.now }

@@ -13,7 +13,7 @@ use rpg_causes_operands::with_card;
 use rpg_sheet_specs::{CalculationSpec, ControlLevel, Word};
 use rpg_symbols::Name;
 
-/// What a name is first, and where.
+/// What a name first defines, and where.
 #[derive(Clone, Copy)]
 pub(crate) struct LabelOnCard {
     pub(crate) card: u16,

@@ -1,4 +1,4 @@
-//! F12 of I and O cards: cards that need one before them.
+//! F12 of I and O cards: cards without the card that they continue or belong to.
 
 ghost use Rattle.std.specs.Prelude.{◌≡◌, is_some};
 ghost use Rattle.rpg_cards.specs.Sheets.{AreSheets};
@@ -13,11 +13,13 @@ use rpg_sheet_specs::{InputSpec, OutputSpec};
 pub enum StrayCause {
     /// A field without a record type.
     NoType,
-    /// AND of I: the card right before, if there is one, is no record type and no AND card.
+    /// AND on an I card: the previous card, if there is one, is neither a record type nor an AND
+    /// card.
     OtherThanType(Option<u16>),
     /// A field without a line.
     NoLine,
-    /// AND or OR of O: the card right before, if there is one, is no line, and no AND or OR card.
+    /// AND or OR on an O card: the previous card, if there is one, is neither a line nor an AND
+    /// or OR card.
     OtherThanLine(Option<u16>),
 }
 

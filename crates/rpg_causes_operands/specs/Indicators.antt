@@ -28,11 +28,11 @@ type_indicator_cause n = if cannot_mark_type n then Some (NotOfType n) else None
 abbrev pub of_setting : ℕ → Option IndicatorCause
 of_setting n = if cannot_be_set n then Some (NeverSet n) else None
 
--- MR where no field has a match level
+-- MR if no field has a match level
 abbrev pub line_indicator_cause : List SpecCard → ConditionSpec → Option IndicatorCause
 line_indicator_cause cards c = if is_barred_mr cards c.indicator then Some NoMatchFields else None
 
--- 1P, or MR where no field has a match level
+-- 1P, or MR if no field has a match level
 abbrev pub of_condition : List SpecCard → ConditionSpec → Option IndicatorCause
 of_condition cards c = if is_1p c.indicator then Some FirstPage else line_indicator_cause cards c
 

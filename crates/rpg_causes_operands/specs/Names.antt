@@ -61,7 +61,7 @@ abbrev pub redefined_among : List SpecCard → List Definition → List Definiti
 redefined_among cards before [] = None
 redefined_among cards before (d ∷ ds) = option_or (redefined_by cards before d) (redefined_among cards (before ++ d ∷ []) ds)
 
--- these stand among all, after so many others
+-- these are among all of them, after the given number of others
 abbrev pub StandAt : ℕ → List Definition → List Definition → Type 0
 StandAt place items all = (front : List Definition) × (back : List Definition) × (place ≡ length front) × (all ≡ front ++ (items ++ back))
 

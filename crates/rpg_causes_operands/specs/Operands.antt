@@ -40,11 +40,11 @@ of_class h = option_and_then (λ c. option_and_then (of_content h.at c) h.form) 
 abbrev pub text_with : List SpecCard → Option (List ℕ) → FieldForm → TextField
 text_with cards name form = record { name = name; length = form.length; definer = option_and_then (λ x. definer x cards) name }
 
--- a text where a number is required
+-- a text if a number is required
 abbrev pub if_text : List SpecCard → Held → FieldForm → Option OperandCause
 if_text cards h form = if is_text form then Some (TextOperand h.at (text_with cards h.name form)) else None
 
--- a text where the operation requires numbers
+-- a text if the operation requires numbers
 abbrev pub of_number : List SpecCard → Kinds → Held → Option OperandCause
 of_number cards Numbers h = option_and_then (if_text cards h) h.form
 of_number cards Alike h = None
@@ -60,7 +60,7 @@ of_one cards kinds h = option_or (of_class h) (of_number cards kinds h)
 abbrev pub if_unlike : Option FieldForm → Option FieldForm → Option OperandCause
 if_unlike f g = if kinds_differ f g then option_and_then (λ m. option_map (Unlike m) g) f else None
 
--- a number and a text where the operation requires one kind
+-- a number and a text if the operation requires one kind
 abbrev pub of_pair : Kinds → Option FieldForm → Option FieldForm → Option OperandCause
 of_pair Numbers f g = None
 of_pair Alike f g = if_unlike f g

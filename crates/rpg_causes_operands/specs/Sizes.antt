@@ -1,4 +1,4 @@
--- F3: why a length, or decimals, are past their limits.
+-- F3: why a length, or decimals, are over their limits.
 use Rattle.std.specs.Prelude.{ℕ, ◌+◌, ◌-◌, nat_le, Option, None, Some, is_none, option_and_then, if◌then◌else◌}
 use Rattle.std.specs.Option.{option_map, option_or}
 use Rattle.rpg_cards.specs.Cards.{calculation_on, extension_on, input_field_on}
@@ -29,7 +29,7 @@ table_size_cause t = size_by t.length t.decimals
 abbrev pub tables_size_cause : ExtensionSpec → Option SizeCause
 tables_size_cause e = option_or (table_size_cause e.table) (option_and_then table_size_cause e.alternating)
 
--- that of an input field whose columns aren't turned round
+-- that of an input field whose columns aren't reversed
 abbrev pub input_field_size_cause : InputFieldSpec → Option SizeCause
 input_field_size_cause f = if nat_le f.from f.to then size_by (f.to + 1 - f.from) f.decimals else None
 

@@ -1,4 +1,4 @@
-//! F9 of fields: high or low of what has no sequence, and output fields whose columns don't go together.
+//! F9 of fields: a search for high or low without sequence, and output fields whose columns don't go together.
 
 ghost use Rattle.std.specs.Prelude.{◌≡◌, is_some, false, option_and_then};
 ghost use Rattle.std.specs.Option.{option_map_or};
@@ -13,10 +13,10 @@ use rpg_program::form::{FieldForm, is_array, is_table};
 use rpg_sheet_specs::{CalculationSpec, Factor, OutputField, Word};
 use rpg_symbols::Name;
 
-/// Why columns that have to do with a field are missing or not allowed.
+/// Why a field's columns are missing or not allowed.
 #[derive(Drop)]
 pub enum FieldCause {
-    /// High or low of what isn't in ascending sequence: its name, and the card that defines it.
+    /// A search for high or low in something without ascending sequence: its name, and the card that defines it.
     Unordered {
         name: Option<Name>,
         definer: Option<u16>,
@@ -29,7 +29,7 @@ pub enum FieldCause {
     NoField,
 }
 
-/// F9 of operands: high or low of what has no sequence, and output fields whose columns don't go together.
+/// F9 of operands: a search for high or low without sequence, and output fields whose columns don't go together.
 pub fn field_cause(source: &IndexedCards, card: &SpecCard, after: &[SpecCard]) -> Option<FieldCause>
     ensures cause { result ≡ causes.field_cause source.now card.now after.now }
     ensures rule { is_some result ≡ operands.bad_operand_columns source.now card.now after.now }
@@ -71,7 +71,7 @@ fn of_search(source: &IndexedCards, calculation: &CalculationSpec) -> Option<Fie
     })
 }
 
-/// High or low need entries in ascending sequence.
+/// Whether a search for high or low has entries that aren't in ascending sequence.
 fn is_unordered(
     source: &IndexedCards,
     calculation: &CalculationSpec,
@@ -103,7 +103,7 @@ fn lacks_sequence(form: FieldForm) -> bool
     (is_array(form.class) || is_table(form.class)) && !form.is_ascending
 }
 
-/// Without a field there is a constant, and neither code nor blank after.
+/// Returns the cause for an output card without a field: no constant, or a code or blank-after.
 fn of_output_field(field: &OutputField) -> Option<FieldCause>
     ensures cause { result ≡ causes.of_output_field field.now }
     ensures rule { is_some result ≡ operands.bad_output_field field.now }

@@ -16,28 +16,29 @@ use rpg_symbols::Name;
 /// What is wrong with an index.
 #[derive(Drop)]
 pub enum IndexCause {
-    /// This field can be no index: it isn't a plain number without decimals. With the card that defines it.
+    /// This field can't be an index: it isn't a plain number without decimals. With the card that defines
+    /// it.
     NoIndex {
         name: Name,
         form: FieldForm,
         definer: Option<u16>,
     },
-    /// This field is no array, and has an index.
+    /// This field isn't an array, but has an index.
     NoArray(Name),
-    /// The whole array is meant, and has an index.
+    /// The whole array is required, but it has an index.
     Whole(Name),
-    /// The array of so many entries has no index.
+    /// The array, with this many entries, has no index.
     Missing {
         name: Name,
         entries: u16,
     },
-    /// No entry has that number.
+    /// No entry has this number.
     OutOfRange {
         name: Name,
         entries: u16,
         index: u16,
     },
-    /// LOKUP puts the number of an entry into that field, which has no room for it.
+    /// LOKUP stores the number of an entry in this field, which is too short for it.
     TooShort {
         name: Name,
         entries: u16,
@@ -75,7 +76,7 @@ fn of_operand(source: &IndexedCards, operand: &Option<Operand>) -> Option<IndexC
     }
 }
 
-/// The form of the field that an index names.
+/// Returns the form of the field that an index names.
 fn index_form(source: &IndexedCards, entry: &Entry) -> Option<FieldForm>
     ensures { result ≡ rules.index_form source.now entry.now }
 {
@@ -98,7 +99,7 @@ fn of_index_field(source: &IndexedCards, entry: &Entry) -> Option<IndexCause>
     })
 }
 
-/// A plain number without decimals.
+/// Whether a field is a plain number without decimals.
 fn can_index(form: FieldForm) -> bool
     ensures { result ≡ rules.can_index form }
 {
@@ -126,7 +127,7 @@ fn of_index(
     }
 }
 
-/// An array is no value: one of its entries is.
+/// An array isn't a value; only its entries are.
 fn needs_index(content: Content, form: FieldForm) -> bool
     ensures { result ≡ rules.needs_index content form }
 {
@@ -198,7 +199,7 @@ fn of_name(
     })
 }
 
-/// An index field that LOKUP writes has room for the number of the last entry.
+/// Whether an index field that LOKUP writes is too short for the number of the last entry.
 fn is_too_short(content: Content, form: FieldForm, field: FieldForm) -> bool
     ensures { result ≡ rules.is_too_short content form field }
 {

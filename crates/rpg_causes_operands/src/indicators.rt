@@ -18,11 +18,11 @@ pub enum IndicatorCause {
     NotOfType(Indicator),
     /// Results and fields don't set it.
     NeverSet(Indicator),
-    /// This input field is a text, and only its blanks are tested.
+    /// This input field is a text, and only blanks can be tested in it.
     TextField(Word<6>),
-    /// A calculation asks for 1P.
+    /// A calculation tests 1P.
     FirstPage,
-    /// A condition asks for MR, and no field has a match level.
+    /// A condition tests MR, but no field has a match level.
     NoMatchFields,
 }
 
@@ -75,7 +75,7 @@ fn on_output(source: &IndexedCards, output: &OutputSpec) -> Option<IndicatorCaus
     }
 }
 
-/// Record types turn on 01 to 99, L1 to L9, LR and H1 to H9.
+/// Returns the cause, unless it is 01 to 99, L1 to L9, LR or H1 to H9.
 fn of_type(indicator: Indicator) -> Option<IndicatorCause>
     ensures cause { result ≡ causes.type_indicator_cause indicator }
     ensures rule { is_some result ≡ rules.cannot_mark_type indicator }
@@ -86,7 +86,7 @@ fn of_type(indicator: Indicator) -> Option<IndicatorCause>
     }
 }
 
-/// A text is only blank or not.
+/// A text is either blank or not.
 fn of_text(field: &InputFieldSpec) -> Option<IndicatorCause>
     ensures { result ≡ causes.of_text field.now }
 {
@@ -97,7 +97,7 @@ fn of_text(field: &InputFieldSpec) -> Option<IndicatorCause>
     None
 }
 
-/// Results and fields set all but L0, 1P and MR.
+/// Returns the cause if it is L0, 1P or MR, which results and fields don't set.
 fn of_setting(indicator: Option<Indicator>) -> Option<IndicatorCause>
     ensures cause { result ≡ option_and_then causes.of_setting indicator }
     ensures rule { is_some result ≡ option_map_or rules.cannot_be_set indicator false }

@@ -17,10 +17,10 @@ use rpg_program::form::{FieldForm, Kind, is_array, is_table, is_writable, same_k
 use rpg_sheet_specs::{CalculationSpec, ColumnRange, Entry, Factor, OutputField, Word};
 use rpg_symbols::Name;
 
-/// A field, or a literal, that is a text.
+/// A field or a literal that is a text.
 #[derive(Drop)]
 pub struct TextField {
-    /// None of a literal.
+    /// None for a literal.
     pub name: Option<Name>,
     pub length: u16,
     /// The card that defines it.
@@ -30,11 +30,11 @@ pub struct TextField {
 /// What is wrong with an operand.
 #[derive(Drop)]
 pub enum OperandCause {
-    /// The operation takes that there, and the field isn't it.
+    /// The operation requires this class there, and the field is of another.
     WrongClass { at: ColumnRange, wanted: Content },
-    /// A text where the operation takes numbers.
+    /// A text where the operation requires numbers.
     TextOperand { at: ColumnRange, text: TextField },
-    /// Factor 1 and factor 2 are a number and a text.
+    /// One of factor 1 and factor 2 is a number, the other a text.
     Unlike { first: FieldForm, second: FieldForm },
     /// The result is the date.
     Unwritable,
@@ -99,13 +99,13 @@ fn by_columns(
     of_operands(source, columns.kinds, &first, &second, &third)
 }
 
-/// What stands in columns of a calculation.
+/// The contents of columns of a calculation.
 #[derive(Drop)]
 struct Held {
     at: ColumnRange,
-    /// What the operation takes there, where it is a field.
+    /// What the operation requires there, if it is a field.
     content: Option<Content>,
-    /// The field's name: none of a literal.
+    /// The field's name; None for a literal.
     name: Option<Name>,
     form: Option<FieldForm>,
 }
@@ -201,7 +201,7 @@ fn of_third(
     }
 }
 
-/// An operand that is wrong by itself.
+/// Returns the cause if an operand is wrong by itself.
 fn of_one(source: &IndexedCards, kinds: Kinds, held: &Held) -> Option<OperandCause>
     ensures cause { result ≡ causes.of_one source.now kinds held.now }
     ensures rule { is_some result ≡ causes.is_wrong_operand kinds held.now }
@@ -319,7 +319,7 @@ fn of_result(
     }
 }
 
-/// The date and constants are never written.
+/// Returns the cause for the date or a constant, which are never written.
 fn if_unwritable(form: FieldForm) -> Option<OperandCause>
     ensures { result ≡ causes.if_unwritable form }
 {
@@ -330,7 +330,7 @@ fn if_unwritable(form: FieldForm) -> Option<OperandCause>
     }
 }
 
-/// A table that is found in with fewer entries than what is searched.
+/// Returns the cause if the result's table has fewer entries than the one that is searched.
 fn if_too_few(searched: FieldForm, found: FieldForm) -> Option<OperandCause>
     ensures { result ≡ causes.if_too_few searched found }
 {
@@ -354,7 +354,7 @@ fn in_output(source: &IndexedCards, field: &OutputField) -> Option<OperandCause>
     as_output(source, &entry.name, field, entry_form(source, entry)?)
 }
 
-/// A text that is edited, or the date that is blanked.
+/// Returns the cause if a text is edited, or the date is blanked.
 fn as_output(
     source: &IndexedCards,
     name: &Name,

@@ -1,4 +1,4 @@
-//! Why a card's names, sizes, operands, indexes and indicators are faults: causes as values, as the rules have them.
+//! Explains why a card's names, sizes, operands, indexes and indicators have faults, in terms of the rules.
 #![tactic(auto)]
 
 mod fields;

@@ -23,11 +23,11 @@ pub struct Redefined {
     pub here: FieldForm,
     /// Its first form.
     pub first: FieldForm,
-    /// The card that defines it first: none of UDATE and PAGE.
+    /// The first card that defines it; None for UDATE and PAGE.
     pub definer: Option<u16>,
 }
 
-/// The cards up to a card.
+/// Returns the cards up to a card.
 pub fn with_card<'a>(
     source: &IndexedCards<'a>,
     before: &[SpecCard],
@@ -54,7 +54,7 @@ fn defines(card: &SpecCard, name: &Name) -> bool
     false
 }
 
-/// The first of these cards that defines a name.
+/// Returns the first of these cards that defines a name.
 pub fn first_defining(cards: &[SpecCard], name: &Name) -> Option<u16>
     ensures { result ≡ causes.first_defining name.now cards.now }
 {
@@ -66,7 +66,7 @@ pub fn first_defining(cards: &[SpecCard], name: &Name) -> Option<u16>
     None
 }
 
-/// The card that defines a name: none of UDATE and PAGE.
+/// Returns the first card that defines a name; None for UDATE and PAGE.
 pub(crate) fn definer(source: &IndexedCards, name: &Name) -> Option<u16>
     ensures { result ≡ causes.definer name.now source.now }
 {
@@ -113,7 +113,7 @@ fn if_undefined(source: &IndexedCards, name: &Name) -> Option<Name>
     }
 }
 
-/// A literal index names no field.
+/// Returns the name of an index; a literal one has none.
 pub(crate) fn index_name(entry: &Entry) -> Option<&Name>
     ensures { option_copied result ≡ rules.index_name entry.now }
 {
@@ -156,7 +156,7 @@ fn count_definitions(cards: &[SpecCard]) -> usize
     count
 }
 
-/// The first of these, which come after so many definitions, that has another form by those before it.
+/// Returns the first of these, which follow the first `place` definitions, that differs in form from those before it.
 fn redefined_among(source: &IndexedCards, place: usize, items: &[Definition]) -> Option<Redefined>
     requires few { place ≤ 4000 }
     requires stand { StandAt place items.now (definitions source.now) }

@@ -1,4 +1,4 @@
-//! F3: lengths and decimals past their limits.
+//! F3: lengths and decimals over their limits.
 
 ghost use Rattle.std.specs.Prelude.{◌≡◌, is_some, is_none};
 ghost use Rattle.rpg_cards.specs.Names.{sized_form};
@@ -11,17 +11,17 @@ use rpg_sheet_specs::{ExtensionSpec, InputFieldSpec, TableSpec};
 /// What is wrong with a length and decimals.
 #[derive(Clone, Copy)]
 pub enum SizeCause {
-    /// A length that no text has, and no number.
+    /// A length that neither a text nor a number can have.
     Length(u32),
-    /// So many digits, of a number.
+    /// This many digits of a number.
     Digits(u32),
-    /// Too many decimals, of so many digits.
+    /// Too many decimals for this many digits.
     Decimals { decimals: u8, length: u32 },
     /// Decimals without a length.
     NoLength,
 }
 
-/// F3: which length, or which decimals, are past their limits.
+/// F3: which length or decimals are over their limits.
 pub fn size_cause(card: &SpecCard) -> Option<SizeCause>
     ensures cause { result ≡ causes.size_cause card.now }
     ensures rule { is_some result ≡ rules.bad_size card.now }

@@ -11,80 +11,81 @@ use rpg_cli_words::FileWord;
 use rpg_engine::{ObjectFault, Report, RunFault};
 use rpg_faults::SourceFault;
 
-/// How a command ended. What refuses a command is handed up as it is.
+/// How a command ended. What makes a command fail is passed on as it is.
 #[derive(Clone, Copy)]
 pub enum Answer {
     /// The source was compiled to an object program.
     Compiled,
-    /// The source has no fault.
+    /// The source has no faults.
     Faultless,
-    /// Several sources were checked: how many, how many of them are rejected, and the greatest exit status.
+    /// Several sources were checked: how many, how many of them were rejected, and the greatest exit status.
     Checked {
         sources: u64,
         rejected: u64,
         status: u8,
     },
-    /// The source has a warning, and the words deny it.
+    /// The source has a warning, and the arguments deny it.
     Denied {
         card: u16,
         code: WarningCode,
     },
-    /// The object program keeps all rules: the most steps that a cycle of it can take.
+    /// The object program obeys all rules: the most steps that one of its cycles can take.
     Accepted {
         bound: u64,
     },
-    /// The job came to its end, or halted.
+    /// The job ended normally, or halted.
     Ended(Report),
-    /// The source is refused.
+    /// The source is rejected.
     Source(SourceFault),
-    /// The object file isn't that of an accepted program.
+    /// The object file doesn't hold an accepted program.
     Object(ObjectFault),
-    /// The source is compiled to other bytes than those of the object file.
+    /// The source doesn't compile to the bytes of the object file.
     OtherSource,
-    /// The program has a disk file, and the words name none.
+    /// The program has a disk file, and the arguments name none.
     DiskFileWanted,
-    /// The program has a secondary file, and the words name none.
+    /// The program has a secondary file, and the arguments name none.
     SecondaryFileWanted,
-    /// The program uses the date, and the words have none.
+    /// The program uses the date, and the arguments have none.
     DateWanted,
-    /// A cycle of the program may take more steps than the words allow.
+    /// A cycle of the program may take more steps than the arguments allow.
     OverLimit {
         bound: u64,
     },
-    /// The run gave no report.
+    /// The run produced no report.
     Run(RunFault),
-    /// The file that a word names failed.
+    /// The file of an argument failed.
     File {
         word: FileWord,
         fault: FileFault,
     },
     /// A code was explained.
     Explained,
-    /// Cards were made of shorthand, or shorthand of cards.
+    /// Shorthand was converted to cards, or cards to shorthand.
     Deck,
-    /// A line of shorthand is no card.
+    /// A line of shorthand isn't a card.
     NoCard {
         line: u16,
     },
-    /// Records were made lines, or lines records: how many, how many were left out, and how many columns a line has at most.
+    /// Records were converted to lines, or lines to records: how many, how many were left out, and the greatest number of
+    /// columns of a line.
     Records {
         records: u64,
         dropped: u64,
         columns: u64,
     },
-    /// The deck of records is refused, by its first card that is, if a card is.
+    /// The deck of records is rejected: the first rejected card, if there is one.
     DeckRefused {
         card: Option<u16>,
     },
-    /// A record, or a line, is refused: its number, from 1.
+    /// A record or a line is rejected: its number, from 1.
     RecordRefused {
         number: u64,
     },
-    /// An old deck was rewritten: how many changes it took.
+    /// An old deck was rewritten, with this many changes.
     Fitted {
         changes: u64,
     },
-    /// An old deck can't be rewritten: the card, and the number of the rule that refuses it.
+    /// An old deck can't be rewritten: the card, and the number of the rule that rejects it.
     FitRefused {
         card: u64,
         rule: u8,
@@ -96,7 +97,7 @@ pub enum Answer {
     NoMemory,
 }
 
-/// Hands up the fault of the file that a word names.
+/// Turns a file fault into that of the file that an argument names.
 pub fn named<T>(word: FileWord, given: Result<T, FileFault>) -> Result<T, Answer>
     ensures { result ≡ named_fault word given }
 {

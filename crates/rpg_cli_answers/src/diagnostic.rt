@@ -1,13 +1,13 @@
-//! A diagnostic, by the line that a person reads of it.
+//! Diagnostics, parsed from their lines of text.
 
 use rpg_cli_explain::{Topic, topic_of};
 use rpg_text::shown;
 
-/// What a diagnostic says, and where.
+/// What a diagnostic says, and where it points.
 #[derive(Clone, Copy)]
 pub(crate) struct Diagnostic<'f, 't> {
     pub file: Option<&'f str>,
-    /// The number of the line, by its digits.
+    /// The line number, as digits.
     pub line: Option<&'t str>,
     pub column: Option<&'t str>,
     pub code: Option<&'t str>,
@@ -17,18 +17,18 @@ pub(crate) struct Diagnostic<'f, 't> {
 }
 
 impl<'f, 't> Diagnostic<'f, 't> {
-    /// Whether it is about a rule by which old decks are rewritten.
+    /// Whether it is about a rule for rewriting old decks.
     fn is_rewriting(&self) -> bool {
         matches!(self.topic, Some(Topic::Rewriting(_)))
     }
 
-    /// Whether this and the next one are changes of one card, which have one picture.
+    /// Whether this one and the next are changes of the same card, which share a picture.
     pub fn shares_picture(&self, next: &Diagnostic<'f, 't>) -> bool {
         self.is_rewriting() && next.is_rewriting() && self.line == next.line
     }
 }
 
-/// How the message about a card begins that can't be rewritten.
+/// The start of the message about a card that can't be rewritten.
 const REFUSED: &str = "can't be rewritten: ";
 
 #[derive(Clone, Copy)]
@@ -38,7 +38,7 @@ pub enum Severity {
     Note,
 }
 
-/// What diagnostics may be about, and how severe those are that have no code.
+/// The files that diagnostics may name, and the severity of those without a code.
 #[derive(Clone, Copy)]
 pub(crate) struct Known<'f, 'k> {
     pub files: &'k [&'f str],
@@ -54,7 +54,7 @@ impl Severity {
         }
     }
 
-    /// A rule's change of an old deck is a note; that a card can't be rewritten is an error.
+    /// A change of an old deck is a note; a card that can't be rewritten is an error.
     fn of(topic: Option<Topic>, message: &str, uncoded: Severity) -> Severity {
         match topic {
             None => uncoded,
@@ -65,7 +65,7 @@ impl Severity {
     }
 }
 
-/// Whether a text is a name as it is shown.
+/// Whether a text is a name as it is printed.
 fn shows(text: &str, name: &str) -> bool {
     let mut are_same = text.len() == name.len();
     for (byte, other) in text.bytes().zip(name.bytes()) {
@@ -74,7 +74,7 @@ fn shows(text: &str, name: &str) -> bool {
     are_same
 }
 
-/// What stands after the name of a file, from the colon or the blank on.
+/// Returns what follows the name of a file, from the colon or the blank on.
 fn after_name<'a>(line: &'a str, name: &str) -> Option<&'a str> {
     let begin = line.get(..name.len())?;
     if !shows(begin, name) {
@@ -84,7 +84,7 @@ fn after_name<'a>(line: &'a str, name: &str) -> Option<&'a str> {
     (rest.starts_with(':') || rest.starts_with(' ')).then_some(rest)
 }
 
-/// The file with the longest name among those that a line can begin with, and what stands after it.
+/// Returns the file with the longest name that a line begins with, and what follows it.
 fn file_of<'f, 't>(line: &'t str, files: &[&'f str]) -> Option<(&'f str, &'t str)> {
     let mut found: Option<(&'f str, &'t str)> = None;
     for file in files {
@@ -102,7 +102,7 @@ pub(crate) fn is_number(text: &str) -> bool {
     !text.is_empty() && text.bytes().all(|b| b.is_ascii_digit())
 }
 
-/// The digits that a text begins with, and what stands after them and a colon.
+/// Returns the digits that a text begins with, and what follows them and a colon.
 fn number_of(text: &str) -> (Option<&str>, &str) {
     match text.split_once(':') {
         Some((digits, rest)) if is_number(digits) => (Some(digits), rest),
@@ -110,7 +110,7 @@ fn number_of(text: &str) -> (Option<&str>, &str) {
     }
 }
 
-/// A code that a message begins with, what it is about, and the message after it. A note has the word in place of a code.
+/// Returns the code that a message begins with, its topic, and the message after it. A note has that word instead of a code.
 fn code_of(text: &str) -> (Option<&str>, Option<Topic>, &str) {
     match text.split_once(": ") {
         Some(("note", rest)) => (None, None, rest),
@@ -122,13 +122,13 @@ fn code_of(text: &str) -> (Option<&str>, Option<Topic>, &str) {
     }
 }
 
-/// The number of a record, and what stands after it: ` record 2 at byte 20: ..`.
+/// Returns the number of a record, and what follows it: ` record 2 at byte 20: ..`.
 fn record_of(text: &str) -> Option<(&str, &str)> {
     let (number, rest) = text.strip_prefix(" record ")?.split_once(' ')?;
     is_number(number).then_some((number, rest))
 }
 
-/// The line, or the record, and the column that a text begins with, and what stands after them.
+/// Returns the line or record and the column that a text begins with, and what follows them.
 fn place_of(text: &str) -> (Option<&str>, Option<&str>, &str) {
     if let Some((record, rest)) = record_of(text) {
         return (Some(record), None, rest);
@@ -142,7 +142,7 @@ fn place_of(text: &str) -> (Option<&str>, Option<&str>, &str) {
     }
 }
 
-/// A message about a file, from a place in it on, or of the file as a whole.
+/// Parses a message about a file, or a place in it.
 fn placed<'f, 't>(file: &'f str, rest: &'t str, uncoded: Severity) -> Diagnostic<'f, 't> {
     let (line, column, rest) = place_of(rest);
     let (code, topic, message) = code_of(rest.trim_start());
@@ -157,7 +157,7 @@ fn placed<'f, 't>(file: &'f str, rest: &'t str, uncoded: Severity) -> Diagnostic
     }
 }
 
-/// A message without a place or a code.
+/// Makes a message without a place or a code.
 fn plain<'f, 't>(
     file: Option<&'f str>,
     severity: Severity,
@@ -174,8 +174,8 @@ fn plain<'f, 't>(
     }
 }
 
-/// The diagnostic that a line is. One that begins with a file and a blank says why the file failed, or what a program asks for; a line that begins
-/// with no file is a message alone.
+/// Parses a line. One that begins with a file and a blank says why the file failed, or what a program requires; a line that doesn't begin
+/// with a file is only a message.
 pub(crate) fn diagnostic_of<'f, 't>(line: &'t str, known: Known<'f, '_>) -> Diagnostic<'f, 't> {
     match file_of(line, known.files) {
         None => plain(None, Severity::Note, line),

@@ -1,4 +1,4 @@
-//! A listener that passes diagnostics on in the form that is wanted: as texts, or as objects of JSON.
+//! A listener that passes on diagnostics as text, or as JSON objects.
 
 use crate::diagnostic::{Known, Severity};
 use crate::objects::diagnostics;
@@ -9,20 +9,20 @@ use std::alloc::Global;
 #[derive(Clone, Copy)]
 pub enum Form {
     Text,
-    /// Objects of JSON. Diagnostics without a code are as severe as this.
+    /// JSON objects. Diagnostics without a code have this severity.
     Objects { uncoded: Severity },
 }
 
-/// Passes on each diagnostic in one of the forms: as its text, or as an object of JSON in a line of its own. If there is no memory for an
-/// object, it is left out. It is one type for both forms, so that a command is there once.
+/// Passes on each diagnostic as text, or as a JSON object on a line of its own. An object is left out if memory runs out for it. One type
+/// serves both forms, so that each command is compiled once.
 #[derive(Drop)]
 pub struct FormedListener<'a, L> {
     alloc: Global,
     listener: &'a mut L,
-    /// The files that diagnostics may be about, by their names.
+    /// The names of the files that diagnostics may name.
     files: Vec<&'a str>,
     form: Form,
-    /// A line whose end hasn't come.
+    /// A line that isn't complete yet.
     begun: String,
 }
 
@@ -37,7 +37,7 @@ impl<'a, L: Listener> FormedListener<'a, L> {
         }
     }
 
-    /// Takes a text, and passes on the objects of all lines that have ended.
+    /// Takes a text, and passes on the objects of all complete lines.
     fn tell_objects(&mut self, text: &str, uncoded: Severity) {
         if self.begun.push_str(text).is_err() || !text.ends_with('\n') {
             return;

@@ -1,4 +1,4 @@
-//! The object of JSON that is printed for an answer.
+//! The JSON object that is printed for an answer.
 
 ghost use Rattle.std.specs.Prelude.{◌≡◌, ◌+◌, ◌≤◌, ◌++◌, length, decimal};
 ghost use Rattle.arrayvec.specs.ArrayVec.{array_vec_len};
@@ -14,7 +14,7 @@ use rpg_engine::{JobEnd, Report};
 /// An object under construction.
 type Object = ArrayVec<u8, 256>;
 
-/// The object of JSON that is printed for an answer, without its line feed, and the exit status.
+/// The JSON object that is printed for an answer, without its line feed, and the exit status.
 #[derive(Drop)]
 pub struct JsonLine {
     pub text: ArrayVec<u8, 256>,
@@ -41,7 +41,7 @@ fn add_name(text: &mut Object, name: &[u8])
     add(text, b"\":");
 }
 
-/// Adds a member whose value is a number.
+/// Adds a member with a number.
 fn add_number(text: &mut Object, name: &[u8], number: u64)
     requires name { length name.now ≤ 10 }
     requires room { array_vec_len text.old ≤ 200 }
@@ -52,7 +52,7 @@ fn add_number(text: &mut Object, name: &[u8], number: u64)
     add(text, Buffer::new().format(number).as_bytes());
 }
 
-/// The same of a number of at most three digits.
+/// Like `add_number`, for a number of at most three digits.
 fn add_short_number(text: &mut Object, name: &[u8], number: u8)
     requires name { length name.now ≤ 10 }
     requires room { array_vec_len text.old ≤ 220 }
@@ -104,7 +104,7 @@ fn add_records(text: &mut Object, records: u64, dropped: u64, columns: u64)
     add_number(text, b"columns", columns);
 }
 
-/// The numbers of an answer that counts.
+/// Adds the numbers of an answer that counts.
 fn add_counts(text: &mut Object, answer: &Answer)
     requires { array_vec_len text.old ≤ 110 }
     ensures items { text.new.items ≡ text.old.items ++ json.count_members answer.now }
@@ -130,7 +130,7 @@ fn add_counts(text: &mut Object, answer: &Answer)
     }
 }
 
-/// Begins an object with the answer in words.
+/// Begins an object with the words of the answer.
 fn begin(words: &[u8]) -> Object
     requires { length words.now ≤ 96 }
     ensures items { result.items ≡ json.answer_member words.now }
@@ -143,7 +143,7 @@ fn begin(words: &[u8]) -> Object
     text
 }
 
-/// The object of JSON that is printed for an answer, and the exit status.
+/// Returns the JSON object that is printed for an answer, and the exit status.
 pub fn json_line(answer: &Answer) -> JsonLine
     ensures text { result.text.items ≡ json.json_text answer.now }
     ensures status { result.status ≡ exit_status answer.now }

@@ -1,4 +1,4 @@
-//! How the commands of `rpg2` end, with the line and exit status of each end, and what they print besides: texts, or objects of JSON.
+//! How the commands of `rpg2` end, with the line and exit status of each end, and what else they print: text, or JSON objects.
 #![tactic(auto)]
 
 mod answer;

@@ -8,14 +8,14 @@ use crate::string::{
 use rpg_cli_text::TextWriter;
 use std::alloc::{AllocError, Global};
 
-/// What a picture shows of the columns of a diagnostic.
+/// What a picture shows about the columns of a diagnostic.
 #[derive(Clone, Copy)]
 struct Marked<'a> {
     card: &'a str,
-    /// The first and the last column, if there is a mark.
+    /// The first and last marked column, if there is a mark.
     first: Option<usize>,
     last: Option<usize>,
-    /// What the card has in the columns.
+    /// What the card has in these columns.
     name: Option<&'a str>,
 }
 
@@ -29,7 +29,7 @@ impl<'a> Marked<'a> {
         }
     }
 
-    /// The text of a card above a mark that comes after so many blanks. There is none above columns with others between them.
+    /// Returns the card's text above a mark after `blanks` blanks, if the marked columns are adjacent.
     fn name_in(card: &'a str, blanks: usize, mark: &str) -> Option<&'a str> {
         if mark.trim_start().contains(' ') {
             return None;
@@ -38,7 +38,7 @@ impl<'a> Marked<'a> {
         (!name.is_empty()).then_some(name)
     }
 
-    /// With the columns over a mark.
+    /// Adds the columns above a mark.
     fn marked_by(self, mark: &str) -> Marked<'a> {
         let blanks = mark.len().saturating_sub(mark.trim_start().len());
         Marked {
@@ -49,7 +49,7 @@ impl<'a> Marked<'a> {
         }
     }
 
-    /// With one more line of the picture.
+    /// Adds a line of the picture.
     fn with(self, picture: Picture<'a>) -> Marked<'a> {
         match picture {
             Picture::Ruler => self,
@@ -59,7 +59,7 @@ impl<'a> Marked<'a> {
     }
 }
 
-/// Writes the first column, which the line has or else the mark, and the last one.
+/// Writes the first column, from the line or else from the mark, and the last one.
 fn write_columns(out: &mut TextWriter, column: Option<&str>, marked: Marked<'_>) {
     write_number_member(out, "column", column);
     if let (None, Some(first)) = (column, marked.first) {
@@ -70,7 +70,7 @@ fn write_columns(out: &mut TextWriter, column: Option<&str>, marked: Marked<'_>)
     }
 }
 
-/// Writes an object in a line of its own.
+/// Writes an object on a line of its own.
 fn write_object(out: &mut TextWriter, diagnostic: Diagnostic<'_, '_>, marked: Marked<'_>) {
     out.write_str("{\"severity\":\"");
     out.write_str(diagnostic.severity.text());
@@ -87,7 +87,7 @@ fn write_object(out: &mut TextWriter, diagnostic: Diagnostic<'_, '_>, marked: Ma
     out.write_str("}\n");
 }
 
-/// Diagnostics whose picture may follow: one, or the changes of one card.
+/// Diagnostics whose picture may follow: one, or all changes of a card.
 #[derive(Drop)]
 struct Open<'f, 't> {
     diagnostics: Vec<Diagnostic<'f, 't>>,
@@ -107,7 +107,7 @@ impl<'f, 't> Open<'f, 't> {
         self.marked.unwrap_or(Marked::nothing())
     }
 
-    /// Writes an object for each, after which nothing is left.
+    /// Writes an object for each of them, and forgets them.
     fn write(&mut self, out: &mut TextWriter) {
         let marked = self.marked_so_far();
         for diagnostic in &self.diagnostics {
@@ -117,7 +117,7 @@ impl<'f, 't> Open<'f, 't> {
         self.marked = None;
     }
 
-    /// Whether one more diagnostic has the same picture, which hasn't come yet.
+    /// Whether one more diagnostic shares their picture, which hasn't come yet.
     fn goes_on_with(&self, next: &Diagnostic<'f, 't>) -> bool {
         match (self.diagnostics.last(), self.marked) {
             (Some(last), None) => last.shares_picture(next),
@@ -125,7 +125,7 @@ impl<'f, 't> Open<'f, 't> {
         }
     }
 
-    /// Goes on with one more line: of the picture, or of a diagnostic, before which those of another picture are written.
+    /// Takes one more line, of the picture or of a diagnostic; diagnostics with another picture are written first.
     fn go_on(
         &mut self,
         out: &mut TextWriter,
@@ -144,8 +144,8 @@ impl<'f, 't> Open<'f, 't> {
     }
 }
 
-/// The diagnostics that a text for people has about files, as objects: what a picture shows goes into the object of the line above it, or into those
-/// of all changes of its card.
+/// Converts the diagnostics about files in a text for people to objects: what a picture shows goes into the object of the line above it, or
+/// into those of all changes of its card.
 pub(crate) fn diagnostics(
     alloc: Global,
     known: Known<'_, '_>,
@@ -160,7 +160,7 @@ pub(crate) fn diagnostics(
     out.finish()
 }
 
-/// The answer for one source among several, as an object in a line of its own.
+/// Returns the answer for one of several sources, as an object on a line of its own.
 pub fn source_object(
     alloc: Global,
     path: &str,

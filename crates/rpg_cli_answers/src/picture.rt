@@ -2,7 +2,7 @@
 
 use crate::diagnostic::is_number;
 
-/// What stands before a ruler and a mark.
+/// The margin before a ruler and a mark.
 const MARGIN: &str = "      | ";
 
 /// A line of a picture.
@@ -10,17 +10,17 @@ const MARGIN: &str = "      | ";
 pub(crate) enum Picture<'a> {
     Ruler,
     Card(&'a str),
-    /// Blanks, and a mark under the columns after them.
+    /// Blanks, and a mark under the columns that follow.
     Mark(&'a str),
 }
 
-/// The card of a line that has its number before it.
+/// Returns the card of a line that begins with the card's number.
 fn card_of(line: &str) -> Option<&str> {
     let (number, card) = line.split_once(" | ")?;
     (number.len() >= 5 && is_number(number.trim())).then_some(card)
 }
 
-/// What a line of a picture shows; none if it is another line.
+/// Returns what a line of a picture shows; None for any other line.
 pub(crate) fn picture_of(line: &str) -> Option<Picture<'_>> {
     match line.strip_prefix(MARGIN) {
         Some(mark) if mark.ends_with('^') => Some(Picture::Mark(mark)),

@@ -1,4 +1,4 @@
-//! Sources, by their paths or from standard input.
+//! Reads sources from their paths or from standard input.
 
 use rpg_cli_files::{FileFault, Reason, file_bytes};
 use rpg_cli_words::is_standard;
@@ -15,7 +15,7 @@ fn input_fault(error: &Error) -> FileFault {
     }
 }
 
-/// All bytes of standard input.
+/// Reads all of standard input.
 fn input_bytes<R: Input + AllocGlobal>(rt: &R) -> Result<Vec<u8>, FileFault> {
     let mut bytes = Vec::new(rt.alloc());
     match rt
@@ -29,7 +29,7 @@ fn input_bytes<R: Input + AllocGlobal>(rt: &R) -> Result<Vec<u8>, FileFault> {
     }
 }
 
-/// The bytes of a source: those of a file, or of standard input.
+/// Reads a source from a file or from standard input.
 pub fn source_bytes<R: Files + Input + AllocGlobal>(
     rt: &R,
     path: &str,
@@ -41,7 +41,7 @@ pub fn source_bytes<R: Files + Input + AllocGlobal>(
     }
 }
 
-/// The path by which the system has a source.
+/// Returns the path by which the system knows a source.
 pub fn system_path(path: &str) -> &str {
     if is_standard(path) {
         "/dev/stdin"

@@ -1,10 +1,10 @@
-//! Files that two words name.
+//! Files that two arguments name.
 
 use rpg_cli_files::{FileIdentity, Opened, Pending, identity, identity_at};
 use rpg_cli_words::{FileWord, SameFile, Shared};
 use std::rt::Files;
 
-/// A word of the command line, and the regular file that it names, if it names one.
+/// An argument, and the regular file that it names, if any.
 #[derive(Clone, Copy)]
 pub struct NamedFile {
     word: FileWord,
@@ -19,7 +19,7 @@ impl NamedFile {
         }
     }
 
-    /// A file that the words may name.
+    /// Returns the file that an argument may name.
     pub fn named<R: Files>(rt: &R, word: FileWord, path: Option<&str>) -> NamedFile {
         let identity = match path {
             Some(path) => identity_at(rt, path),
@@ -28,7 +28,8 @@ impl NamedFile {
         NamedFile { word, identity }
     }
 
-    /// A file of a job, or the one that a standard stream was led to, which the system has by this path.
+    /// Returns an open file of a job, or the one that a standard stream is redirected to, which the
+    /// system knows by this path.
     pub fn opened<R: Files>(
         rt: &R,
         word: FileWord,
@@ -43,7 +44,7 @@ impl NamedFile {
         NamedFile { word, identity }
     }
 
-    /// A file that a job writes: by its place, where it's written beside that.
+    /// Returns a file that a job writes, or the place of one that is written beside it.
     pub fn written<R: Files>(
         rt: &R,
         word: FileWord,
@@ -58,7 +59,7 @@ impl NamedFile {
     }
 }
 
-/// Refuses to write a file that another word names too.
+/// Refuses to write a file that another argument names too.
 pub fn refuse_same_file(written: NamedFile, others: &[NamedFile]) -> Result<(), SameFile> {
     if written.identity.is_none() {
         return Ok(());

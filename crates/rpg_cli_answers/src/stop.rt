@@ -8,15 +8,15 @@ use rpg_cli_words::SameFile;
 #[derive(Clone, Copy)]
 pub enum CommandStop {
     Answer(Answer),
-    /// A file would be emptied that another word names.
+    /// A file that another argument names would be emptied.
     SameFile(SameFile),
-    /// Not all of a text could be shown.
+    /// A text couldn't be printed completely.
     Unshown(Reason),
-    /// The job gave no report.
+    /// The job produced no report.
     Job { answer: Answer, reasons: Reasons },
 }
 
-/// Why the files of a job failed, as far as the system reports it.
+/// Why the files of a job failed, if the system reports it.
 #[derive(Clone, Copy)]
 pub struct Reasons {
     pub input: Option<Reason>,

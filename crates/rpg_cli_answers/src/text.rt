@@ -31,7 +31,7 @@ fn put_number(text: &mut Text, number: u64)
     put(text, Buffer::new().format(number).as_bytes());
 }
 
-/// A number of at most three digits.
+/// Writes a number of at most three digits.
 fn put_short_number(text: &mut Text, number: u8)
     requires { array_vec_len text.old ≤ 93 }
     ensures items { text.new.items ≡ text.old.items ++ decimal number }
@@ -180,7 +180,7 @@ fn put_refused_deck(text: &mut Text, card: Option<u16>)
     put(text, b"refused");
 }
 
-/// The card of an old deck, and the rule that refuses it.
+/// Writes the card of an old deck, and the rule that rejects it.
 fn put_refused_card(text: &mut Text, card: u64, rule: u8)
     requires { array_vec_len text.old ≤ 4 }
     ensures { text.new.items ≡ text.old.items ++ answers.refused_card_text card rule }
@@ -219,7 +219,7 @@ fn ending_status(ending: JobEnd) -> u8
     }
 }
 
-/// The exit status of an answer.
+/// Returns the exit status of an answer.
 fn exit_status(answer: &Answer) -> u8
     ensures { result ≡ answers.exit_status answer.now }
 {
@@ -253,7 +253,7 @@ fn exit_status(answer: &Answer) -> u8
     }
 }
 
-/// The line that is printed for an answer, and the exit status.
+/// Returns the line that is printed for an answer, and the exit status.
 pub fn line(answer: &Answer) -> Line
     ensures text { result.text.items ≡ answers.line_text answer.now }
     ensures status { result.status ≡ answers.exit_status answer.now }

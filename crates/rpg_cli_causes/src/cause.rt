@@ -46,8 +46,8 @@ fn write_told(out: &mut TextWriter, spot: Spot<'_>, cause: &Cause) {
     }
 }
 
-/// Writes why a card of a source has a fault at these columns, and returns whether the cause is known; otherwise nothing is written. Card 0 is the source as a
-/// whole, which has no primary file.
+/// Writes why a card of a source has a fault at these columns. Returns whether the cause is known; otherwise nothing is written. Card 0 is
+/// the source as a whole, which lacks a primary file.
 pub fn write_cause(
     out: &mut TextWriter,
     source: SourceCards<'_>,

@@ -8,7 +8,7 @@ use rpg_faults::FaultCode;
 
 const WANTED: &str = ": {} {}, {} a card, {} {} {} of data, and ";
 
-/// The cards of data that so many entries need.
+/// Writes how many cards of data this many entries need.
 fn write_need(out: &mut TextWriter, need: Need) {
     out.fill(
         WANTED,
@@ -23,7 +23,7 @@ fn write_need(out: &mut TextWriter, need: Need) {
     );
 }
 
-/// That there are other cards than an E card needs.
+/// Writes that the number of cards differs from what an E card needs.
 fn write_other_cards(out: &mut TextWriter, need: Need, there: usize) {
     write_need(out, need);
     let verb = noun(there, "stands", "stand");
@@ -34,7 +34,7 @@ const TOO_WIDE: &str = ": {} entries a card of {} columns take {}, and a card ha
 
 const ENTRY: &str = ": entry {} of {}, on card {}, is \"{}\", which ";
 
-/// Which entry of a table is wrong, and why.
+/// Writes which entry of a table is wrong, and why.
 fn write_entry(out: &mut TextWriter, spot: Spot<'_>, cause: &EntryCause) {
     let text = spot
         .data_of_card(cause.card, cause.column, usize::from(cause.length))

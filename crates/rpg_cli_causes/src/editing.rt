@@ -1,11 +1,11 @@
-//! F17: by how much an edit code or an edit word misses its number.
+//! F17: how an edit code or an edit word fails to fit its number.
 
 use crate::forms::noun;
 use rpg_causes::{EditingCause, Misfit};
 use rpg_cli_text::TextWriter;
 use rpg_faults::FaultCode;
 
-/// How many digits a number has.
+/// Writes how many digits a number has.
 fn write_digits(out: &mut TextWriter, name: &[u8], length: u16, decimals: u8) {
     let digits = noun(usize::from(length), "digit", "digits");
     out.fill_three("{} has {} {}", name, length, digits);
@@ -14,7 +14,7 @@ fn write_digits(out: &mut TextWriter, name: &[u8], length: u16, decimals: u8) {
     }
 }
 
-/// F17: what the number has, and what its code or word takes.
+/// F17: what the number has, and what its code or word allows.
 pub(crate) fn write_editing(out: &mut TextWriter, cause: &EditingCause) {
     let name = cause.name.as_slice();
     out.write_str(FaultCode::F17.sentence());

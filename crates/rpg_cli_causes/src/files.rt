@@ -1,4 +1,5 @@
-//! F7, and F9 of lines: files that are unknown, given twice or of the wrong use, and spaces and skips for the disk file.
+//! F7, and F9 of lines: files that are unknown, described twice or of the wrong use, and spaces and skips for the disk
+//! file.
 
 use crate::near::is_near;
 use crate::spot::{Spot, text_at};
@@ -21,7 +22,7 @@ const THIRD_INPUT: &str =
 const MORE_OUTPUT: &str =
     "; more output files aren't supported: make a deck for each printer; rpg2 fit makes one of several disk files (A21)";
 
-/// A second file of a use, and what to do.
+/// Writes that a use has a second file, and what to do.
 fn write_second(out: &mut TextWriter, spot: Spot<'_>, name: &[u8], first: &FileOnCard) {
     let serves_as = use_name(first.serves_as);
     let first_name = first.name.as_slice();
@@ -48,13 +49,13 @@ fn write_second(out: &mut TextWriter, spot: Spot<'_>, name: &[u8], first: &FileO
     }
 }
 
-/// The length that no line has.
+/// The sentence for a bad line length.
 const LINE_LENGTH: &str = "a printed line of {} places: a line has 1 to 132 (docs/OLD_PROGRAMS.md)";
 
-/// The length that no record has.
+/// The sentence for a bad record length.
 const RECORD_LENGTH: &str = "a record length of {}: a record has 1 to 9,999 columns";
 
-/// A file name that is near one which no F card has.
+/// Writes a file name similar to one that no F card has.
 fn write_near_file(out: &mut TextWriter, cards: &[SpecCard], name: &[u8]) {
     for card in cards {
         if let Some(file) = card.file() {
@@ -67,7 +68,7 @@ fn write_near_file(out: &mut TextWriter, cards: &[SpecCard], name: &[u8]) {
     }
 }
 
-/// What names a file, and the use of files that it doesn't have.
+/// Returns what names a file, and the use that the file doesn't have.
 const fn user_names(user: FileUser) -> (&'static str, &'static str) {
     match user {
         FileUser::RecordType => ("record type", "output"),
@@ -114,7 +115,7 @@ pub(crate) fn write_file(out: &mut TextWriter, spot: Spot<'_>, cause: &FileCause
     }
 }
 
-/// F9 of a line: its file, which is no printer.
+/// F9 of a line: its file, which isn't a printer.
 pub(crate) fn write_movement(out: &mut TextWriter, spot: Spot<'_>, file: &FileOnCard) {
     let device = spot.text_of_card(file.card, 40, 46);
     let name = file.name.as_slice();

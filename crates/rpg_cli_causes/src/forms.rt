@@ -3,19 +3,19 @@
 use rpg_cli_text::TextWriter;
 use rpg_program::form::{Class, FieldForm, Kind};
 
-/// The name of what is counted: that of one, or of more.
+/// Returns the noun for a count: the singular or the plural.
 pub(crate) fn noun(count: usize, one: &'static str, more: &'static str) -> &'static str {
     if count == 1 { one } else { more }
 }
 
-/// The card that is meant, in brackets; nothing where there is none.
+/// Writes the card in brackets, if there is one.
 pub(crate) fn write_card(out: &mut TextWriter, card: Option<u16>) {
     if let Some(card) = card {
         out.fill_one(" (card {})", card);
     }
 }
 
-/// What a field is: `a number 6.2` has 6 digits, of which 2 are decimals.
+/// Writes a field's form: `a number 6.2` has 6 digits, of which 2 are decimals.
 pub(crate) fn write_form(out: &mut TextWriter, form: FieldForm) {
     match form.class {
         Class::Array => out.fill_one("an array of {}, each ", form.entries),

@@ -10,7 +10,7 @@ const NOT_OF_TYPE: &str =
 const TEXT_FIELD: &str =
     "{} is a text, since column 52 is blank, and only its blanks are tested (69-70)";
 
-/// An indicator as it stands on cards.
+/// Returns an indicator as cards have it.
 fn name_of(indicator: &Indicator) -> &'static str {
     indicator_name(indicator.number()).unwrap_or("")
 }

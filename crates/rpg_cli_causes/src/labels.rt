@@ -6,12 +6,12 @@ use rpg_cards::{Named, SpecCard, gives};
 use rpg_causes::{NowhereCause, Target, TwiceCause};
 use rpg_cli_text::TextWriter;
 
-/// The label or the subroutine whose name a card gives.
+/// Returns the label or the subroutine that a card defines.
 fn given_on(card: &SpecCard) -> Option<Named> {
     gives(card.calculation()?)
 }
 
-/// A label, or a subroutine, that is near a name which none has.
+/// Writes a label or a subroutine whose name is similar to an undefined one.
 fn write_near_label(out: &mut TextWriter, cards: &[SpecCard], name: &[u8], is_subroutine: bool) {
     for card in cards {
         if let Some(named) = given_on(card) {
@@ -28,7 +28,7 @@ const IS_SUBROUTINE: &str = "{} is a subroutine (card {}): EXSR calls it, GOTO g
 
 const IS_LABEL: &str = "{} is a label (card {}): GOTO goes to it, EXSR calls subroutines";
 
-/// F10: the label or the subroutine that isn't there, or is the other of the two.
+/// F10: the label or the subroutine that isn't defined, or is the other of the two.
 pub(crate) fn write_nowhere(out: &mut TextWriter, spot: Spot<'_>, cause: &NowhereCause) {
     match cause {
         NowhereCause::Absent(wanted) => {
@@ -76,14 +76,14 @@ pub(crate) fn write_twice(out: &mut TextWriter, cause: &TwiceCause) {
     }
 }
 
-/// F13: where the label stands.
+/// F13: the section that the label is in.
 const APART: &str =
     "{} (card {}) is a label of another section: GOTO stays within the detail calculations, the total calculations, or one subroutine";
 
-/// F14: the subroutine that leads back.
+/// F14: the subroutine that the call leads back to.
 const RECURSION: &str = "{} (card {}) is the subroutine that this card is in, or leads back to it";
 
-/// F13, and F14: the label, or the subroutine, that the card names.
+/// F13 and F14: the label or the subroutine that the card names.
 pub(crate) fn write_target(out: &mut TextWriter, target: &Target, is_recursion: bool) {
     let sentence = if is_recursion { RECURSION } else { APART };
     out.fill_two(sentence, target.name.as_slice(), target.card);

@@ -1,4 +1,4 @@
-//! Why a card has a fault of F1 to F18, in words: the name, the other card, the limit and the number.
+//! Explains why a card has a fault of F1 to F18: the name, the other card, the limit and the number.
 #![tactic(auto)]
 
 mod cause;

@@ -5,7 +5,7 @@ use rpg_causes::{ColumnCause, FieldCause};
 use rpg_cli_text::TextWriter;
 use rpg_sheet::ColumnRange;
 
-/// What columns of a calculation are called.
+/// Returns what columns of a calculation are called.
 const fn name_of(at: ColumnRange) -> &'static str {
     match at {
         ColumnRange::FirstFactor => "factor 1 (18-27)",
@@ -19,7 +19,8 @@ const fn name_of(at: ColumnRange) -> &'static str {
     }
 }
 
-/// The sentence of a cause, with the columns that it is about, if they have a name.
+/// Returns the sentence of a cause, and the name of the columns that it is about, if they have
+/// one.
 const fn sentence(cause: &ColumnCause) -> (&'static str, &'static str) {
     match cause {
         ColumnCause::NoOperation => ("a calculation needs an operation (28-32)", ""),

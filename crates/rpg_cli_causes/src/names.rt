@@ -13,7 +13,7 @@ const DATE: &str =
 const PAGES: &str =
     ": PAGE is the one page counter; count others in a number of 4 digits, by ADD (of a single one rpg2 fit makes PAGE: A8)";
 
-/// What to write for a name that RPG II defines and this profile doesn't.
+/// Returns what to write instead of a name that RPG II predefines and this profile doesn't.
 fn unread(name: &[u8]) -> Option<&'static str> {
     match name {
         b"UDAY" | b"UMONTH" | b"UYEAR" => Some(DATE),
@@ -22,7 +22,7 @@ fn unread(name: &[u8]) -> Option<&'static str> {
     }
 }
 
-/// F1: which name no card defines, and which are close to it.
+/// F1: which name no card defines, and which defined names are similar.
 pub(crate) fn write_undefined(out: &mut TextWriter, spot: Spot<'_>, name: &[u8]) {
     out.fill_one("{} is used, and no card defines it", name);
     match unread(name) {

@@ -1,20 +1,20 @@
-//! Names that are near one that isn't there, as if it were misspelt.
+//! Names similar to an undefined one, which may be a misspelling.
 
 use crate::spot::Spot;
 use rpg_cards::{IndexedCards, SpecCard};
 use rpg_cli_text::TextWriter;
 
-/// The least length of a name that can be a misspelt one: shorter ones are near too many.
+/// The least length of a name that may be a misspelling: shorter ones are similar to too many.
 const LEAST: usize = 3;
 
-/// How many close names are listed.
+/// How many similar names are listed.
 const MOST: usize = 3;
 
 fn rest_of(text: &[u8], from: usize) -> &[u8] {
     text.get(from..).unwrap_or(&[])
 }
 
-/// How many characters two texts begin with alike.
+/// Returns the length of the common prefix of two texts.
 fn common(one: &[u8], other: &[u8]) -> usize {
     for (place, (a, b)) in one.iter().zip(other).enumerate() {
         if a != b {
@@ -24,7 +24,7 @@ fn common(one: &[u8], other: &[u8]) -> usize {
     one.len().min(other.len())
 }
 
-/// Whether two texts differ in one character, or by one more, or by two side by side that have changed places.
+/// Whether two texts differ in one character, by one more, or by two adjacent ones that are swapped.
 pub(crate) fn is_near(one: &[u8], other: &[u8]) -> bool {
     if one.len() < LEAST || other.len() < LEAST {
         return false;
@@ -40,14 +40,14 @@ pub(crate) fn is_near(one: &[u8], other: &[u8]) -> bool {
             && one.get(next) == other.get(same))
 }
 
-/// How many names are listed, and how many definitions come before a card.
+/// How many names are listed so far, and how many definitions come before a card.
 #[derive(Clone, Copy)]
 struct Near {
     told: usize,
     definitions: usize,
 }
 
-/// Writes the names that a card defines first and that are near.
+/// Writes the similar names that a card is the first to define.
 fn write_defined(
     out: &mut TextWriter,
     source: &IndexedCards,
@@ -70,7 +70,7 @@ fn write_defined(
     near
 }
 
-/// Writes which names are defined that are near one.
+/// Writes which defined names are similar to a name.
 pub(crate) fn write_near_names(out: &mut TextWriter, spot: Spot<'_>, name: &[u8]) {
     let mut near = Near {
         told: 0,

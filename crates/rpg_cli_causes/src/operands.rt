@@ -1,4 +1,4 @@
-//! F4 and F5: operands of the wrong kind, and entries whose index is wrong.
+//! F4 and F5: operands of the wrong kind, and entries with a wrong index.
 
 use crate::forms::{noun, write_card, write_form};
 use crate::spot::Spot;
@@ -11,7 +11,7 @@ use rpg_sheet::{ColumnRange, Word};
 /// The most digits of a number.
 const MOST_DIGITS: u16 = 15;
 
-/// Writes how a text becomes a number, if a card defines it and it isn't too long for one.
+/// Writes how to make a text a number, if a card defines it and it isn't too long for one.
 fn write_remedy(out: &mut TextWriter, spot: Spot<'_>, text: &TextField) {
     let Some(card) = text.definer else {
         return;
@@ -26,7 +26,7 @@ fn write_remedy(out: &mut TextWriter, spot: Spot<'_>, text: &TextField) {
     }
 }
 
-/// A text, with the card that defines it.
+/// Writes a text, with the card that defines it.
 fn write_text(out: &mut TextWriter, name: &[u8], text: &TextField) {
     out.fill_one("{} is a text", name);
     write_card(out, text.definer);
@@ -91,7 +91,7 @@ fn write_edited(out: &mut TextWriter, spot: Spot<'_>, text: &TextField) {
     write_remedy(out, spot, text);
 }
 
-/// What a field is that can be no index.
+/// Writes what a field is that can't be an index.
 fn write_no_index(out: &mut TextWriter, name: &Word<6>, form: FieldForm, definer: Option<u16>) {
     out.fill_one("{} is ", name.as_slice());
     match form.class {
@@ -102,7 +102,7 @@ fn write_no_index(out: &mut TextWriter, name: &Word<6>, form: FieldForm, definer
     out.write_str(", and an index is a plain number without decimals");
 }
 
-/// Writes of an array how many entries it has.
+/// Writes how many entries an array has.
 fn write_entries(out: &mut TextWriter, name: &Word<6>, entries: u16) {
     let counted = noun(usize::from(entries), "entry", "entries");
     out.fill_three("{} has {} {}, and ", name.as_slice(), entries, counted);

@@ -1,11 +1,12 @@
-//! F12: sections out of order, BEGSR and ENDSR that aren't paired, and cards that need one before them.
+//! F12: sections out of order, unpaired BEGSR and ENDSR, and cards without the card that they continue
+//! or belong to.
 
 use crate::spot::Spot;
 use rpg_causes::{OrderCause, StrayCause};
 use rpg_cli_text::TextWriter;
 use rpg_sheet::{ControlLevel, Word};
 
-/// The time of a section.
+/// Returns the time of a section.
 const fn time_of(control_level: ControlLevel) -> &'static str {
     match control_level {
         ControlLevel::Total(_) => "total time",
@@ -14,7 +15,7 @@ const fn time_of(control_level: ControlLevel) -> &'static str {
     }
 }
 
-/// BEGSR, by its name, and ENDSR.
+/// Writes that a BEGSR has no ENDSR.
 fn write_unended(out: &mut TextWriter, name: &Option<Word<6>>, next: Option<u16>) {
     match name {
         Some(name) => out.fill_one("BEGSR of {} has no ENDSR", name.as_slice()),
@@ -54,7 +55,7 @@ pub(crate) fn write_order(out: &mut TextWriter, spot: Spot<'_>, cause: &OrderCau
     }
 }
 
-/// Of what goes on with another card: what stands right before.
+/// Writes what is right before a card that continues another.
 fn write_joined(out: &mut TextWriter, sentence: &'static str, card: Option<u16>) {
     out.write_str(sentence);
     match card {

@@ -6,7 +6,7 @@ use rpg_causes::{FileOnCard, JoinCause, PlaceCause};
 use rpg_cli_text::{Piece, TextWriter};
 use rpg_sheet::ColumnRange;
 
-/// How long the records, or the lines, are, and which card has that.
+/// Writes how long the records or lines are, and the card that says so.
 fn write_length(out: &mut TextWriter, kind: &'static str, file: &FileOnCard) {
     let name = file.name.as_slice();
     out.fill(
@@ -20,7 +20,7 @@ fn write_length(out: &mut TextWriter, kind: &'static str, file: &FileOnCard) {
     );
 }
 
-/// The position of a code, as it stands on the card.
+/// Returns the position of a code, as the card has it.
 fn position(spot: Spot<'_>, at: ColumnRange) -> Piece<'_> {
     let first = usize::from(at.columns().column);
     text_at(spot.line, first, first.saturating_add(3)).into()
@@ -55,7 +55,7 @@ pub(crate) fn write_outside(out: &mut TextWriter, spot: Spot<'_>, cause: &PlaceC
     }
 }
 
-/// How many places a field takes.
+/// Writes how many places a field takes.
 fn write_width(out: &mut TextWriter, spot: Spot<'_>, width: usize, end: u16) {
     match spot.card.output_field() {
         Some(field) if field.operand.is_some() => out.write_shown(text_at(spot.line, 32, 37)),
@@ -74,7 +74,7 @@ const LONG_MATCHES: &str =
 
 const OTHER_LENGTH: &str = "{}{} has {} {} in this type, and {} in the one of card {}";
 
-/// A level whose joined length isn't that of an earlier type.
+/// Writes a level whose joined length differs from that of an earlier type.
 fn write_other_length(
     out: &mut TextWriter,
     letter: char,
@@ -97,7 +97,7 @@ fn write_other_length(
     );
 }
 
-/// F16 of control fields and match fields: which level it is, and how many columns it has.
+/// F16 of control fields and match fields: which level, and how many columns it has.
 pub(crate) fn write_join(out: &mut TextWriter, cause: JoinCause) {
     match cause {
         JoinCause::LongLevel { level, columns } => {

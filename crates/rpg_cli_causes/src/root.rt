@@ -1,4 +1,4 @@
-//! Which faults come of one slip.
+//! Faults with a common cause.
 
 use crate::spot::{SourceCards, Spot};
 use rpg_causes::{Cause, OperandCause, OrderCause};
@@ -6,18 +6,18 @@ use rpg_faults::{CardFault, FaultCode, SourceCode};
 use rpg_program::form::Kind;
 use rpg_sheet::Entry;
 
-/// A slip that other faults follow from.
+/// A mistake that other faults follow from.
 #[derive(Clone, Copy, PartialEq, Eq)]
 pub enum Root {
     /// This card defines a text, and its name is used as a number.
     Text(u16),
-    /// No card defines this name, which is filled up with blanks.
+    /// No card defines this name, which is padded with blanks.
     Unknown([u8; 6]),
-    /// This calculation card stands before cards of an earlier time.
+    /// This calculation card comes before cards of an earlier time.
     Later(u16),
 }
 
-/// A name, filled up with blanks.
+/// Returns a name, padded with blanks.
 fn padded(name: &[u8]) -> [u8; 6] {
     let mut padded = [b' '; 6];
     for (place, character) in padded.iter_mut().zip(name) {
@@ -26,7 +26,7 @@ fn padded(name: &[u8]) -> [u8; 6] {
     padded
 }
 
-/// The card that makes an entry a text.
+/// Returns the card that makes an entry a text.
 fn text_of(spot: Spot<'_>, entry: Option<&Entry>) -> Option<Root> {
     let name = &entry?.name;
     match (spot.form(name), spot.definer(name.as_slice())) {
@@ -35,7 +35,7 @@ fn text_of(spot: Spot<'_>, entry: Option<&Entry>) -> Option<Root> {
     }
 }
 
-/// A field that is a text, where numbers are taken or edited: the marked one, or beside a factor 2 of another kind factor 1.
+/// Returns a text field used as a number or edited: the marked field, or factor 1 if factor 2 is of another kind.
 fn text_root(spot: Spot<'_>) -> Option<Root> {
     match text_of(spot, spot.entry()) {
         Some(root) => Some(root),
@@ -44,7 +44,7 @@ fn text_root(spot: Spot<'_>) -> Option<Root> {
     }
 }
 
-/// The slip that a cause of F1, F4 or F12 comes of: an operand of the wrong kind, if that is that it is a text.
+/// Returns the root of a cause of F1, F4 or F12; of F4 only if an operand is a text.
 fn root_in(spot: Spot<'_>, cause: &Cause) -> Option<Root> {
     match cause {
         Cause::UndefinedName(name) => Some(Root::Unknown(padded(name.as_slice()))),
@@ -58,8 +58,8 @@ fn root_in(spot: Spot<'_>, cause: &Cause) -> Option<Root> {
     }
 }
 
-/// The slip that a fault comes of, where other faults may come of it too: a name that no card defines, a field that is a text, or a calculation
-/// that stands too early.
+/// Returns the root of a fault that other faults may share: an undefined name, a field that is a text, or a calculation that comes too
+/// early.
 pub fn root_of(source: SourceCards<'_>, line: &[u8], fault: CardFault) -> Option<Root> {
     let SourceCode::Fault(code) = fault.code else {
         return None;

@@ -4,7 +4,7 @@ use crate::spot::Spot;
 use rpg_causes::RoundingCause;
 use rpg_cli_text::TextWriter;
 
-/// F15: why H, or MVR, isn't allowed.
+/// F15: why H or MVR isn't allowed.
 pub(crate) fn write_rounding(out: &mut TextWriter, spot: Spot<'_>, cause: RoundingCause) {
     let sentence = match cause {
         RoundingCause::LastCardAlone =>

@@ -35,7 +35,7 @@ fn write_decimals(out: &mut TextWriter, decimals: u8, length: u32) {
     );
 }
 
-/// How many there are with the card, and how many there may be.
+/// Returns the sentence for a limit: how many there are with the card, and how many are allowed.
 const fn limit_sentence(limit: Limit) -> &'static str {
     match limit {
         Limit::RecordTypes => "with this card there are {} record types: a source has at most 200",
@@ -60,7 +60,7 @@ const fn limit_sentence(limit: Limit) -> &'static str {
     }
 }
 
-/// F6: which limit is passed, and how many there are.
+/// F6: which limit is exceeded, and by which count.
 pub(crate) fn write_limit(out: &mut TextWriter, cause: LimitCause) {
     match cause {
         LimitCause::Entries(entries) => out.fill_one(

@@ -1,4 +1,4 @@
-//! A fault's card among the others, and what stands there.
+//! A fault's card among the others, and its contents.
 
 use rpg_cards::{Defined, SpecCard};
 use rpg_causes::{Cause, fault_cause};
@@ -8,7 +8,7 @@ use rpg_program::form::FieldForm;
 use rpg_sheet::{ColumnFault, ColumnRange, DataSpec, Entry, Factor, Word};
 use rpg_text::{first_line, trimmed};
 
-/// A source's text and its cards. There are no cards where only the card of the fault is known.
+/// A source's text and its cards. There are no cards if only the card of the fault is known.
 #[derive(Clone, Copy)]
 pub struct SourceCards<'a> {
     pub cards: Option<&'a AnalyzedCards<'a>>,
@@ -22,11 +22,11 @@ pub(crate) struct Spot<'a> {
     pub text: &'a [u8],
     pub line: &'a [u8],
     pub card: &'a SpecCard,
-    /// The columns that the fault is about; none where it is about the card as a whole.
+    /// The columns that the fault points at; None for the card as a whole.
     pub columns: Option<ColumnFault>,
 }
 
-/// What stands in columns, counted from 1, without the blanks around it.
+/// Returns the text in columns, counted from 1, trimmed of blanks.
 pub(crate) fn text_at(line: &[u8], first: usize, last: usize) -> &[u8] {
     let before = first.saturating_sub(1);
     let text = trimmed(line.get(before..last.min(line.len())).unwrap_or(&[]));
@@ -39,7 +39,7 @@ pub(crate) fn text_at(line: &[u8], first: usize, last: usize) -> &[u8] {
 }
 
 impl<'a> Spot<'a> {
-    /// The spot of a card by its number.
+    /// Returns the spot of a card, given its number.
     pub fn of(
         source: SourceCards<'a>,
         line: &'a [u8],
@@ -58,12 +58,12 @@ impl<'a> Spot<'a> {
         })
     }
 
-    /// Why the card has a fault.
+    /// Returns why the card has a fault.
     pub fn cause(self, code: FaultCode) -> Option<Cause> {
         fault_cause(self.source, self.card.number, code)
     }
 
-    /// The first column that the fault is about.
+    /// Returns the first column that the fault points at.
     pub fn column(self) -> u8 {
         match self.columns {
             Some(columns) => columns.column,
@@ -71,13 +71,13 @@ impl<'a> Spot<'a> {
         }
     }
 
-    /// What stands in a range of columns.
+    /// Returns the text in a range of columns.
     pub fn text_in(self, range: ColumnRange) -> &'a [u8] {
         let ColumnFault { column, last } = range.columns();
         text_at(self.line, usize::from(column), usize::from(last))
     }
 
-    /// Whether a card, by its number, is an E card.
+    /// Whether the card with this number is an E card.
     pub fn is_extension(self, number: u16) -> bool {
         match card_at(self.source.cards.as_slice(), number) {
             Some(card) => card.extension().is_some(),
@@ -85,12 +85,12 @@ impl<'a> Spot<'a> {
         }
     }
 
-    /// The name of a calculation's operation.
+    /// Returns the name of a calculation's operation.
     pub fn operation(self) -> &'a [u8] {
         text_at(self.line, 28, 32)
     }
 
-    /// What stands in columns of another card; nothing where the text isn't known.
+    /// Returns the text in columns of another card; empty if the text isn't known.
     pub fn text_of_card(self, number: u16, first: usize, last: usize) -> &'a [u8] {
         let mut rest = self.text;
         for at in 1..=number {
@@ -106,7 +106,7 @@ impl<'a> Spot<'a> {
         &[]
     }
 
-    /// What stands on a card of data from a column on.
+    /// Returns the text from a column on of a card of data.
     pub fn data_of_card(self, number: u16, column: usize, length: usize) -> Option<&'a [u8]> {
         let first = column.saturating_sub(1);
         match card_at(self.source.cards.as_slice(), number)?.data()? {
@@ -115,7 +115,7 @@ impl<'a> Spot<'a> {
         }
     }
 
-    /// The field that stands in the marked columns.
+    /// Returns the field in the marked columns.
     pub fn entry(self) -> Option<&'a Entry> {
         let Some(calculation) = self.card.calculation() else {
             return self.card.output_field()?.operand.as_ref();
@@ -128,12 +128,12 @@ impl<'a> Spot<'a> {
         }
     }
 
-    /// The field that stands in factor 1 of a calculation.
+    /// Returns the field in factor 1 of a calculation.
     pub fn first_factor(self) -> Option<&'a Entry> {
         factor_entry(&self.card.calculation()?.factor_1)
     }
 
-    /// The form of a name.
+    /// Returns the form of a name.
     pub fn form(self, name: &Word<6>) -> Option<FieldForm> {
         match self.source.cards.form_of_name(name) {
             Defined::Good(form) => Some(form),
@@ -141,7 +141,7 @@ impl<'a> Spot<'a> {
         }
     }
 
-    /// The first card that defines a name.
+    /// Returns the first card that defines a name.
     pub fn definer(self, name: &[u8]) -> Option<&'a SpecCard> {
         for card in self.source.cards.as_slice() {
             if defines(card, name) {
@@ -152,7 +152,7 @@ impl<'a> Spot<'a> {
     }
 }
 
-/// The card with a number.
+/// Returns the card with this number.
 fn card_at(cards: &[SpecCard], number: u16) -> Option<&SpecCard> {
     for card in cards {
         if card.number == number {

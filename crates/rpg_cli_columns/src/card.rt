@@ -1,8 +1,8 @@
-//! The kinds of cards, as far as the names of their columns differ.
+//! The kinds of cards whose columns have different names.
 
 use rpg_text::is_blank;
 
-/// A card by what its columns are called.
+/// A card, by the names of its columns.
 #[derive(Clone, Copy)]
 pub(crate) enum CardKind {
     Header,
@@ -20,13 +20,13 @@ pub(crate) enum CardKind {
     Unknown,
 }
 
-/// What stands in these columns, as far as the line goes.
+/// Returns the text in these columns, up to the line's end.
 fn columns(line: &[u8], first: usize, last: usize) -> &[u8] {
     line.get(first.saturating_sub(1)..last.min(line.len()))
         .unwrap_or(&[])
 }
 
-/// Whether a word stands from column 14 on, and nothing in those before it from column 7 on.
+/// Whether a word begins in column 14, with blanks before it from column 7 on.
 fn begins_with(line: &[u8], word: &[u8]) -> bool {
     is_blank(columns(line, 7, 13)) && columns(line, 14, word.len().saturating_add(13)) == word
 }

@@ -1,4 +1,4 @@
-//! From shorthand to cards.
+//! Converts shorthand to cards.
 
 use crate::filling::Columns;
 use crate::line_fault::{LineFault, ShorthandFault};
@@ -10,7 +10,7 @@ use std::alloc::Global;
 /// The last line that may be a card.
 const LAST_LINE: u16 = 2000;
 
-/// How many columns a card has.
+/// The columns of a card.
 const COLUMNS: usize = 80;
 
 pub(crate) fn write_line(out: &mut TextWriter, line: &[u8]) {
@@ -18,7 +18,7 @@ pub(crate) fn write_line(out: &mut TextWriter, line: &[u8]) {
     out.write_char('\n');
 }
 
-/// Writes the card of a line: one of data as it is, others by their items.
+/// Writes the card of a line: data unchanged, other cards from their items.
 fn write_card(out: &mut TextWriter, line: &[u8], is_data: bool) -> Result<(), LineFault> {
     if !has_only_characters(line) {
         return Err(LineFault::NoCharacter);
@@ -33,7 +33,7 @@ fn write_card(out: &mut TextWriter, line: &[u8], is_data: bool) -> Result<(), Li
     Ok(())
 }
 
-/// The next line and those after it: none at the end of the deck.
+/// Returns the next line and those after it, or None at the end of the deck.
 fn next_line(rest: &[u8]) -> Option<(&[u8], &[u8])> {
     if rest.is_empty() {
         return None;
@@ -69,9 +69,9 @@ fn write_deck(out: &mut TextWriter, shorthand: &[u8]) -> Result<(), ShorthandFau
     }
 }
 
-/// The cards that lines of shorthand stand for, a line each without the blanks at its end, up to the line `/*`, which isn't among them. A line is
-/// the form type of a card, a blank, and then for each text its column, `=` and the text; a line `**` begins data, which are cards as they
-/// are. An error is the first line that is not a card.
+/// Converts lines of shorthand to cards, one a line and without trailing blanks, up to the line `/*`, which isn't included. A line is the
+/// form type of a card, a blank, and then for each text its column, `=` and the text. A line `**` begins data, which are cards in full. The
+/// error is the first line that isn't a card.
 pub fn deck_of(alloc: Global, shorthand: &[u8]) -> Result<String, ShorthandFault> {
     let mut out = TextWriter::new(alloc);
     write_deck(&mut out, shorthand)?;

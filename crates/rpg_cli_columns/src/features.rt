@@ -1,10 +1,10 @@
-//! The features of RPG II that aren't read: a sentence with the way round, and below it where the feature stands.
+//! The features of RPG II that aren't supported: a sentence with the workaround, and below it where the feature appears.
 //!
-//! A place is a card by its letter, the first and the last column that may be refused, and a pattern of what stands there from the first
-//! refused column on; without one anything does. Cards: `/` any, `H`, `F`, `E`, `T` record types, `I` input fields, `C`, `O` lines, `A` AND
-//! and OR cards of lines, `D` output fields, `?` another form type. Of two features that fit, the first is printed.
+//! A place is the letter of a card, the first and last column that may be rejected, and a pattern of the text from the first rejected
+//! column on; without a pattern any text fits. Cards: `/` any, `H`, `F`, `E`, `T` record types, `I` input fields, `C`, `O` lines, `A` AND
+//! and OR cards of lines, `D` output fields, `?` another form type. The first feature that fits is printed.
 
-/// The features, a line for each sentence and for each place.
+/// The features, with a line for each sentence and each place.
 pub(crate) const FEATURES: &str =
     "/TITLE isn't read: put * in column 7, and the card is a comment (rpg2 fit rewrites it: A1)
  / 07-07 /TITLE

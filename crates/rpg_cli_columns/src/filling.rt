@@ -1,4 +1,4 @@
-//! The columns of a card that is being filled.
+//! The columns of a card under construction.
 
 use crate::items::{column_at, cut, without_blanks};
 use crate::line_fault::LineFault;
@@ -7,7 +7,7 @@ use rpg_text::{is_blank, trimmed};
 /// The column of the form type.
 const FORM_TYPE: u8 = 6;
 
-/// How many items a line has at most, one for each column.
+/// The most items of a line, one for each column.
 const MOST_ITEMS: usize = 80;
 
 /// A card under construction.
@@ -17,7 +17,7 @@ pub(crate) struct Columns {
 }
 
 impl Columns {
-    /// The card that a line of shorthand stands for.
+    /// Makes the card of a line of shorthand.
     pub fn of(line: &[u8]) -> Result<Self, LineFault> {
         let mut columns = Columns {
             characters: [b' '; 80],
@@ -38,7 +38,7 @@ impl Columns {
         trimmed(&self.characters)
     }
 
-    /// Puts a character in a column, which is counted from 1.
+    /// Stores a character in a column, which is counted from 1.
     fn put(&mut self, column: usize, character: u8) -> Result<(), LineFault> {
         if character == b' ' {
             return Ok(());

@@ -2,7 +2,7 @@
 
 ghost use Rattle.std.specs.Prelude.{◌≤◌, IfSome};
 
-/// The value of a digit.
+/// Returns the value of a digit.
 fn digit(character: u8) -> Option<u8>
     ensures { IfSome result (λ value. value ≤ 9) }
 {
@@ -12,7 +12,7 @@ fn digit(character: u8) -> Option<u8>
     }
 }
 
-/// A column of one or two digits with its equals sign, and what follows.
+/// Returns a column of one or two digits before an equals sign, and the rest.
 pub(crate) fn column_at(text: &[u8]) -> Option<(u8, &[u8])> {
     match text {
         [ones, b'=', following @ ..] => Some((digit(*ones)?, following)),
@@ -21,7 +21,7 @@ pub(crate) fn column_at(text: &[u8]) -> Option<(u8, &[u8])> {
     }
 }
 
-/// The text of an item, and what follows it from the next item on.
+/// Splits off the text of an item. The rest begins with the next item.
 pub(crate) fn cut(text: &[u8]) -> (&[u8], &[u8]) {
     for (place, character) in text.iter().enumerate() {
         let following = text.get(place.saturating_add(1)..).unwrap_or(&[]);
@@ -32,7 +32,7 @@ pub(crate) fn cut(text: &[u8]) -> (&[u8], &[u8]) {
     (text, &[])
 }
 
-/// A text without the blanks in front of it.
+/// Returns a text without its leading blanks.
 pub(crate) fn without_blanks(text: &[u8]) -> &[u8] {
     for (place, character) in text.iter().enumerate() {
         if *character != b' ' {

@@ -1,6 +1,7 @@
-//! The columns of cards: those that are refused, in words, and all of them as shorthand.
+//! The columns of cards: messages about rejected ones, and shorthand for all of them.
 //!
-//! Of refused columns it says what stands there, what of RPG II that is, what may stand there, and whether it stands beside its place.
+//! A message about rejected columns says what they hold, what that is in RPG II, what they may hold, and whether the text is in the
+//! wrong columns.
 #![tactic(auto)]
 
 mod card;

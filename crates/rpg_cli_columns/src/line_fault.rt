@@ -6,7 +6,7 @@ use std::alloc::{AllocError, Global};
 /// What is wrong with a line of shorthand.
 #[derive(Clone, Copy)]
 pub enum LineFault {
-    /// A byte is no character.
+    /// A byte isn't a character.
     NoCharacter,
     /// There is no blank after the form type.
     NoBlank,
@@ -14,7 +14,7 @@ pub enum LineFault {
     NoColumn,
     /// There is no such column, or it is the form type's.
     BadColumn,
-    /// A text goes past column 80.
+    /// A text extends past column 80.
     TooLong,
     /// A column is filled twice.
     FilledTwice,
@@ -23,7 +23,7 @@ pub enum LineFault {
 }
 
 impl LineFault {
-    /// What is wrong, as a person reads it.
+    /// Returns what is wrong, in words.
     pub const fn sentence(self) -> &'static str {
         match self {
             LineFault::NoCharacter => "a byte isn't a character: characters run from blank to ~",
@@ -39,7 +39,7 @@ impl LineFault {
     }
 }
 
-/// Why shorthand is no deck of cards.
+/// Why shorthand can't be converted to cards.
 #[derive(Clone, Copy)]
 pub enum ShorthandFault {
     /// Lines are numbered from 1.
@@ -53,7 +53,7 @@ impl From<AllocError> for ShorthandFault {
     }
 }
 
-/// What is wrong with a line of the file that `path` names.
+/// Returns the message about a line of the file `path`.
 pub fn line_message(
     alloc: Global,
     path: &str,

@@ -1,6 +1,6 @@
-//! The cards that begin data and end a source, which are written as they are.
+//! The cards that begin data and end a source, which are the same in shorthand.
 
-/// Whether a line is a `**` card, after which data stand: a blank follows, or the line's end.
+/// Whether a line is a `**` card, which begins data: a blank or the line's end follows.
 pub fn begins_data(line: &[u8]) -> bool {
     matches!(line, [b'*', b'*'] | [b'*', b'*', b' ', ..])
 }

@@ -1,21 +1,21 @@
-//! What stands in columns, and patterns of it.
+//! The contents of columns, and patterns for them.
 
 use rpg_cli_text::TextWriter;
 use rpg_sheet::ColumnFault;
 
-/// What stands in a column of a card, counted from 1: a blank after the line's end.
+/// Returns the character in a column of a card, counted from 1: a blank after the line's end.
 pub fn character_at(line: &[u8], column: usize) -> u8 {
     line.get(column.saturating_sub(1)).copied().unwrap_or(b' ')
 }
 
-/// Writes what stands in the columns from a first to a last one.
+/// Writes the text in a range of columns.
 pub(crate) fn write_columns(out: &mut TextWriter, line: &[u8], first: usize, last: usize) {
     for column in first..=last {
         out.write_shown(&[character_at(line, column)]);
     }
 }
 
-/// The number of two digits that a text has from a column on.
+/// Returns the two-digit number at a column of a text.
 fn number_at(text: &[u8], column: usize) -> u8 {
     let tens = character_at(text, column).saturating_sub(b'0').min(9);
     let ones = character_at(text, column.saturating_add(1))
@@ -24,7 +24,7 @@ fn number_at(text: &[u8], column: usize) -> u8 {
     tens * 10 + ones
 }
 
-/// The columns that a line of a table has from a column on, as `07-14`.
+/// Returns the columns at a column of a table's line, as `07-14`.
 pub(crate) fn columns_at(text: &[u8], column: usize) -> ColumnFault {
     ColumnFault {
         column: number_at(text, column),
@@ -32,7 +32,7 @@ pub(crate) fn columns_at(text: &[u8], column: usize) -> ColumnFault {
     }
 }
 
-/// Whether a character is what one of a pattern stands for.
+/// Whether a character matches one of a pattern.
 fn stands_for(wanted: u8, found: u8) -> bool {
     match wanted {
         b'.' => true,
@@ -43,8 +43,8 @@ fn stands_for(wanted: u8, found: u8) -> bool {
     }
 }
 
-/// Whether a pattern stands in a card from a column on. In a pattern `.` is any character, `_` a blank, `#` a digit, `&` a capital letter, and any
-/// other itself.
+/// Whether a card matches a pattern from a column on. In a pattern `.` is any character, `_` a blank, `#` a digit, `&` a capital letter,
+/// and any other itself.
 pub(crate) fn is_at(line: &[u8], column: usize, pattern: &[u8]) -> bool {
     for (place, wanted) in pattern.iter().enumerate() {
         if !stands_for(*wanted, character_at(line, column.saturating_add(place))) {

@@ -1,11 +1,11 @@
-//! Ranges of columns: what they are called and what may stand in them.
+//! Ranges of columns: their names and allowed contents.
 
 use crate::card::CardKind;
 use crate::pattern::{character_at, columns_at};
 use crate::sheets::{sentence_of, sheet_of};
 use rpg_sheet::ColumnFault;
 
-/// A range of columns of a card, what it is called, and what may stand there.
+/// A range of columns of a card, its name, and its allowed contents.
 #[derive(Clone, Copy)]
 pub(crate) struct Range {
     pub columns: ColumnFault,
@@ -13,25 +13,25 @@ pub(crate) struct Range {
     pub wanted: &'static str,
 }
 
-/// Which range of a card is wanted. Columns are counted from 1.
+/// Which range of a card to find. Columns are counted from 1.
 #[derive(Clone, Copy)]
 pub(crate) enum Sought {
-    /// The one of these columns.
+    /// The one with exactly these columns.
     Columns(ColumnFault),
     /// The one that begins in a column.
     From(usize),
-    /// The one that a column is in.
+    /// The one that contains a column.
     Around(usize),
     /// The name that ends right before a column.
     NameBefore(u8),
 }
 
-/// The letter for what may stand in the range of a line.
+/// Returns the letter for the allowed contents of a line's range.
 fn letter_in(row: &str) -> u8 {
     character_at(row.as_bytes(), 7)
 }
 
-/// The range of a line of a sheet.
+/// Returns the range of a line of a sheet.
 fn range_in(row: &'static str) -> Range {
     let text = row.get(8..).unwrap_or("");
     let (name, wanted) = match text.split_once(": ") {
@@ -45,7 +45,7 @@ fn range_in(row: &'static str) -> Range {
     }
 }
 
-/// Whether the range of a line is sought.
+/// Whether the range of a line is the one to find.
 fn is_sought(row: &str, sought: Sought) -> bool {
     let ColumnFault { column, last } = columns_at(row.as_bytes(), 1);
     match sought {
@@ -58,7 +58,7 @@ fn is_sought(row: &str, sought: Sought) -> bool {
     }
 }
 
-/// The range of a card that is sought.
+/// Finds a range of a card.
 pub(crate) fn range_of(kind: CardKind, sought: Sought) -> Option<Range> {
     let (_, ranges) = sheet_of(kind);
     for row in ranges.lines() {
@@ -69,7 +69,7 @@ pub(crate) fn range_of(kind: CardKind, sought: Sought) -> Option<Range> {
     None
 }
 
-/// Whether a range of the sheet that a card is on begins in a column, which is counted from 1.
+/// Whether a range of a card's sheet begins in a column, which is counted from 1.
 pub(crate) fn begins_range(line: &[u8], column: usize) -> bool {
     range_of(CardKind::of(line), Sought::From(column)).is_some()
 }

@@ -11,10 +11,10 @@ use rpg_sheet::ColumnFault;
 /// The column of the form type.
 const FORM_TYPE: ColumnFault = ColumnFault { column: 6, last: 6 };
 
-/// What is added where a small letter stands.
+/// What is added if there is a small letter.
 const CAPITALS: &str = ", and letters are capitals";
 
-/// Writes what is wrong with column 6: a directive, a card of a sheet that isn't read, a card beside its columns, or a comment.
+/// Writes what is wrong with column 6: a directive, a sheet that isn't supported, a card in the wrong columns, or a comment.
 pub fn write_form_type(out: &mut TextWriter, line: &[u8]) {
     let form = character_at(line, 6);
     let found = [form];
@@ -33,7 +33,7 @@ pub fn write_form_type(out: &mut TextWriter, line: &[u8]) {
     write_form_type_slip(out, line);
 }
 
-/// Whether the first character of a card is an asterisk, as if it were a comment.
+/// Whether a card begins with an asterisk, as if it were a comment.
 fn is_starred(line: &[u8]) -> bool {
     for byte in line {
         if *byte != b' ' {
@@ -43,7 +43,8 @@ fn is_starred(line: &[u8]) -> bool {
     false
 }
 
-/// Writes which columns have a bad value: what stands there, what of RPG II that is or what may stand there, and whether it stands beside its place.
+/// Writes which columns have a bad value: what they hold, what that is in RPG II or what they may hold, and whether the text is in the
+/// wrong columns.
 pub fn write_bad_columns(out: &mut TextWriter, line: &[u8], columns: ColumnFault) {
     let range = range_of(CardKind::of(line), Sought::Columns(columns));
     write_columns_found(out, line, columns, range);
@@ -62,7 +63,7 @@ pub fn write_bad_columns(out: &mut TextWriter, line: &[u8], columns: ColumnFault
     }
 }
 
-/// Which columns they are, and what stands there.
+/// Writes the columns and what they hold.
 fn write_columns_found(
     out: &mut TextWriter,
     line: &[u8],
@@ -89,7 +90,7 @@ fn write_column_numbers(out: &mut TextWriter, columns: ColumnFault) {
     out.fill(sentence, &[column.into(), last.into()]);
 }
 
-/// Whether a small letter stands in columns, all of which are on the line.
+/// Whether columns, all of which are on the line, have a small letter.
 fn has_small_letter(line: &[u8], columns: ColumnFault) -> bool {
     let first = usize::from(columns.column.saturating_sub(1));
     let text = line.get(first..usize::from(columns.last)).unwrap_or(&[]);
@@ -101,7 +102,7 @@ fn has_small_letter(line: &[u8], columns: ColumnFault) -> bool {
     false
 }
 
-/// What may stand there.
+/// Writes what the columns may hold.
 fn write_wanted(out: &mut TextWriter, line: &[u8], columns: ColumnFault, range: Option<Range>) {
     match range {
         Some(range) => out.write_str(range.wanted),
@@ -112,7 +113,7 @@ fn write_wanted(out: &mut TextWriter, line: &[u8], columns: ColumnFault, range: 
     }
 }
 
-/// Whether no column is blank, from a first to a last one.
+/// Whether all columns of a range are filled.
 fn is_full(line: &[u8], first: u8, last: u8) -> bool {
     for column in first..=last {
         if character_at(line, usize::from(column)) == b' ' {
@@ -122,7 +123,7 @@ fn is_full(line: &[u8], first: u8, last: u8) -> bool {
     true
 }
 
-/// Writes that a name right before these columns, which goes on in them, may be too long for its own.
+/// Writes that a name which continues from the columns before these may be too long for its own.
 fn write_overlong(out: &mut TextWriter, line: &[u8], columns: ColumnFault) {
     let before = range_of(CardKind::of(line), Sought::NameBefore(columns.column));
     let Some(range) = before else {

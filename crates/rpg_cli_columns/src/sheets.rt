@@ -1,7 +1,7 @@
-//! The ranges of the sheets, in the order of their columns. What stands in no range is blank.
+//! The ranges of the sheets, in the order of their columns. Columns outside all ranges are blank.
 //!
-//! A line has the first and the last column, a letter for what may stand there, and what the range is called; without a letter what may stand
-//! there comes after the name.
+//! A line has the first and the last column, a letter for its allowed contents, and the range's name; without a letter the allowed contents
+//! follow the name.
 
 use crate::card::CardKind;
 
@@ -92,7 +92,7 @@ const OUTPUT_FIELD: &str = "23-25 C the first condition
 40-43 # the end position
 45-70 : the constant or edit word: a text between apostrophes from the first column on, or blank";
 
-/// The letter of a kind of card in the table of features, and the ranges of its columns, a line each.
+/// Returns the letter of a kind of card in the table of features, and the ranges of its columns, one a line.
 pub(crate) fn sheet_of(kind: CardKind) -> (u8, &'static str) {
     match kind {
         CardKind::Header => (b'H', ""),
@@ -110,7 +110,7 @@ pub(crate) fn sheet_of(kind: CardKind) -> (u8, &'static str) {
     }
 }
 
-/// What may stand in a range, by its letter.
+/// Returns the allowed contents of a range, by its letter.
 pub(crate) fn sentence_of(letter: u8) -> &'static str {
     match letter {
         b'N' => {

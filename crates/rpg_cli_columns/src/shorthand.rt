@@ -1,4 +1,4 @@
-//! From cards to shorthand.
+//! Converts cards to shorthand.
 
 use crate::deck::write_line;
 use crate::items::column_at;
@@ -10,23 +10,23 @@ use rpg_sheet::SheetCode;
 use rpg_text::{first_line, has_only_characters, trimmed};
 use std::alloc::Global;
 
-/// The last card that a source may have.
+/// The last card of a source.
 const LAST_CARD: u16 = 2000;
 
-/// How many columns a card has.
+/// The columns of a card.
 const COLUMNS: usize = 80;
 
-/// The place of the form type, the first being 0.
+/// The place of the form type, counted from 0.
 const FORM_TYPE: usize = 5;
 
-/// Whether an item is open, and whether blanks belong to it, as in a text between apostrophes or in a comment.
+/// Whether an item is open, and whether it may contain blanks, as a text between apostrophes or a comment may.
 #[derive(Clone, Copy)]
 struct Item {
     is_open: bool,
     has_blanks: bool,
 }
 
-/// Whether a character belongs to no item: the form type, and a blank that ends one or comes before one. A blank ends any item if what follows
+/// Whether a character belongs to no item: the form type, or a blank before, after or between items. A blank ends any item if the rest
 /// would be taken for an item.
 fn is_between(text: &[u8], place: usize, character: u8, item: Item) -> bool {
     let after = text.get(place.saturating_add(1)..).unwrap_or(&[]);
@@ -34,7 +34,7 @@ fn is_between(text: &[u8], place: usize, character: u8, item: Item) -> bool {
     place == FORM_TYPE || (character == b' ' && !is_inside)
 }
 
-/// Writes a character of an item, and where one begins its column.
+/// Writes a character of an item, with its column if it begins one.
 fn write_character(out: &mut TextWriter, text: &[u8], place: usize, character: u8, item: Item) {
     let column = place.saturating_add(1);
     if !item.is_open || (!item.has_blanks && begins_range(text, column)) {
@@ -69,7 +69,7 @@ fn write_shorthand(out: &mut TextWriter, line: &[u8]) {
     }
 }
 
-/// Why a line is no card.
+/// Returns why a line isn't a card.
 fn code_of(line: &[u8]) -> Option<SheetCode> {
     if line.len() > COLUMNS {
         Some(SheetCode::S1)
@@ -117,9 +117,9 @@ fn write_cards(out: &mut TextWriter, source: &[u8]) -> Result<(), SourceFault> {
     Err(refused(LAST_CARD + 1, SheetCode::S6))
 }
 
-/// The cards of a source as lines of shorthand, up to the card `/*`, which isn't among them. An item begins after a blank and where a range of the
-/// card's sheet begins; a text between apostrophes is one item with its blanks. An error is the first card that has more than 80 characters or a
-/// byte that is no character, or card 2,001. The cards may break any other rule.
+/// Converts the cards of a source to lines of shorthand, up to the card `/*`, which isn't included. An item begins after a blank and where
+/// a range of the card's sheet begins; a text between apostrophes is one item, including its blanks. The error is the first card that has
+/// more than 80 characters or a byte that isn't a character, or card 2,001. The cards may break any other rule.
 pub fn shorthand_of(alloc: Global, source: &[u8]) -> Result<String, SourceFault> {
     let mut out = TextWriter::new(alloc);
     write_cards(&mut out, source)?;

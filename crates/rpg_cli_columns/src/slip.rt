@@ -1,4 +1,4 @@
-//! Texts that stand a column or two beside the columns that are meant.
+//! Texts that are shifted by a column or two from the columns they belong in.
 
 use crate::card::CardKind;
 use crate::pattern::{character_at, write_columns};
@@ -13,19 +13,19 @@ const COLUMNS: usize = 80;
 /// The column of the form type.
 const FORM_TYPE: usize = 6;
 
-/// The first and the last column that sheets have values in.
+/// The first and the last column that sheets use.
 const FIRST: usize = 7;
 
 const LAST: usize = 74;
 
-/// Columns of a card, counted from 1, with a text that is moved as a whole.
+/// Columns of a card, counted from 1, whose text is shifted as a whole.
 #[derive(Clone, Copy)]
 struct Run {
     first: usize,
     last: usize,
 }
 
-/// How far a text is moved to the right, or to the left.
+/// How far a text is shifted to the right, or to the left.
 #[derive(Clone, Copy)]
 struct Move {
     right: usize,
@@ -47,17 +47,17 @@ impl Move {
         Move { right: 0, left: by }
     }
 
-    /// Where a column comes to.
+    /// Returns the column that a column is shifted to.
     fn applied_to(self, column: usize) -> usize {
         column.saturating_add(self.right).saturating_sub(self.left)
     }
 
-    /// Which column comes to this one.
+    /// Returns the column that is shifted to this one.
     fn source_of(self, column: usize) -> usize {
         column.saturating_add(self.left).saturating_sub(self.right)
     }
 
-    /// How far a text is moved, and which way.
+    /// Returns how far a text is shifted, and which way.
     fn words(self) -> &'static str {
         match (self.right, self.left) {
             (1, _) => "one column to the right",
@@ -68,7 +68,7 @@ impl Move {
     }
 }
 
-/// Whether the columns that a text comes to are on the card, and blank but for the text's own.
+/// Whether the columns that a text is shifted to are on the card, and blank except for the text's own.
 fn has_room(line: &[u8], run: Run, by: Move) -> bool {
     let first = by.applied_to(run.first);
     let last = by.applied_to(run.last);
@@ -80,7 +80,7 @@ fn has_room(line: &[u8], run: Run, by: Move) -> bool {
     first > 0 && last <= COLUMNS
 }
 
-/// What stands in a column once a text is moved.
+/// Returns the character in a column after a text is shifted.
 fn moved_at(line: &[u8], run: Run, by: Move, column: usize) -> u8 {
     let source = by.source_of(column);
     if run.has(source) {
@@ -92,7 +92,7 @@ fn moved_at(line: &[u8], run: Run, by: Move, column: usize) -> u8 {
     }
 }
 
-/// Whether a card can be read, as one of the sheet that its column 6 names, once a text is moved.
+/// Whether a card can be read, as one of the sheet that its column 6 names, after a text is shifted.
 fn helps(line: &[u8], run: Run, by: Move) -> bool {
     if !has_room(line, run, by) {
         return false;
@@ -120,15 +120,15 @@ fn is_in_range(line: &[u8], column: usize) -> bool {
     range_of(CardKind::of(line), Sought::Around(column)).is_some()
 }
 
-/// Whether moving a text helps, and brings it to columns that have values of their own: in free ones anything can be read. Of all that stands on
-/// a card only the first text has to.
+/// Whether shifting a text helps and brings it to columns that sheets use, since unused ones allow any text. If the whole card is shifted,
+/// only its first text has to.
 fn helps_run(line: &[u8], run: Run, by: Move, is_card: bool) -> bool {
     is_in_range(line, by.applied_to(run.first))
         && (is_card || is_in_range(line, by.applied_to(run.last)))
         && helps(line, run, by)
 }
 
-/// The text without a blank that a column is part of.
+/// Returns the text without blanks that a column is part of.
 fn word_at(line: &[u8], column: usize) -> Run {
     let mut first = FIRST;
     for at in FIRST..column {
@@ -151,7 +151,7 @@ fn word_end(line: &[u8], column: usize) -> usize {
     LAST
 }
 
-/// The first column that isn't blank.
+/// Returns the first column that isn't blank.
 fn first_filled(line: &[u8]) -> Option<usize> {
     for column in FIRST..=LAST {
         if character_at(line, column) != b' ' {
@@ -161,7 +161,7 @@ fn first_filled(line: &[u8]) -> Option<usize> {
     None
 }
 
-/// All that stands on a card from a column on.
+/// Returns the whole text of a card from a column on.
 fn rest_from(line: &[u8], first: usize) -> Run {
     let mut last = first;
     for column in first..=LAST {
@@ -172,7 +172,7 @@ fn rest_from(line: &[u8], first: usize) -> Run {
     Run { first, last }
 }
 
-/// Writes how moving a text, or all that stands on the card, makes the card readable, if there is one way.
+/// Writes the shift of a text, or of the whole card, that makes the card readable, if exactly one does.
 fn write_run_slip(out: &mut TextWriter, line: &[u8], run: Run, by: usize, is_card: bool) -> bool {
     let right = helps_run(line, run, Move::right(by), is_card);
     let left = helps_run(line, run, Move::left(by), is_card);
@@ -203,7 +203,7 @@ fn begins_word(line: &[u8], first: usize, column: usize) -> bool {
         && (column == first || character_at(line, column.saturating_sub(1)) == b' ')
 }
 
-/// The same of each text that the refused columns have a part of.
+/// Like `write_run_slip`, for each text that the rejected columns have a part of.
 fn write_words_slip(out: &mut TextWriter, line: &[u8], refused: ColumnFault, by: usize) -> bool {
     let first = usize::from(refused.column);
     for column in first..=usize::from(refused.last) {
@@ -216,8 +216,8 @@ fn write_words_slip(out: &mut TextWriter, line: &[u8], refused: ColumnFault, by:
     false
 }
 
-/// Writes which text, or whether the whole card, can be read once it is moved by a column or, at most, so many. Nothing where that doesn't help,
-/// or where both ways do.
+/// Writes which text, or whether the whole card, can be read after a shift by a column or, at most, a few. Writes nothing if no shift
+/// helps, or both ways do.
 pub(crate) fn write_slip(out: &mut TextWriter, line: &[u8], refused: ColumnFault, most: usize) {
     for by in 1..=most {
         if write_words_slip(out, line, refused, by) {
@@ -231,7 +231,7 @@ pub(crate) fn write_slip(out: &mut TextWriter, line: &[u8], refused: ColumnFault
     }
 }
 
-/// Writes where the form type stands, if a move brings it into its column and the card can be read then.
+/// Writes where the form type is, if a shift brings it into its column and makes the card readable.
 fn write_form_type_from(out: &mut TextWriter, line: &[u8], by: Move) -> bool {
     let column = by.source_of(FORM_TYPE);
     let is_in_word = character_at(line, column.saturating_sub(1)).is_ascii_alphabetic();
@@ -246,7 +246,7 @@ fn write_form_type_from(out: &mut TextWriter, line: &[u8], by: Move) -> bool {
     true
 }
 
-/// Writes where the form type of a card stands that can be read once it is moved.
+/// Writes where the form type of a card is, if the card can be read after a shift.
 pub(crate) fn write_form_type_slip(out: &mut TextWriter, line: &[u8]) {
     for by in 1..=2 {
         if write_form_type_from(out, line, Move::right(by))

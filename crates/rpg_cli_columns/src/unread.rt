@@ -1,4 +1,4 @@
-//! What RPG II has on its sheets and this profile doesn't read.
+//! What the sheets of RPG II have and this profile doesn't support.
 
 use crate::card::CardKind;
 use crate::features::FEATURES;
@@ -6,26 +6,26 @@ use crate::pattern::{character_at, columns_at, is_at};
 use crate::sheets::sheet_of;
 use rpg_sheet::ColumnFault;
 
-/// The directives for a listing stand from here on, whatever column 6 has.
+/// The first column of the directives for a listing, whatever column 6 has.
 const DIRECTIVE: ColumnFault = ColumnFault { column: 7, last: 7 };
 
 /// The column of the form type.
 const FORM_TYPE: usize = 6;
 
-/// The letter of a card that is on no sheet: data and comments have any character in column 6.
+/// The letter of a card that is on no sheet: data and comments may have any character in column 6.
 const NO_SHEET: u8 = b'?';
 
 /// Where the pattern of a place begins in its line, after a blank, the letter of the card and the columns.
 const PATTERN: usize = 9;
 
-/// A feature of RPG II: what it is, with the way round, and whether it is there whatever its columns hold.
+/// A feature of RPG II: what it is, with the workaround, and whether it applies whatever its columns hold.
 #[derive(Clone, Copy)]
 pub(crate) struct Unread {
     pub sentence: &'static [u8],
     pub is_any: bool,
 }
 
-/// Whether refused columns of a card are those of a place, and hold its pattern.
+/// Whether rejected columns of a card are those of a place and match its pattern.
 fn fits(place: &[u8], letter: u8, line: &[u8], columns: ColumnFault) -> bool {
     let ColumnFault { column, last } = columns_at(place, 4);
     let pattern = place.get(PATTERN..).unwrap_or(&[]);
@@ -35,7 +35,7 @@ fn fits(place: &[u8], letter: u8, line: &[u8], columns: ColumnFault) -> bool {
         && is_at(line, usize::from(columns.column), pattern)
 }
 
-/// The first feature that stands in columns of a card with this letter.
+/// Returns the first feature in columns of a card with this letter.
 fn first_at(letter: u8, line: &[u8], columns: ColumnFault) -> Option<Unread> {
     let mut sentence: &'static [u8] = &[];
     for row in FEATURES.lines() {
@@ -52,7 +52,7 @@ fn first_at(letter: u8, line: &[u8], columns: ColumnFault) -> Option<Unread> {
     None
 }
 
-/// Whether columns 1-5 have blanks and a number alone, as those of a card have.
+/// Whether columns 1 to 5 hold only blanks and a number, as a card's may.
 pub fn has_card_number(line: &[u8]) -> bool {
     for column in 1..FORM_TYPE {
         let character = character_at(line, column);
@@ -63,7 +63,7 @@ pub fn has_card_number(line: &[u8]) -> bool {
     true
 }
 
-/// What of RPG II stands in columns that were refused, and the way round; none where they hold no feature that is known here.
+/// Returns which feature of RPG II rejected columns hold, and the workaround; None if they hold no known feature.
 pub(crate) fn feature_at(line: &[u8], columns: ColumnFault) -> Option<Unread> {
     let (letter, _) = sheet_of(CardKind::of(line));
     match first_at(b'/', line, DIRECTIVE) {

@@ -9,8 +9,8 @@ use std::alloc::{AllocError, Global};
 /// The columns of a card.
 const COLUMNS: usize = 80;
 
-/// What a person reads of the changes of a deck, which `path` names: for each card the changes, and the card with a mark under the columns that
-/// are changed; then what is noted of cards that stay.
+/// Returns the messages about the changes of the deck `path`: for each card the changes, and the card with a mark under the columns that
+/// changed; then the notes on cards that didn't change.
 pub(crate) fn change_messages(
     alloc: Global,
     path: &str,
@@ -31,12 +31,12 @@ pub(crate) fn change_messages(
     out.finish()
 }
 
-/// The code of a rule: `A6: `.
+/// Writes the code of a rule: `A6: `.
 fn write_rule(out: &mut TextWriter, rule: Rule) {
     out.fill("A{}: ", &[Piece::from(rule.number())]);
 }
 
-/// Writes the changes of a card, and returns whether there are some.
+/// Writes the changes of a card. Returns whether there are any.
 fn write_changes(out: &mut TextWriter, path: &str, fitted: &Fitted, card: usize) -> bool {
     let mut is_changed = false;
     for told in fitted.told(card) {
@@ -45,7 +45,7 @@ fn write_changes(out: &mut TextWriter, path: &str, fitted: &Fitted, card: usize)
     is_changed
 }
 
-/// Writes a change; none where the card goes along with the change of another one.
+/// Writes a change; nothing if the card changes along with another one.
 fn write_change(out: &mut TextWriter, path: &str, card: usize, told: &Told) -> bool {
     match &told.what {
         What::Change(sentence) => {
@@ -59,12 +59,12 @@ fn write_change(out: &mut TextWriter, path: &str, card: usize, told: &Told) -> b
     }
 }
 
-/// Whether a column of a card was changed.
+/// Whether a column of a card changed.
 fn is_changed(old: &Card, new: &Card, column: usize) -> bool {
     old.column(column) != new.column(column)
 }
 
-/// Whether some column of a card was changed.
+/// Whether any column of a card changed.
 fn is_any_changed(old: &Card, new: &Card) -> bool {
     for column in 1..=COLUMNS {
         if is_changed(old, new, column) {
@@ -74,7 +74,7 @@ fn is_any_changed(old: &Card, new: &Card) -> bool {
     false
 }
 
-/// Writes marks under the columns of a card that are changed.
+/// Writes marks under the columns of a card that changed.
 fn write_marks(out: &mut TextWriter, fitted: &Fitted, card: usize, line: &[u8]) {
     let Some(new) = fitted.replacement(card) else {
         return;
@@ -98,14 +98,14 @@ fn write_notes(out: &mut TextWriter, path: &str, source: &[u8], notes: &[Note]) 
     }
 }
 
-/// Shows a card of a source.
+/// Writes a card of a source.
 fn write_source_card(out: &mut TextWriter, source: &[u8], card: usize) {
     let number = u16::try_from(card).unwrap_or(u16::MAX);
     let line = CardLines::of(source).line_of(number);
     write_picture(out, number, line, None);
 }
 
-/// Why a deck, which `path` names, can't be rewritten.
+/// Returns the message about why the deck `path` can't be rewritten.
 pub(crate) fn refusal_message(
     alloc: Global,
     path: &str,
@@ -122,7 +122,7 @@ pub(crate) fn refusal_message(
     out.finish()
 }
 
-/// That a deck has too many cards, or would have.
+/// Returns the message that a deck has, or would have, too many cards.
 pub(crate) fn too_many_message(alloc: Global, path: &str) -> Result<String, AllocError> {
     let mut out = TextWriter::new(alloc);
     out.write_shown(path.as_bytes());

@@ -12,10 +12,10 @@ use std::alloc::{AllocError, Global};
 use std::io::Write;
 use std::rt::Files;
 
-/// The number of the first card past the limit.
+/// The number of the first card over the limit.
 const PAST_LIMIT: u16 = 2001;
 
-/// The records of the table files that the words name.
+/// Reads the records of the table files that the arguments name.
 fn table_records<R: Files + AllocGlobal>(rt: &R, words: &FitWords) -> Result<Vec<Vec<u8>>, Answer> {
     let mut records = Vec::new(rt.alloc());
     for (place, table) in words.tables.iter().enumerate() {
@@ -27,7 +27,7 @@ fn table_records<R: Files + AllocGlobal>(rt: &R, words: &FitWords) -> Result<Vec
     Ok(records)
 }
 
-/// The table files with their names.
+/// Returns the table files with their names.
 fn table_files<'b>(
     alloc: Global,
     words: &FitWords<'b>,
@@ -66,7 +66,7 @@ fn rewrite(
     fit(alloc, source, &settings)
 }
 
-/// The answer to a deck that isn't rewritten. Why it isn't is reported.
+/// Reports why a deck isn't rewritten, and returns the answer.
 fn refuse<L: Listener>(
     alloc: Global,
     words: &FitWords,
@@ -122,7 +122,7 @@ fn show_new_deck<R: Files + Print>(rt: &R, new: &[u8]) -> Result<(), Answer> {
     }
 }
 
-/// Writes the new deck, if the words want it.
+/// Writes the new deck, if the arguments ask for it.
 fn write_new_deck<R: Files + Print + AllocGlobal>(
     rt: &R,
     words: &FitWords,
@@ -138,7 +138,7 @@ fn write_new_deck<R: Files + Print + AllocGlobal>(
     }
 }
 
-/// Reports the changes of a deck, and the faults of the new one. If there is no memory for them, nothing is printed.
+/// Reports the changes of a deck, and the faults of the new one. If memory runs out for them, nothing is printed.
 fn tell_fit<L: Listener>(
     alloc: Global,
     words: &FitWords,
@@ -154,7 +154,7 @@ fn tell_fit<L: Listener>(
     }
 }
 
-/// The answer to a deck that is rewritten: its changes, or the first fault of the new one.
+/// Returns the answer for a rewritten deck: its changes, or the first fault of the new one.
 fn answer_of(fit: &FittedDeck) -> Answer {
     match fit.faults.first() {
         None => Answer::Fitted {
@@ -174,7 +174,7 @@ fn answer_of(fit: &FittedDeck) -> Answer {
     }
 }
 
-/// Writes a new deck, and reports what was changed.
+/// Writes a new deck, and reports its changes.
 fn conclude<R: Files + Print + AllocGlobal, L: Listener>(
     rt: &R,
     words: &FitWords,
@@ -187,7 +187,8 @@ fn conclude<R: Files + Print + AllocGlobal, L: Listener>(
     Ok(answer_of(fit))
 }
 
-/// Rewrites an old deck. The new one is written once it is whole, also where it has faults; where a rule refuses the old one nothing is.
+/// Rewrites an old deck. The new one is written once it is complete, even if it has faults; if a rule rejects the old one, nothing is
+/// written.
 pub fn fit_file<R: Files + Print + AllocGlobal, L: Listener>(
     rt: &R,
     words: &FitWords,

@@ -1,10 +1,11 @@
-//! What the output of `rpg2 records` is a function of.
+//! What the output of `rpg2 records` depends on.
 
 ghost use Rattle.rpg_cli_conversions.specs.Laws.{CardsSayTheOutput};
 
-/// A law of the definitions: OUT is the function of IN and the cards. It does nothing.
+/// A law of the definitions: OUT is a function of IN and the cards. Does nothing.
 ///
-/// `layout_of` returns a layout that the cards say, and by each of these a conversion is the same.
+/// `layout_of` returns a layout that the cards describe, and any two of these give the same
+/// conversion.
 pub fn cards_say_the_output()
     ensures { CardsSayTheOutput }
 {}

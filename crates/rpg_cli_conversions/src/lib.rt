@@ -1,4 +1,4 @@
-//! The commands that convert what a shop has, old decks and the records of another machine, with their diagnostics.
+//! The commands that convert a shop's old decks and the records of other machines, with their diagnostics.
 #![tactic(auto)]
 
 mod changes;

@@ -1,4 +1,4 @@
-//! The faults of a new deck, by its cards and by those of its source.
+//! The faults of a new deck, by its cards and by the cards of the old one.
 
 use crate::sentence::write_card;
 use rpg_cli_messages::source_messages;
@@ -6,11 +6,11 @@ use rpg_cli_text::{Piece, TextWriter};
 use rpg_fit::FittedDeck;
 use std::alloc::{AllocError, Global};
 
-/// How many faults are listed at most.
+/// The most faults that are listed.
 const MOST: u16 = 20;
 
-/// What a person reads of the faults of a new deck, which `new_path` names, and for each of its cards with a fault the card of the source, which
-/// `path` names. Nothing where it has no fault.
+/// Returns the messages about the faults of the new deck `new_path`, and for each of its cards with a fault the card of the source `path`.
+/// Empty if it has no faults.
 pub(crate) fn new_deck_messages(
     alloc: Global,
     new_path: &str,
@@ -28,7 +28,7 @@ pub(crate) fn new_deck_messages(
     out.finish()
 }
 
-/// Writes which cards of the source the cards with a fault come from.
+/// Writes which cards of the source the cards with faults come from.
 fn write_origins(out: &mut TextWriter, new_path: &str, path: &str, fit: &FittedDeck) {
     let mut last = 0;
     for fault in fit.faults.iter().take(usize::from(MOST)) {

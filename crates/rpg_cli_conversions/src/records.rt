@@ -1,4 +1,4 @@
-//! The command that makes lines of a shop's records, and records of such lines.
+//! The command that converts records to lines, and such lines to records.
 
 use crate::refused::{deck_message, record_message};
 use rpg_cli_answers::{Answer, CommandStop, Listener, NamedFile, named, refuse_same_file};
@@ -19,10 +19,10 @@ use std::fs::OpenFile;
 use std::io::{BufWriter, Read, Write};
 use std::rt::Files;
 
-/// How much is kept back of what goes to OUT.
+/// How many bytes of OUT are buffered.
 const WRITE_ROOM: usize = 65_536;
 
-/// The answer to a deck that is refused.
+/// Returns the answer for a deck that is rejected.
 fn refusal(fault: DeckFault) -> Answer {
     match fault {
         DeckFault::Card { number, .. } => Answer::DeckRefused { card: Some(number) },
@@ -31,7 +31,7 @@ fn refusal(fault: DeckFault) -> Answer {
     }
 }
 
-/// The layout of the records, by the deck. A bad card is reported.
+/// Returns the layout of the records, from the deck. Reports a bad card.
 fn layout<L: Listener>(
     alloc: Global,
     words: &RecordsWords,
@@ -71,7 +71,7 @@ fn format_of(words: &RecordsWords) -> RecordFormat {
     }
 }
 
-/// Opens what is read.
+/// Opens the input.
 fn opened_input<R: Files>(rt: &R, words: &RecordsWords) -> Result<Opened<R::File>, Answer> {
     if is_standard(words.input) {
         return Ok(Opened::Standard);
@@ -80,7 +80,7 @@ fn opened_input<R: Files>(rt: &R, words: &RecordsWords) -> Result<Opened<R::File
     Ok(Opened::File(file))
 }
 
-/// Whether NEW and OUT would be one file where neither stands yet.
+/// Whether NEW and OUT would be the same file, if neither exists yet.
 fn is_shared<R: Files + AllocGlobal>(
     rt: &R,
     words: &RecordsWords,
@@ -95,7 +95,7 @@ fn is_shared<R: Files + AllocGlobal>(
     }
 }
 
-/// Refuses to write a file that another word names too.
+/// Refuses to write a file that another argument names too.
 fn keep_files<R: Files + AllocGlobal>(
     rt: &R,
     words: &RecordsWords,
@@ -118,12 +118,12 @@ fn keep_files<R: Files + AllocGlobal>(
     Ok(())
 }
 
-/// Why a device failed, if it gave a reason.
+/// Returns why a device failed, if it gave a reason.
 fn reason_of(fault: Option<Reason>) -> Reason {
     fault.unwrap_or(Reason::Other)
 }
 
-/// The answer to a conversion that ended early. A bad record is reported.
+/// Returns the answer for a conversion that ended early. Reports a bad record.
 fn early_answer<L: Listener>(
     alloc: Global,
     words: &RecordsWords,
@@ -155,7 +155,7 @@ fn early_answer<L: Listener>(
     }
 }
 
-/// Makes lines of records, or records of lines, and writes out all of them.
+/// Converts records to lines, or lines to records, and flushes the output.
 fn convert_all<S: Read, T: Write>(
     alloc: Global,
     words: &RecordsWords,
@@ -174,7 +174,7 @@ fn convert_all<S: Read, T: Write>(
     }
 }
 
-/// The same over the files of the words. What ends it early is reported.
+/// Like `convert_all`, for the files of the arguments. Reports what ends it early.
 fn convert<
     F: Read + Drop,
     S: Read + Drop,
@@ -201,7 +201,7 @@ fn convert<
     }
 }
 
-/// Empties what is written, unless another word names a file that is.
+/// Empties the output, unless another argument names the same file.
 fn empty_output<R: Files + AllocGlobal>(
     rt: &R,
     words: &RecordsWords,
@@ -213,7 +213,7 @@ fn empty_output<R: Files + AllocGlobal>(
     Ok(named(FileWord::Out, output.empty())?)
 }
 
-/// Converts what was opened, unless another word names a file that is written.
+/// Converts the open files, unless another argument names a file that is written.
 fn convert_opened<R: Files + Input + Print + AllocGlobal, L: Listener>(
     rt: &R,
     words: &RecordsWords,
@@ -228,7 +228,7 @@ fn convert_opened<R: Files + Input + Print + AllocGlobal, L: Listener>(
     Ok(convert(rt.alloc(), words, layout, source, target, listener)?)
 }
 
-/// Writes the deck that reads the lines, if the words want it.
+/// Writes the deck that reads the lines, if the arguments ask for it.
 fn write_deck<R: Files + AllocGlobal>(
     rt: &R,
     words: &RecordsWords,
@@ -244,7 +244,7 @@ fn write_deck<R: Files + AllocGlobal>(
     named(FileWord::NewDeck, write_bytes(rt, path, deck.as_slice()))
 }
 
-/// Puts a file that was written beside its place there, or leaves nothing of it.
+/// Moves a file that was written beside its place to its place, or removes it.
 fn conclude<R: Files>(
     rt: &R,
     pending: &Pending<'_>,
@@ -263,7 +263,7 @@ fn conclude<R: Files>(
     concluded
 }
 
-/// Converts the records, or the lines, of a file.
+/// Converts the records or the lines of a file.
 fn convert_file<R: Files + Input + Print + AllocGlobal, L: Listener>(
     rt: &R,
     words: &RecordsWords,
@@ -279,9 +279,10 @@ fn convert_file<R: Files + Input + Print + AllocGlobal, L: Listener>(
     }
 }
 
-/// Makes lines of the records of a file, or records of its lines.
+/// Converts the records of a file to lines, or its lines to records.
 ///
-/// OUT, and then NEW, are written once all records are: where one is refused both are as they were.
+/// OUT, then NEW, are written only after all records are converted: if one is rejected, both stay
+/// unchanged.
 pub fn records_file<R: Files + Input + Print + AllocGlobal, L: Listener>(
     rt: &R,
     words: &RecordsWords,

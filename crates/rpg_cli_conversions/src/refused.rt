@@ -1,11 +1,11 @@
-//! The diagnostics for a deck or a record that is refused.
+//! The diagnostics for a deck or a record that is rejected.
 
 use rpg_cli_text::TextWriter;
 use rpg_record_decks::{CardFault, DeckFault};
 use rpg_record_lines::{NumberFault, RecordFault};
 use std::alloc::{AllocError, Global};
 
-/// The digits of a byte.
+/// The hexadecimal digits.
 const HEX: &[u8; 16] = b"0123456789abcdef";
 
 fn write_bytes(out: &mut TextWriter, bytes: &[u8]) {
@@ -15,7 +15,7 @@ fn write_bytes(out: &mut TextWriter, bytes: &[u8]) {
     }
 }
 
-/// Writes a sentence with a number in it.
+/// Writes a sentence with a number.
 fn write_count(out: &mut TextWriter, sentence: &str, count: usize) {
     out.fill(sentence, &[count.into()]);
 }
@@ -52,7 +52,7 @@ fn write_card_fault(out: &mut TextWriter, fault: CardFault) {
     }
 }
 
-/// What is wrong with the deck that `path` names.
+/// Returns what is wrong with the deck `path`.
 pub(crate) fn deck_message(
     alloc: Global,
     path: &str,
@@ -80,7 +80,7 @@ fn write_number_fault(out: &mut TextWriter, fault: NumberFault) {
     });
 }
 
-/// By one side it is of the type of a card, by the other side of that of another one.
+/// Writes that the two sides of a record are of the types of different cards, or one of none.
 fn write_types(out: &mut TextWriter, one: &str, card: u16, side: &str, other: Option<u16>) {
     out.fill(
         "by its {} it is of the type of card {}, by its {} ",
@@ -145,7 +145,7 @@ fn write_record_fault(out: &mut TextWriter, fault: RecordFault) {
     }
 }
 
-/// What is wrong with a record, or a line, of the file that `path` names. Records are numbered from 1, bytes from 0.
+/// Returns what is wrong with a record or a line of the file `path`. Records are numbered from 1, bytes from 0.
 pub(crate) fn record_message(
     alloc: Global,
     path: &str,

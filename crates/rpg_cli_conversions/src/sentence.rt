@@ -3,7 +3,7 @@
 use rpg_cli_text::{Piece, TextWriter};
 use rpg_fit::Sentence;
 
-/// Writes a sentence, with a word of it for each `%`.
+/// Writes a sentence with a word in place of each `%`.
 pub(crate) fn write_sentence(out: &mut TextWriter, sentence: &Sentence) {
     let mut words = sentence.words.iter();
     for character in sentence.text.chars() {
@@ -15,7 +15,7 @@ pub(crate) fn write_sentence(out: &mut TextWriter, sentence: &Sentence) {
     }
 }
 
-/// Writes a card's place: `PATH:CARD: `.
+/// Writes the place of a card: `PATH:CARD: `.
 pub(crate) fn write_card(out: &mut TextWriter, path: &str, card: usize) {
     out.write_shown(path.as_bytes());
     out.fill(":{}: ", &[Piece::from(card)]);

@@ -1,4 +1,5 @@
-//! The page of each code: what it says, what breaks the rule and what keeps it, what to do, and what happens then.
+//! The page of each code: what it means, what breaks the rule and what keeps it, what to do, and what happens
+//! then.
 #![tactic(auto)]
 
 mod bytes;

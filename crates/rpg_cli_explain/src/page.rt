@@ -1,34 +1,34 @@
-//! What a page says of a code.
+//! The parts of a code's page.
 
-/// A page of a code. Cards stand in it as they are, each in a line of its own.
+/// The page of a code. Cards are shown unchanged, one a line.
 #[derive(Clone, Copy)]
 pub(crate) struct Page {
     pub code: &'static str,
     /// What is wrong, or what a rule does.
     pub sentence: &'static str,
-    /// Of which names, files or fields its examples speak.
+    /// The names, files or fields that its examples use.
     pub given: &'static str,
-    /// What breaks the rule.
+    /// An example that breaks the rule.
     pub breaks: &'static str,
-    /// What is near that and keeps it.
+    /// A similar example that keeps it.
     pub keeps: &'static str,
     /// What to do.
     pub advice: &'static str,
 }
 
-/// The names of cards that are examples.
+/// The names that the cards of examples use.
 const CARDS: &str =
     "In these cards AMT is a number of 3 digits and TOT one of 5, which a card before defines; AR is\nan array of 5 numbers; INPUT is the input file, and PRINT the printer.";
 
-/// The fields of rows that are examples.
+/// The fields that the rows of examples use.
 const ROWS: &str =
     "In a program with a printer of 60 places, no disk file, records of 80 columns, and these fields:\n1 a number of 6 digits; 2 a text of 10; 3 an array of 5 numbers; 4 a table of 20 numbers in\nascending sequence; 5 a number of 1 digit; 6 a table of 3 texts; 7 a text constant of 6\ncharacters with 5 places for digits; 8 the date.";
 
-/// What to do with an object program that is refused.
+/// What to do with an object program that is rejected.
 const ANEW: &str =
     "compile the source again, or ask who made the object program. What rpg2 compile\nmakes is never rejected, so its bytes were changed, or something else made it";
 
-/// A part of a text, the first being 0; nothing where the text has fewer.
+/// Returns a part of a text, counted from 0; empty if the text has fewer.
 fn part_of(text: &'static str, separator: char, number: usize) -> &'static str {
     let mut rest = text;
     for _ in 0..number {
@@ -44,9 +44,9 @@ fn part_of(text: &'static str, separator: char, number: usize) -> &'static str {
 }
 
 impl Page {
-    /// A page of a text of pages, the first being 0, with `@` between them. A page has `%` between its parts: the code, the sentence, the word `cards`
-    /// or `rows` for what its examples are given or no word, what breaks the rule, what keeps it, and what to do, if that isn't to compile anew. After
-    /// the last page all parts are empty.
+    /// Returns a page of a text of pages, counted from 0, with `@` between them. A page has `%` between its parts: the code, the sentence,
+    /// the word `cards` or `rows` for what its examples use or no word, what breaks the rule, what keeps it, and what to do, unless that is
+    /// to compile again. After the last page all parts are empty.
     pub fn of(pages: &'static str, number: usize) -> Self {
         let text = part_of(pages, '@', number);
         Page {

@@ -5,18 +5,18 @@ use crate::topic::{FAMILIES, Topic};
 use rpg_cli_text::TextWriter;
 use std::alloc::{AllocError, Global};
 
-/// What stands before all pages.
+/// The title above all pages.
 const TITLE: &str =
     "# What rpg2's codes mean\n\nrpg2 explain CODE prints one code of this list, as F16, S5, V21, B5 or halt 4; rpg2 explain prints them\nall. Cards stand below a ruler, which is a comment card: column 1 is the first of the line.\n";
 
-/// What stands above cards: a ruler, which is a card itself, as `rpg2 cards --ruler` prints it.
+/// The ruler above cards, which is itself a card, as `rpg2 cards --ruler` prints it.
 const RULER: &str =
     "```text\n....+.*..1....+....2....+....3....+....4....+....5....+....6....+....7....+....8\n";
 
-/// What stands below them.
+/// The fence below them.
 const FENCE: &str = "```\n";
 
-/// What stands above the examples of a page.
+/// Returns the headings above the examples of a page.
 const fn headings(topic: Topic) -> (&'static str, &'static str) {
     match topic {
         Topic::Rewriting(_) => ("\nBefore:\n\n", "\nAfter:\n\n"),
@@ -29,7 +29,7 @@ fn begins_cards(line: &str) -> bool {
     line.starts_with("    ")
 }
 
-/// Writes examples: prose as it is, and cards up to an empty line between a ruler and a fence.
+/// Writes examples: prose unchanged, and cards up to an empty line between a ruler and a fence.
 fn write_examples(out: &mut TextWriter, text: &str) {
     let mut are_cards = false;
     for line in text.lines() {
@@ -65,7 +65,7 @@ fn write_page(out: &mut TextWriter, topic: Topic) {
     );
 }
 
-/// The pages of codes, one after another.
+/// Returns the pages of codes, one after another.
 pub fn pages_text(alloc: Global, topics: &[Topic]) -> Result<String, AllocError> {
     let mut out = TextWriter::new(alloc);
     for (place, topic) in topics.iter().enumerate() {
@@ -96,7 +96,7 @@ fn write_family(out: &mut TextWriter, family: Topic, has_pages: bool) {
     }
 }
 
-/// All pages, as docs/MESSAGES.md begins with them.
+/// Returns all pages, as docs/MESSAGES.md begins with them.
 pub fn all_pages(alloc: Global) -> Result<String, AllocError> {
     let mut out = TextWriter::new(alloc);
     out.write_str(TITLE);
@@ -106,7 +106,7 @@ pub fn all_pages(alloc: Global) -> Result<String, AllocError> {
     out.finish()
 }
 
-/// A line for each code: the code and its sentence.
+/// Returns a line for each code: the code and its sentence.
 pub fn list_text(alloc: Global) -> Result<String, AllocError> {
     let mut out = TextWriter::new(alloc);
     for family in FAMILIES {

@@ -9,7 +9,7 @@ use crate::rules::RULES;
 use crate::sheets::SHEETS;
 use crate::warnings::WARNINGS;
 
-/// A code that is explained, by its number, the first of a family being 1.
+/// A code with a page, by its number in its family, from 1.
 #[derive(Clone, Copy)]
 pub enum Topic {
     Sheet(usize),
@@ -18,14 +18,14 @@ pub enum Topic {
     Halt(usize),
     Rule(usize),
     Bytes(usize),
-    /// A rule by which old decks are rewritten.
+    /// A rule for rewriting old decks.
     Rewriting(usize),
 }
 
 /// The numbers of halts.
 pub const HALTS: [usize; 8] = [1, 2, 3, 4, 5, 6, 7, 8];
 
-/// The codes of one kind: the first of each, in the order of their pages.
+/// The first code of each family, in the order of the pages.
 pub(crate) const FAMILIES: [Topic; 7] = [
     Topic::Sheet(1),
     Topic::Fault(1),
@@ -37,7 +37,7 @@ pub(crate) const FAMILIES: [Topic; 7] = [
 ];
 
 impl Topic {
-    /// What the codes of its family begin with.
+    /// Returns what the codes of its family begin with.
     const fn letters(self) -> &'static str {
         match self {
             Topic::Sheet(_) => "S",
@@ -50,7 +50,7 @@ impl Topic {
         }
     }
 
-    /// The code of its family with this number.
+    /// Returns the code of its family with this number.
     const fn sibling(self, number: usize) -> Topic {
         match self {
             Topic::Sheet(_) => Topic::Sheet(number),
@@ -63,7 +63,7 @@ impl Topic {
         }
     }
 
-    /// The code of its family with this number, if there is one.
+    /// Returns the code of its family with this number, if there is one.
     pub(crate) fn sibling_if_any(self, number: usize) -> Option<Topic> {
         let topic = self.sibling(number);
         if number == 0 || topic.page().code.is_empty() {
@@ -86,17 +86,17 @@ impl Topic {
         Page::of(pages, number.saturating_sub(1))
     }
 
-    /// What is wrong, or what a rule does, in a sentence.
+    /// Returns a sentence on what is wrong, or what a rule does.
     pub fn sentence(self) -> &'static str {
         self.page().sentence
     }
 
-    /// What to do.
+    /// Returns what to do.
     pub fn advice(self) -> &'static str {
         self.page().advice
     }
 
-    /// What happens then: when it is reported, what becomes of the work, and the exit status.
+    /// Returns what happens then: when it is reported, what becomes of the work, and the exit status.
     pub(crate) const fn following(self) -> &'static str {
         match self {
             Topic::Sheet(_) => {
@@ -124,7 +124,7 @@ impl Topic {
     }
 }
 
-/// The number after a family's letters, whatever their case: 16 of `f16` for `F`, 4 of `Halt 4` for `halt`.
+/// Returns the number after a family's letters, in either case: 16 of `f16` for `F`, 4 of `Halt 4` for `halt`.
 fn number_following(code: &str, letters: &str) -> Option<usize> {
     let given = code.get(..letters.len())?;
     if !given.eq_ignore_ascii_case(letters) {
@@ -133,7 +133,7 @@ fn number_following(code: &str, letters: &str) -> Option<usize> {
     code.get(letters.len()..)?.trim().parse().ok()
 }
 
-/// What the code of a person is about, as `F16`, `s5` or `halt 4`.
+/// Returns the topic of a code as a user types it: `F16`, `s5` or `halt 4`.
 pub fn topic_of(code: &str) -> Option<Topic> {
     for family in FAMILIES {
         if let Some(number) = number_following(code, family.letters()) {

@@ -1,4 +1,4 @@
-//! Whole files by their paths.
+//! Whole files, by path.
 
 ghost use Rattle.std.specs.Prelude.{◌≡◌, ◌-◌, ◌^◌, ◌<◌, ◌≤◌, length, IfOk};
 ghost use Rattle.std.specs.Io.KnownBytes.{Keeps};
@@ -11,19 +11,19 @@ use std::io::{Error, ErrorKind, Read, Write};
 use std::os::unix::fs::MetadataExt;
 use std::rt::Files;
 
-/// The most bytes of a source or object file (this profile).
+/// The most bytes of a source or object file in this profile.
 const MOST_BYTES: usize = 16_777_216;
 
 /// What went wrong with a file.
 #[derive(Clone, Copy)]
 pub enum FileFault {
-    /// A file that is read can't be opened or read.
+    /// An input file can't be opened or read.
     Input(Reason),
-    /// A file that is written can't be made or written.
+    /// An output file can't be created or written.
     Output(Reason),
-    /// A file that is kept until a new one is whole has no room for that one in its folder.
+    /// A new file can't be created in the folder of the output file that it would replace.
     Beside(Reason),
-    /// A file that is read whole is longer than 16,777,216 bytes.
+    /// A file that is read as a whole is longer than 16,777,216 bytes.
     TooLarge,
     NoMemory,
 }
@@ -49,14 +49,14 @@ pub(crate) fn beside_fault(error: Error) -> FileFault {
     }
 }
 
-/// What a regular file is by whatever name: its device, and its number there.
+/// The identity of a regular file, whatever its name: its device, and its inode number there.
 #[derive(Clone, Copy, PartialEq, Eq)]
 pub struct FileIdentity {
     device: u64,
     number: u64,
 }
 
-/// A file that isn't regular has no identity: writing it loses nothing.
+/// Returns the identity of a regular file. Other files have none: writing them loses nothing.
 fn identity_in(about: &Metadata) -> Option<FileIdentity> {
     about.is_file().then_some(FileIdentity {
         device: about.dev(),
@@ -64,17 +64,17 @@ fn identity_in(about: &Metadata) -> Option<FileIdentity> {
     })
 }
 
-/// What an open file is, where it's regular.
+/// Returns the identity of an open file, if it is regular.
 pub fn identity<F: OpenFile>(file: &F) -> Option<FileIdentity> {
     identity_in(&file.metadata().ok()?)
 }
 
-/// What the file is that a path leads to, where there is a regular one.
+/// Returns the identity of the file at a path, if it is regular.
 pub fn identity_at<R: Files>(rt: &R, path: &str) -> Option<FileIdentity> {
     identity_in(&fs::metadata(rt, path).ok()?)
 }
 
-/// A file that is read. A folder is none.
+/// Opens a file for reading. A folder isn't one.
 pub fn input_file<R: Files>(rt: &R, path: &str) -> Result<R::File, FileFault> {
     let file = fs::open(rt, path).map_err(input_fault)?;
     if file.metadata().map_err(input_fault)?.is_dir() {
@@ -83,7 +83,7 @@ pub fn input_file<R: Files>(rt: &R, path: &str) -> Result<R::File, FileFault> {
     Ok(file)
 }
 
-/// The bytes of a source or object file.
+/// Reads a source or object file.
 pub fn file_bytes<R: Files + AllocGlobal>(rt: &R, path: &str) -> Result<Vec<u8>, FileFault>
     ensures few { IfOk result (λ bytes. length bytes.items ≤ 16777216) }
 {
@@ -98,7 +98,8 @@ pub fn file_bytes<R: Files + AllocGlobal>(rt: &R, path: &str) -> Result<Vec<u8>,
     Ok(bytes)
 }
 
-/// A file that will be written, made where there is none. What it holds stays until it is emptied.
+/// Opens a file for writing, and creates it if it doesn't exist. Its contents stay until it is
+/// emptied.
 pub fn output_file<R: Files>(rt: &R, path: &str) -> Result<R::File, FileFault> {
     File::options()
         .write(true)
@@ -107,7 +108,7 @@ pub fn output_file<R: Files>(rt: &R, path: &str) -> Result<R::File, FileFault> {
         .map_err(output_fault)
 }
 
-/// Empties a file that will be written. What isn't a regular file holds nothing.
+/// Empties a file that will be written. A file that isn't regular has no contents.
 pub(crate) fn empty_file<F: OpenFile>(file: &F) -> Result<(), FileFault> {
     match identity(file) {
         Some(_) => file.set_len(0).map_err(output_fault),
@@ -115,7 +116,7 @@ pub(crate) fn empty_file<F: OpenFile>(file: &F) -> Result<(), FileFault> {
     }
 }
 
-/// Writes out what a writer still holds.
+/// Flushes a writer.
 pub fn flush_device<W: Write>(writer: &mut Counted<W>) -> Result<(), FileFault>
     requires { faults_of writer.old < 2 ^ 64 - 1 }
     ensures bytes { Keeps (W.contents (device_of writer.old)) (W.contents (device_of writer.new)) }

@@ -1,4 +1,5 @@
-//! Whole files by their paths, a line to a writer, and who hears what is printed besides it.
+//! Whole files by path, lines to a writer, and the listener for everything else that is
+//! printed.
 #![tactic(auto)]
 
 mod files;

@@ -7,6 +7,6 @@ pub trait Listener {
     /// Prints a diagnostic. A failure to write it is ignored.
     fn tell(&mut self, text: &str);
 
-    /// Prints a text before the line. An error is the reason why not all of it was written.
+    /// Prints a text before the line. The error is why it couldn't be written completely.
     fn show(&mut self, text: &str) -> Result<(), Reason>;
 }

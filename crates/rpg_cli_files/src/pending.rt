@@ -1,4 +1,4 @@
-//! Files of a job that are written beside their places, and put there once they are whole.
+//! Files of a job that are written beside their places, and moved there once they are complete.
 
 use crate::files::{FileFault, identity_at, output_fault, output_file};
 use crate::replacing::{Beside, is_free, name_beside, new_file};
@@ -10,25 +10,25 @@ use std::rt::Files;
 /// A new file that is written beside its place.
 #[derive(Drop)]
 pub struct Pending<'a> {
-    /// Where it goes when it is whole. What stands there is kept until then.
+    /// Where it goes when it is complete. The file there is kept until then.
     place: &'a str,
-    /// Where it goes when it isn't.
+    /// Where it goes if it is incomplete.
     part: String,
     new: String,
     /// The number in the new file's name.
     number: u32,
 }
 
-/// A file that will be written.
+/// A file to be written.
 #[derive(Drop)]
 pub struct KeptFile<'a, F> {
     pub opened: Opened<F>,
-    /// None where the file is written in its place.
+    /// None if the file is written in place.
     pub pending: Option<Pending<'a>>,
 }
 
-/// Opens a file that will be written: a new one beside its place, or the one that stands there, where that is a link, a device or a folder, or
-/// has another name or another owner.
+/// Opens a file for writing: a new one beside its place, or the existing one if that is a link, a device or a folder, or has another name
+/// or another owner.
 pub fn kept_file<'a, R: Files + AllocGlobal>(
     rt: &R,
     place: &'a str,
@@ -59,19 +59,19 @@ impl<'a> Pending<'a> {
         self.place
     }
 
-    /// Where the file goes when it isn't whole.
+    /// Returns where the file goes if it is incomplete.
     pub fn part(&self) -> &str {
         self.part.as_str()
     }
 
-    /// Puts the file in its place. What stood there is gone, unless this fails.
+    /// Moves the file to its place, and replaces what was there, unless this fails.
     pub fn put_in_place<R: Files>(&self, rt: &R) -> Result<(), FileFault> {
         fs::rename(rt, self.new.as_str(), self.place).map_err(output_fault)
     }
 
-    /// Leaves the file as a part, in the place of an older one, and says where it lies.
+    /// Leaves the file as a part, replacing an older one, and returns where it is.
     ///
-    /// It stays where it was written if what stands there is no regular file.
+    /// It stays where it was written if the part's name belongs to anything but a regular file.
     pub fn leave_part<R: Files>(&self, rt: &R) -> &str {
         let part = self.part.as_str();
         if is_free(rt, part) && fs::rename(rt, self.new.as_str(), part).is_ok() {
@@ -86,7 +86,7 @@ impl<'a> Pending<'a> {
         let _removed = fs::remove_file(rt, self.new.as_str());
     }
 
-    /// Whether a path leads to the place of the file, where nothing may stand yet: the file is found beside it.
+    /// Whether a path leads to the file's place, where there may be no file yet: the new one is found beside it.
     pub fn goes_to<R: Files + AllocGlobal>(&self, rt: &R, path: &str) -> Result<bool, AllocError> {
         let beside = name_beside(rt.alloc(), path, self.number)?;
         let own = identity_at(rt, self.new.as_str());

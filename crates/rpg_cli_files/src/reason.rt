@@ -2,12 +2,12 @@
 
 use std::io::ErrorKind;
 
-/// Why a file can't be opened, read, made or written, as far as the system reports different reasons.
+/// Why a file can't be opened, read, created or written, as far as the system distinguishes reasons.
 #[derive(Clone, Copy)]
 pub enum Reason {
     Missing,
     NotAllowed,
-    /// All names that are tried for a new file are taken.
+    /// All names that were tried for a new file are taken.
     Taken,
     Folder,
     /// A part of the path is a file.
@@ -15,10 +15,10 @@ pub enum Reason {
     ReadOnly,
     Full,
     TooLarge,
-    /// Nobody reads what is written.
+    /// The reader of the output closed it.
     Closed,
     Name,
-    /// A folder is no file that can be written, a device isn't there, or another fault.
+    /// A folder can't be written as a file, a device doesn't exist, or another fault.
     Other,
 }
 
@@ -41,7 +41,7 @@ impl Reason {
         }
     }
 
-    /// The reason in words.
+    /// Returns the reason in words.
     pub fn text(self) -> &'static str {
         match self {
             Reason::Missing => "no such file or directory",

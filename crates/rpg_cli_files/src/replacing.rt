@@ -1,4 +1,4 @@
-//! A file that is written whole, in the place of what stood there.
+//! A file that is written completely before it replaces the existing one.
 
 use crate::files::{FileFault, beside_fault, output_fault};
 use crate::reason::Reason;
@@ -11,12 +11,12 @@ use std::rt::Files;
 /// How many names are tried for a file beside another.
 const NAMES: u32 = 100;
 
-/// What stands where a file is to go.
+/// What exists at the place of a file.
 enum Place {
     Nothing,
     /// A regular file.
     File(Metadata),
-    /// A link, a device, a folder, or what can't be looked at.
+    /// A link, a device, a folder, or something that can't be examined.
     Other,
 }
 
@@ -38,7 +38,7 @@ fn place_at<R: Files>(rt: &R, path: &str) -> Place {
     }
 }
 
-/// Whether a file may be put there: nothing stands there, or a regular file.
+/// Whether a file may go there: nothing is there, or a regular file.
 pub(crate) fn is_free<R: Files>(rt: &R, path: &str) -> bool {
     match place_at(rt, path) {
         Place::Nothing | Place::File(_) => true,
@@ -46,12 +46,12 @@ pub(crate) fn is_free<R: Files>(rt: &R, path: &str) -> bool {
     }
 }
 
-/// The name of a new file beside another.
+/// Returns the name of a new file beside another.
 pub(crate) fn name_beside(alloc: Global, path: &str, number: u32) -> Result<String, AllocError> {
     format!(in alloc; "{path}.{number}.new")
 }
 
-/// Makes a file beside another, by the name with this number. None where something has the name.
+/// Creates a file beside another, with this number in its name. None if the name is taken.
 fn numbered_beside<R: Files + AllocGlobal>(
     rt: &R,
     path: &str,
@@ -67,7 +67,7 @@ fn numbered_beside<R: Files + AllocGlobal>(
     }
 }
 
-/// Makes a file beside another, by a name that nothing has.
+/// Creates a file beside another, under a name that isn't taken.
 fn new_beside<R: Files + AllocGlobal>(rt: &R, path: &str) -> Result<Beside<R::File>, FileFault> {
     for number in 0..NAMES {
         if let Some(beside) = numbered_beside(rt, path, number)? {
@@ -77,7 +77,7 @@ fn new_beside<R: Files + AllocGlobal>(rt: &R, path: &str) -> Result<Beside<R::Fi
     Err(FileFault::Beside(Reason::Taken))
 }
 
-/// Gives a new file the leave of an old one. None where the old one has another name, or another owner than a new one.
+/// Gives a new file the permissions of an old one. False if the old one has another name, or another owner than a new one.
 fn takes_place<F: OpenFile>(new: &F, old: &Metadata) -> bool {
     let Ok(about) = new.metadata() else {
         return false;
@@ -88,7 +88,7 @@ fn takes_place<F: OpenFile>(new: &F, old: &Metadata) -> bool {
         && new.set_permissions(old.permissions()).is_ok()
 }
 
-/// Makes a file beside an old one that can be written, to stand in its place: none where that would be another file to others.
+/// Creates a file beside an old one that can be written, to replace it; None if the old one has another name or owner.
 fn new_for<R: Files + AllocGlobal>(
     rt: &R,
     path: &str,
@@ -106,8 +106,7 @@ fn new_for<R: Files + AllocGlobal>(
     Ok(None)
 }
 
-/// Makes a file that is to stand in the place of what a path leads to: none where that is a link, a device or a folder, or has another name
-/// or another owner.
+/// Creates a file to replace the one at a path; None if that is a link, a device or a folder, or has another name or another owner.
 pub(crate) fn new_file<R: Files + AllocGlobal>(
     rt: &R,
     path: &str,
@@ -124,7 +123,7 @@ fn write_whole<F: Write>(file: &mut F, bytes: &[u8]) -> Result<(), FileFault> {
     file.flush().map_err(output_fault)
 }
 
-/// Writes a file beside another, and puts it in its place.
+/// Writes a file beside another, and moves it to that one's place.
 fn move_in_place<R: Files>(
     rt: &R,
     beside: &mut Beside<R::File>,
@@ -135,7 +134,7 @@ fn move_in_place<R: Files>(
     fs::rename(rt, beside.path.as_str(), path).map_err(output_fault)
 }
 
-/// Puts a file beside another in its place, or leaves nothing of it.
+/// Moves a file beside another to that one's place, or removes it.
 fn replace_by<R: Files>(
     rt: &R,
     mut beside: Beside<R::File>,
@@ -149,10 +148,10 @@ fn replace_by<R: Files>(
     moved
 }
 
-/// Makes, or empties, a file of these bytes.
+/// Writes these bytes to a file, which it creates or empties.
 ///
-/// Where nothing or a regular file stands there, the bytes are written beside and then put in its place, so that what stood there stays until
-/// all of them are written. Where no file can be made beside it, or it has other names or another owner, it's emptied and written.
+/// If nothing or a regular file is there, the bytes are written beside it and then moved there, so that the old file stays until all of
+/// them are written. If no file can be created beside it, or it has other names or another owner, it is emptied and written.
 pub fn write_bytes<R: Files + AllocGlobal>(
     rt: &R,
     path: &str,

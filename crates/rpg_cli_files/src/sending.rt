@@ -1,4 +1,4 @@
-//! A line to a writer.
+//! Writes a line to a writer.
 
 ghost use Rattle.std.specs.Prelude.{◌<◌, ◌≤◌, length, IfErr, IfOk, OnErr, OnOk};
 ghost use Rattle.std.specs.Io.KnownBytes.{Appends, WriteAppends};
@@ -9,14 +9,14 @@ use crate::reason::Reason;
 use rpg_files::most_tries;
 use std::io::{ErrorKind, Write};
 
-/// A writer failed when this many bytes had gone out.
+/// A writer failed after it wrote this many bytes.
 #[derive(Clone, Copy)]
 struct Unsent {
     sent: usize,
     reason: Reason,
 }
 
-/// Writes some bytes of `buf`, at least one where there is one: a write of 0 bytes is a fault.
+/// Writes bytes of `buf`. Returns how many, at least one unless `buf` is empty: a write of 0 bytes is a fault.
 fn write_some<W: Write>(writer: &mut W, buf: &[u8]) -> Result<usize, Reason>
     ensures within { IfOk result (λ n. n ≤ length buf.now) }
     ensures some { IfOk result (λ n. 0 < length buf.now → 0 < n) }
@@ -36,7 +36,7 @@ fn write_some<W: Write>(writer: &mut W, buf: &[u8]) -> Result<usize, Reason>
     Err(Reason::Other)
 }
 
-/// Writes all the bytes, or as many as the writer takes.
+/// Writes all bytes, or as many as the writer accepts.
 fn send<W: Write>(writer: &mut W, bytes: &[u8]) -> Result<(), Unsent>
     ensures ok { OnOk result (Appends (W.contents writer.old) (W.contents writer.new) bytes.now) }
     ensures err { IfErr result (λ e. AppendsFirst (W.contents writer.old) (W.contents writer.new) e.sent bytes.now) }
@@ -52,7 +52,7 @@ fn send<W: Write>(writer: &mut W, bytes: &[u8]) -> Result<(), Unsent>
     Ok(())
 }
 
-/// Writes a text, or says why not all of it went out.
+/// Writes a text. The error is why it couldn't be written completely.
 pub fn send_text<W: Write>(writer: &mut W, text: &str) -> Result<(), Reason>
     ensures ok { OnOk result (Appends (W.contents writer.old) (W.contents writer.new) text.now) }
     ensures err { OnErr result (AppendsPrefix (W.contents writer.old) (W.contents writer.new) text.now) }
@@ -63,7 +63,7 @@ pub fn send_text<W: Write>(writer: &mut W, text: &str) -> Result<(), Reason>
     }
 }
 
-/// Writes a line and its line feed, or says why not all of it went out.
+/// Writes a line and its line feed. The error is why they couldn't be written completely.
 pub fn send_line<W: Write>(writer: &mut W, text: &[u8]) -> Result<(), Reason>
     ensures ok { OnOk result (Appends (W.contents writer.old) (W.contents writer.new) (with_line_feed text.now)) }
     ensures err { OnErr result (AppendsPrefix (W.contents writer.old) (W.contents writer.new) (with_line_feed text.now)) }

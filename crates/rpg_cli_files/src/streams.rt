@@ -1,4 +1,4 @@
-//! Where records come from and printed lines go: files, or the standard streams.
+//! The sources of records and targets of printed lines: files, or the standard streams.
 
 use crate::files::{FileFault, empty_file};
 use crate::reason::Reason;
@@ -6,20 +6,20 @@ use std::fs::OpenFile;
 use std::io::{self, Printer, Read, Write};
 use std::rt::Files;
 
-/// A file of a job, as it was opened.
+/// A file of a job, after it was opened.
 #[derive(Drop)]
 pub enum Opened<F> {
     /// The program has no such file.
     Nothing,
     File(F),
-    /// A new file beside the one that is written. It is empty.
+    /// A new, empty file beside the one to be written.
     New(F),
     /// Standard input, or standard output.
     Standard,
 }
 
 impl<F: OpenFile> Opened<F> {
-    /// Empties what will be written. A new file is empty.
+    /// Empties the file to be written. A new file is already empty.
     pub fn empty(&self) -> Result<(), FileFault> {
         match self {
             Opened::File(file) => empty_file(file),
@@ -28,14 +28,14 @@ impl<F: OpenFile> Opened<F> {
     }
 }
 
-/// Where records come from, and why the last read failed, if it did.
+/// A source of records, and why its last read failed, if it did.
 #[derive(Drop)]
 pub struct RecordSource<F, S> {
     from: Source<F, S>,
     fault: Option<Reason>,
 }
 
-/// What records are read from. Where there is nothing there are none.
+/// What records are read from. Without a file there are no records.
 #[derive(Drop)]
 enum Source<F, S> {
     Nothing,
@@ -43,9 +43,9 @@ enum Source<F, S> {
     StandardInput(S),
 }
 
-/// Where lines go, and why the last write failed, if it did.
+/// A target of lines, and why its last write failed, if it did.
 ///
-/// Nothing is kept back here: the engine's pieces are large, and what it sends is to be seen before it reads again.
+/// It doesn't buffer: the engine's pieces are large, and its output should be visible before it reads again.
 #[derive(Drop)]
 pub struct LineTarget<F, P> {
     to: Target<F, P>,
@@ -56,12 +56,12 @@ pub struct LineTarget<F, P> {
 enum Target<F, P> {
     Nothing,
     File(F),
-    /// A file that is put in another's place when it is on the disk.
+    /// A file that replaces another once it is on the disk.
     New(F),
     StandardOutput(P),
 }
 
-/// The records of a file that was opened.
+/// Returns the records of an open file.
 pub fn records<R: Files + Input>(
     rt: &R,
     opened: Opened<R::File>,
@@ -74,7 +74,7 @@ pub fn records<R: Files + Input>(
     RecordSource { from, fault: None }
 }
 
-/// What writes a file that was opened.
+/// Returns the writer of an open file.
 pub fn lines<R: Files + Print>(
     rt: &R,
     opened: Opened<R::File>,
@@ -88,7 +88,7 @@ pub fn lines<R: Files + Print>(
     LineTarget { to, fault: None }
 }
 
-/// Why a call failed, if it did.
+/// Returns why a call failed, if it did.
 fn fault_of<T>(answer: &io::Result<T>) -> Option<Reason> {
     match answer {
         Ok(_) => None,
@@ -97,7 +97,7 @@ fn fault_of<T>(answer: &io::Result<T>) -> Option<Reason> {
 }
 
 impl<F, S> RecordSource<F, S> {
-    /// Why the last read failed, if it did.
+    /// Returns why the last read failed, if it did.
     pub fn fault(&self) -> Option<Reason> {
         self.fault
     }
@@ -116,7 +116,7 @@ impl<F: Read, S: Read> Read for RecordSource<F, S> {
 }
 
 impl<F, P> LineTarget<F, P> {
-    /// Why the last write failed, if it did.
+    /// Returns why the last write failed, if it did.
     pub fn fault(&self) -> Option<Reason> {
         self.fault
     }

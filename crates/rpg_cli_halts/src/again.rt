@@ -1,4 +1,4 @@
-//! The record that a job halted at, found in its input files, which are read once more.
+//! Finds the record that a job halted at, by reading its input files again.
 
 use rpg_cycle_records::{KeptFile, MatchValue, fill, identify, is_good};
 use rpg_program::input::{ControlField, InputFile};
@@ -10,18 +10,18 @@ use std::io::BufRead;
 /// The most bytes of a match value.
 const LONGEST_VALUE: usize = 256;
 
-/// The record of a file that was taken in last, with what its job keeps of the file.
+/// The last record that was read from a file, with what its job keeps of the file.
 #[derive(Drop)]
 pub struct HaltedRecord {
     pub(crate) file: InputFile,
-    /// Its number in its file, the first being 1.
+    /// Its number in its file, from 1.
     pub(crate) number: u64,
-    /// Its text, with the end of its line.
+    /// Its text, with its line end.
     line: Vec<u8>,
-    /// The row of its type, where it has one.
+    /// The row of its type, if it has one.
     pub(crate) row: Option<usize>,
     kept: KeptFile,
-    /// The match value that was selected last from its file.
+    /// The match value of the record that was last selected from its file.
     last: MatchValue,
     /// The number of the record with that value.
     last_number: u64,
@@ -30,15 +30,15 @@ pub struct HaltedRecord {
 /// A record whose match value is lower than that of an earlier one.
 #[derive(Clone, Copy)]
 pub(crate) struct Lower<'a> {
-    /// The column in which its first match field begins, counted from 1.
+    /// The column in which its first match field begins, from 1.
     pub column: usize,
     pub value: &'a [u8],
     pub before: &'a [u8],
-    /// The number of the record that has the value before.
+    /// The number of the record with the higher value.
     pub follows: u64,
 }
 
-/// The column in which the match field of the highest level begins.
+/// Returns the column in which the match field of the highest level begins.
 fn first_column(fields: &[ControlField]) -> usize {
     let mut highest = 0u8;
     let mut column = 1u16;
@@ -51,7 +51,7 @@ fn first_column(fields: &[ControlField]) -> usize {
     usize::from(column)
 }
 
-/// A line without its end.
+/// Returns a line without its end.
 fn text_of(line: &[u8]) -> &[u8] {
     if line.is_empty() {
         line
@@ -73,17 +73,17 @@ impl HaltedRecord {
         })
     }
 
-    /// The record as it stands in its file.
+    /// Returns the record as its file has it.
     pub(crate) fn text(&self) -> &[u8] {
         text_of(&self.line)
     }
 
-    /// The record, filled with blanks to its length, if it is one of characters and not too long.
+    /// Returns the record, padded to its length, if it has only characters and isn't too long.
     pub(crate) fn filled(&self) -> &[u8] {
         &self.kept.record
     }
 
-    /// The match value that is too low.
+    /// Returns the match value, if it is too low.
     pub(crate) fn lower(&self, program: &Verified) -> Option<Lower<'_>> {
         let own = program.program().rows().types.get(self.row?)?;
         Some(Lower {
@@ -94,7 +94,7 @@ impl HaltedRecord {
         })
     }
 
-    /// Lets the record wait. Returns whether its job goes on.
+    /// Makes the record wait. Returns whether its job goes on.
     fn wait(&mut self, program: &Verified) -> Result<bool, AllocError> {
         let text = text_of(&self.line);
         if !is_good(program, self.file, text) {
@@ -118,7 +118,7 @@ impl HaltedRecord {
     }
 }
 
-/// A file that is read once more, with the record that was taken in last.
+/// A file that is read again, with its last record.
 #[derive(Drop)]
 struct Again<R> {
     reader: Option<R>,
@@ -126,7 +126,7 @@ struct Again<R> {
 }
 
 impl<R: BufRead> Again<R> {
-    /// Takes the next record in, if the file takes one in. Returns whether the job goes on; nothing where the file can't be read.
+    /// Reads the next record, if the file needs one. Returns whether the job goes on, or None if the file can't be read.
     fn take_in(&mut self, program: &Verified) -> Option<bool> {
         let Again { reader, record } = self;
         if !record.kept.takes_in(program, record.file) {
@@ -143,12 +143,12 @@ impl<R: BufRead> Again<R> {
     }
 }
 
-/// Whether a record of the primary file comes after one of the secondary file: one without a match value comes first.
+/// Whether a record of the primary file comes after one of the secondary file. One without a match value comes first.
 fn is_later(primary: &MatchValue, secondary: &MatchValue) -> bool {
     primary.is_there && (!secondary.is_there || primary.exceeds(secondary))
 }
 
-/// The file whose record goes first, if one waits.
+/// Returns the file whose record goes first, if one waits.
 fn chosen(primary: &KeptFile, secondary: &KeptFile) -> Option<InputFile> {
     match (primary.waiting, secondary.waiting) {
         (None, None) => None,
@@ -168,7 +168,7 @@ enum Step {
     Halts(InputFile),
 }
 
-/// Takes records in, and selects one; nothing where none is left.
+/// Reads records, and selects one; None if there are no more.
 fn take_step<R: BufRead>(
     program: &Verified,
     primary: &mut Again<R>,
@@ -188,8 +188,8 @@ fn take_step<R: BufRead>(
     Some(Step::Selects(file))
 }
 
-/// The record that the last of so many cycles selected or halted at, if each of them took one. Nothing where a file can't be read once more, or has
-/// other records than the job had.
+/// Returns the record that the last of this many cycles selected or halted at, if each of them took one. None if a file can't be read
+/// again, or its records differ from those that the job read.
 pub fn record_again<R: BufRead + Drop>(
     alloc: Global,
     program: &Verified,

@@ -23,8 +23,8 @@ pub struct HaltedCycle {
 }
 
 impl HaltedCycle {
-    /// How many cycles took a record, up to the one that the halt is about, where it is known. The fields of a record are filled, and detail
-    /// calculations done, in the cycle that takes it.
+    /// Returns how many cycles took a record, up to the one that the halt is about, if it is known. A cycle fills the fields of the record
+    /// that it takes, and does detail calculations for it.
     fn cycles_of_records(self) -> Option<u64> {
         match self.place {
             Some(place) => match place.section {
@@ -50,7 +50,7 @@ impl HaltedCycle {
             )
     }
 
-    /// How many cycles' records have to be read once more, so that the halt can be reported in full: of one file only if its text is needed.
+    /// Returns how many cycles' records have to be read again to report the halt in full; for one file, only if its text is needed.
     pub fn cycles_again(self, program: &Verified) -> Option<u64> {
         if has_two_files(program) || self.is_of_text() {
             self.cycles_of_records()
@@ -60,11 +60,11 @@ impl HaltedCycle {
     }
 }
 
-/// The names of the files that a job reads.
+/// The names of a job's input files.
 #[derive(Clone, Copy)]
 pub struct InputNames<'a> {
     pub primary: &'a str,
-    /// That of the secondary file, if the arguments name one. A program without such a file doesn't read it.
+    /// The name of the secondary file, if the arguments name one. A program without such a file doesn't read it.
     pub secondary: Option<&'a str>,
 }
 
@@ -74,7 +74,7 @@ fn has_two_files(program: &Verified) -> bool {
 }
 
 impl<'a> InputNames<'a> {
-    /// The name of a file that is read.
+    /// Returns the name of an input file.
     fn of(self, file: InputFile) -> &'a str {
         match (file, self.secondary) {
             (InputFile::Secondary, Some(secondary)) => secondary,
@@ -83,13 +83,13 @@ impl<'a> InputNames<'a> {
     }
 }
 
-/// A halt of a job, with what is known of its record.
+/// A halt of a job, with what is known about its record.
 #[derive(Clone, Copy)]
 struct Told<'a> {
     names: InputNames<'a>,
     program: &'a Verified,
     halted: HaltedCycle,
-    /// The file of the record and its number there, the first being 1.
+    /// The file of the record, and its number there, from 1.
     record: Option<(InputFile, u64)>,
     found: Found<'a>,
 }
@@ -98,11 +98,11 @@ struct Told<'a> {
 #[derive(Clone, Copy)]
 enum Found<'a> {
     Nothing,
-    /// Columns that are to be a number.
+    /// Columns that should be a number.
     Input(BadInput, &'a [u8]),
-    /// A byte that is no character; its place is counted from 0.
+    /// A byte that isn't a character; its place is counted from 0.
     Byte(usize, &'a [u8]),
-    /// It is longer than the records of its file, which have so many columns.
+    /// It is longer than its file's records, which have this many columns.
     TooLong(usize, &'a [u8]),
     /// Its match value.
     Lower(Lower<'a>),
@@ -129,7 +129,7 @@ impl<'a> Found<'a> {
         }
     }
 
-    /// The first column that it is about, counted from 1.
+    /// Returns the first column that it is about, counted from 1.
     fn column(self) -> Option<usize> {
         match self {
             Found::Nothing => None,
@@ -140,7 +140,7 @@ impl<'a> Found<'a> {
     }
 }
 
-/// What stands in the columns that spell no number.
+/// Writes the text of the columns that aren't a number.
 fn write_columns(out: &mut TextWriter, bad: BadInput, text: &[u8]) {
     let BadInput { input, column, .. } = bad;
     let character = text.get(column.saturating_sub(1)..column).unwrap_or(&[]);
@@ -158,12 +158,12 @@ fn write_columns(out: &mut TextWriter, bad: BadInput, text: &[u8]) {
 
 const LOWER: &str = "match value \"{}\" is lower than \"{}\" of record {}";
 
-/// What a cycle does that isn't of one record.
+/// What a cycle does besides processing a record.
 const BETWEEN: &str =
     "it was cycle {}, which puts out the detail lines of record {} and then takes record {}, or comes to the end of the input";
 
 impl Told<'_> {
-    /// The name of the record's file; of all input files of the program if it isn't known.
+    /// Writes the name of the record's file, or of all input files if it isn't known.
     fn write_names(self, out: &mut TextWriter) {
         let InputNames { primary, secondary } = self.names;
         match (self.record, secondary) {
@@ -176,7 +176,7 @@ impl Told<'_> {
         }
     }
 
-    /// Where it halted, as far as record and column are known, and what was wrong.
+    /// Writes where it halted, with record and column if they are known, and what was wrong.
     fn write_halt(self, out: &mut TextWriter) {
         let halt = self.halted.halt;
         self.write_names(out);
@@ -202,7 +202,7 @@ impl Told<'_> {
         }
     }
 
-    /// Which instruction halted; where none did, which columns of the record, or which output fields it may have been.
+    /// Writes which instruction halted; if none did, which columns of the record, or which output fields it may have been.
     fn write_place(self, out: &mut TextWriter) {
         let program = self.program.program();
         match (self.halted.place, self.halted.halt, self.found) {
@@ -216,7 +216,7 @@ impl Told<'_> {
         }
     }
 
-    /// Which record it was, or what the cycle does, and how many cycles were done before.
+    /// Writes which record it was, or what the cycle does, and how many cycles were complete.
     fn write_cycle(self, out: &mut TextWriter) {
         let cycle = self.halted.cycles;
         let before = cycle.saturating_sub(1);
@@ -237,7 +237,7 @@ impl Told<'_> {
     }
 }
 
-/// The record that a halt is about, and its number: of one file the cycles give it, of two the files themselves.
+/// Returns the record that a halt is about, and its number: with one file, from the cycles; with two, from the files themselves.
 fn place_of(
     program: &Verified,
     halted: HaltedCycle,
@@ -250,8 +250,8 @@ fn place_of(
     }
 }
 
-/// The diagnostic for a halt of a job by this program over the records of these files. The record that the halt is about makes it known what was wrong
-/// with it, and of two files which it came from; the program's source, which card it was.
+/// Returns the diagnostic for a halt of a job by this program over the records of these files. The record shows what was wrong with it and,
+/// of two files, which it came from; the program's source shows which card it was.
 pub fn halt_message(
     alloc: Global,
     names: InputNames<'_>,

@@ -1,10 +1,10 @@
-//! The fields of output lines that can halt a job: those whose entry is named by the number in another field.
+//! The fields of output lines that can halt a job: those with an index field.
 
 use rpg_cli_text::TextWriter;
 use rpg_program::operation::Index;
 use rpg_program::rows::{Line, Rows};
 
-/// Writes the indexed fields of a line, and returns whether none was written yet.
+/// Writes the indexed fields of a line. Returns whether none is written yet.
 fn write_line(out: &mut TextWriter, line: &Line, number: usize, is_first: bool) -> bool {
     let mut is_first = is_first;
     for (at, field) in line.fields.iter().enumerate() {
@@ -20,7 +20,7 @@ fn write_line(out: &mut TextWriter, line: &Line, number: usize, is_first: bool) 
     is_first
 }
 
-/// Which fields of output lines can have a bad index: where there is one alone, it was that one.
+/// Writes which fields of output lines can have a bad index: a single one must be the cause.
 pub(crate) fn write_indexed_fields(out: &mut TextWriter, rows: &Rows) {
     let mut is_first = true;
     for (number, line) in rows.lines.iter().enumerate() {

@@ -1,4 +1,4 @@
-//! Halt 7: a record that is too long, or that has a byte which is no character.
+//! Halt 7: a record that is too long, or has a byte that isn't a character.
 
 use rpg_cli_text::TextWriter;
 use rpg_text::{is_blank, is_character};
@@ -14,7 +14,7 @@ const BLANK_END: &str =
 
 const TOO_LONG: &str = "the record has {} columns, and records of this file have {}";
 
-/// The place of the first byte that is no character.
+/// Returns the place of the first byte that isn't a character.
 pub(crate) fn bad_byte(text: &[u8]) -> Option<usize> {
     for (place, byte) in text.iter().enumerate() {
         if !is_character(*byte) {
@@ -24,7 +24,7 @@ pub(crate) fn bad_byte(text: &[u8]) -> Option<usize> {
     None
 }
 
-/// Writes that a record of this text is longer than those of its file, and how it is mended.
+/// Writes that a record with this text is longer than its file's records, and how to fix it.
 pub(crate) fn write_too_long(out: &mut TextWriter, text: &[u8], length: usize) {
     let count = text.len();
     if count > MOST_COLUMNS {

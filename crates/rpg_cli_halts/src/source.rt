@@ -1,4 +1,5 @@
-//! The cards of a job that halted: of its instruction, of its input field, or of the fields of lines that it may have been.
+//! The cards of a job that halted: of its instruction, of its input field, or of the line fields that may have been the
+//! cause.
 
 use crate::columns::BadInput;
 use crate::halts::HaltedCycle;
@@ -14,7 +15,7 @@ use rpg_refusal_causes::placed_at;
 use rpg_text::trimmed;
 use rpg_verify::Verified;
 
-/// The source of the program that halted: what it is called, its text, and what its cards say.
+/// The source of the program that halted: its name, its text, and the cards of its rows.
 #[derive(Clone, Copy)]
 pub struct HaltedSource<'a> {
     pub path: &'a str,
@@ -28,7 +29,7 @@ impl HaltedSource<'_> {
         out.fill("{}:{}: ", &[self.path.as_bytes().into(), card.into()]);
     }
 
-    /// Ends the line about a card, and shows the card.
+    /// Ends the line about a card, and writes the card.
     fn show_card(self, out: &mut TextWriter, card: u16) {
         out.write_char('\n');
         let line = CardLines::of(self.text).line_of(card);
@@ -36,7 +37,7 @@ impl HaltedSource<'_> {
     }
 }
 
-/// A calculation by what its card has: factor 1, operation, factor 2 and the result field.
+/// Writes a calculation by the contents of its card: factor 1, operation, factor 2 and the result field.
 fn write_action(
     out: &mut TextWriter,
     rows: &Rows,
@@ -57,7 +58,8 @@ fn write_action(
     }
 }
 
-/// What an instruction was made of; a label or a subroutine that it goes to is in factor 2 (33-42) of its card.
+/// Writes what an instruction was compiled from; the label or subroutine that it goes to is in factor 2 (33-42) of its
+/// card.
 fn write_made_of(
     out: &mut TextWriter,
     rows: &Rows,
@@ -79,7 +81,7 @@ fn write_made_of(
     out.fill(sentence, &[target.into()]);
 }
 
-/// The card of the instruction that halted.
+/// Writes the card of the instruction that halted.
 fn write_instruction(
     out: &mut TextWriter,
     program: &Program,
@@ -95,7 +97,7 @@ fn write_instruction(
     }
 }
 
-/// The card of the input field whose columns are no number.
+/// Writes the card of the input field whose columns aren't a number.
 fn write_input(out: &mut TextWriter, bad: BadInput, source: HaltedSource<'_>) {
     let name = source.rows.field_name(bad.input.field);
     let card = source.rows.input_card(bad.row, bad.number);
@@ -107,7 +109,7 @@ fn write_input(out: &mut TextWriter, bad: BadInput, source: HaltedSource<'_>) {
     }
 }
 
-/// The cards of the fields of a line whose entry is named by a field.
+/// Writes the cards of a line's fields that have an index field.
 fn write_line(
     out: &mut TextWriter,
     rows: &Rows,
@@ -125,14 +127,14 @@ fn write_line(
     }
 }
 
-/// The cards of all fields of lines whose entry is named by a field.
+/// Writes the cards of all line fields that have an index field.
 fn write_lines(out: &mut TextWriter, rows: &Rows, source: HaltedSource<'_>) {
     for (number, line) in rows.lines.iter().enumerate() {
         write_line(out, rows, number, line, source);
     }
 }
 
-/// Tells the card that a halt is about, or the cards that it may be about, and what they have by names.
+/// Writes the card that a halt is about, or the cards that it may be about, and what they hold, by name.
 pub(crate) fn write_source(
     out: &mut TextWriter,
     program: &Verified,

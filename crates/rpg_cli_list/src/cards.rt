@@ -1,4 +1,4 @@
-//! The cards of a source, each with its faults below it.
+//! The cards of a source, with faults below them.
 
 use crate::chart::write_ruler;
 use rpg_cli_messages::{SourceCards, write_first, write_note};
@@ -6,7 +6,7 @@ use rpg_cli_text::TextWriter;
 use rpg_faults::CardFault;
 use rpg_text::trimmed;
 
-/// How many columns of a line stand before the first one of a card.
+/// The columns before the first one of a card.
 const MARGIN: usize = 6;
 
 fn write_card(out: &mut TextWriter, number: usize, line: &[u8]) {
@@ -19,7 +19,7 @@ fn write_card(out: &mut TextWriter, number: usize, line: &[u8]) {
     out.write_char('\n');
 }
 
-/// Writes the faults of a card, which come first, and returns those after them.
+/// Writes the faults of a card, the first of these. Returns the others.
 fn write_faults<'f>(
     out: &mut TextWriter,
     number: usize,
@@ -38,7 +38,7 @@ fn write_faults<'f>(
     rest
 }
 
-/// Writes the cards below a ruler. The faults are in the order of cards, those of the whole source first.
+/// Writes the cards below a ruler. Faults come card by card, those of the whole source first.
 pub(crate) fn write_cards(
     out: &mut TextWriter,
     lines: &[&[u8]],

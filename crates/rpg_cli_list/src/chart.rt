@@ -1,19 +1,19 @@
-//! A line or a record as it is drawn below a ruler.
+//! A chart of a line or a record, drawn below a ruler.
 
 use rpg_cli_text::TextWriter;
 use rpg_text::trimmed;
 
-/// The most places that are drawn: a printed line has no more.
+/// The most places that are drawn, as many as a printed line can have.
 pub(crate) const MOST_DRAWN: u16 = 132;
 
-/// How many blanks stand before the first place.
+/// The margin before the first place.
 const MARGIN: &str = "          ";
 
-/// A ruler: a figure at each tenth place, a plus at each fifth.
+/// A ruler: a digit at each tenth place, a plus at each fifth.
 const RULER: &str =
     "....+....1....+....2....+....3....+....4....+....5....+....6....+....7....+....8....+....9....+....0....+....1....+....2....+....3..";
 
-/// Writes a ruler over so many places, at most 132.
+/// Writes a ruler over `places` places, at most 132.
 pub(crate) fn write_ruler(out: &mut TextWriter, places: usize) {
     out.write_str(RULER.get(..places).unwrap_or(RULER));
 }
@@ -25,13 +25,13 @@ pub(crate) struct Chart {
     length: usize,
 }
 
-/// The places that a text takes which ends at one of them, the first being 1: none where it would begin before.
+/// Returns the first place of a text that ends at `end`, counted from 1; None if it would begin before place 1.
 pub(crate) fn first_place(width: usize, end: u16) -> Option<usize> {
     usize::from(end).checked_sub(width)?.checked_add(1)
 }
 
 impl Chart {
-    /// So many places, and what stands where nothing is drawn.
+    /// Returns `length` places, each holding `empty` until something is drawn.
     pub fn new(length: u16, empty: u8) -> Self {
         Chart {
             places: [empty; 132],
@@ -39,7 +39,7 @@ impl Chart {
         }
     }
 
-    /// Draws one character over the places from a first one to a last.
+    /// Draws a character in all places of a range.
     pub fn fill(&mut self, first: u16, last: u16, character: u8) {
         let before = usize::from(first).saturating_sub(1);
         let count = usize::from(last).saturating_sub(before);
@@ -48,7 +48,7 @@ impl Chart {
         }
     }
 
-    /// Draws a text over what stands there.
+    /// Draws a text over the places from `first` on.
     pub fn draw(&mut self, first: usize, text: &[u8]) {
         let before = first.saturating_sub(1);
         for (place, character) in self.places.iter_mut().skip(before).zip(text) {

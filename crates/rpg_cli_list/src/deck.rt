@@ -1,4 +1,4 @@
-//! The cards of a source, each read on its own.
+//! The cards of a source, each read by itself.
 
 use rpg_cards::SpecCard;
 use rpg_faults::{CardFault, SourceCode};
@@ -7,30 +7,31 @@ use rpg_sheet_specs::{DataCard, DataSpec};
 use rpg_text::{first_line, has_only_characters};
 use std::alloc::{AllocError, Global};
 
-/// How many columns a card has.
+/// The columns of a card.
 const COLUMNS: usize = 80;
 
-/// The last card that a source may have.
+/// The last card of a source.
 const LAST_CARD: u16 = 2000;
 
-/// The lines of a source up to the card that ends it, or to the first one too many; and the cards that can be read, on a sheet or data.
+/// The lines of a source up to the card that ends it, or to the first one over the limit; and the readable cards, of a sheet or of
+/// data.
 #[derive(Drop)]
 pub(crate) struct ReadCards<'a> {
     pub lines: Vec<&'a [u8]>,
     pub cards: Vec<SpecCard>,
 }
 
-/// Whether a line has these two characters and then a blank, or its end.
+/// Whether a line begins with these two characters, followed by a blank or its end.
 fn begins_with(line: &[u8], mark: &[u8]) -> bool {
     line.starts_with(mark) && line.get(2).copied().unwrap_or(b' ') == b' '
 }
 
-/// Whether a fault is that its card can't be read.
+/// Whether a fault means that its card can't be read.
 pub(crate) fn is_unread(fault: &CardFault) -> bool {
     matches!(&fault.code, SourceCode::Sheet(_))
 }
 
-/// Whether a card is among those that can't be read. Where some can't, other faults aren't reported.
+/// Whether a card is one of those that can't be read. If there are any, other faults aren't reported.
 fn is_among(faults: &[CardFault], number: u16) -> bool {
     for fault in faults {
         if fault.card == number {
@@ -40,7 +41,7 @@ fn is_among(faults: &[CardFault], number: u16) -> bool {
     false
 }
 
-/// What a card of data stands for: nothing before data begin, and where it ends the source.
+/// Returns the meaning of a card of data; None before data begin, and for a card that ends the source.
 fn data_of(card: &Card, is_data: bool) -> Option<DataSpec> {
     if card.ends_source() {
         None
@@ -53,7 +54,7 @@ fn data_of(card: &Card, is_data: bool) -> Option<DataSpec> {
     }
 }
 
-/// What a card stands for that can be read; nothing where it is neither on a sheet nor data.
+/// Returns the meaning of a readable card; None if it is neither of a sheet nor data.
 fn spec_of(line: &[u8], is_data: bool) -> Option<Spec> {
     if line.len() > COLUMNS {
         return None;
@@ -86,7 +87,7 @@ impl<'a> ReadCards<'a> {
         Ok(())
     }
 
-    /// The cards of a source that has these faults.
+    /// Reads the cards of a source that has these faults.
     pub fn of(alloc: Global, source: &'a [u8], faults: &[CardFault]) -> Result<Self, AllocError> {
         let mut read = ReadCards {
             lines: Vec::new(alloc),

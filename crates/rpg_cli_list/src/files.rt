@@ -8,10 +8,10 @@ use rpg_deck::{Card, Tree};
 use rpg_sheet_specs::{FileSpec, InputSpec, OutputSpec, Word};
 use std::alloc::{AllocError, Global};
 
-/// How many columns stand before the further cards that name a file.
+/// The columns before the other cards that name a file.
 const NAMED: usize = 23;
 
-/// What a record of a file is made of.
+/// Returns what a record of a file consists of.
 pub(crate) fn length_words(file: &FileSpec) -> &'static str {
     match use_of(file) {
         FileUse::Primary | FileUse::Secondary | FileUse::Disk => "columns",
@@ -19,7 +19,7 @@ pub(crate) fn length_words(file: &FileSpec) -> &'static str {
     }
 }
 
-/// What rows of the listing are, the file where a card names it, and the length of its records with the word for what it counts.
+/// Writes what the rows below are, the file if a card names it, and the length of its records with the unit.
 pub(crate) fn write_heading(
     out: &mut TextWriter,
     rows: &str,
@@ -89,7 +89,7 @@ fn write_file(out: &mut TextWriter, card: u16, file: &FileSpec) {
     out.write_str(", named on ");
 }
 
-/// Whether a file is described on one of these cards.
+/// Whether one of these cards describes the file.
 fn is_among(cards: &[Card<&FileSpec>], name: &Word<8>) -> bool {
     for card in cards {
         if card.spec.name == *name {
@@ -99,7 +99,7 @@ fn is_among(cards: &[Card<&FileSpec>], name: &Word<8>) -> bool {
     false
 }
 
-/// Writes a row for each file, by the first card that describes it, with the cards of record types and lines that name it.
+/// Writes a row for each file, for the first card that describes it, with the cards of record types and lines that name it.
 pub(crate) fn write_files(
     alloc: Global,
     out: &mut TextWriter,

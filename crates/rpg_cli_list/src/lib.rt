@@ -1,4 +1,4 @@
-//! A source as a person reads it: `rpg2 list`.
+//! The listing of a source for people: `rpg2 list`.
 #![tactic(auto)]
 
 mod cards;

@@ -1,4 +1,4 @@
-//! Lines: when each is put out, how it looks, and where its fields stand.
+//! Lines: when each is written, its layout, and where its fields are.
 
 use crate::chart::{Chart, first_place};
 use crate::files::{length_words, write_heading};
@@ -23,7 +23,7 @@ fn lines_in<const FIRST: u8, const LAST: u8>(column: Option<Within<FIRST, LAST>>
     }
 }
 
-/// How the form moves: if all four columns are blank, one line is spaced after.
+/// Returns how the form moves: if all four columns are blank, it spaces one line after.
 fn spacing_of(movement: Movement) -> Spacing {
     let mut spacing = Spacing {
         skip_before: lines_in(movement.skip_before),
@@ -43,7 +43,7 @@ fn spacing_of(movement: Movement) -> Spacing {
     spacing
 }
 
-/// When a line is put out.
+/// Writes when a line is written.
 fn write_head(
     out: &mut TextWriter,
     card: u16,
@@ -95,7 +95,7 @@ fn draw_field(chart: &mut Chart, source: &IndexedCards, field: &OutputField) {
     }
 }
 
-/// The places of a field: its end alone where it isn't known how wide it is.
+/// Writes the places of a field, only its end if its width isn't known.
 fn write_places(out: &mut TextWriter, source: &IndexedCards, field: &OutputField) {
     let end = field.end;
     let first = match picture_of(source, field) {
@@ -117,7 +117,7 @@ fn write_entry(out: &mut TextWriter, entry: &Entry) {
     }
 }
 
-/// The field or the constant, and how it is edited.
+/// Writes the field or the constant, and how it is edited.
 fn write_printed(out: &mut TextWriter, field: &OutputField) {
     if let Some(entry) = &field.operand {
         write_entry(out, entry);
@@ -166,7 +166,7 @@ fn write_line(
     }
 }
 
-/// Writes all lines as they are put out.
+/// Writes all lines with their layouts.
 pub(crate) fn write_lines(out: &mut TextWriter, source: &IndexedCards, tree: &Tree) {
     let mut file = None;
     let mut is_first = true;

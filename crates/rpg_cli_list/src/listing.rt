@@ -17,12 +17,12 @@ use std::alloc::{AllocError, Global};
 const UNREAD: &str =
     "{} card{} that can't be read\nthe tables are of the others; other checks run once all can be read\n";
 
-/// The ending of a word, of which there are so many.
+/// Returns the ending of a noun with this count.
 fn counted(count: usize) -> &'static str {
     if count == 1 { "" } else { "s" }
 }
 
-/// How many cards there are, and how many faults.
+/// Writes how many cards and how many faults there are.
 fn write_head(out: &mut TextWriter, path: &str, cards: usize, faults: &[CardFault]) {
     let sentence = match faults.first() {
         None => "no fault\n",
@@ -35,7 +35,7 @@ fn write_head(out: &mut TextWriter, path: &str, cards: usize, faults: &[CardFaul
     out.fill(sentence, &[count.into(), counted(count).into()]);
 }
 
-/// Writes the fields: names, and constants after them.
+/// Writes the fields: names, then constants.
 fn write_fields(
     alloc: Global,
     out: &mut TextWriter,
@@ -85,9 +85,9 @@ fn cards_text(
     out.finish()
 }
 
-/// The whole listing of a source, whether it has faults or not: its cards, each with its faults; its files, tables, record types with their
-/// fields; names, constants, labels and indicators with the cards that have them; and its lines as they are printed. Of cards that can't be read the
-/// listing has the faults alone, and `path` is how the source is called.
+/// Returns the whole listing of a source, with or without faults: its cards, each with its faults; its files, tables, record types with
+/// their fields; names, constants, labels and indicators with the cards that use them; and its lines as they are printed. For cards that
+/// can't be read the listing has only the faults. `path` is the name of the source.
 pub fn source_listing(alloc: Global, path: &str, source: &[u8]) -> Result<String, AllocError> {
     let Ok(faults) = source_faults(alloc, source) else {
         return Err(AllocError);

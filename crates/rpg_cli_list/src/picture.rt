@@ -1,4 +1,4 @@
-//! What an output field prints, as far as its card shows.
+//! What an output field prints, as far as its card tells.
 
 use rpg_cards::{Defined, IndexedCards};
 use rpg_decimal::fit;
@@ -11,7 +11,7 @@ use rpg_sheet_specs::OutputField;
 /// The most characters that a field prints.
 const MOST: usize = 256;
 
-/// The number of nines alone that has most of them, below zero so that its sign shows.
+/// The number with the most nines, negative so that its sign shows.
 const NINES: i128 = -999_999_999_999_999;
 
 /// What a field prints, at the end of these characters.
@@ -36,8 +36,8 @@ impl Picture {
     }
 }
 
-/// What an output field prints: a constant's characters, an X for each character of a text, and a number whose digits are nines as it is
-/// edited, below zero where it is. Nothing where the name has no form, or the field isn't edited by what stands there.
+/// Returns what an output field prints: a constant's characters, an X for each character of a text, and for a number all nines, edited,
+/// and negative if it is edited. None if the name has no form, or the field's code or word doesn't fit.
 pub(crate) fn picture_of(source: &IndexedCards, field: &OutputField) -> Option<Picture> {
     match &field.operand {
         None => Some(Picture::of(field.text.as_ref()?.as_slice())),
@@ -72,7 +72,7 @@ fn number_picture(length: u8, decimals: u8, field: &OutputField) -> Option<Pictu
     Some(Picture { characters, first })
 }
 
-/// A number without a code or a word shows no sign of its own, so it isn't below zero.
+/// Returns the sign: without a code or a word a number shows none, so it isn't negative.
 fn sign_of(how: &How) -> i128 {
     match how {
         How::Plain => -NINES,
@@ -80,7 +80,7 @@ fn sign_of(how: &How) -> i128 {
     }
 }
 
-/// How a number of so many digits is edited, where its code or word can.
+/// Returns how a number of this many digits is edited, if its code or word fits.
 fn how_of(field: &OutputField, digits: u8) -> Option<How> {
     match (field.code, &field.text) {
         (None, None) => Some(How::Plain),

@@ -9,7 +9,7 @@ use rpg_cli_text::TextWriter;
 use rpg_deck::{Card, Tree};
 use rpg_sheet_specs::{FileSpec, InputFieldSpec, InputSpec, RecordCode, RecordType, Three};
 
-/// Which type it is, and what it turns on.
+/// Writes which type it is, and which indicator it turns on.
 fn write_head(out: &mut TextWriter, card: u16, record_type: &RecordType) {
     let sequence = name_text(record_type.sequence.as_slice());
     out.fill("  type {}, card {}", &[sequence.into(), card.into()]);
@@ -17,7 +17,7 @@ fn write_head(out: &mut TextWriter, card: u16, record_type: &RecordType) {
     out.write_char('\n');
 }
 
-/// Writes the codes of a card, and returns how many there are.
+/// Writes the codes of a card. Returns how many there are.
 fn write_codes(out: &mut TextWriter, card: u16, codes: &Three<Option<RecordCode>>) -> u64 {
     for code in [codes.first, codes.second, codes.third] {
         if let Some(code) = code {
@@ -33,7 +33,7 @@ fn write_codes(out: &mut TextWriter, card: u16, codes: &Three<Option<RecordCode>
     codes.filled()
 }
 
-/// Which records are of the type: the codes on its card and on AND cards.
+/// Writes which records are of the type, by the codes on its card and on AND cards.
 fn write_all_codes(
     out: &mut TextWriter,
     card: u16,
@@ -81,7 +81,8 @@ fn write_field(out: &mut TextWriter, card: u16, field: &InputFieldSpec) {
     out.end_line();
 }
 
-/// Draws the record: an X for each character of a text, a 9 for each digit, a point in no field.
+/// Draws the record: an X for each character of a text, a 9 for each digit, a point outside all
+/// fields.
 fn write_layout(out: &mut TextWriter, length: u16, followers: &[Card<&InputSpec>]) {
     let mut chart = Chart::new(length, b'.');
     for card in followers {
@@ -93,7 +94,7 @@ fn write_layout(out: &mut TextWriter, length: u16, followers: &[Card<&InputSpec>
     chart.write(out);
 }
 
-/// Writes the fields of a type below a heading, if it has some.
+/// Writes the fields of a type below a heading, if there are any.
 fn write_fields(out: &mut TextWriter, file: Option<&FileSpec>, followers: &[Card<&InputSpec>]) {
     let mut is_first = true;
     for card in followers {

@@ -42,7 +42,7 @@ fn write_table(
     out.end_line();
 }
 
-/// Writes decimals into their column, which tables and fields have.
+/// Writes decimals in their column, for tables and fields.
 pub(crate) fn write_decimals(out: &mut TextWriter, decimals: Option<u8>) {
     match decimals {
         Some(decimals) => out.fill("{:>8}", &[decimals.into()]),
@@ -50,7 +50,7 @@ pub(crate) fn write_decimals(out: &mut TextWriter, decimals: Option<u8>) {
     }
 }
 
-/// Writes a row for each table and array of the E cards. The data come in the order of the E cards that have some.
+/// Writes a row for each table and array of the E cards. The data come in the order of the E cards that have data.
 pub(crate) fn write_tables(out: &mut TextWriter, tree: &Tree) {
     if !tree.tables.is_empty() {
         out.write_str(HEADING);

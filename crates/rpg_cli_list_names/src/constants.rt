@@ -8,13 +8,13 @@ use rpg_cli_text::TextWriter;
 use rpg_program::value::Value;
 use std::alloc::{AllocError, Global};
 
-/// How wide the column of forms is.
+/// The width of the column of forms.
 const FORM: usize = 19;
 
-/// How wide the column of values is.
+/// The width of the column of values.
 const VALUE: usize = 26;
 
-/// How many columns stand before the cards of a constant.
+/// The columns before the cards of a constant.
 const CARDS: usize = 58;
 
 const HEADING: &str =
@@ -35,7 +35,7 @@ fn note_constants(
     Ok(())
 }
 
-/// The constants in the order of the cards, equal ones once.
+/// Returns the constants without duplicates, in the order of the cards.
 fn constants_of(
     alloc: Global,
     cards: &[SpecCard],
@@ -64,7 +64,7 @@ fn write_constant(out: &mut TextWriter, field: usize, constant: &Constant) {
     out.write_str("  ");
 }
 
-/// Writes a row for each constant; so many fields come before them.
+/// Writes a row for each constant; `fields` fields come before them.
 pub fn write_constants(
     alloc: Global,
     out: &mut TextWriter,

@@ -1,4 +1,4 @@
-//! The indicators of a source: who turns them on and off, and who asks for them.
+//! The indicators of a source: what turns them on and off, and which cards test them.
 
 use crate::turning::{Turning, machine_words, results_of};
 use rpg_cards::{SpecCard, level, line_conditions_on, number_of};
@@ -9,7 +9,7 @@ use rpg_sheet_specs::{
 };
 use std::alloc::{AllocError, Global};
 
-/// One more than the greatest number of an indicator.
+/// The number after the greatest of an indicator.
 const AFTER: usize = 130;
 
 /// The number of MR.
@@ -18,10 +18,10 @@ const MATCHING: u8 = 129;
 const HEADING: &str =
     "\nINDICATORS\n      turned on by                              asked on (N: where it's off)\n";
 
-/// How wide the column of what turns an indicator on is.
+/// The width of the column of what turns an indicator on.
 const TURNED: usize = 40;
 
-/// How many cards that ask stand on a line.
+/// How many cards that test an indicator go on a line.
 const ON_A_LINE: usize = 8;
 
 /// How an input field turns on its indicators.
@@ -36,21 +36,21 @@ pub fn overflow_of(file: &FileSpec) -> Option<u8> {
     Some(file.overflow?.number())
 }
 
-/// A card that asks for an indicator.
+/// A card that tests an indicator.
 #[derive(Clone, Copy)]
 struct Asking {
     card: u16,
     is_negated: bool,
 }
 
-/// Who turns an indicator on or off, and who asks for it.
+/// What turns an indicator on or off, and which cards test it.
 #[derive(Drop)]
 struct IndicatorUses {
     turned: Vec<Turning>,
     asked: Vec<Asking>,
 }
 
-/// All indicators by their numbers.
+/// All indicators, by number.
 #[derive(Drop)]
 pub struct Indicators {
     uses: Vec<IndicatorUses>,
@@ -76,7 +76,7 @@ impl Indicators {
         Ok(indicators)
     }
 
-    /// Notes what turns an indicator on or off, if there is one.
+    /// Notes what turns an indicator on or off, if the indicator is there.
     fn turned(&mut self, indicator: Option<u8>, turning: Turning) -> Result<(), AllocError> {
         let Some(number) = indicator else {
             return Ok(());
@@ -197,7 +197,7 @@ impl Indicators {
         self.asked(condition.indicator.number(), Asking { card, is_negated })
     }
 
-    /// Writes rows for each indicator that a card names.
+    /// Writes the rows of each indicator that a card names.
     pub fn write(&self, out: &mut TextWriter) {
         let mut is_first = true;
         for (number, uses) in self.uses.iter().enumerate() {
@@ -213,7 +213,7 @@ impl Indicators {
 }
 
 impl IndicatorUses {
-    /// What stands on a line below the cards that turn it on or off: the machine where it does, or that nothing does.
+    /// Returns the line below the cards that turn it on or off: that the machine does, or that nothing does.
     fn last_words(&self, number: usize) -> Option<&'static str> {
         match machine_words(number) {
             None if self.turned.is_empty() => Some("nothing"),
@@ -244,7 +244,7 @@ impl IndicatorUses {
     }
 }
 
-/// The name of an indicator on the first of its lines.
+/// Writes the name of an indicator on the first of its lines.
 fn write_name(out: &mut TextWriter, number: usize, line: usize) {
     match u8::try_from(number) {
         Ok(number) if line == 0 => {
@@ -254,7 +254,7 @@ fn write_name(out: &mut TextWriter, number: usize, line: usize) {
     }
 }
 
-/// Writes the cards that ask on a line.
+/// Writes the cards on a line that test it.
 fn write_asked(out: &mut TextWriter, line: usize, asked: &[Asking]) {
     if line == 0 && asked.is_empty() {
         out.write_str("nothing");

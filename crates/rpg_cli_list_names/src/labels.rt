@@ -8,21 +8,21 @@ use rpg_cli_text::TextWriter;
 use rpg_sheet_specs::Word;
 use std::alloc::{AllocError, Global};
 
-/// What a name is by the first card that has it, the cards that give it, and those that go there.
+/// What the first card with a name makes it, the cards that define it, and those that go there.
 #[derive(Drop)]
 struct LabelUses {
     is_subroutine: bool,
     cards: Mentions,
 }
 
-/// Labels and subroutines by their names, in the order of the cards that first have them.
+/// Labels and subroutines by name, in the order of the cards that first have them.
 #[derive(Drop)]
 pub struct Labels {
     alloc: Global,
     labels: IndexMap<Word<6>, LabelUses>,
 }
 
-/// How many columns stand before the cards that go to a label.
+/// The columns before the cards that go to a label.
 const WANTED: usize = 34;
 
 const HEADING: &str = "\nLABELS AND SUBROUTINES\n  name    is          given on    gone to from\n";

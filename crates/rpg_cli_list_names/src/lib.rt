@@ -1,4 +1,5 @@
-//! What a source names: its fields, constants, labels and indicators, each with the cards that have it.
+//! The names in a source: its fields, constants, labels and indicators, each with the cards that have
+//! it.
 #![tactic(auto)]
 
 mod constants;

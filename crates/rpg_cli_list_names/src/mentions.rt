@@ -3,13 +3,13 @@
 use rpg_cli_text::TextWriter;
 use std::alloc::{AllocError, Global};
 
-/// How many numbers stand on a line of the listing.
+/// How many numbers go on a line of the listing.
 const ON_A_LINE: usize = 12;
 
-/// How wide a column of numbers is.
+/// The width of a column of numbers.
 const COLUMN: usize = 10;
 
-/// What a card does with what it names.
+/// How a card uses what it names.
 #[derive(Clone, Copy, PartialEq, Eq)]
 pub enum By {
     Giving,
@@ -23,7 +23,7 @@ struct Mention {
     card: u16,
 }
 
-/// The cards that name something, in their order, and what each does with it.
+/// The cards that name something, in order, and how each uses it.
 #[derive(Drop)]
 pub struct Mentions {
     list: Vec<Mention>,
@@ -36,12 +36,12 @@ impl Mentions {
         }
     }
 
-    /// Notes a card, whose number isn't less than those before it.
+    /// Notes a card, whose number isn't less than that of the last one.
     pub fn note(&mut self, by: By, card: u16) -> Result<(), AllocError> {
         Ok(self.list.push(Mention { by, card })?)
     }
 
-    /// Writes the numbers of the cards that do so into a column, or a dash where there is none.
+    /// Writes the numbers of the cards with this use into a column, or a dash if there are none.
     pub fn write_column(&self, out: &mut TextWriter, by: By) {
         let end = out.len().saturating_add(COLUMN);
         self.write_lines(out, by, 0);
@@ -49,8 +49,8 @@ impl Mentions {
         out.write_str("  ");
     }
 
-    /// Writes the numbers of the cards that do so, each once, or a dash where there is none. Where there is a margin, twelve are on a line, and
-    /// further lines begin after so many blanks.
+    /// Writes the numbers of the cards with this use, each once, or a dash if there are none. With a margin, twelve go on a line, and
+    /// further lines begin after `margin` blanks.
     pub fn write_lines(&self, out: &mut TextWriter, by: By, margin: usize) {
         let mut last: u16 = 0;
         let mut count: usize = 0;
@@ -68,7 +68,7 @@ impl Mentions {
     }
 }
 
-/// Writes what stands after so many numbers and before the next one.
+/// Writes what goes between `count` numbers and the next one.
 fn write_gap(out: &mut TextWriter, count: usize, margin: usize) {
     if count == 0 {
         return;

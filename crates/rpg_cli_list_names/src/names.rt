@@ -10,16 +10,16 @@ use rpg_sheet_specs::{
 };
 use std::alloc::{AllocError, Global};
 
-/// How wide the column of forms is.
+/// The width of the column of forms.
 const FORM: usize = 24;
 
-/// How many columns stand before the cards that use a name.
+/// The columns before the cards that use a name.
 const USED: usize = 67;
 
 const HEADING: &str =
     "\nNAMES\n  name    field  form                      defined on  set on      used on\n";
 
-/// The names that are fields, in the order of their numbers in an object program, and the cards that have each name.
+/// The names of fields, in the order of their numbers in an object program, and the cards that have each name.
 #[derive(Drop)]
 pub struct Names {
     alloc: Global,
@@ -27,7 +27,7 @@ pub struct Names {
     names: IndexMap<Word<6>, Mentions>,
 }
 
-/// The field in a factor, if one stands there: labels and subroutines are none.
+/// Returns the field in a factor, if there is one. A label or a subroutine isn't a field.
 fn entry_in(column: Column, factor: &Option<Factor>) -> Option<&Entry> {
     match (column, factor) {
         (Column::May(Content::Label | Content::Subroutine), _) => None,
@@ -37,7 +37,7 @@ fn entry_in(column: Column, factor: &Option<Factor>) -> Option<&Entry> {
     }
 }
 
-/// The columns of factor 1 and factor 2; of a card without an operation these are for fields.
+/// Returns the columns of factor 1 and factor 2. On a card without an operation both are for fields.
 fn factor_columns(operation: Option<Operation>) -> (Column, Column) {
     match operation {
         Some(operation) => {
@@ -48,7 +48,7 @@ fn factor_columns(operation: Option<Operation>) -> (Column, Column) {
     }
 }
 
-/// Whether a field is the number of the page, which is one more each time it is printed.
+/// Whether a field is the page number, which each printing increments.
 fn is_page(entry: &Entry) -> bool {
     entry.name.as_slice() == b"PAGE".as_slice()
 }
@@ -73,7 +73,7 @@ impl Names {
         Ok(())
     }
 
-    /// How many names are fields.
+    /// Returns how many names are fields.
     pub fn count(&self) -> usize {
         self.fields.len()
     }
@@ -88,7 +88,7 @@ impl Names {
         self.mentions_of(name)?.note(by, card)
     }
 
-    /// Gives a name the next number, unless it has one.
+    /// Gives a name the next number, unless it has a number.
     fn define(&mut self, name: &Word<6>) -> Result<(), AllocError> {
         self.mentions_of(name)?;
         self.fields.insert(Word::new(name.as_slice()))?;
@@ -123,7 +123,7 @@ impl Names {
         self.note_entry(card, calculation.result_field.as_ref(), By::Setting)
     }
 
-    /// Notes what LOKUP sets by the entry that it finds: the current entry of a table, and an index that is a field.
+    /// Notes what LOKUP sets when it finds an entry: the current entry of a table, and an index field.
     fn note_found(&mut self, card: u16, searched: Option<&Entry>) -> Result<(), AllocError> {
         let Some(searched) = searched else {
             return Ok(());
@@ -159,7 +159,7 @@ impl Names {
         }
     }
 
-    /// Writes a row for each name, in the order of their characters.
+    /// Writes a row for each name, in alphabetical order.
     pub fn write(&mut self, out: &mut TextWriter, source: &IndexedCards) -> Result<(), AllocError> {
         self.names
             .sort_by(|a, _, b, _| a.as_slice().cmp(b.as_slice()))?;

@@ -4,7 +4,7 @@ use rpg_cli_text::{Piece, TextWriter};
 use rpg_sheet_specs::Operation;
 use rpg_text::trimmed;
 
-/// What turns an indicator on or off: a card, in a sentence with a word or a number.
+/// What turns an indicator on or off: a card, with a sentence and a word or number in it.
 #[derive(Clone, Copy)]
 pub(crate) struct Turning {
     pub sentence: &'static str,
@@ -13,7 +13,7 @@ pub(crate) struct Turning {
 }
 
 impl Turning {
-    /// A card with a sentence that has no word in it.
+    /// A card, with a sentence without a word in it.
     pub fn of(sentence: &'static str, card: u16) -> Self {
         Turning {
             sentence,
@@ -28,7 +28,8 @@ impl Turning {
     }
 }
 
-/// How a calculation turns on or off each of its resulting indicators, with the operation; none where the card has no operation.
+/// Returns how a calculation turns each of its resulting indicators on or off, with the operation; None if the card has no
+/// operation.
 pub(crate) fn results_of(wanted: Option<Operation>) -> ([&'static str; 3], Piece<'static>) {
     let sentences = match wanted {
         None => ["plus", "minus", "zero"],
@@ -44,7 +45,7 @@ pub(crate) fn results_of(wanted: Option<Operation>) -> ([&'static str; 3], Piece
     (sentences, word)
 }
 
-/// What turns on an indicator without a card.
+/// Returns what turns on an indicator without a card.
 pub(crate) fn machine_words(number: usize) -> Option<&'static str> {
     match number {
         100 => Some("always on"),

@@ -1,14 +1,14 @@
-//! Bytes that are no characters, and lines that are too long, by what they come of.
+//! The probable causes of bytes that aren't characters, and of lines that are too long.
 
 use rpg_cli_text::TextWriter;
 use rpg_text::is_blank;
 
-/// How many bytes of a line decide whether it is EBCDIC.
+/// How many bytes of a line are examined for EBCDIC.
 const LOOKED_AT: usize = 80;
 
 const EBCDIC: &str = "this looks like EBCDIC: docs/OLD_PROGRAMS.md converts it";
 
-/// What a text begins with, and how it is mended.
+/// Returns what a text begins with, and how to fix it.
 fn cause_of(text: &[u8]) -> Option<&'static str> {
     match text {
         [b'\t', ..] => Some("a tab: `expand` turns tabs into blanks"),
@@ -32,7 +32,7 @@ fn cause_of(text: &[u8]) -> Option<&'static str> {
     }
 }
 
-/// Whether a text begins with the first two bytes of a letter of UTF-8 that isn't ASCII.
+/// Whether a text begins with the first two bytes of a non-ASCII letter in UTF-8.
 fn begins_letter(text: &[u8]) -> bool {
     matches!(text, [0xc2..=0xf4, 0x80..=0xbf, ..])
 }
@@ -45,7 +45,7 @@ fn is_ebcdic(byte: u8) -> bool {
     )
 }
 
-/// Whether more than half of what a line begins with is EBCDIC.
+/// Whether more than half of a line's first bytes are EBCDIC.
 fn looks_like_ebcdic(line: &[u8]) -> bool {
     let begin = line.get(..LOOKED_AT).unwrap_or(line);
     let mut count = 0usize;
@@ -57,7 +57,7 @@ fn looks_like_ebcdic(line: &[u8]) -> bool {
     count > begin.len() / 2
 }
 
-/// The digits of a byte.
+/// The hexadecimal digits.
 const HEX: &[u8; 16] = b"0123456789abcdef";
 
 const BAD_EBCDIC: &str = "byte {} isn't a character; {}";
@@ -67,7 +67,7 @@ const BAD_LETTER: &str =
 
 const BAD_BYTE: &str = "byte {} isn't a character: characters run from blank to ~";
 
-/// Writes what a byte of a line, which is no character, comes of and how it is mended. Its place is counted from 0.
+/// Writes the cause of a byte of a line that isn't a character, and how to fix it. Its place is counted from 0.
 pub fn write_byte_cause(out: &mut TextWriter, line: &[u8], place: usize) {
     let rest = line.get(place..).unwrap_or(&[]);
     let byte = rest.first().copied().unwrap_or(0);

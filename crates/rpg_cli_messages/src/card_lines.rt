@@ -1,6 +1,6 @@
 //! The lines of a source's cards, one after another.
 
-/// Goes over the lines of a source.
+/// Iterates over the lines of a source.
 #[derive(Drop)]
 pub struct CardLines<'a> {
     rest: &'a [u8],
@@ -17,7 +17,8 @@ impl<'a> CardLines<'a> {
         }
     }
 
-    /// The line of a card that isn't before the one that was asked last. Card 0, and a card after the last, have none.
+    /// Returns the line of a card, which isn't before the last one asked for. Empty for card 0 and for cards after the
+    /// last.
     pub fn line_of(&mut self, card: u16) -> &'a [u8] {
         for _ in self.card..card {
             if self.rest.is_empty() {

@@ -1,11 +1,11 @@
-//! The cards of a source that are on a sheet, with their numbers.
+//! The cards of a source that belong to a sheet, with their numbers.
 
 use rpg_cards::SpecCard;
 use rpg_faults::{CardFault, SourceCode};
 use rpg_sheet::{SheetFault, Spec};
 use std::alloc::{AllocError, Global};
 
-/// Appends a card, if it is on a sheet.
+/// Appends a card, if it belongs to a sheet.
 fn put_card(known: &mut Vec<SpecCard>, number: u16, spec: Option<Spec>) -> Result<(), AllocError> {
     if let Some(spec) = spec {
         known.push(SpecCard { number, spec })?;
@@ -13,7 +13,7 @@ fn put_card(known: &mut Vec<SpecCard>, number: u16, spec: Option<Spec>) -> Resul
     Ok(())
 }
 
-/// The cards that are on a sheet, with their numbers.
+/// Returns the cards that belong to a sheet, with their numbers.
 fn numbered(alloc: Global, cards: Vec<Option<Spec>>) -> Result<Vec<SpecCard>, AllocError> {
     let mut known = Vec::with_capacity(alloc, cards.len())?;
     let mut number = 1u16;
@@ -27,8 +27,8 @@ fn numbered(alloc: Global, cards: Vec<Option<Spec>>) -> Result<Vec<SpecCard>, Al
     if ran_out { Err(AllocError) } else { Ok(known) }
 }
 
-/// The cards of a source with these faults that are on a sheet, or none where one of them can't be read. That is the first fault then, so
-/// that the source isn't read to find it once more.
+/// Returns the cards that belong to a sheet in a source with these faults, or none if one of them can't be read. That one is then the
+/// first fault, so the source needn't be read to find it again.
 pub(crate) fn readable_cards(
     alloc: Global,
     source: &[u8],

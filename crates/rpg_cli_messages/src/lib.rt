@@ -1,4 +1,5 @@
-//! The diagnostics for a rejected source: each fault with its place, a sentence, the card and a mark under its columns.
+//! The diagnostics for a rejected source: each fault with its place, a sentence, and the card with a mark under its
+//! columns.
 #![tactic(auto)]
 
 mod bytes;

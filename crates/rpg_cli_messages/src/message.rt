@@ -1,4 +1,4 @@
-//! The messages of a refused source.
+//! The diagnostics for a rejected source.
 
 use crate::bytes::{write_byte_cause, write_long_line};
 use crate::card_lines::CardLines;
@@ -15,8 +15,8 @@ use rpg_sheet::{ColumnFault, SheetCode};
 use rpg_text::{is_character, trimmed};
 use std::alloc::{AllocError, Global};
 
-/// What a person reads of the faults of a source, which `path` names: for each a line `PATH:CARD:COLUMN: CODE: SENTENCE`, the card and a mark, `most` of
-/// them at most; and how many there are.
+/// Returns the diagnostics for the faults of the source `path`: for each a line `PATH:CARD:COLUMN: CODE: SENTENCE`, the card and a mark,
+/// for at most `most` faults; then the number of faults.
 pub fn source_messages(
     alloc: Global,
     path: &str,
@@ -39,7 +39,7 @@ pub fn source_messages(
     out.finish()
 }
 
-/// What a person reads of one fault of a source, which `path` names, where a command goes no further: it is written as among others.
+/// Returns the diagnostic for a single fault of the source `path`, at which a command stops. It looks as it does among others.
 pub fn card_message(
     alloc: Global,
     path: &str,
@@ -56,7 +56,7 @@ pub fn card_message(
     out.finish()
 }
 
-/// Writes faults in the order of their cards, and notes the slips that they come from.
+/// Writes faults in the order of their cards, and notes the mistakes behind them.
 fn write_messages(
     out: &mut TextWriter,
     slips: &mut Vec<Slip>,
@@ -80,12 +80,12 @@ fn write_messages(
     Ok(())
 }
 
-/// One slip of which several faults can come.
+/// A mistake that can cause several faults.
 #[derive(Clone, Copy, PartialEq, Eq)]
 enum Slip {
-    /// A card that stands before those of earlier sheets.
+    /// A card that comes before those of earlier sheets.
     Later(LaterCard),
-    /// A card of which faults of other cards come.
+    /// A card that causes faults on other cards.
     Root(Root),
 }
 
@@ -105,7 +105,7 @@ const TEXT: &str = "also follows from card {}, whose field is a text\n";
 
 const LATER_TIME: &str = "also follows from card {}, which is of a later time\n";
 
-/// A fault that comes from a slip that is reported already.
+/// Writes a fault whose cause is already reported.
 fn write_follower(out: &mut TextWriter, path: &str, line: &[u8], fault: CardFault, slip: Slip) {
     let columns = columns_of(line, fault);
     write_place(out, path, fault.card, columns, fault.code.text());
@@ -127,7 +127,7 @@ const DECIMALS: ColumnFault = ColumnFault {
     last: 52,
 };
 
-/// The card that a slip is on, where the fault is on another.
+/// Writes the card of a mistake, if the fault is on another.
 fn write_slip_card(out: &mut TextWriter, path: &str, source: &[u8], slip: Slip) {
     let Slip::Root(Root::Text(card)) = slip else {
         return;
@@ -140,7 +140,7 @@ fn write_slip_card(out: &mut TextWriter, path: &str, source: &[u8], slip: Slip) 
     }
 }
 
-/// The columns that a fault is about, where its code says which.
+/// Returns the columns that a fault points at, if its code says which.
 pub(crate) fn columns_of(line: &[u8], fault: CardFault) -> Option<ColumnFault> {
     match fault.code {
         SourceCode::Sheet(SheetCode::S1) => Some(column(81)),
@@ -161,7 +161,7 @@ fn column(number: u8) -> ColumnFault {
     }
 }
 
-/// The column of the first byte of a card that is no character, and the byte.
+/// Returns the column of the first byte of a card that isn't a character, and the byte.
 fn first_bad(line: &[u8]) -> Option<(u8, u8)> {
     let mut column = 0u8;
     for byte in line.iter().take(80) {
@@ -189,7 +189,7 @@ fn write_message(
     }
 }
 
-/// Writes where a fault is, and its code: `PATH:CARD:COLUMN: CODE: `. A fault of the source as a whole has card 0, and is at line 1.
+/// Writes the place of a fault, and its code: `PATH:CARD:COLUMN: CODE: `. A fault of the source as a whole has card 0, and is at line 1.
 pub fn write_place(
     out: &mut TextWriter,
     path: &str,
@@ -208,7 +208,7 @@ pub fn write_place(
     }
 }
 
-/// What is wrong: the rule that is broken, and by which numbers of the cards.
+/// Writes what is wrong: the rule that is broken, and the numbers on the cards that break it.
 pub(crate) fn write_sentence(
     out: &mut TextWriter,
     line: &[u8],
@@ -257,7 +257,7 @@ fn are_unread(faults: &[CardFault]) -> bool {
     false
 }
 
-/// How many faults there are, and what isn't shown yet.
+/// Writes how many faults there are, and how many are shown.
 fn write_count(out: &mut TextWriter, path: &str, faults: &[CardFault], most: u16) {
     let count = faults.len();
     let are_unread = are_unread(faults);
@@ -276,7 +276,7 @@ fn write_count(out: &mut TextWriter, path: &str, faults: &[CardFault], most: u16
     out.write_char('\n');
 }
 
-/// How many of those that were counted are listed.
+/// Writes how many of the faults are listed.
 pub fn write_told(out: &mut TextWriter, most: u16) {
     let sentence = match most {
         0 => ", none of them shown",
@@ -285,7 +285,7 @@ pub fn write_told(out: &mut TextWriter, most: u16) {
     out.fill(sentence, &[most.into()]);
 }
 
-/// Other faults hang on what the cards mean.
+/// Returns that other checks run later, if some cards can't be read.
 fn untold(are_unread: bool, count: usize) -> &'static str {
     match (are_unread, count) {
         (true, 1) => "; other checks run once it can",

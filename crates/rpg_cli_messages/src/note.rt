@@ -1,4 +1,4 @@
-//! A fault below its card, as a listing has it.
+//! A fault below its card, as in a listing.
 
 use crate::message::{columns_of, write_sentence};
 use crate::picture::write_times;
@@ -7,7 +7,7 @@ use rpg_cli_text::TextWriter;
 use rpg_faults::CardFault;
 use rpg_sheet::ColumnFault;
 
-/// A mark under these columns of a card that stands after so many blanks.
+/// Writes a mark under these columns of a card, which begins after `margin` blanks.
 fn write_mark(out: &mut TextWriter, margin: usize, columns: ColumnFault) {
     let first = usize::from(columns.column);
     let last = usize::from(columns.last);
@@ -16,8 +16,8 @@ fn write_mark(out: &mut TextWriter, margin: usize, columns: ColumnFault) {
     out.write_char('\n');
 }
 
-/// Writes a fault of a card that stands after so many blanks: a mark under the columns that it is about, where its code says which, and after the code
-/// what is wrong.
+/// Writes a fault of a card, which begins after `margin` blanks: a mark under the columns that the fault points at, if its code says which,
+/// and after the code what is wrong.
 pub fn write_note(
     out: &mut TextWriter,
     margin: usize,

@@ -1,4 +1,4 @@
-//! S4: the card of a later sheet that stands before one.
+//! S4: a card of a later sheet before this one.
 
 use rpg_cli_columns::character_at;
 use rpg_cli_text::TextWriter;
@@ -6,14 +6,14 @@ use rpg_sheet::sheet_place;
 use rpg_sheet_values::form_type_of;
 use rpg_text::first_line;
 
-/// A card before another, and its form type.
+/// An earlier card, and its form type.
 #[derive(Clone, Copy, PartialEq, Eq)]
 pub(crate) struct LaterCard {
     pub card: u16,
     form: u8,
 }
 
-/// The place of the sheet that a line is on; a comment is on none.
+/// Returns the place of a line's sheet. A comment has none.
 fn place_of(line: &[u8]) -> Option<u8> {
     if character_at(line, 7) == b'*' {
         return None;
@@ -21,7 +21,7 @@ fn place_of(line: &[u8]) -> Option<u8> {
     Some(sheet_place(form_type_of(&[character_at(line, 6)])?))
 }
 
-/// The first card before one that is of a later sheet.
+/// Returns the first earlier card that is of a later sheet.
 pub(crate) fn later_card(text: &[u8], number: u16, line: &[u8]) -> Option<LaterCard> {
     let own = place_of(line)?;
     let mut rest = text;
@@ -43,7 +43,7 @@ pub(crate) fn later_card(text: &[u8], number: u16, line: &[u8]) -> Option<LaterC
     None
 }
 
-/// Writes that a card stands after one of a later sheet.
+/// Writes that a card comes after one of a later sheet.
 pub(crate) fn write_order(out: &mut TextWriter, later: Option<LaterCard>) {
     match later {
         Some(LaterCard { card, form }) => out.fill(

@@ -7,11 +7,11 @@ use rpg_text::trimmed;
 /// The columns of a card.
 const COLUMNS: usize = 80;
 
-/// A ruler: a figure at each tenth column, a plus at each fifth.
+/// A ruler: a digit at each tenth column, a plus at each fifth.
 const RULER: &str =
     "....+....1....+....2....+....3....+....4....+....5....+....6....+....7....+....8";
 
-/// Shows the columns of a card, and the first one past them.
+/// Writes the columns of a card, and the first one past them.
 pub fn write_first(out: &mut TextWriter, line: &[u8]) {
     out.write_shown(line.get(..COLUMNS + 1).unwrap_or(line));
 }
@@ -22,13 +22,13 @@ pub(crate) fn write_times(out: &mut TextWriter, character: char, count: usize) {
     }
 }
 
-/// A ruler over tens of columns, enough for the text of a card and for a column.
+/// Writes a ruler in tens of columns, long enough for the text of a card and for a column.
 fn write_ruler(out: &mut TextWriter, line: &[u8], last: usize) {
     let columns = trimmed(line).len().max(last).min(COLUMNS);
     out.write_str(RULER.get(..(columns + 9) / 10 * 10).unwrap_or(RULER));
 }
 
-/// Shows a card below a ruler, and a mark under its columns if there are some.
+/// Writes a card below a ruler, and a mark under its columns if there are any.
 pub fn write_picture(out: &mut TextWriter, card: u16, line: &[u8], columns: Option<ColumnFault>) {
     let last = match columns {
         Some(columns) => usize::from(columns.last),

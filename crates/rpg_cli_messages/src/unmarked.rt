@@ -1,13 +1,13 @@
-//! Data before which a `**` card is missing.
+//! Data without a `**` card before it.
 
 use rpg_cli_columns::{begins_data, character_at, ends_source, has_card_number};
 use rpg_cli_text::TextWriter;
 use rpg_text::{first_line, is_blank};
 
-/// The last card that a source may have.
+/// The last card of a source.
 const LAST_CARD: u16 = 2000;
 
-/// What a source has of tables and of lines.
+/// The tables and lines of a source.
 #[derive(Clone, Copy)]
 struct Tally {
     /// How many E cards want data.
@@ -23,13 +23,13 @@ fn is_card(line: &[u8], form: u8) -> bool {
     character_at(line, 6) == form && character_at(line, 7) != b'*' && has_card_number(line)
 }
 
-/// Whether a line is an E card with entries a card, whose data stand after a `**` card.
+/// Whether a line is an E card with entries per card, whose data come after a `**` card.
 fn wants_data(line: &[u8]) -> bool {
     is_card(line, b'E') && !is_blank(line.get(32..line.len().min(35)).unwrap_or(&[]))
 }
 
 impl Tally {
-    /// Counts a card. After the first that begins data there are no sheets.
+    /// Counts a card. After the first `**` card there are no sheets.
     fn note(&mut self, card: u16, line: &[u8]) {
         if begins_data(line) {
             self.begun = self.begun.saturating_add(1);
@@ -65,7 +65,7 @@ impl Tally {
     }
 }
 
-/// Writes that a card of a source, by its number, may be data: it stands after the last O card, and not all E cards have their data.
+/// Writes that a card of a source, given by number, may be data: it comes after the last O card, and some E cards have no data.
 pub(crate) fn write_unmarked(out: &mut TextWriter, text: &[u8], number: u16) {
     let tally = Tally::of(text);
     if tally.begun < tally.wanted && 0 < tally.last_line && tally.last_line < number {

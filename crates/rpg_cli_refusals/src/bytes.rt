@@ -1,4 +1,4 @@
-//! Bytes that are no object program.
+//! Bytes that aren't an object program.
 
 use crate::fields::counted;
 use crate::spot::{Spot, spot_at};
@@ -12,10 +12,10 @@ const SOURCE: &str = "{}: {}: {}: this is a source: compile it first with rpg2 c
 /// The most bytes of a value that are shown.
 const MOST_SHOWN: usize = 32;
 
-/// The digits of a byte.
+/// The hexadecimal digits.
 const HEX: &[u8; 16] = b"0123456789abcdef";
 
-/// Whether columns 1 to 5 of a card may be its number: they are blanks and digits.
+/// Whether columns 1 to 5 of a card may be its number: blanks and digits.
 fn is_numbering(columns: &[u8]) -> bool {
     for byte in columns {
         if !matches!(*byte, b' ' | b'0'..=b'9') {
@@ -25,7 +25,7 @@ fn is_numbering(columns: &[u8]) -> bool {
     true
 }
 
-/// Whether the first line is a card that a source begins with: a comment, an H card, or an F card of an input or an output file.
+/// Whether the first line is one that sources begin with: a comment, an H card, or an F card of an input or an output file.
 fn begins_source(bytes: &[u8]) -> bool {
     if bytes.is_empty() {
         return false;
@@ -40,7 +40,7 @@ fn begins_source(bytes: &[u8]) -> bool {
     is_card && is_numbering(line.get(..5).unwrap_or(&[]))
 }
 
-/// Writes what was looked for at an offset.
+/// Writes what was expected at an offset.
 fn write_wanted(out: &mut TextWriter, spot: Spot) {
     out.write_str(spot.name);
     if let Some(row) = spot.row.number {
@@ -49,7 +49,7 @@ fn write_wanted(out: &mut TextWriter, spot: Spot) {
     out.write_str(" was expected");
 }
 
-/// What stands at an offset in the place of so many bytes.
+/// Writes the bytes at an offset, `count` at most.
 fn write_found(out: &mut TextWriter, bytes: &[u8], offset: usize, count: usize) {
     let size = bytes.len();
     let (bytes_stand, stand) = match size.saturating_sub(offset).min(count) {
@@ -75,8 +75,8 @@ fn write_found(out: &mut TextWriter, bytes: &[u8], offset: usize, count: usize) 
     out.write_str(stand);
 }
 
-/// The diagnostic for bytes that are no object program: the code's sentence, what was looked for at the offset, and what stands there; of a
-/// source, that it has to be compiled. `path` names their file.
+/// Returns the diagnostic for bytes that aren't an object program: the code's sentence, what was expected at the offset, and what is there;
+/// for a source, that it must be compiled first. `path` names their file.
 pub fn bytes_message(
     alloc: Global,
     path: &str,

@@ -1,4 +1,4 @@
-//! What in a row breaks a rule, in words.
+//! Explains what in a row breaks a rule.
 
 use crate::fields::{write_field, write_indicator, write_indicators, write_operand};
 use crate::rows::write_subroutine;
@@ -10,7 +10,7 @@ use rpg_program::row::{Marks, Use};
 use rpg_program::rows::Rows;
 use rpg_refusal_causes::{Column, RefusalCause as Cause};
 
-/// The sentence of a record type, or how it begins.
+/// Returns the sentence for a record type, or its beginning.
 fn type_sentence(cause: Cause) -> &'static str {
     match cause {
         Cause::Code { .. } => "; its code {} is at position {}, and a record has {}",
@@ -39,7 +39,7 @@ fn type_sentence(cause: Cause) -> &'static str {
     }
 }
 
-/// The sentence of a cause, or how it begins.
+/// Returns the sentence for a cause, or its beginning.
 fn sentence_of(cause: Cause) -> &'static str {
     match cause {
         Cause::Overflow { .. } => ": it is ",
@@ -56,12 +56,12 @@ fn sentence_of(cause: Cause) -> &'static str {
     }
 }
 
-/// A joined length, which is counted in 128 bits.
+/// Returns a joined length, which is computed in 128 bits.
 fn length(columns: u128) -> u64 {
     u64::try_from(columns).unwrap_or(u64::MAX)
 }
 
-/// The numbers in the sentence of a record type.
+/// Returns the numbers in the sentence for a record type.
 fn type_numbers(cause: Cause) -> [u64; 5] {
     match cause {
         Cause::Code {
@@ -95,7 +95,7 @@ fn type_numbers(cause: Cause) -> [u64; 5] {
     }
 }
 
-/// The numbers in the sentence of a cause.
+/// Returns the numbers in the sentence for a cause.
 fn numbers_of(cause: Cause) -> [u64; 5] {
     match cause {
         Cause::Movements { spacing } => {
@@ -115,7 +115,7 @@ fn numbers_of(cause: Cause) -> [u64; 5] {
     }
 }
 
-/// What an operand is, by the name of its column.
+/// Writes an operand, by the name of its column.
 fn write_used(out: &mut TextWriter, rows: &Rows, column: Column, used: Use<Operand<u16>>) {
     out.write_str(match column {
         Column::Factor1 => "; factor 1 is ",
@@ -129,7 +129,7 @@ fn write_shows(out: &mut TextWriter, shows: Shows) {
     write_indicators(out, [shows.plus, shows.minus, shows.zero]);
 }
 
-/// The indicators of an operation.
+/// Writes the indicators of an operation.
 fn write_marks(out: &mut TextWriter, marks: Marks) {
     if let Marks::Shown(shows) | Marks::Wanted(shows) | Marks::Sought(shows) = marks {
         out.write_str("; its indicators:");
@@ -141,7 +141,7 @@ fn asked_by(condition: Option<Condition>) -> Option<u8> {
     Some(condition?.indicator)
 }
 
-/// The indicators that are asked.
+/// Returns the indicators that conditions test.
 fn asked(conditions: Conditions) -> Shows {
     Shows {
         plus: asked_by(conditions.first),
@@ -150,7 +150,7 @@ fn asked(conditions: Conditions) -> Shows {
     }
 }
 
-/// The level of the subroutine that a call calls, or which there are.
+/// Writes the level of the subroutine that is called, or the subroutines that exist.
 fn write_called(out: &mut TextWriter, rows: &Rows, level: Option<u16>) {
     match (level, rows.subroutines.len()) {
         (Some(level), _) => out.fill(", of level {}", &[level.into()]),
@@ -160,7 +160,7 @@ fn write_called(out: &mut TextWriter, rows: &Rows, level: Option<u16>) {
     }
 }
 
-/// What follows a cause's sentence: what it is about, in words.
+/// Writes what follows a cause's sentence: what it is about, in words.
 fn write_parts(out: &mut TextWriter, rows: &Rows, row: usize, cause: Cause) {
     match cause {
         Cause::Overflow { indicator } | Cause::TurnedOn { indicator } => {
@@ -202,7 +202,7 @@ fn write_parts(out: &mut TextWriter, rows: &Rows, row: usize, cause: Cause) {
     }
 }
 
-/// What in the row of a rule's table breaks the rule.
+/// Writes what in a row of a rule's table breaks the rule.
 pub(crate) fn write_cause(out: &mut TextWriter, rows: &Rows, row: usize, cause: Cause) {
     let [first, second, third, fourth, fifth] = numbers_of(cause);
     out.fill(

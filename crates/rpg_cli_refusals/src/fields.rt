@@ -6,12 +6,12 @@ use rpg_program::forms::form_at;
 use rpg_program::operation::{Index, Operand};
 use rpg_program::rows::Rows;
 
-/// What is counted, by the name of one or of more.
+/// Returns the noun for a count: the singular or the plural.
 pub(crate) fn counted(count: usize, one: &'static str, more: &'static str) -> &'static str {
     if count == 1 { one } else { more }
 }
 
-/// An indicator by the name that it has on cards.
+/// Writes an indicator by its name on cards.
 pub(crate) fn write_indicator(out: &mut TextWriter, indicator: u8) {
     match indicator_name(indicator) {
         Some(name) => out.write_str(name),
@@ -19,7 +19,7 @@ pub(crate) fn write_indicator(out: &mut TextWriter, indicator: u8) {
     }
 }
 
-/// Indicators, each with a blank before it; ` none` where there is none.
+/// Writes indicators, each after a blank; ` none` if there are none.
 pub(crate) fn write_indicators(out: &mut TextWriter, indicators: [Option<u8>; 3]) {
     let mut is_none = true;
     for indicator in indicators {
@@ -34,7 +34,8 @@ pub(crate) fn write_indicators(out: &mut TextWriter, indicators: [Option<u8>; 3]
     }
 }
 
-/// What a field is: its class, of an array or a table its entries, its kind, and its length.
+/// Writes what a field is: its class, for an array or a table its entries, its kind, and its
+/// length.
 fn write_form(out: &mut TextWriter, form: FieldForm) {
     let class = match form.class {
         Class::Plain => "a ",
@@ -60,7 +61,7 @@ fn write_form(out: &mut TextWriter, form: FieldForm) {
     out.fill(decimals, &[form.decimals.into()]);
 }
 
-/// A field by its number, and what it is; where there is none, the numbers that fields have.
+/// Writes a field by number, and what it is; if it doesn't exist, the numbers that fields have.
 pub(crate) fn write_field(out: &mut TextWriter, rows: &Rows, field: u16) {
     out.fill("field {}, ", &[field.into()]);
     match (form_at(rows, field), rows.fields.len()) {
@@ -71,7 +72,7 @@ pub(crate) fn write_field(out: &mut TextWriter, rows: &Rows, field: u16) {
     }
 }
 
-/// An operand: its field and its index.
+/// Writes an operand: its field and its index.
 pub(crate) fn write_operand(out: &mut TextWriter, rows: &Rows, operand: Operand<u16>) {
     write_field(out, rows, operand.field);
     match (operand.index, form_at(rows, operand.field)) {

@@ -1,4 +1,5 @@
-//! The diagnostics for bytes that are no object program, and for a program that breaks a rule.
+//! The diagnostics for bytes that aren't an object program, and for a program that breaks a
+//! rule.
 #![tactic(auto)]
 
 mod bytes;

@@ -1,6 +1,6 @@
-//! The parts of rows, in the order of the row's bytes: how many bytes each has, and what it is called.
+//! The parts of rows, in the order of their bytes: how many bytes each has, and its name.
 
-/// The header before its last part.
+/// The header without its last part.
 pub(crate) const HEADER: &str = "6 the name RPGOBJ
 2 version 1 or 2
 2 the allowance, 1 to 65,535,

@@ -1,4 +1,4 @@
-//! Which row of a program it is.
+//! Identifies a row of a program.
 
 use crate::fields::counted;
 use rpg_cli_text::TextWriter;
@@ -10,7 +10,7 @@ use rpg_program::section::Section;
 use rpg_refusal_causes::placed_at;
 use rpg_verify_rules::{BrokenRule, Rule};
 
-/// A line by its number, its time and its file, with the places of that file's lines.
+/// Writes a line by number, time and file, with the positions of that file's lines.
 fn write_line(out: &mut TextWriter, rows: &Rows, row: usize) {
     let Some(line) = rows.lines.get(row) else {
         return;
@@ -39,7 +39,7 @@ fn write_line(out: &mut TextWriter, rows: &Rows, row: usize) {
     );
 }
 
-/// Which instruction stands at a place, counted through the whole program.
+/// Writes the instruction at a place, counted through the whole program.
 pub fn write_instruction_at(out: &mut TextWriter, program: &Program, place: usize) {
     if let Some(placed) = placed_at(program, place) {
         let span = placed.span;
@@ -58,7 +58,7 @@ pub fn write_instruction_at(out: &mut TextWriter, program: &Program, place: usiz
     }
 }
 
-/// A subroutine by its number, with its level and what it ends in.
+/// Writes a subroutine by number, with its level and how it ends.
 pub(crate) fn write_subroutine(out: &mut TextWriter, rows: &Rows, row: usize) {
     let Some(subroutine) = rows.subroutines.get(row) else {
         return;
@@ -80,7 +80,8 @@ pub(crate) fn write_subroutine(out: &mut TextWriter, rows: &Rows, row: usize) {
     }
 }
 
-/// Which row breaks a rule. A subroutine is named by what breaks its rule, since a RET may stand in none.
+/// Writes which row breaks a rule. A subroutine is named by what breaks its rule, since a RET may be
+/// outside all of them.
 pub(crate) fn write_row(out: &mut TextWriter, program: &Program, broken: BrokenRule) {
     match broken.rule {
         Rule::Overflow | Rule::Subroutine(_) => {}

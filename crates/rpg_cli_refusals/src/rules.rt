@@ -7,8 +7,8 @@ use rpg_program::Program;
 use rpg_refusal_causes::refusal;
 use std::alloc::{AllocError, Global};
 
-/// The diagnostic for the rule that the object program at `path` breaks: the rule's sentence, which row it is, and what in the
-/// row breaks it; an empty text for a program that keeps all rules.
+/// Returns the diagnostic for the rule that the object program `path` breaks: the rule's sentence, which row it is, and what
+/// in the row breaks it; empty for a program that obeys all rules.
 pub fn rule_message(alloc: Global, path: &str, program: &Program) -> Result<String, AllocError> {
     let mut out = TextWriter::new(alloc);
     if let Some(refusal) = refusal(program) {

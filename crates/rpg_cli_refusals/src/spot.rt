@@ -1,4 +1,4 @@
-//! What stands at an offset of an object program's bytes. The counts before it are taken as they are.
+//! What an object program has at an offset. The counts before it aren't checked.
 
 use crate::parts::{
     ALTERNATIVE, CONDITION, CONTROL_FIELD, FIELD, HEADER, HEADER_END, HEADER_END_2, INPUT_FIELD,
@@ -6,14 +6,14 @@ use crate::parts::{
 };
 use rpg_program::rows::Version;
 
-/// A row of a table; the header has no number.
+/// A row of a table. The header has no number.
 #[derive(Clone, Copy)]
 pub(crate) struct TableRow {
     pub table: &'static str,
     pub number: Option<usize>,
 }
 
-/// A part of a row: what it is called, and how many bytes it has.
+/// A part of a row: its name, and how many bytes it has.
 #[derive(Clone, Copy)]
 pub(crate) struct Spot {
     pub name: &'static str,
@@ -26,8 +26,7 @@ fn row_of(table: &'static str, number: usize) -> TableRow {
     TableRow { table, number }
 }
 
-/// The bytes, the offset that is looked for, how far the tables were gone through, and the part in which the offset is, once it is found. From
-/// then on nothing is gone past.
+/// The bytes, the offset to find, how far the tables have been walked, and the part at the offset, once it is found. The walk ends there.
 #[derive(Clone, Copy)]
 struct Walk<'a> {
     bytes: &'a [u8],
@@ -37,7 +36,7 @@ struct Walk<'a> {
 }
 
 impl Walk<'_> {
-    /// The number of two bytes at a place; 0 where one is missing.
+    /// Returns the two-byte number at a place; 0 if a byte is missing.
     fn number(&self, place: usize) -> usize {
         match (
             self.bytes.get(place),
@@ -48,12 +47,12 @@ impl Walk<'_> {
         }
     }
 
-    /// A number of two bytes in a row, by where the row begins.
+    /// Returns a two-byte number of a row, given where the row begins.
     fn number_in(&self, row: usize, place: usize) -> usize {
         self.number(row.saturating_add(place))
     }
 
-    /// The version that the bytes say; 1 where they say another.
+    /// Returns the version in the bytes; 1 if that isn't supported.
     fn version(&self) -> Version {
         match self.number(6) {
             2 => Version::Two,
@@ -61,7 +60,7 @@ impl Walk<'_> {
         }
     }
 
-    /// Goes past a part of a row, or stops in it.
+    /// Passes a part of a row, or stops in it.
     fn pass(&mut self, name: &'static str, bytes: usize, row: TableRow) {
         let end = self.at.saturating_add(bytes);
         if self.found.is_none() {
@@ -73,7 +72,7 @@ impl Walk<'_> {
         }
     }
 
-    /// Goes past these parts of a row, or stops in one.
+    /// Passes parts of a row, or stops in one.
     fn pass_parts(&mut self, parts: &'static str, row: TableRow) {
         for part in parts.lines() {
             if let Some((bytes, name)) = part.split_once(' ') {
@@ -82,7 +81,7 @@ impl Walk<'_> {
         }
     }
 
-    /// Goes past these parts of a row, which stand in it so many times.
+    /// Passes parts that a row has `count` times.
     fn pass_all(&mut self, count: usize, parts: &'static str, row: TableRow) {
         for _ in 0..count {
             if self.found.is_some() {
@@ -114,7 +113,7 @@ impl Walk<'_> {
         }
     }
 
-    /// Goes past the first values of all fields, whose rows begin after the header.
+    /// Passes the first values of all fields, whose rows follow the header.
     fn pass_values(&mut self) {
         let mut row: usize = 32;
         for field in 1..=self.number(18) {
@@ -137,7 +136,7 @@ impl Walk<'_> {
         }
     }
 
-    /// Goes past the record types. Version 1 has no match fields.
+    /// Passes the record types. Version 1 has no match fields.
     fn pass_types(&mut self) {
         for number in 0..self.number(20) {
             if self.found.is_some() {
@@ -181,7 +180,7 @@ impl Walk<'_> {
         }
     }
 
-    /// Goes past so many instructions, of which the first has this number, and returns the number after them.
+    /// Passes `count` instructions, numbered from `first`. Returns the number after them.
     fn pass_code(&mut self, count: usize, first: usize) -> usize {
         let end = first.saturating_add(count);
         for place in first..end {
@@ -207,7 +206,7 @@ impl Walk<'_> {
     }
 }
 
-/// What was expected at an offset; nothing after the last table.
+/// Returns what was expected at an offset; None after the last table.
 pub(crate) fn spot_at(bytes: &[u8], offset: usize) -> Option<Spot> {
     let mut walk = Walk {
         bytes,

@@ -31,6 +31,6 @@ abbrev pub StopsForFile : CommandStop → Type 0
 StopsForFile (stops.Answer answer) = IsOfFile answer
 StopsForFile stop = ⊥
 
--- the run's own answer; or, where its files were to be put in their places, that of a file that can't be
+-- the run's own answer; or, if its files were to be put in their places, that of a file that can't be
 abbrev pub KeepsAnswer : (ran given : Result Report CommandStop) → Type 0
 KeepsAnswer ran given = (given ≡ ran) ⊎ ((fate_of ran ≡ fates.Placed) × IsErrAnd given StopsForFile)

@@ -37,7 +37,7 @@ TellsFaults (Err (answers.Run fault)) given left others rest old new = FaultsAre
 TellsFaults (Err (answers.File word fault)) given left others rest old new = FlushFaults word old new
 TellsFaults (Err e) given left others rest old new = ⊥
 
--- The same of readers and writers that are lent to a call.
+-- The same for readers and writers that are lent to a call.
 abbrev pub AnswersWhoseFault : {R S P D : Type 0} → (R → Option (List ℕ)) → (S → Option (List ℕ)) → Lent (Readers R S) → Lent (Writers P D) → Result Report Answer → Type 0
 AnswersWhoseFault remaining others readers writers result = TellsFaults result (remaining (device_of readers.entry.now.primary)) (remaining (device_of readers.exit.now.primary))
     (others (device_of readers.entry.now.secondary)) (others (device_of readers.exit.now.secondary))

@@ -5,7 +5,7 @@ use Rattle.rpg_cli_answers.specs.declared.answer.Answer.TheVariants as answers
 use Rattle.rpg_cli_warnings.specs.Warnings.{code}
 use Rattle.rpg_cli_warnings.specs.declared.warning.Warning.{Warning}
 
--- where warnings are denied there is no first one
+-- if warnings are denied there is no first one
 abbrev pub PassesWarnings : Bool → List Warning → Type 0
 PassesWarnings denies warnings = denies ≡ true → slice_get warnings 0 ≡ None
 

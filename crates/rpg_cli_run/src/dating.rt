@@ -1,4 +1,4 @@
-//! Whether a job has the date that its program uses.
+//! Checks that a job has the date that its program uses.
 
 ghost use Rattle.std.specs.Prelude.{◌≡◌, IfErr, OnOk};
 ghost use Rattle.rpg_cli_run.specs.Dated.{HasDate};
@@ -9,7 +9,7 @@ use rpg_cli_show_fields::uses_date;
 use rpg_cli_words::DateWord;
 use rpg_engine::Program;
 
-/// Asks for a date if the program uses it and the words have none.
+/// Requires a date if the program uses it and the arguments have none.
 pub(crate) fn has_date(program: &Program, date: Option<DateWord<'_>>) -> Result<(), Answer>
     ensures ok { OnOk result (HasDate date.entry program.now) }
     ensures err { IfErr result (λ answer. answer ≡ answers.DateWanted) }

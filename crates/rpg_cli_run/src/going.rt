@@ -11,7 +11,7 @@ use rpg_meaning::CompiledSource;
 use std::alloc::Global;
 use std::rt::Files;
 
-/// Rejects a source that has a warning, if the words deny it. Other sources are run without their warnings.
+/// Rejects a source that has a warning, if the arguments deny it. Otherwise its warnings aren't reported.
 fn deny_warned<L: Listener>(
     alloc: Global,
     words: &GoWords,
@@ -25,7 +25,7 @@ fn deny_warned<L: Listener>(
     }
 }
 
-/// Runs a compiled source, unless it is rejected for a warning. The diagnostic of a halt has cards and names.
+/// Runs a compiled source, unless a warning rejects it. The diagnostic of a halt has cards and names.
 fn run_compiled<R: Files + Input + Print + AllocGlobal, L: Listener>(
     rt: &R,
     words: &GoWords,
@@ -43,7 +43,7 @@ fn run_compiled<R: Files + Input + Print + AllocGlobal, L: Listener>(
     ran
 }
 
-/// Compiles a source and runs its program over its files, which are opened only if the source has no fault.
+/// Compiles a source and runs its program over its files, which are opened only if the source has no faults.
 pub fn go_files<R: Files + Input + Print + AllocGlobal, L: Listener>(
     rt: &R,
     words: &GoWords,

@@ -11,7 +11,7 @@ use std::alloc::AllocError;
 use std::io::BufReader;
 use std::rt::Files;
 
-/// A regular file. Standard input can't be read once more.
+/// Opens a regular file. Standard input can't be read again.
 fn regular_file<R: Files>(rt: &R, path: &str) -> Option<R::File> {
     if is_standard(path) {
         return None;
@@ -20,13 +20,13 @@ fn regular_file<R: Files>(rt: &R, path: &str) -> Option<R::File> {
     input_file(rt, path).ok()
 }
 
-/// A regular file that is read once more.
+/// Opens a regular file to read it again.
 fn opened_again<R: Files + AllocGlobal>(rt: &R, path: Option<&str>) -> Option<BufReader<R::File>> {
     let file = regular_file(rt, path?)?;
     BufReader::new(rt.alloc(), file).ok()
 }
 
-/// The record that a halt is about, where it is needed and can be read again.
+/// Returns the record that a halt is about, if it is needed and can be read again.
 fn halted_record<R: Files + AllocGlobal>(
     rt: &R,
     words: &RunWords,
@@ -54,7 +54,7 @@ fn halted_message<R: Files + AllocGlobal>(
     halt_message(rt.alloc(), names, program, halted, record.as_ref(), source)
 }
 
-/// The halt of a report, if its job halted.
+/// Returns the halt of a report, if its job halted.
 fn halt_of(report: Report) -> Option<HaltedCycle> {
     match report.ending {
         JobEnd::EndOfJob => None,
@@ -66,7 +66,7 @@ fn halt_of(report: Report) -> Option<HaltedCycle> {
     }
 }
 
-/// Reports where a job halted, if it did: over the records that the words name.
+/// Reports where a job halted, if it did, reading again the records that the arguments name.
 pub(crate) fn tell_halt<R: Files + AllocGlobal, L: Listener>(
     rt: &R,
     words: &RunWords,

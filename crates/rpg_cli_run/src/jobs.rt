@@ -33,7 +33,7 @@ use std::fs::OpenFile;
 use std::io::{Printer, Read, Write};
 use std::rt::Files;
 
-/// The path of a file, if the program has the file. A path that isn't wanted is left.
+/// Returns the path of a file that the program has. A path that the program doesn't need is ignored.
 fn wanted_path<'a>(
     is_wanted: bool,
     named: Option<&'a str>,
@@ -46,7 +46,7 @@ fn wanted_path<'a>(
     }
 }
 
-/// The files of a run besides those that every run has, as far as its program needs them.
+/// The files that only some runs have, if the program needs them.
 #[derive(Clone, Copy)]
 struct WantedFiles<'a> {
     secondary: Option<&'a str>,
@@ -54,7 +54,7 @@ struct WantedFiles<'a> {
 }
 
 impl<'a> WantedFiles<'a> {
-    /// Those that the words name. The disk file is asked for first, then the secondary file, and the date last.
+    /// Returns those that the arguments name. The disk file is checked first, then the secondary file, and the date last.
     fn of(program: &Program, words: &RunWords<'a>) -> Result<WantedFiles<'a>, Answer> {
         let disk = wanted_path(has_disk_file(program), words.disk, Answer::DiskFileWanted)?;
         let has_secondary = has_secondary_file(program);
@@ -69,7 +69,7 @@ fn is_date(text: &str) -> bool {
     text.len() == 6 && text.bytes().all(|b| b.is_ascii_digit())
 }
 
-/// Whether an accepted program may run: the date is checked before its bound.
+/// Checks whether an accepted program may run: first the date, then its bound.
 fn keeps_bound(program: &Verified, date: &str, most: u64) -> Result<(), Answer>
     ensures kept { OnOk result (bound program.now ≤ most) }
     ensures refused { IfErr result (λ answer. BreaksBound answer program.now most) }
@@ -85,7 +85,7 @@ fn keeps_bound(program: &Verified, date: &str, most: u64) -> Result<(), Answer>
     Ok(())
 }
 
-/// Whether a program may run: the rules and the date are checked before its bound.
+/// Checks whether a program may run: first the rules and the date, then its bound.
 fn keeps_limit(
     accepted: &Result<Verified, ObjectFault>,
     date: &str,
@@ -100,7 +100,7 @@ fn keeps_limit(
     }
 }
 
-/// Whether a program may run, if that is asked before the other files are opened.
+/// Checks whether a program may run, if this must happen before the other files are opened.
 fn keeps_asked_limit(
     accepted: &Result<Verified, ObjectFault>,
     words: &RunWords,
@@ -116,7 +116,7 @@ fn keeps_asked_limit(
     }
 }
 
-/// The files of a run, opened, and those that are written not emptied yet.
+/// The open files of a run. Output files aren't emptied yet.
 #[derive(Drop)]
 struct RunFiles<F> {
     input: Opened<F>,
@@ -125,7 +125,7 @@ struct RunFiles<F> {
     disk: Opened<F>,
 }
 
-/// Opens the inputs, and then the files that are written. Those that are written beside their places go into `kept`.
+/// Opens the inputs, then the outputs. Those that are written beside their places go into `kept`.
 fn open_files<'a, R: Files + AllocGlobal>(
     rt: &R,
     words: &RunWords<'a>,
@@ -150,7 +150,7 @@ fn open_files<'a, R: Files + AllocGlobal>(
     })
 }
 
-/// Opens a file that will be read, if there is one.
+/// Opens a file for reading, if there is one.
 fn read_file<R: Files>(
     rt: &R,
     word: FileWord,
@@ -163,7 +163,7 @@ fn read_file<R: Files>(
     }
 }
 
-/// Opens a file that will be written, if there is one, or makes a new one beside it, which goes into `new`.
+/// Opens a file for writing, if there is one, or creates a new one beside it, which goes into `new`.
 fn written_file<'a, R: Files + AllocGlobal>(
     rt: &R,
     words: &RunWords,
@@ -183,7 +183,7 @@ fn written_file<'a, R: Files + AllocGlobal>(
     }
 }
 
-/// The files that a run reads: the object, its source and both inputs.
+/// Returns the files that a run reads: the object, its source and both inputs.
 fn read_files<R: Files>(rt: &R, words: &RunWords, files: &RunFiles<R::File>) -> [NamedFile; 4] {
     let stream = "/dev/stdin";
     [
@@ -194,7 +194,7 @@ fn read_files<R: Files>(rt: &R, words: &RunWords, files: &RunFiles<R::File>) -> 
     ]
 }
 
-/// Refuses to empty or to replace a file that another word names too.
+/// Refuses to empty or replace a file that another argument names too.
 fn refuse_shared<R: Files + AllocGlobal>(
     rt: &R,
     words: &RunWords,
@@ -211,7 +211,7 @@ fn refuse_shared<R: Files + AllocGlobal>(
     kept.refuse_shared(rt, &all)
 }
 
-/// Empties the files that are written, unless another word names one of them.
+/// Empties the output files, unless another argument names one of them.
 fn empty_files<R: Files + AllocGlobal>(
     rt: &R,
     words: &RunWords,
@@ -232,7 +232,7 @@ pub(crate) struct Devices<F: Drop, S: Drop, P: Drop> {
     disk: LineTarget<F, P>,
 }
 
-/// What reads and writes the files of a run.
+/// Returns the readers and writers of a run's files.
 fn devices_of<R: Files + Input + Print>(
     rt: &R,
     files: RunFiles<R::File>,
@@ -245,12 +245,12 @@ fn devices_of<R: Files + Input + Print>(
     }
 }
 
-/// What a run runs.
+/// What can be run.
 #[derive(Clone, Copy)]
 pub(crate) enum Runnable<'a> {
     /// The program of an object file.
     Object(&'a Verified),
-    /// A source, by the program that it compiles to.
+    /// A source, with the program that it compiles to.
     Source(&'a OwnSource<'a>),
 }
 
@@ -262,7 +262,7 @@ impl<'a> Runnable<'a> {
         }
     }
 
-    /// What the cards of the source say.
+    /// Returns the cards of the source's rows.
     pub fn rows(self) -> Option<&'a SourceRows> {
         match self {
             Runnable::Object(_) => None,
@@ -270,7 +270,7 @@ impl<'a> Runnable<'a> {
         }
     }
 
-    /// The source, for the diagnostic of a halt.
+    /// Returns the source, for the diagnostic of a halt.
     fn halted(self) -> Option<HaltedSource<'a>> {
         match self {
             Runnable::Object(_) => None,
@@ -279,7 +279,7 @@ impl<'a> Runnable<'a> {
     }
 }
 
-/// Runs a program, or a source, over counted devices.
+/// Runs a program or a source over counted devices.
 fn run_counted<I: Read, S: Read, P: Write, D: Write, W: Watcher>(
     alloc: Global,
     runnable: Runnable<'_>,
@@ -298,7 +298,7 @@ fn run_counted<I: Read, S: Read, P: Write, D: Write, W: Watcher>(
     }
 }
 
-/// Runs a program, or a source, over its devices. Where one of them failed, the reason comes with the answer.
+/// Runs a program or a source over its devices. If one of them fails, the reason comes with the answer.
 pub(crate) fn run_devices<
     F: Read + Write + OpenFile + Drop,
     S: Read + Drop,
@@ -332,7 +332,7 @@ pub(crate) fn run_devices<
     }
 }
 
-/// Opens the files of a run, empties those that are written, and runs what was accepted over them.
+/// Opens the files of a run, empties the outputs, and runs the program over them.
 fn run_opened<'a, R: Files + Input + Print + AllocGlobal, L: Listener>(
     rt: &R,
     words: &RunWords<'a>,
@@ -349,7 +349,7 @@ fn run_opened<'a, R: Files + Input + Print + AllocGlobal, L: Listener>(
     }
 }
 
-/// Runs what was accepted over its files, and reports where its job halted.
+/// Runs an accepted program over its files, and reports where its job halted.
 fn run_accepted<R: Files + Input + Print + AllocGlobal, L: Listener>(
     rt: &R,
     words: &RunWords,
@@ -366,10 +366,10 @@ fn run_accepted<R: Files + Input + Print + AllocGlobal, L: Listener>(
     kept.finish(rt, ran, listener)
 }
 
-/// The program of a run, accepted or refused, and the files that it needs besides those that every run has.
+/// Returns the program of a run, accepted or rejected, and the files that it needs besides those of every run.
 ///
-/// The object is decoded first, and a disk file, a secondary file or a date that is needed and not named is reported. If the arguments name a limit, or the
-/// files that are written keep what they have, the rules, the date and the limit come next, before the other files.
+/// The object is decoded first; a disk file, a secondary file or a date that it needs and the arguments don't name is reported. If the
+/// arguments name a limit, or output files keep their contents, the rules, the date and the limit are checked next, before the other files.
 fn program_of<'a>(
     alloc: Global,
     words: &RunWords<'a>,
@@ -386,8 +386,8 @@ fn program_of<'a>(
     Ok((accepted, wanted))
 }
 
-/// The files that the program of a compiled source needs besides those that every run has. A date that is needed, the date and the limit are checked next,
-/// as for an object.
+/// Returns the files that the program of a compiled source needs besides those of every run. A missing date, the date and the limit are
+/// checked next, as for an object.
 fn source_files<'a>(
     words: &RunWords<'a>,
     compiled: &CompiledSource,
@@ -415,7 +415,8 @@ pub(crate) fn run_own<R: Files + Input + Print + AllocGlobal, L: Listener>(
     run_accepted(rt, words, Ok(Runnable::Source(source)), wanted, listener)
 }
 
-/// Runs the object program of these bytes. Rules and date are checked once its files are open, unless the arguments name a limit or keep files.
+/// Runs the object program in these bytes. Rules and date are checked after its files are opened, unless the arguments name a limit or keep
+/// files.
 fn run_object<R: Files + Input + Print + AllocGlobal, L: Listener>(
     rt: &R,
     words: &RunWords,
@@ -430,7 +431,7 @@ fn run_object<R: Files + Input + Print + AllocGlobal, L: Listener>(
     run_accepted(rt, words, runnable, wanted, listener)
 }
 
-/// Runs the object program of these bytes, or the source that the words name, once it is found to be the object's.
+/// Runs the object program in these bytes, or the source that the arguments name, once it proves to be the object's.
 fn run_named<R: Files + Input + Print + AllocGlobal, L: Listener>(
     rt: &R,
     words: &RunWords,
@@ -443,7 +444,7 @@ fn run_named<R: Files + Input + Print + AllocGlobal, L: Listener>(
     }
 }
 
-/// Runs an object program over its files, and reports what is wrong with one that is rejected, and where its job halted.
+/// Runs an object program over its files. Reports why it is rejected, or where its job halted.
 pub fn run_files<R: Files + Input + Print + AllocGlobal, L: Listener>(
     rt: &R,
     words: &RunWords,

@@ -1,4 +1,4 @@
-//! Sources and object programs by their bytes.
+//! Compiles sources and verifies object programs, given their bytes.
 
 ghost use Rattle.std.specs.Prelude.{◌≡◌, ◌<◌, IfErr, IfOk};
 ghost use Rattle.rpg_cli_run.specs.Judging.{IsSourceOf, TellsMismatch, TellsObject, TellsSource};
@@ -14,7 +14,7 @@ use rpg_meaning::CompiledSource;
 use rpg_object::laws::a_spelling_is_read_again;
 use std::alloc::Global;
 
-/// The object program that a source is compiled to.
+/// Compiles a source to an object program.
 pub fn compiled(alloc: Global, source: &[u8], allowance: u16) -> Result<CompiledObject, Answer>
     requires { 0 < allowance }
     ensures compiled { IfOk result (λ object. CompilesTo source.now allowance object.bytes.items) }
@@ -23,7 +23,7 @@ pub fn compiled(alloc: Global, source: &[u8], allowance: u16) -> Result<Compiled
     Ok(compile_to_object(alloc, source, allowance)?)
 }
 
-/// The bound of the program that the bytes are.
+/// Returns the bound of the program in these bytes.
 pub fn verified(alloc: Global, object: &[u8]) -> Result<u64, Answer>
     ensures accepted { IfOk result (λ bound. IsAcceptedWith bound object.now) }
     ensures refused { IfErr result (λ answer. TellsObject answer object.now) }
@@ -31,7 +31,7 @@ pub fn verified(alloc: Global, object: &[u8]) -> Result<u64, Answer>
     Ok(verify_bytes(alloc, object)?)
 }
 
-/// How many backward branches and calls a cycle of the program may take.
+/// Returns how many backward branches and calls a cycle of the program may take.
 fn allowance_of(program: &Program) -> u16
     ensures value { result ≡ program.now.allowance }
     ensures positive { 0 < result }
@@ -39,7 +39,7 @@ fn allowance_of(program: &Program) -> u16
     program.rows().allowance
 }
 
-/// The source of the object program that the bytes spell: it is compiled to these very bytes. Any other text is handed back.
+/// Compiles the source of the object program in these bytes. A text that doesn't compile to them is given back.
 pub(crate) fn matched(
     alloc: Global,
     text: Vec<u8>,

@@ -1,4 +1,4 @@
-//! Files that a run writes beside their places, and what becomes of them when it ends.
+//! Files that a run writes beside their places, and what happens to them at its end.
 
 ghost use Rattle.std.specs.Prelude.{◌≡◌, IfErr};
 ghost use Rattle.rpg_cli_run.specs.Keeping.{IsOfFile, KeepsAnswer, fate_of};
@@ -11,25 +11,25 @@ use rpg_engine::{JobEnd, Report};
 use std::alloc::{AllocError, Global};
 use std::rt::Files;
 
-/// The files that a run writes beside their places: none of those that it writes in place, or doesn't write.
+/// The files that a run writes beside their places; none for files that it writes in place, or doesn't write.
 #[derive(Drop)]
 pub(crate) struct Kept<'a> {
     pub print: Option<Pending<'a>>,
     pub disk: Option<Pending<'a>>,
 }
 
-/// What becomes of new files.
+/// What happens to new files.
 #[derive(Clone, Copy)]
 pub(crate) enum Fate {
-    /// They are put in their places.
+    /// They are moved to their places.
     Placed,
     /// They are left beside them.
     Left,
-    /// They are removed: no job has written them.
+    /// They are removed, since no job has written them.
     Removed,
 }
 
-/// What becomes of the new files of a run. They are put in their places only at the end of a job, and not at a halt.
+/// Returns what happens to the new files of a run. They are moved to their places only at the end of a job, not at a halt.
 fn end_of_files(ran: &Result<Report, CommandStop>) -> Fate
     ensures { result ≡ fate_of ran.now }
 {
@@ -43,7 +43,7 @@ fn end_of_files(ran: &Result<Report, CommandStop>) -> Fate
     }
 }
 
-/// Puts a new file, if there is one, in its place.
+/// Moves a new file, if there is one, to its place.
 fn put_in_place<R: Files>(rt: &R, file: &Option<Pending<'_>>) -> Result<(), FileFault> {
     match file {
         Some(pending) => pending.put_in_place(rt),
@@ -51,7 +51,7 @@ fn put_in_place<R: Files>(rt: &R, file: &Option<Pending<'_>>) -> Result<(), File
     }
 }
 
-/// The message about a file: it is left as it was, and where its part is, or the new one replaced it.
+/// Returns the message about a file: it is unchanged, and where its part is, or the new one replaced it.
 fn kept_message(
     alloc: Global,
     word: FileWord,
@@ -71,7 +71,7 @@ fn kept_message(
     out.finish()
 }
 
-/// Reports what became of a file. Nothing is printed if there is no memory for it.
+/// Reports what happened to a file. If memory runs out for the message, nothing is printed.
 fn tell_kept<L: Listener>(
     alloc: Global,
     word: FileWord,
@@ -104,7 +104,7 @@ fn remove<R: Files>(rt: &R, file: &Option<Pending<'_>>) {
     }
 }
 
-/// Refuses a part that would replace the file of another word.
+/// Rejects a part that would replace the file of another argument.
 fn refuse_part<R: Files>(
     rt: &R,
     word: FileWord,
@@ -123,7 +123,7 @@ fn refuse_part<R: Files>(
     }
 }
 
-/// Whether the places of two new files are one, or the part of one goes where the other does.
+/// Whether two new files have the same place, or the part of one goes to the other's place.
 fn shared_place<R: Files + AllocGlobal>(
     rt: &R,
     print: &Pending<'_>,
@@ -153,7 +153,7 @@ impl<'a> Kept<'a> {
         }
     }
 
-    /// Refuses new files that would replace one another, or the file of another word.
+    /// Rejects new files that would replace one another, or the file of another argument.
     pub fn refuse_shared<R: Files + AllocGlobal>(
         &self,
         rt: &R,
@@ -171,7 +171,7 @@ impl<'a> Kept<'a> {
         }
     }
 
-    /// Puts the new files in their places, the print first. Where one can't be put there, it and the one after it are left beside.
+    /// Moves the new files to their places, the print file first. If one can't be moved, it and the next one are left beside.
     fn put_all<R: Files + AllocGlobal, L: Listener>(
         &self,
         rt: &R,
@@ -204,9 +204,10 @@ impl<'a> Kept<'a> {
         leave_part(rt, FileWord::Disk, &self.disk, listener);
     }
 
-    /// Does with the new files what the end of their run asks for, reports those that are left beside their places, and returns the answer of the run.
+    /// Finishes the new files as the end of their run requires, reports those that are left beside their places, and returns the answer of
+    /// the run.
     ///
-    /// Another answer comes only where a new file can't be put in its place.
+    /// The answer differs only if a new file can't be moved to its place.
     pub fn finish<R: Files + AllocGlobal, L: Listener>(
         &self,
         rt: &R,

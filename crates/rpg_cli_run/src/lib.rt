@@ -1,4 +1,5 @@
-//! The command that runs an object program over its files, and what other commands share with it.
+//! The command that runs an object program over its files, and what it shares with other
+//! commands.
 #![tactic(auto)]
 
 mod dating;

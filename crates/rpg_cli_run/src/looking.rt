@@ -1,4 +1,4 @@
-//! Runs a job, and looks at it between its cycles where the words ask for that.
+//! Runs a job, and watches its cycles if the arguments ask for it.
 
 use crate::jobs::{Devices, Runnable, run_devices};
 use rpg_cli_answers::{CommandStop, Listener};
@@ -9,7 +9,7 @@ use std::alloc::Global;
 use std::fs::OpenFile;
 use std::io::{Read, Write};
 
-/// Runs a program, or a source, over its devices. What the words want to know of its cycles is reported while it runs, and after it.
+/// Runs a program or a source over its devices. What the arguments ask about its cycles is reported during the run and after it.
 pub(crate) fn run_as_asked<
     F: Read + Write + OpenFile + Drop,
     S: Read + Drop,

@@ -1,4 +1,4 @@
-//! Whether bytes are those of a program.
+//! Whether bytes encode a program.
 
 ghost use Rattle.std.specs.Prelude.{◌≡◌, ◌≢◌, IfOk};
 ghost use Rattle.std.specs.Bool.{MatchBool};
@@ -8,7 +8,7 @@ use rpg_engine::Program;
 use rpg_object::encode;
 use std::alloc::{AllocError, Global};
 
-/// Whether a program is written as these very bytes.
+/// Whether these are exactly the bytes of a program.
 pub(crate) fn is_written_as(
     alloc: Global,
     program: &Program,

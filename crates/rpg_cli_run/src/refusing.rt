@@ -1,4 +1,4 @@
-//! Diagnostics for an object program that is rejected, or that needs a file. If there is no memory for one, only the line is printed.
+//! Diagnostics for an object program that is rejected, or that needs a file. If memory runs out for one, only the line is printed.
 
 use rpg_cli_answers::{Answer, Listener};
 use rpg_cli_refusals::{bytes_message, rule_message};
@@ -31,7 +31,7 @@ fn wanted_message(
     out.finish()
 }
 
-/// Reports which file or date a program needs that the arguments don't name, if the answer says that it needs one.
+/// Reports which file or date a program needs but the arguments don't name, if that is the answer.
 pub(crate) fn tell_wanted<L: Listener>(
     alloc: Global,
     path: &str,
@@ -49,7 +49,7 @@ pub(crate) fn tell_wanted<L: Listener>(
     }
 }
 
-/// Reports what is wrong with the bytes of an object program that is rejected, or what it needs.
+/// Reports what is wrong with the bytes of a rejected object program, or what it needs.
 pub(crate) fn tell_refused<L: Listener>(
     alloc: Global,
     path: &str,
@@ -82,7 +82,7 @@ fn object_message(
     }
 }
 
-/// Tells what is wrong with the bytes of an object file.
+/// Reports what is wrong with the bytes of an object file.
 pub fn tell_object<L: Listener>(
     alloc: Global,
     path: &str,

@@ -1,4 +1,4 @@
-//! A run over any reader and writers.
+//! Runs over any readers and writers.
 
 ghost use Rattle.std.specs.Prelude.{◌-◌, ◌^◌, ◌<◌};
 ghost use Rattle.rpg_cli_run.specs.Flushing.{Flushes};
@@ -16,7 +16,7 @@ use rpg_meaning::{CompiledSource, run_source};
 use std::alloc::Global;
 use std::io::{Read, Write};
 
-/// Writes out what the writers still hold after a run that gave a report, the printer first.
+/// Flushes the writers after a run that gave a report, the printer first.
 fn flushed<P: Write, D: Write>(
     report: Report,
     writers: &mut Writers<P, D>,
@@ -40,8 +40,8 @@ fn flushed<P: Write, D: Write>(
     Ok(report)
 }
 
-/// Runs an accepted program over its inputs, and writes out what the writers still hold. A watcher looks at the job between its cycles.
-/// The answer is that of the run, or of a file that couldn't be written out after it.
+/// Runs an accepted program over its inputs, then flushes the writers. A watcher looks at the job between its cycles. The answer is that of
+/// the run, or of a file that couldn't be flushed after it.
 pub(crate) fn run_over<I: Read, S: Read, P: Write, D: Write, W: Watcher>(
     alloc: Global,
     program: &Verified,
@@ -62,8 +62,8 @@ pub(crate) fn run_over<I: Read, S: Read, P: Write, D: Write, W: Watcher>(
     flushed(report, writers)
 }
 
-/// Runs a compiled source over its inputs, and writes out what the writers still hold. A watcher looks at the job between its cycles.
-/// The answer is that of the run, or of a file that couldn't be written out after it.
+/// Runs a compiled source over its inputs, then flushes the writers. A watcher looks at the job between its cycles. The answer is that of
+/// the run, or of a file that couldn't be flushed after it.
 pub(crate) fn run_source_over<I: Read, S: Read, P: Write, D: Write, W: Watcher>(
     alloc: Global,
     source: &CompiledSource,

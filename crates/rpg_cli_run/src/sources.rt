@@ -1,4 +1,4 @@
-//! The source of an object program that is shown or run, where the words name it.
+//! The source of an object program that is shown or run, if the arguments name it.
 
 use crate::judging::matched;
 use rpg_cli_answers::{Answer, Listener, named};
@@ -12,10 +12,10 @@ use rpg_meaning::CompiledSource;
 use std::alloc::Global;
 use std::rt::Files;
 
-/// How many faults of the source are listed at most.
+/// The most faults of the source that are listed.
 const MOST_TOLD: u16 = 20;
 
-/// A source that is the program's: its path, what it compiles to, and what its cards say.
+/// The source of the program: its path, what it compiles to, and the cards of its rows.
 #[derive(Drop)]
 pub struct OwnSource<'a> {
     path: &'a str,
@@ -24,7 +24,7 @@ pub struct OwnSource<'a> {
 }
 
 impl<'a> OwnSource<'a> {
-    /// What the cards of a compiled source say.
+    /// Returns the source's cards by row.
     pub(crate) fn of(
         alloc: Global,
         path: &'a str,
@@ -57,7 +57,7 @@ fn rows_of(alloc: Global, text: &[u8]) -> Result<SourceRows, Answer> {
     }
 }
 
-/// The source that a word names, if one does, once it is found to be that of the object. The faults of a source that has some are reported.
+/// Returns the source that an argument names, if it compiles to the object. Reports its faults, if it has any.
 pub fn own_source<'a, R: Files + AllocGlobal, L: Listener>(
     rt: &R,
     path: Option<&'a str>,
@@ -79,7 +79,7 @@ pub fn own_source<'a, R: Files + AllocGlobal, L: Listener>(
     }
 }
 
-/// Tells the faults of a source, if it has any. Where there is no memory for the messages the line alone says what is wrong.
+/// Reports the faults of a source, if it has any. If memory runs out for the messages, only the line says what is wrong.
 pub fn tell_faults<L: Listener>(
     alloc: Global,
     path: &str,

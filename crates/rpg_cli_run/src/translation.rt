@@ -1,4 +1,4 @@
-//! A source to the bytes of its object program.
+//! Compiles a source to the bytes of its object program.
 
 ghost use Rattle.std.specs.Prelude.{◌≡◌, ◌<◌, None, IfErr, IfOk};
 ghost use Rattle.rpg_cli_run.specs.Spelling.{CompilesTo};
@@ -12,21 +12,21 @@ use rpg_object::encode;
 use rpg_object::laws::a_spelling_is_read_again;
 use std::alloc::Global;
 
-/// The bytes of an object program, with the cards of the source that it is compiled from.
+/// The bytes of an object program, with the cards of the source that it was compiled from.
 #[derive(Drop)]
 pub struct CompiledObject {
     pub cards: Vec<SpecCard>,
     pub bytes: Vec<u8>,
 }
 
-/// The object program that the source is compiled to.
+/// Compiles a source to an object program.
 pub(crate) fn compile_to_object(
     alloc: Global,
     text: &[u8],
     allowance: u16,
 ) -> Result<CompiledObject, SourceFault>
     requires { 0 < allowance }
-    // The program keeps all rules, and what is read in the bytes is that very program.
+    // The program obeys all rules, and the bytes decode to exactly that program.
     ensures ok { IfOk result (λ object. CompilesTo text.now allowance object.bytes.items) }
     ensures cards { IfOk result (λ object. AreFaultless text.now object.cards.items) }
     ensures refused { IfErr result (λ fault. IsSourceRefusal fault text.now) }

@@ -10,7 +10,7 @@ use rpg_cli_words::WarningWords;
 use rpg_faults::faultless_cards;
 use std::alloc::Global;
 
-/// Rejects a source that has these warnings, if the words deny them, by the first.
+/// Rejects a source for the first of these warnings, if the arguments deny them.
 fn judged(words: WarningWords, warnings: &[Warning]) -> Result<(), Answer>
     ensures ok { OnOk result (PassesWarnings words.denies warnings.now) }
     ensures err { IfErr result (λ answer. IsDenied answer warnings.now) }
@@ -30,7 +30,7 @@ fn judged(words: WarningWords, warnings: &[Warning]) -> Result<(), Answer>
     }
 }
 
-/// Reports warnings. If there is no memory for them, nothing is printed.
+/// Reports warnings. If memory runs out for them, nothing is printed.
 fn tell_warnings<L: Listener>(
     alloc: Global,
     path: &str,
@@ -44,9 +44,9 @@ fn tell_warnings<L: Listener>(
     }
 }
 
-/// Reports the warnings of a source without a fault, which has these cards, and rejects it if it has one and the words deny it.
+/// Reports the warnings of a source without faults, given its cards, and rejects it if it has one and the arguments deny it.
 ///
-/// If there is no memory to look for them, the source is rejected only if the words deny warnings.
+/// If memory runs out while looking for them, the source is rejected only if the arguments deny warnings.
 pub fn judge_warnings<L: Listener>(
     alloc: Global,
     path: &str,
@@ -65,7 +65,7 @@ pub fn judge_warnings<L: Listener>(
     }
 }
 
-/// The same for a source whose cards are still to be read. One with a fault has no warnings.
+/// Like `judge_warnings`, but reads the source's cards first. A source with a fault has no warnings.
 pub(crate) fn deny_warnings<L: Listener>(
     alloc: Global,
     path: &str,

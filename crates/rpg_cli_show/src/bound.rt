@@ -1,4 +1,4 @@
-//! The bound of an accepted program, and the path costs that it is made of.
+//! The bound of an accepted program, and the path costs from which it is computed.
 
 ghost use Rattle.std.specs.Prelude.{◌≡◌, ◌+◌, ◌≤◌, length};
 ghost use Rattle.rpg_program.specs.Kept.{IsProgram};
@@ -32,7 +32,7 @@ fn push_section(
     Ok(())
 }
 
-/// Notes the costs of all subroutines, of which the first begins at a place.
+/// Notes the costs of all subroutines, the first at this place.
 fn push_subroutines(
     costs: &mut Vec<u64>,
     verified: &Verified,
@@ -54,7 +54,7 @@ fn push_subroutines(
     Ok(())
 }
 
-/// The path costs of the places of an accepted program.
+/// Returns the path costs of the places of an accepted program.
 #[tactic(auto, unfolding(rpg_program::specs::Sections::first_place, rpg_program::specs::Sections::place_after))]
 pub(crate) fn path_costs(alloc: Global, verified: &Verified) -> Result<Vec<u64>, AllocError> {
     let rows = verified.program().rows();
@@ -67,7 +67,7 @@ pub(crate) fn path_costs(alloc: Global, verified: &Verified) -> Result<Vec<u64>,
     Ok(costs)
 }
 
-/// The codes, control fields, input fields and match fields of all record types.
+/// Returns the weight of all record types: their codes, control fields, input fields and match fields.
 fn types_weight(rows: &Rows) -> u64 {
     let mut sum: u64 = 0;
     for record_type in &rows.types {
@@ -80,7 +80,7 @@ fn types_weight(rows: &Rows) -> u64 {
     sum
 }
 
-/// What all lines weigh but exception lines.
+/// Returns the weight of all lines except exception lines.
 fn lines_weight(rows: &Rows) -> u64 {
     let mut sum: u64 = 0;
     for line in &rows.lines {
@@ -90,7 +90,7 @@ fn lines_weight(rows: &Rows) -> u64 {
     sum
 }
 
-/// The path cost of the first place of a section, 0 of one that has none.
+/// Returns the path cost of the first place of a section, 0 if it is empty.
 fn first_cost(costs: &[u64], place: usize, code: &[Instruction<u16>]) -> u64 {
     match costs.get(place) {
         Some(cost) if !code.is_empty() => *cost,
@@ -106,7 +106,7 @@ fn write_part(out: &mut TextWriter, steps: u64, words: &str) {
     }
 }
 
-/// Writes the bound and what it is made of.
+/// Writes the bound and its parts.
 pub(crate) fn write_bound(out: &mut TextWriter, rows: &Rows, bound: u64, costs: &[u64]) {
     let lines = lines_weight(rows);
     let overflow = if rows.overflow.is_some() { lines } else { 0 };

@@ -10,7 +10,7 @@ use rpg_program::value::Value;
 /// The bytes of a field's row.
 const FIELD: usize = 8;
 
-/// Whether entries that aren't all empty are shown apart from their field.
+/// Whether the entries of a field are listed, since not all are empty.
 fn are_listed(values: &[Value]) -> bool {
     if values.len() <= 1 {
         return false;
@@ -23,7 +23,7 @@ fn are_listed(values: &[Value]) -> bool {
     false
 }
 
-/// Writes what a field has at the start of a job.
+/// Writes the value of a field at the start of a job.
 fn write_first(out: &mut TextWriter, form: FieldForm, values: &[Value]) {
     if form.class == Class::Date {
         out.write_str("the date of the job");
@@ -37,7 +37,7 @@ fn write_first(out: &mut TextWriter, form: FieldForm, values: &[Value]) {
     }
 }
 
-/// Writes the row of a field before its uses.
+/// Writes the row of a field without its uses.
 fn write_row(
     out: &mut TextWriter,
     shown: Shown<'_>,
@@ -80,7 +80,7 @@ pub(crate) fn write_fields(out: &mut TextWriter, at: &mut usize, shown: Shown<'_
     }
 }
 
-/// Writes the entries of a field, each on its line.
+/// Writes the entries of a field, one a line.
 fn write_entries(out: &mut TextWriter, begin: usize, form: FieldForm, values: &[Value]) {
     let mut at = begin;
     for (i, value) in values.iter().enumerate() {

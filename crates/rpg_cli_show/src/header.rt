@@ -1,4 +1,4 @@
-//! What a program reads and prints, and how much of each table it has.
+//! What a program reads and prints, and the sizes of its tables.
 
 use crate::shown::{Shown, Table};
 use rpg_cli_show_fields::write_named;
@@ -10,7 +10,7 @@ const TABLES: &str =
 
 const ALLOWANCE: &str = "  spends   a cycle may take {} branches back and calls\n";
 
-/// Writes a sentence about a file whose records have so many columns or places, or the words if there is no such file.
+/// Writes a sentence with the record or line length of a file, or that there is no such file.
 pub(crate) fn write_length(out: &mut TextWriter, sentence: &str, length: u16, none: &str) {
     if length > 0 {
         out.fill_one(sentence, length);
@@ -19,7 +19,7 @@ pub(crate) fn write_length(out: &mut TextWriter, sentence: &str, length: u16, no
     }
 }
 
-/// Writes the version of a program, and how many bytes it takes.
+/// Writes the version of a program, and its size in bytes.
 pub(crate) fn write_version(out: &mut TextWriter, rows: &Rows, bytes: usize) {
     let version = rows.version.number();
     out.fill_two("object program, version {}, {} bytes\n", version, bytes);

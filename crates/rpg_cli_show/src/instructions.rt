@@ -23,7 +23,7 @@ fn is_half_adjusted(action: Action<Operand<u16>>) -> bool {
     }
 }
 
-/// What is written of each of an operation's indicators.
+/// Returns the sentences for an operation's indicators.
 fn sentences_of(action: Action<Operand<u16>>) -> [&'static str; 3] {
     match action {
         Action::Compare { .. } | Action::LookUp { .. } => ["  high {}", "  low {}", "  equal {}"],
@@ -32,7 +32,7 @@ fn sentences_of(action: Action<Operand<u16>>) -> [&'static str; 3] {
     }
 }
 
-/// Writes an operand, if there is one, in a column of so many characters and a blank.
+/// Writes an operand, if there is one, in a column of this width and a blank.
 fn write_column(
     out: &mut TextWriter,
     shown: Shown<'_>,
@@ -85,7 +85,7 @@ fn write_instruction(out: &mut TextWriter, shown: Shown<'_>, instruction: Instru
     }
 }
 
-/// Writes the instructions of a section, of which the first has this place.
+/// Writes the instructions of a section, the first at this place.
 fn write_section(
     out: &mut TextWriter,
     at: &mut usize,

@@ -1,4 +1,4 @@
-//! An object program as a text that a person reads.
+//! An object program as text for people.
 #![tactic(auto)]
 
 mod bound;

@@ -19,7 +19,7 @@ fn write_alternative(out: &mut TextWriter, conditions: &[Condition]) {
     }
 }
 
-/// Writes the alternatives of a line, and goes on after their bytes.
+/// Writes the alternatives of a line, and moves past their bytes.
 fn write_alternatives(out: &mut TextWriter, at: &mut usize, alternatives: &[Vec<Condition>]) {
     for (i, conditions) in alternatives.iter().enumerate() {
         out.write_str(if i == 0 { ", when" } else { ", or" });

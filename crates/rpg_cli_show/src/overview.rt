@@ -11,7 +11,7 @@ use rpg_program::rows::Rows;
 use rpg_verify::{Verified, VerifyFault, verify};
 use std::alloc::{AllocError, Global};
 
-/// The most bytes that a step puts out.
+/// The most bytes that a step outputs.
 const BYTES_OF_STEP: u64 = 10_000;
 
 const STEPS: &str =
@@ -48,7 +48,7 @@ fn write_levels(out: &mut TextWriter, rows: &Rows) {
     out.write_str(end);
 }
 
-/// The files, the date, control levels and the overflow indicator.
+/// Writes the files, the date, control levels and the overflow indicator.
 fn write_rows(out: &mut TextWriter, rows: &Rows, uses_date: bool) {
     let secondary = "           records of {} columns from --secondary FILE\n";
     let disk = "  writes   records of {} columns to --disk FILE\n";
@@ -71,7 +71,7 @@ fn write_rows(out: &mut TextWriter, rows: &Rows, uses_date: bool) {
     write_named(out, "  page     a full page turns on {}\n", rows.overflow);
 }
 
-/// The most steps and bytes of a cycle, and the words of `run` that a program asks for.
+/// Writes the most steps and bytes of a cycle, and the arguments of `run` that a program requires.
 fn write_run(out: &mut TextWriter, verified: &Verified) {
     let rows = verified.program().rows();
     let steps = verified.bound();
@@ -90,7 +90,7 @@ fn write_run(out: &mut TextWriter, verified: &Verified) {
     out.write_char('\n');
 }
 
-/// What is known of a program without its verification.
+/// Writes what is known about a program before it is verified.
 fn overview(alloc: Global, program: &Program) -> Result<TextWriter, AllocError> {
     let bytes = encode(alloc, program)?.len();
     let mut out = TextWriter::new(alloc);
@@ -116,8 +116,8 @@ fn refused_overview(
     out.finish()
 }
 
-/// What a program reads, writes and needs: its files with their lengths, the date, control levels, the most steps and bytes of a cycle, and the
-/// command that runs it; or the rule that it breaks.
+/// Returns what a program reads, writes and needs: its files with their lengths, the date, control levels, the most steps and bytes of a
+/// cycle, and the command that runs it; or the rule that it breaks.
 pub fn program_overview(alloc: Global, program: Program) -> Result<String, AllocError> {
     match verify(alloc, program) {
         Ok(verified) => accepted_overview(alloc, &verified),

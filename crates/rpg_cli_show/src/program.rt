@@ -1,4 +1,4 @@
-//! A program as a text.
+//! A program as text.
 
 use crate::bound::{path_costs, write_bound};
 use crate::fields::{write_fields, write_first_values};
@@ -28,7 +28,7 @@ fn write_tables(out: &mut TextWriter, shown: Shown<'_>, uses: &Uses) {
     write_sections(out, &mut at, shown);
 }
 
-/// The text about a program: with its bound, if it is accepted.
+/// Returns the text of a program, with its bound if it is accepted.
 fn shown_text(
     alloc: Global,
     program: &Program,
@@ -85,7 +85,7 @@ fn refused_text(
     shown_text(alloc, program, shown, None)
 }
 
-/// The text about a program by the cards of its source, which have names if it is known.
+/// Returns the text of a program with the cards of its source, which have names if it is known.
 fn text_of(
     alloc: Global,
     program: Program,
@@ -98,9 +98,9 @@ fn text_of(
     }
 }
 
-/// The whole text about a program: its header, its fields with their first values and their uses, its record types and lines,
-/// and its instructions with their places and path costs. For an accepted program it has the bound and its parts; of a refused
-/// one the least rule that is broken, and the row that breaks it. Where its source is known, fields have their names and rows their cards.
+/// Returns the whole text of a program: its header, its fields with their first values and their uses, its record types and lines, and its
+/// instructions with their places and path costs. An accepted program has its bound and the bound's parts; a rejected one the
+/// lowest-numbered broken rule, and the row that breaks it. If its source is known, fields have names and rows have cards.
 pub fn program_text(
     alloc: Global,
     program: Program,

@@ -1,4 +1,4 @@
-//! What the rows of a program are written from, and what they have in common.
+//! What the rows of a program are printed from, and what they share.
 
 use rpg_cli_show_fields::{SourceRows, constant_of, name_text, write_card_operand, write_value};
 use rpg_cli_text::TextWriter;
@@ -7,20 +7,20 @@ use rpg_program::rows::Rows;
 use rpg_verify::{BrokenRule, Rule, VerifyFault};
 use std::alloc::AllocError;
 
-/// A program's rows, and what is known of them besides.
+/// A program's rows, and what else is known about them.
 #[derive(Clone, Copy)]
 pub(crate) struct Shown<'a> {
     pub rows: &'a Rows,
-    /// What the cards of the program's source say; nothing where that isn't known.
+    /// The cards of the program's source; empty if that isn't known.
     pub source: &'a SourceRows,
     pub is_named: bool,
-    /// The path costs of the places; none of a rejected program.
+    /// The path costs of the places; empty for a rejected program.
     pub costs: &'a [u64],
     /// The rule that a rejected program breaks.
     pub broken: Option<BrokenRule>,
 }
 
-/// A table of which a rule speaks.
+/// A table that a rule is about.
 #[derive(Clone, Copy, PartialEq, Eq)]
 pub(crate) enum Table {
     Header,
@@ -42,13 +42,13 @@ fn table_of(rule: Rule) -> Table {
 
 const REFUSED: &str = "  refused  row {} by V{}: {}\n";
 
-/// Writes the row of a rule that is broken, the rule, and what is wrong.
+/// Writes the row of a broken rule, the rule, and what is wrong.
 pub(crate) fn write_refusal(out: &mut TextWriter, broken: BrokenRule) {
     let (number, sentence) = (broken.rule.number(), broken.rule.sentence());
     out.fill_three(REFUSED, broken.row, number, sentence);
 }
 
-/// The rule that a program breaks which isn't accepted.
+/// Returns the rule that a rejected program breaks.
 pub(crate) fn broken_by(fault: VerifyFault) -> Result<BrokenRule, AllocError> {
     match fault {
         VerifyFault::Refused { rule, row } => Ok(BrokenRule { rule, row }),
@@ -56,7 +56,7 @@ pub(crate) fn broken_by(fault: VerifyFault) -> Result<BrokenRule, AllocError> {
     }
 }
 
-/// Writes the offset of a row of so many bytes, and goes on after it.
+/// Writes the offset of a row of this many bytes, and moves past it.
 pub(crate) fn write_offset(out: &mut TextWriter, at: &mut usize, bytes: usize) {
     out.fill_one("{:>6}", *at);
     *at = (*at).saturating_add(bytes);
@@ -74,14 +74,14 @@ impl Shown<'_> {
         }
     }
 
-    /// Writes the name of a field with a blank before it; nothing where it has none or the source isn't known.
+    /// Writes a blank and the name of a field; nothing if it has none or the source isn't known.
     pub fn write_name(self, out: &mut TextWriter, field: u16) {
         if let Some(name) = self.source.field_name(field) {
             out.fill_one(" {}", name_text(name));
         }
     }
 
-    /// Writes a field with its index, if it has one, and a constant with its value. Where the source is known, what its cards have comes after it.
+    /// Writes a field with its index, if it has one, and a constant with its value. If the source is known, what its cards have follows.
     pub fn write_operand(self, out: &mut TextWriter, operand: Operand<u16>) {
         let constant = constant_of(self.rows, operand.field);
         out.fill_one("#{}", operand.field);

@@ -6,7 +6,7 @@ use rpg_cli_text::TextWriter;
 use rpg_program::input::{ControlField, InputField, InputFile, RecordCode};
 use rpg_program::rows::{RecordType, Version};
 
-/// Which records are of the type, and what it turns on.
+/// Writes which records are of the type, and which indicator it turns on.
 fn write_head(out: &mut TextWriter, number: usize, record_type: &RecordType) {
     let of_file = match record_type.file {
         InputFile::Primary => "",

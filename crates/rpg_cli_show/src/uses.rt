@@ -10,10 +10,10 @@ use rpg_program::rows::{Line, RecordType, Rows};
 use rpg_refusal_causes::placed_at;
 use std::alloc::{AllocError, Global};
 
-/// The most numbers that are printed of a kind of use.
+/// The most numbers that are printed for one kind of use.
 const MOST_TOLD: usize = 12;
 
-/// A way of using a field: a type reads columns into it, an instruction sets it or only uses it, a line has it.
+/// How a row uses a field: a type reads columns into it, an instruction sets it or only uses it, a line contains it.
 #[derive(Clone, Copy, PartialEq, Eq)]
 enum By {
     Type,
@@ -29,15 +29,15 @@ struct RowUse {
     row: usize,
 }
 
-/// What uses each field, by their numbers; the first list is of no field. What an instruction uses is noted before what it sets.
+/// What uses each field, by field number; list 0 is unused. For an instruction, what it uses is noted before what it sets.
 #[derive(Drop)]
 pub(crate) struct Uses {
     fields: Vec<Vec<RowUse>>,
-    /// Whether memory ran out for one of them.
+    /// Whether memory ran out for a list.
     ran_out: bool,
 }
 
-/// Writes the rows that use a field in one way after the words for it, if there are some.
+/// Writes the rows that use a field in one way, after the words for it, if there are any.
 fn write_rows(out: &mut TextWriter, words: &str, uses: &[RowUse], by: By) {
     let mut count: usize = 0;
     for used in uses {
@@ -57,7 +57,7 @@ fn write_rows(out: &mut TextWriter, words: &str, uses: &[RowUse], by: By) {
 }
 
 impl Uses {
-    /// Notes a use of a field, if there is one of that number and the use isn't noted as its last one already.
+    /// Notes a use of a field, unless there is no such field or this is already its last use.
     fn note(&mut self, field: u16, by: By, row: usize) {
         let Some(uses) = self.fields.get_mut(usize::from(field)) else {
             return;
@@ -68,7 +68,7 @@ impl Uses {
         }
     }
 
-    /// Notes an operand. It uses its index, however it uses the field.
+    /// Notes an operand. Its index is used, whatever happens to the field.
     fn note_operand(&mut self, operand: Operand<u16>, by: By, row: usize) {
         if let Index::Field(index) = operand.index {
             let index_by = if by == By::Setting { By::Using } else { by };
@@ -127,7 +127,7 @@ impl Uses {
         }
     }
 
-    /// What uses each field of a program.
+    /// Returns what uses each field of a program.
     pub fn of(alloc: Global, program: &Program) -> Result<Self, AllocError> {
         let mut uses = Uses {
             fields: Vec::new(alloc),

@@ -1,4 +1,4 @@
-//! Operands that are the date.
+//! Operands that use the date.
 
 ghost use Rattle.std.specs.Prelude.{◌≡◌};
 ghost use Rattle.rpg_cli_show_fields.specs.DateUse as words;
@@ -40,7 +40,7 @@ fn index_is_date(rows: &Rows, index: Index<u16>) -> bool
     }
 }
 
-/// Whether an operand is the date, or is an entry that the date names.
+/// Whether an operand is the date, or has the date as its index.
 fn operand_uses(rows: &Rows, operand: Operand<u16>) -> bool
     ensures { result ≡ words.operand_uses rows.now.fields.items operand }
 {

@@ -1,10 +1,11 @@
-//! Edit codes, when a line is put out, and how the form moves, as cards and listings have them.
+//! Edit codes, the times of lines, and the movements of the form, as cards and listings have
+//! them.
 
 use rpg_cli_text::TextWriter;
 use rpg_edit_marks::{EditCode, Fill};
 use rpg_program::line::{Spacing, Time};
 
-/// Writes the edit code of a field, and what fills the places before its number.
+/// Writes the edit code of a field, and the fill before its number.
 pub fn write_code(out: &mut TextWriter, code: EditCode, fill: Fill) {
     let filled = match fill {
         Fill::Blank => "",

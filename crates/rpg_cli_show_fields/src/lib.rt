@@ -1,5 +1,5 @@
-//! What commands say of object programs: the words for fields, values, indicators and lines, what the cards of a source say of the rows of its
-//! object program, and whether a program uses the date.
+//! What commands print about object programs: the words for fields, values, indicators and lines, the cards that the rows of an object
+//! program come from, and whether a program uses the date.
 #![tactic(auto)]
 
 mod date_operands;

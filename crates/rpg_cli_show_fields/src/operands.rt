@@ -1,4 +1,4 @@
-//! What stands in factors, results and output fields.
+//! The contents of factors, results and output fields.
 
 use crate::source_rows::SourceRows;
 use crate::values::write_value;
@@ -10,7 +10,7 @@ use rpg_program::operation::{Index, Operand};
 use rpg_program::rows::Rows;
 use rpg_program::value::Value;
 
-/// The value of a constant, and its decimals.
+/// Returns the value of a constant, and its decimals.
 pub fn constant_of(rows: &Rows, field: u16) -> Option<(&Value, u8)> {
     let form = form_at(rows, field)?;
     if !is_constant(form.class) {
@@ -20,7 +20,7 @@ pub fn constant_of(rows: &Rows, field: u16) -> Option<(&Value, u8)> {
     Some((values.first()?, form.decimals))
 }
 
-/// Writes the name of a field; its number where it has none.
+/// Writes the name of a field, or its number if it has none.
 fn write_name(out: &mut TextWriter, source: &SourceRows, field: u16) {
     match source.field_name(field) {
         Some(name) => out.write_str(name_text(name)),
@@ -28,7 +28,7 @@ fn write_name(out: &mut TextWriter, source: &SourceRows, field: u16) {
     }
 }
 
-/// Writes a field with its index as cards have it: by names, and a constant by its value.
+/// Writes a field with its index as on cards: by name, or for a constant by its value.
 pub fn write_card_operand(
     out: &mut TextWriter,
     rows: &Rows,

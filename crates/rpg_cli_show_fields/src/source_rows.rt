@@ -1,4 +1,4 @@
-//! What the cards of a source say about the rows of its object program: the names of its fields, and the cards of its rows.
+//! The source of an object program, by row: the names of its fields, and the cards of its rows.
 
 ghost use Rattle.std.specs.Prelude.{◌≤◌, length};
 
@@ -6,39 +6,40 @@ use rpg_cards::{IndexedCards, SpecCard, has_instruction, joins, level, test};
 use rpg_sheet_specs::{CalculationSpec, InputSpec, OutputSpec, Spec, Word};
 use std::alloc::{AllocError, Global};
 
-/// A name, and the card that defines it first. Every program has UDATE and PAGE, which no card has to define.
+/// A name, and the first card that defines it. Every program has UDATE and PAGE, which no card has to define.
 #[derive(Drop)]
 struct NamedField {
     name: Word<6>,
     card: Option<u16>,
 }
 
-/// The card that a record type or a line begins with, or that of one of its fields.
+/// The first card of a record type or a line, or the card of one of its fields.
 #[derive(Clone, Copy)]
 struct RowCard {
     row: usize,
     card: u16,
 }
 
-/// What the cards of a source say about the rows of its object program. Rows and places are counted from 0, the fields of a program from 1.
+/// The names and cards of a source, by the rows of its object program. Rows and places are counted from 0, fields from 1.
 #[derive(Drop)]
 pub struct SourceRows {
     fields: Vec<NamedField>,
     types: Vec<RowCard>,
     lines: Vec<RowCard>,
     places: Vec<u16>,
-    /// Whether memory ran out for one of them.
+    /// Whether memory ran out for a list.
     ran_out: bool,
 }
 
-/// How many instructions a card becomes: one for the indicator that its calculation waits for, one for its conditions, one for its operation.
+/// Returns how many instructions a card becomes: one for the level indicator that its calculation waits for, one for its conditions, one
+/// for its operation.
 fn instruction_count(calculation: &CalculationSpec) -> usize {
     let level = usize::from(level(calculation.control_level).is_some());
     let test = usize::from(test(calculation).is_some());
     level + test + usize::from(has_instruction(calculation))
 }
 
-/// Notes the card of a further row, or of a field of the last one, and returns whether memory ran out.
+/// Notes the card of a new row, or of a field of the last one. Returns whether memory ran out.
 fn note(cards: &mut Vec<RowCard>, card: u16, is_first: bool) -> bool {
     let row = match cards.last() {
         Some(last) => last.row.saturating_add(usize::from(is_first)),
@@ -47,7 +48,7 @@ fn note(cards: &mut Vec<RowCard>, card: u16, is_first: bool) -> bool {
     cards.push(RowCard { row, card }).is_err()
 }
 
-/// The card of a row, whose place is 0, or of one of its fields.
+/// Returns the card of a row, for place 0, or of one of its fields.
 fn card_at(cards: &[RowCard], row: usize, place: usize) -> Option<u16> {
     let mut before: usize = 0;
     for noted in cards {
@@ -62,7 +63,7 @@ fn card_at(cards: &[RowCard], row: usize, place: usize) -> Option<u16> {
 }
 
 impl SourceRows {
-    /// The words if the source isn't known.
+    /// Returns no names and cards, for a source that isn't known.
     pub fn none(alloc: Global) -> Self {
         SourceRows {
             fields: Vec::new(alloc),
@@ -73,7 +74,7 @@ impl SourceRows {
         }
     }
 
-    /// What the cards of a source without a fault say.
+    /// Returns the names and cards of a source without faults.
     pub fn of_cards(alloc: Global, cards: &[SpecCard]) -> Result<Self, AllocError> {
         let source = IndexedCards::new(alloc, cards)?;
         let mut rows = SourceRows::none(alloc);
@@ -103,7 +104,7 @@ impl SourceRows {
         self.ran_out |= self.fields.push(NamedField { name, card }).is_err();
     }
 
-    /// Notes the names that a card defines first, and returns how many definitions there are up to it.
+    /// Notes the names that a card is the first to define. Returns how many definitions there are up to it.
     fn note_names(&mut self, source: &IndexedCards, card: &SpecCard, before: usize) -> usize {
         let mut place = before;
         let definitions = card.definitions();
@@ -116,7 +117,7 @@ impl SourceRows {
         place
     }
 
-    /// Notes the row or the instructions of a card. So many places are those of calculations that are done with.
+    /// Notes the row or the instructions of a card. `places` of them belong to earlier calculations.
     fn note_row(&mut self, card: &SpecCard, places: usize) -> usize {
         let number = card.number;
         let ran_out = match &card.spec {
@@ -133,7 +134,8 @@ impl SourceRows {
         places
     }
 
-    /// Notes the instructions of a card. A calculation whose operation becomes none has none for its indicator and its conditions either.
+    /// Notes the instructions of a card. If the operation of a calculation has no instruction, its indicator and conditions have none
+    /// either.
     fn note_places(&mut self, card: u16, calculation: &CalculationSpec, places: usize) -> usize {
         if !joins(calculation) {
             self.places.truncate(places);
@@ -152,37 +154,37 @@ impl SourceRows {
         self.fields.get(usize::from(number).checked_sub(1)?)
     }
 
-    /// The name of a field. Constants have none.
+    /// Returns the name of a field. Constants have none.
     pub fn field_name(&self, number: u16) -> Option<&[u8]> {
         Some(self.field(number)?.name.as_slice())
     }
 
-    /// The card that defines a field first. None defines UDATE and PAGE, nor constants.
+    /// Returns the first card that defines a field. UDATE, PAGE and constants may have none.
     pub fn field_card(&self, number: u16) -> Option<u16> {
         self.field(number)?.card
     }
 
-    /// The card that a record type begins with.
+    /// Returns the first card of a record type.
     pub fn type_card(&self, row: usize) -> Option<u16> {
         card_at(&self.types, row, 0)
     }
 
-    /// The card of an input field of a record type.
+    /// Returns the card of an input field of a record type.
     pub fn input_card(&self, row: usize, input: usize) -> Option<u16> {
         card_at(&self.types, row, input.saturating_add(1))
     }
 
-    /// The card that a line begins with.
+    /// Returns the first card of a line.
     pub fn line_card(&self, row: usize) -> Option<u16> {
         card_at(&self.lines, row, 0)
     }
 
-    /// The card of a field of a line.
+    /// Returns the card of a field of a line.
     pub fn line_field_card(&self, row: usize, field: usize) -> Option<u16> {
         card_at(&self.lines, row, field.saturating_add(1))
     }
 
-    /// The card that an instruction comes from, by its place in the whole program.
+    /// Returns the card that an instruction comes from, given its place in the whole program.
     pub fn place_card(&self, place: usize) -> Option<u16> {
         self.places.get(place).copied()
     }

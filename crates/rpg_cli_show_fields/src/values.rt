@@ -5,7 +5,7 @@ use rpg_program::form::{Class, FieldForm, Kind};
 use rpg_program::value::Value;
 use rpg_text::{shown, trimmed};
 
-/// Writes a text between apostrophes, each apostrophe in it twice, as on a card.
+/// Writes a text between apostrophes, with each apostrophe in it doubled, as on a card.
 pub fn write_quoted(out: &mut TextWriter, text: &[u8]) {
     out.write_char('\'');
     for byte in text {
@@ -17,7 +17,7 @@ pub fn write_quoted(out: &mut TextWriter, text: &[u8]) {
     out.write_char('\'');
 }
 
-/// Writes a number with its decimal point, and one digit at least before it.
+/// Writes a number with its decimal point, and at least one digit before it.
 fn write_number(out: &mut TextWriter, number: i64, decimals: u8) {
     let digits = number.unsigned_abs();
     let mut unit = 10u64.saturating_pow(u32::from(decimals)).max(1);
@@ -48,7 +48,8 @@ pub fn write_value(out: &mut TextWriter, value: &Value, decimals: u8) {
     }
 }
 
-/// Writes a field's form: what it is for, digits and decimals of a number or characters of a text, and the order of entries.
+/// Writes the form of a field: its class, the digits and decimals of a number or the characters of a text, and the order of
+/// entries.
 pub fn write_form(out: &mut TextWriter, form: FieldForm) {
     let class = match form.class {
         Class::Plain => "",

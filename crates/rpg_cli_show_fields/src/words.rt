@@ -1,10 +1,11 @@
-//! Names, indicators and conditions as they are written on cards.
+//! Names, indicators and conditions, as on cards.
 
 use rpg_cli_text::{TextWriter, indicator_name};
 use rpg_program::condition::{Condition, Conditions, has_conditions};
 use rpg_program::operation::Shows;
 
-/// A name of a card as a text. Its characters are letters, digits, `$`, `#` and `@`.
+/// Returns a card's name as text. Its characters are letters, digits, `$`, `#` and
+/// `@`.
 pub fn name_text(name: &[u8]) -> &str {
     str::from_utf8(name).unwrap_or("")
 }
@@ -14,19 +15,19 @@ pub fn name_text(name: &[u8]) -> &str {
 pub struct Indicator(pub u8);
 
 impl Indicator {
-    /// Its name on cards.
+    /// Returns its name on cards.
     pub fn name(self) -> &'static str {
         indicator_name(self.0).unwrap_or("MR")
     }
 }
 
-/// Writes a condition: the indicator, with N before it where it must be off.
+/// Writes a condition: the indicator, with N before it if it must be off.
 pub fn write_condition(out: &mut TextWriter, condition: Condition) {
     out.write_str(if condition.is_negated { " N" } else { " " });
     out.write_str(Indicator(condition.indicator).name());
 }
 
-/// Writes conditions after a word, if there are some.
+/// Writes conditions after a word, if there are any.
 pub fn write_when(out: &mut TextWriter, word: &str, conditions: Conditions) {
     if has_conditions(conditions) {
         out.write_str(word);
@@ -45,7 +46,7 @@ pub fn write_named(out: &mut TextWriter, sentence: &str, indicator: Option<u8>) 
     }
 }
 
-/// Writes the indicators that are there, each in the sentence for what it shows.
+/// Writes the indicators that are there, each in its own sentence.
 pub fn write_shows(out: &mut TextWriter, sentences: [&str; 3], shows: Shows) {
     let [plus, minus, zero] = sentences;
     write_named(out, plus, shows.plus);
@@ -53,7 +54,7 @@ pub fn write_shows(out: &mut TextWriter, sentences: [&str; 3], shows: Shows) {
     write_named(out, zero, shows.zero);
 }
 
-/// Writes the card of a row after it, where it is known.
+/// Writes the card of a row, if it is known.
 pub fn write_card(out: &mut TextWriter, card: Option<u16>) {
     if let Some(card) = card {
         out.fill_one(" (card {})", card);

@@ -1,6 +1,6 @@
 //! The names of indicators.
 
-/// What indicators are called on cards, in the order of their numbers.
+/// The names of indicators on cards, in numeric order.
 const NAMES: [&str; 130] = [
     "00", "01", "02", "03", "04", "05", "06", "07", "08", "09", "10", "11", "12", "13", "14", "15",
     "16", "17", "18", "19", "20", "21", "22", "23", "24", "25", "26", "27", "28", "29", "30", "31",
@@ -13,7 +13,7 @@ const NAMES: [&str; 130] = [
     "H9", "MR",
 ];
 
-/// The name that an indicator has on cards, by its number from 0 to 129.
+/// Returns the name of an indicator on cards, by its number from 0 to 129.
 pub fn indicator_name(number: u8) -> Option<&'static str> {
     NAMES.get(usize::from(number)).copied()
 }

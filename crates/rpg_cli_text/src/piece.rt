@@ -1,4 +1,4 @@
-//! What stands at the places of a sentence.
+//! The pieces that fill the places of a sentence.
 
 /// What a place of a sentence is filled with.
 #[derive(Clone, Copy)]
@@ -6,7 +6,8 @@ pub enum Piece<'a> {
     Number(u64),
     Character(char),
     Word(&'a str),
-    /// A text from outside, whose bytes that are no characters become question marks.
+    /// A text from outside, with a question mark for each byte that isn't a
+    /// character.
     Outside(&'a [u8]),
 }
 

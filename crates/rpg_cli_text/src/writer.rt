@@ -1,11 +1,12 @@
-//! A text that is written piece by piece, with one check at its end that memory sufficed.
+//! Text that is written piece by piece, with one check for memory at the end.
 
 use crate::piece::Piece;
 use rpg_text::shown;
 use std::alloc::{AllocError, Global};
 use std::fmt::Display;
 
-/// A text under way. Once an allocation fails it takes nothing more, and [`TextWriter::finish`] returns the error: so nothing in between has to.
+/// Text under construction. Once an allocation fails it ignores further pieces, and [`TextWriter::finish`] returns the error, so nothing in
+/// between has to.
 #[derive(Drop)]
 pub struct TextWriter {
     text: String,
@@ -13,7 +14,7 @@ pub struct TextWriter {
 }
 
 impl TextWriter {
-    /// An empty text, which takes its memory from `alloc` as it grows.
+    /// Returns an empty text, which allocates from `alloc` as it grows.
     pub fn new(alloc: Global) -> TextWriter {
         TextWriter {
             text: String::new(alloc),
@@ -35,8 +36,8 @@ impl TextWriter {
         }
     }
 
-    /// Appends a text from outside: a byte that is no character from blank to `~` becomes a question mark, so that no control code reaches
-    /// a terminal.
+    /// Appends a text from outside. A byte that isn't a character from blank to `~` becomes a question mark, so that no control code
+    /// reaches a terminal.
     pub fn write_shown(&mut self, text: &[u8]) {
         for byte in text {
             self.write_char(shown(*byte) as char);
@@ -50,8 +51,8 @@ impl TextWriter {
         }
     }
 
-    /// Appends a sentence, with a piece at each of its places: `{}` takes it as it is, `{:<8}` fills up with blanks after it, and `{:>8}` has
-    /// blanks before it, so that it takes eight columns at least.
+    /// Appends a sentence, with a piece at each of its places: `{}` takes it unchanged, `{:<8}` pads it with blanks on the right to eight
+    /// columns, and `{:>8}` on the left.
     pub fn fill(&mut self, sentence: &str, pieces: &[Piece<'_>]) {
         let mut rest = sentence;
         for piece in pieces {
@@ -68,12 +69,12 @@ impl TextWriter {
         self.write_str(rest);
     }
 
-    /// Appends a sentence that has one place.
+    /// Appends a sentence with one place.
     pub fn fill_one<'a>(&mut self, sentence: &str, piece: impl Into<Piece<'a>>) {
         self.fill(sentence, &[piece.into()]);
     }
 
-    /// Appends a sentence that has two places.
+    /// Appends a sentence with two places.
     pub fn fill_two<'a>(
         &mut self,
         sentence: &str,
@@ -83,7 +84,7 @@ impl TextWriter {
         self.fill(sentence, &[first.into(), second.into()]);
     }
 
-    /// Appends a sentence that has three places.
+    /// Appends a sentence with three places.
     pub fn fill_three<'a>(
         &mut self,
         sentence: &str,
@@ -94,7 +95,7 @@ impl TextWriter {
         self.fill(sentence, &[first.into(), second.into(), third.into()]);
     }
 
-    /// Appends a piece in a column as `layout` has it.
+    /// Appends a piece in the column that `layout` describes.
     fn write_laid_out(&mut self, layout: &str, piece: Piece<'_>) {
         if let Some(width) = layout.strip_prefix(":<") {
             let end = self.len().saturating_add(width.parse().unwrap_or(0));
@@ -107,7 +108,7 @@ impl TextWriter {
         }
     }
 
-    /// Appends a piece, with blanks before it where it has fewer than so many characters.
+    /// Appends a piece, padded with blanks on the left to `width` characters.
     fn write_right(&mut self, piece: Piece<'_>, width: usize) {
         match piece {
             Piece::Number(number) => write!(self, "{number:>width$}"),
@@ -130,14 +131,14 @@ impl TextWriter {
         }
     }
 
-    /// Appends blanks until the text has so many bytes.
+    /// Appends blanks up to a length in bytes.
     pub fn pad_to(&mut self, length: usize) {
         for _ in self.text.len()..length {
             self.write_char(' ');
         }
     }
 
-    /// Ends a line, without the blanks that it ends in.
+    /// Ends a line, without its trailing blanks.
     pub fn end_line(&mut self) {
         for _ in 0..self.text.len() {
             if !self.text.ends_with(' ') {
@@ -148,16 +149,16 @@ impl TextWriter {
         self.write_char('\n');
     }
 
-    /// The text's length in bytes so far.
+    /// Returns the length of the text so far, in bytes.
     pub fn len(&self) -> usize {
         self.text.len()
     }
 
-    /// The text.
+    /// Returns the text.
     ///
     /// # Errors
     ///
-    /// Memory was refused to one of its pieces.
+    /// Memory ran out for one of its pieces.
     pub fn finish(self) -> Result<String, AllocError> {
         if self.ran_out {
             return Err(AllocError);

@@ -1,4 +1,4 @@
-//! What is counted over all cycles of a job.
+//! Counts over all cycles of a job.
 
 use crate::due::Due;
 use crate::levels::Levels;
@@ -18,17 +18,17 @@ pub(crate) struct Counts {
     levels: Levels,
     /// How many records of each type were selected.
     types: Vec<u64>,
-    /// The printed lines that have text.
+    /// The number of printed lines that have text.
     printed: u64,
-    /// The records of the disk file.
+    /// The number of records of the disk file.
     stored: u64,
-    /// The lines of detail output.
+    /// The lines of detail output so far.
     details: Due,
-    /// Those of the next cycle.
+    /// The lines of the next cycle's detail output.
     due: Due,
 }
 
-/// A zero for each record type.
+/// Returns a zero for each record type.
 fn no_records(alloc: Global, rows: &Rows) -> Result<Vec<u64>, AllocError> {
     let mut types = Vec::new(alloc);
     for _ in 0..rows.types.len() {
@@ -38,7 +38,7 @@ fn no_records(alloc: Global, rows: &Rows) -> Result<Vec<u64>, AllocError> {
 }
 
 impl Counts {
-    /// Those of a job before its first cycle.
+    /// Returns the counts of a job before its first cycle.
     pub fn begin<S: Store + Drop>(alloc: Global, job: &Job<'_, S>) -> Result<Counts, AllocError> {
         let memory = job.memory();
         Ok(Counts {
@@ -60,7 +60,7 @@ impl Counts {
         }
     }
 
-    /// Counts what a cycle did that left the job so. How many lines detail output put out in a cycle that halted isn't known.
+    /// Counts what the last cycle of the job did. How many lines of detail output a cycle that halted wrote isn't known.
     pub fn go_on<S: Store + Drop>(&mut self, job: &Job<'_, S>, cycle: Cycle) {
         let output = job.output();
         self.printed = self.printed.saturating_add(lines_in(&output.print));
@@ -98,7 +98,7 @@ impl Counts {
         }
     }
 
-    /// The text about all cycles.
+    /// Returns the text about all cycles.
     pub fn text(&self, alloc: Global, names: &JobNames<'_, '_, '_>) -> Result<String, AllocError> {
         let mut out = TextWriter::new(alloc);
         self.levels.write(&mut out, names);

@@ -1,4 +1,4 @@
-//! The lines that detail output puts out, by the indicators that are on before it.
+//! The lines that are due at detail output, by the indicators that are on before it.
 
 use rpg_memory::condition::all_hold;
 use rpg_memory::indicators::Indicators;
@@ -19,7 +19,7 @@ impl Due {
         detail: 0,
     };
 
-    /// The lines of a program that are due.
+    /// Returns the lines of a program that are due.
     pub fn of(rows: &Rows, on: &Indicators) -> Due {
         let mut due = Due::NOTHING;
         for line in &rows.lines {
@@ -44,7 +44,7 @@ impl Due {
     }
 }
 
-/// Whether conditions ask for the overflow indicator to be on. A line with such conditions is put out at overflow.
+/// Whether conditions require the overflow indicator to be on. A line with such conditions is written at overflow.
 fn asks_overflow(overflow: Option<u8>, conditions: &[Condition]) -> bool {
     for condition in conditions {
         if overflow == Some(condition.indicator) && !condition.is_negated {

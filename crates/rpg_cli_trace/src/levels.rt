@@ -1,4 +1,4 @@
-//! Control fields that go down.
+//! Control fields that descend.
 
 use crate::names::JobNames;
 use crate::records::Selected;
@@ -6,10 +6,10 @@ use rpg_cli_text::TextWriter;
 use rpg_cycle_records::LastBytes;
 use std::alloc::{AllocError, Global};
 
-/// The bytes that the control fields of a level have together, at most.
+/// The most bytes that the control fields of a level have together.
 const LONGEST_LEVEL: usize = 256;
 
-/// Where a control level went down first.
+/// Where a control level first went down.
 #[derive(Drop)]
 struct Fall {
     record: Option<Selected>,
@@ -104,7 +104,7 @@ impl Levels {
         Ok(Levels { levels })
     }
 
-    /// The place of the highest level that a cycle changed.
+    /// Returns the place of the highest level that a cycle changed.
     fn highest_changed(&self, now: &[LastBytes]) -> Option<usize> {
         let mut highest = None;
         for (place, level) in self.levels.iter().enumerate() {
@@ -127,8 +127,8 @@ impl Levels {
         }
     }
 
-    /// Goes on by a cycle that selected a record and left the levels so. A level goes down where it changes to lower bytes and no higher
-    /// level changes.
+    /// Takes the levels after a cycle that selected a record. A level goes down if it changes to lower bytes and no higher level
+    /// changes.
     pub fn go_on(&mut self, now: &[LastBytes], record: Selected) {
         let Some(place) = self.highest_changed(now) else {
             return;

@@ -1,4 +1,4 @@
-//! What a job does, cycle by cycle, and what is counted over all its cycles, as texts for people.
+//! Reports what a job does, cycle by cycle, and counts over all its cycles, as text for people.
 #![tactic(auto)]
 
 mod changes;

@@ -4,10 +4,10 @@ use rpg_cli_text::{TextWriter, indicator_name};
 use rpg_memory::indicators::Indicators;
 use std::alloc::{AllocError, Global};
 
-/// The numbers of indicators, from 1 on, end before this one.
+/// One more than the greatest number of an indicator; numbers start at 1.
 const NUMBERS_END: u8 = 130;
 
-/// Which indicators were on after the last cycle, by their numbers.
+/// Which indicators were on after the last cycle, by number.
 #[derive(Drop)]
 pub(crate) struct Lights {
     on: Vec<bool>,
@@ -26,7 +26,7 @@ impl Lights {
         self.on.get(usize::from(number)).copied().unwrap_or(false)
     }
 
-    /// Writes a blank and the name of each indicator that is now on, or off, and was not.
+    /// Writes a blank and the name of each indicator that turned on, or off.
     pub fn write_turned(&self, out: &mut TextWriter, now: &Indicators, to_on: bool) {
         for number in 1..NUMBERS_END {
             if now.is_on(number) == to_on && self.was_on(number) != to_on {
@@ -36,7 +36,7 @@ impl Lights {
         }
     }
 
-    /// Whether an indicator is now on, or off, and was not.
+    /// Whether an indicator turned on, or off.
     pub fn has_turned(&self, now: &Indicators, to_on: bool) -> bool {
         for number in 1..NUMBERS_END {
             if now.is_on(number) == to_on && self.was_on(number) != to_on {
@@ -46,7 +46,7 @@ impl Lights {
         false
     }
 
-    /// Keeps those that are on now.
+    /// Keeps which indicators are on now.
     pub fn keep(&mut self, now: &Indicators) {
         let mut number = 0u8;
         for light in self.on.iter_mut() {

@@ -1,4 +1,4 @@
-//! Lines of the printer, and records of the disk file, in the bytes that were put out.
+//! Lines of the printer, and records of the disk file, in the bytes of the output.
 
 use rpg_cli_text::TextWriter;
 use rpg_text::shown;
@@ -10,7 +10,7 @@ fn is_movement(byte: u8) -> bool {
     matches!(byte, b'\n' | b'\r' | FORM_FEED)
 }
 
-/// How many lines have text. Each begins where the form was moved.
+/// Counts the lines that have text. Each begins where the form was moved.
 pub(crate) fn lines_in(bytes: &[u8]) -> u64 {
     let mut count = 0u64;
     let mut is_in_line = false;
@@ -24,7 +24,7 @@ pub(crate) fn lines_in(bytes: &[u8]) -> u64 {
     count
 }
 
-/// How many records were written to the disk file.
+/// Counts the records that were written to the disk file.
 pub(crate) fn records_in(bytes: &[u8]) -> u64 {
     let mut count = 0u64;
     for byte in bytes {
@@ -35,7 +35,7 @@ pub(crate) fn records_in(bytes: &[u8]) -> u64 {
     count
 }
 
-/// Writes each line that has text in a line of its own, between quotes, after the words that it begins with.
+/// Writes each line that has text on a line of its own, in quotes, after the given words.
 pub(crate) fn write_lines(out: &mut TextWriter, begin: &str, cycle: u64, bytes: &[u8]) {
     let mut is_in_line = false;
     for byte in bytes {

@@ -10,8 +10,8 @@ use rpg_engine::{Job, JobEnd, Watcher};
 use rpg_store::Store;
 use std::alloc::Global;
 
-/// Reports the first cycles of a job one by one, and at its end what is counted over all of them, as far as the words ask for it. Where
-/// there is no memory for one of the two, it is left out.
+/// Reports the first cycles of a job one by one, and at its end the counts over all of them, as the arguments ask. If memory runs out
+/// for one of the two, it is left out.
 #[derive(Drop)]
 pub struct Looking<'p, 'f, 's, 'l, L> {
     alloc: Global,
@@ -56,7 +56,7 @@ impl<'p, 'f, 's, 'l, L: Listener> Looking<'p, 'f, 's, 'l, L> {
         }
     }
 
-    /// Reports what was counted, after the job.
+    /// Reports the counts after the job.
     pub fn finish(&mut self) {
         let Some(counts) = &self.counts else {
             return;

@@ -1,4 +1,4 @@
-//! What the texts about a job call its records, record types and fields.
+//! The names of a job's records, record types and fields in texts.
 
 use crate::records::Selected;
 use rpg_cli_show_fields::{SourceRows, name_text, write_card};
@@ -7,7 +7,7 @@ use rpg_program::form::{Class, FieldForm};
 use rpg_program::input::InputFile;
 use rpg_verify::Verified;
 
-/// A program that runs, the names of its input files, and what the cards of its source say, if that is known.
+/// A program that runs, the names of its input files, and the cards of its source, if that is known.
 #[derive(Clone, Copy)]
 pub struct JobNames<'p, 'f, 's> {
     pub program: &'p Verified,
@@ -16,7 +16,7 @@ pub struct JobNames<'p, 'f, 's> {
     pub source: Option<&'s SourceRows>,
 }
 
-/// Whether a field has entries that are shown apart.
+/// Whether a field has entries that are shown separately.
 fn has_entries(form: FieldForm) -> bool {
     matches!(form.class, Class::Array | Class::Table)
 }
@@ -32,13 +32,13 @@ impl JobNames<'_, '_, '_> {
         }
     }
 
-    /// Writes the place of a record: its file and its number.
+    /// Writes which record it is: its file and its number.
     pub(crate) fn write_record(&self, out: &mut TextWriter, record: Selected) {
         let name = self.file_name(record.file);
         out.fill("{}:{}: ", &[name.as_bytes().into(), record.number.into()]);
     }
 
-    /// Writes a record type: its row, the first being 0, and its card.
+    /// Writes a record type: its row, counted from 0, and its card.
     pub(crate) fn write_type(&self, out: &mut TextWriter, row: usize) {
         out.fill("type {}", &[row.into()]);
         if let Some(source) = self.source {
@@ -46,7 +46,7 @@ impl JobNames<'_, '_, '_> {
         }
     }
 
-    /// Writes an entry of a field: the name of the field, or its number where the name isn't known, and the index of an entry of several.
+    /// Writes an entry of a field: the field's name, or its number if the name isn't known, and the index if it has several entries.
     pub(crate) fn write_entry(
         &self,
         out: &mut TextWriter,

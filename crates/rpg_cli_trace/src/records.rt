@@ -1,4 +1,4 @@
-//! Which record a cycle selected, as its files show it between cycles.
+//! Finds the record that a cycle selected, from its files before and after.
 
 use rpg_cycle_records::{Kept, KeptFile, identify, input_length};
 use rpg_engine::JobEnd;
@@ -8,7 +8,7 @@ use rpg_verify::Verified;
 
 const LAST_RECORD: u8 = 110;
 
-/// A record that a cycle selected: its number in its file, the first being 1, and the row of its type.
+/// A record that a cycle selected: its number in its file, from 1, and the row of its type.
 #[derive(Clone, Copy)]
 pub(crate) struct Selected {
     pub file: InputFile,
@@ -21,7 +21,7 @@ pub(crate) struct Selected {
 struct FileState {
     /// Whether a record waits.
     waits: bool,
-    /// How many records were taken in.
+    /// How many records were read.
     taken: u64,
 }
 
@@ -31,8 +31,7 @@ impl FileState {
         taken: 0,
     };
 
-    /// Goes on by a cycle that left the file so, and returns whether it selected the file's record: one waited or was taken in, and none
-    /// waits now.
+    /// Takes the file after a cycle. Returns whether the cycle selected the file's record: one waited or was read, and none waits now.
     fn go_on(&mut self, is_there: bool, file: &KeptFile) -> bool {
         let takes_in = is_there && !self.waits && !file.is_over;
         if takes_in {
@@ -49,11 +48,11 @@ impl FileState {
 pub(crate) struct Records {
     primary: FileState,
     secondary: FileState,
-    /// Whether LR is on: then the next cycle takes no record in.
+    /// Whether LR is on: then the next cycle reads no record.
     is_last: bool,
 }
 
-/// The row of a record's type, the first being 0.
+/// Returns the row of a record's type, counted from 0.
 fn row_of(program: &Verified, file: InputFile, text: &[u8]) -> Option<usize> {
     if text.len() != input_length(program, file) {
         return None;
@@ -68,7 +67,7 @@ impl Records {
         is_last: false,
     };
 
-    /// Goes on by a cycle that left the files so, and returns the record that it selected. Of a cycle that halted it isn't known.
+    /// Takes the files after a cycle. Returns the record that it selected, which isn't known if the cycle halted.
     pub fn go_on(
         &mut self,
         program: &Verified,

@@ -1,4 +1,4 @@
-//! What a cycle did, as a text.
+//! A text about what a cycle did.
 
 use crate::changes::Values;
 use crate::lights::Lights;
@@ -11,7 +11,7 @@ use rpg_memory::indicators::Indicators;
 use rpg_store::Store;
 use std::alloc::{AllocError, Global};
 
-/// A cycle: its number, the first being 1, the record that it selected, and how the job ended in it, if it did.
+/// A cycle: its number, from 1, the record that it selected, and how it ended the job, if it did.
 #[derive(Clone, Copy)]
 pub(crate) struct Cycle {
     pub number: u64,
@@ -39,7 +39,7 @@ impl Cycle {
     }
 }
 
-/// A job after the last cycle that was reported.
+/// The job after the last cycle that was reported.
 #[derive(Drop)]
 pub(crate) struct Told {
     lights: Lights,
@@ -47,7 +47,7 @@ pub(crate) struct Told {
 }
 
 impl Told {
-    /// A job before its first cycle.
+    /// Returns the job before its first cycle.
     pub fn begin<S: Store + Drop>(alloc: Global, job: &Job<'_, S>) -> Result<Told, AllocError> {
         let memory = job.memory();
         Ok(Told {
@@ -56,7 +56,7 @@ impl Told {
         })
     }
 
-    /// Writes the indicators that turned on, or off, if some did.
+    /// Writes the indicators that turned on, or off, if any did.
     fn write_turned(
         &self,
         out: &mut TextWriter,
@@ -72,7 +72,7 @@ impl Told {
         }
     }
 
-    /// The text about a cycle that left the job so.
+    /// Returns the text about the last cycle of the job.
     pub fn text_of<S: Store + Drop>(
         &mut self,
         alloc: Global,

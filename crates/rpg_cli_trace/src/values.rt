@@ -1,4 +1,4 @@
-//! The values of fields in the memory of a job.
+//! The values of fields in a job's memory.
 
 use rpg_memory::memory::Memory;
 use rpg_program::form::Kind;
@@ -7,7 +7,7 @@ use rpg_program::value::Value;
 use rpg_store::Store;
 use std::alloc::{AllocError, Global};
 
-/// The number at an entry of a field, if it is one.
+/// Returns the number in an entry of a field, if it is one.
 pub(crate) fn number_at<S: Store + Drop>(
     memory: &Memory<'_, S>,
     field: u16,
@@ -23,7 +23,7 @@ pub(crate) fn number_at<S: Store + Drop>(
     }
 }
 
-/// The text at an entry of a field, if it is one.
+/// Returns the text in an entry of a field, if it is one.
 pub(crate) fn text_at<'m, S: Store + Drop>(
     memory: &'m Memory<'_, S>,
     field: u16,
@@ -39,7 +39,7 @@ pub(crate) fn text_at<'m, S: Store + Drop>(
     }
 }
 
-/// The value at an entry of a field.
+/// Returns the value in an entry of a field.
 fn value_at<S: Store + Drop>(
     alloc: Global,
     memory: &Memory<'_, S>,
@@ -52,7 +52,7 @@ fn value_at<S: Store + Drop>(
     }
 }
 
-/// The values of a field, one for each entry.
+/// Returns the values of a field, one for each entry.
 pub(crate) fn values_of<S: Store + Drop>(
     alloc: Global,
     memory: &Memory<'_, S>,

@@ -10,7 +10,7 @@ fn is_short(month: u8) -> bool
     month == 4 || month == 6 || month == 9 || month == 11
 }
 
-/// The days that a month has at most.
+/// Returns the most days that a month has.
 fn days_of(month: u8) -> u8
     ensures { result ≡ words.days_of month }
 {

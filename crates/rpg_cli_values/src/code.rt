@@ -3,7 +3,7 @@
 ghost use Rattle.std.specs.Prelude.{◌≡◌};
 ghost use Rattle.rpg_cli_values.specs.Codes.{warning_code_text};
 
-/// What a source is warned of.
+/// What a warning is about.
 #[derive(Clone, Copy, PartialEq, Eq)]
 pub enum WarningCode {
     W1,
@@ -30,7 +30,7 @@ impl WarningCode {
         }
     }
 
-    /// The code of this text.
+    /// Returns the code with this text.
     pub fn named(text: &str) -> Option<WarningCode> {
         match text {
             "W1" => Some(WarningCode::W1),
@@ -44,7 +44,7 @@ impl WarningCode {
         }
     }
 
-    /// What may be wrong, as a person reads it.
+    /// Returns what may be wrong, in words.
     pub const fn sentence(self) -> &'static str {
         match self {
             WarningCode::W1 => "an indicator is tested, and nothing turns it on",

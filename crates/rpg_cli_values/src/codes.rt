@@ -5,7 +5,7 @@ ghost use Rattle.rpg_cli_values.specs.Codes.{has, with};
 
 use crate::code::WarningCode;
 
-/// A set of codes: whether it has each.
+/// A set of codes.
 #[derive(Clone, Copy)]
 pub struct WarningCodes {
     w1: bool,
@@ -43,7 +43,7 @@ impl WarningCodes {
         }
     }
 
-    /// The set with one more code.
+    /// Returns the set with one more code.
     pub const fn with(self, code: WarningCode) -> WarningCodes
         ensures { result ≡ with self code }
     {

@@ -3,7 +3,7 @@
 ghost use Rattle.std.specs.Prelude.{◌≡◌, ◌<◌, ◌+◌, ◌∷◌, []};
 ghost use Rattle.rpg_cli_values.specs.Dates as words;
 
-/// The order in which a date has its parts.
+/// The order of the parts of a date.
 #[derive(Clone, Copy, PartialEq, Eq)]
 pub enum DateOrder {
     /// Month, day, year.
@@ -22,7 +22,7 @@ pub struct Day {
     pub day: u8,
 }
 
-/// The digit of ten's and of one's place.
+/// Returns the tens digit and the units digit.
 fn digits(number: u8) -> (u8, u8)
     requires { number < 100 }
     ensures tens { result.0 ≡ words.tens number }
@@ -44,7 +44,7 @@ fn six(first: u8, second: u8, third: u8) -> [u8; 6]
 }
 
 impl Day {
-    /// The day as six digits.
+    /// Returns the day as six digits.
     pub fn six_digits(self, order: DateOrder) -> [u8; 6]
         requires year { self.year < 100 }
         requires month { self.month < 100 }

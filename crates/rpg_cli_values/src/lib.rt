@@ -1,4 +1,4 @@
-//! Values that words of the command line have: dates of six digits, and codes of warnings.
+//! Values of command-line arguments: dates of six digits, and codes of warnings.
 #![tactic(auto)]
 
 mod calendar;

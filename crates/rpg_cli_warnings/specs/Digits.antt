@@ -70,7 +70,7 @@ wanted_by o a b = None
 unfoldable pub wanted_digits : List SpecCard → CalculationSpec → Option ℕ
 wanted_digits cards k = wanted_by k.operation (factor_digits cards k.factor_1) (factor_digits cards k.factor_2)
 
--- a warning where the result field has fewer digits than it needs
+-- a warning if the result field has fewer digits than it needs
 abbrev pub shorter : Option ℕ → Option ℕ → Option WarningKind
 shorter (Some f) (Some r) = if nat_lt r f then Some (kind.Shorter r f) else None
 shorter (Some f) None = None

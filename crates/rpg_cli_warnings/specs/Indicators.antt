@@ -46,7 +46,7 @@ any_asks n t = one_asks n t.first || one_asks n t.second || one_asks n t.third
 abbrev pub asks : ℕ → SpecCard → Bool
 asks n c = option_map_or (any_asks n) (conditions_on_card c.spec) false
 
--- the place of the first of three that is so, of which each takes so many columns
+-- the place of the first of three that satisfies the test, each of this many columns
 abbrev pub place_of : {X : Type 0} → (X → Bool) → ℕ → Three X → ℕ
 place_of test size t = if test t.first then 0 else if test t.second then size else size + size
 

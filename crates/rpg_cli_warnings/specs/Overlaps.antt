@@ -38,7 +38,7 @@ end_columns = record { column = 40; last = 43 }
 abbrev pub warning_over : Placed → Placed → Warning
 warning_over field below = record { card = field.card; columns = end_columns; kind = kind.Overlap field.first field.last below.card }
 
--- the warning, where there is one
+-- the warning, if there is one
 abbrev pub warned_over : Placed → Option Placed → List Warning
 warned_over field None = []
 warned_over field (Some below) = warning_over field below ∷ []

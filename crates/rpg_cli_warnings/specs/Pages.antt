@@ -1,4 +1,4 @@
--- W6: page numbers that are put out under conditions.
+-- W6: page numbers that are output under conditions.
 use Rattle.std.specs.Prelude.{Bool, false, not, ◌&&◌, nat_eq, Option, None, Some, codes, if◌then◌else◌}
 use Rattle.std.specs.Cmp.Lexicographic.{pointwise}
 use Rattle.std.specs.Option.{option_and_then, option_map_or}
@@ -27,6 +27,6 @@ page_at c = record { card = c.number; columns = output_name_columns; kind = kind
 abbrev pub page_by : SpecCard → OutputField → Option Warning
 page_by c f = if is_page_entry f.operand && not (is_always_out f) then Some (page_at c) else None
 
--- PAGE with a condition of its own: here it is left out or put out, and never set back
+-- PAGE with a condition of its own: here it is left out or output, and never set back
 unfoldable pub page_on : SpecCard → Option Warning
 page_on c = option_and_then (page_by c) (output_field_on c.spec)

@@ -1,4 +1,4 @@
-//! The indicators that cards ask for.
+//! The indicators that cards test.
 
 ghost use Rattle.std.specs.Prelude.{◌≡◌, ◌≤◌, option_copied, find};
 ghost use Rattle.rpg_cli_warnings.specs.Indicators as indicators;
@@ -6,7 +6,7 @@ ghost use Rattle.rpg_cli_warnings.specs.Indicators as indicators;
 use rpg_cards::{SpecCard, line_conditions_on};
 use rpg_sheet_specs::{ColumnFault, ConditionSpec, Spec, Three};
 
-/// The conditions of a card.
+/// Returns the conditions of a card.
 pub(crate) fn asked_on(card: &SpecCard) -> Option<Three<Option<ConditionSpec>>>
     ensures { result ≡ indicators.conditions_on_card card.now.spec }
 {
@@ -19,7 +19,7 @@ pub(crate) fn asked_on(card: &SpecCard) -> Option<Three<Option<ConditionSpec>>>
     }
 }
 
-/// The first column of a card's conditions.
+/// Returns the first column of a card's conditions.
 fn conditions_begin(card: &SpecCard) -> u8
     ensures value { result ≡ indicators.conditions_begin card.now.spec }
     ensures within { result ≤ 23 }
@@ -39,7 +39,7 @@ fn names(condition: Option<ConditionSpec>, indicator: u8) -> bool
     }
 }
 
-/// Whether a card asks for an indicator, on or off.
+/// Whether a card tests an indicator, on or off.
 pub(crate) fn asks(card: &SpecCard, indicator: u8) -> bool
     ensures { result ≡ indicators.asks indicator card.now }
 {
@@ -53,7 +53,7 @@ pub(crate) fn asks(card: &SpecCard, indicator: u8) -> bool
     }
 }
 
-/// Where a card asks for an indicator first.
+/// Returns the first columns in which a card tests an indicator.
 pub(crate) fn asked_columns(card: &SpecCard, indicator: u8) -> ColumnFault
     ensures { result ≡ indicators.asked_columns indicator card.now }
 {
@@ -70,7 +70,7 @@ pub(crate) fn asked_columns(card: &SpecCard, indicator: u8) -> ColumnFault
     }
 }
 
-/// The first card that asks for an indicator.
+/// Returns the first card that tests an indicator.
 pub(crate) fn first_asking(cards: &[SpecCard], indicator: u8) -> Option<&SpecCard>
     ensures { option_copied result ≡ find (indicators.asks indicator) cards.now }
 {

@@ -1,4 +1,4 @@
-//! W4: results that have fewer digits before their point than what they are made of.
+//! W4: results with fewer digits before the decimal point than their operands.
 
 ghost use Rattle.std.specs.Prelude.{◌≡◌, ◌++◌, OnOk};
 ghost use Rattle.std.specs.List.{filter_map};
@@ -16,7 +16,7 @@ const RESULT: ColumnFault = ColumnFault {
     last: 48,
 };
 
-/// How many digits a number has before its point.
+/// Returns how many digits a number has before its decimal point.
 fn whole_digits(form: FieldForm) -> Option<u16>
     ensures { result ≡ digits.whole_digits form }
 {
@@ -74,7 +74,7 @@ fn is_fraction(whole: Option<u16>) -> bool
     }
 }
 
-/// How many digits the longer factor of a product has before its point: none where one of them is a fraction.
+/// Returns how many digits the longer factor of a product has before its decimal point; None if one of them is a fraction.
 fn product_digits(a: Option<u16>, b: Option<u16>) -> Option<u16>
     ensures { result ≡ digits.product_digits a b }
 {
@@ -85,7 +85,7 @@ fn product_digits(a: Option<u16>, b: Option<u16>) -> Option<u16>
     }
 }
 
-/// How many digits a result should have before its point.
+/// Returns how many digits a result should have before its decimal point.
 #[tactic(auto, unfolding(crate::specs::Digits::wanted_digits))]
 fn wanted_digits(source: &IndexedCards, calculation: &CalculationSpec) -> Option<u16>
     ensures { result ≡ digits.wanted_digits source.now calculation.now }

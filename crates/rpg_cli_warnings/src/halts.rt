@@ -41,7 +41,7 @@ fn is_halt(indicator: u8) -> bool
     120 <= indicator && indicator <= 128
 }
 
-/// The warning about columns of a card, if a halt indicator stands there.
+/// Returns the warning about columns of a card, if they hold a halt indicator.
 fn halt_in(card: &SpecCard, columns: ColumnFault, shown: Option<Indicator>) -> Option<Warning>
     ensures { result ≡ halts.halt_in card.now columns shown }
 {

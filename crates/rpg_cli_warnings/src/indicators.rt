@@ -1,4 +1,4 @@
-//! W1, W2 and W5: indicators that are asked and never turned on, or turned on and never asked, and levels that no field has.
+//! W1, W2 and W5: indicators that are tested but never turned on, or turned on but never tested, and levels that no field has.
 
 ghost use Rattle.std.specs.Prelude.{◌≡◌, ◌++◌, ◌≤◌, OnOk};
 ghost use Rattle.std.specs.List.{list_any};
@@ -12,14 +12,14 @@ use crate::warning::{Warning, WarningKind};
 use rpg_cards::SpecCard;
 use std::alloc::AllocError;
 
-/// Whether nothing but a card turns an indicator on: 01 to 99, OA to OG, OV, and H1 to H9.
+/// Whether only cards turn an indicator on: 01 to 99, OA to OG, OV, and H1 to H9.
 fn is_of_cards(indicator: u8) -> bool
     ensures { result ≡ indicators.is_of_cards indicator }
 {
     indicator <= 99 || (112 <= indicator && indicator <= 128)
 }
 
-/// An indicator that is asked and never turned on, reported at the first card that asks.
+/// An indicator that is tested but never turned on, reported at the first card that tests it.
 fn never_on(cards: &[SpecCard], indicator: u8) -> Option<Warning>
     ensures { result ≡ indicators.never_on indicator cards.now }
 {
@@ -36,7 +36,7 @@ fn never_on(cards: &[SpecCard], indicator: u8) -> Option<Warning>
     }
 }
 
-/// An indicator from 01 to 99 that is turned on for others to ask, and never asked, reported at the first card that turns it on.
+/// An indicator from 01 to 99 that is turned on to be tested but never tested, reported at the first card that turns it on.
 fn never_asked(cards: &[SpecCard], indicator: u8) -> Option<Warning>
     ensures { result ≡ indicators.never_asked indicator cards.now }
 {
@@ -53,7 +53,7 @@ fn never_asked(cards: &[SpecCard], indicator: u8) -> Option<Warning>
     }
 }
 
-/// A level, L1 to L9, that is asked, that no card turns on and that no field has, reported at the first card that asks.
+/// A level, L1 to L9, that is tested but that no card turns on and no field has, reported at the first card that tests it.
 fn no_level(cards: &[SpecCard], indicator: u8) -> Option<Warning>
     ensures { result ≡ indicators.no_level indicator cards.now }
 {
@@ -83,7 +83,7 @@ pub(crate) fn put(warnings: &mut Vec<Warning>, warning: Option<Warning>) -> Resu
     Ok(())
 }
 
-/// Appends the warnings of an indicator, given whether a card asks for it, and whether one turns it on for others to ask.
+/// Appends the warnings of an indicator, given whether a card tests it, and whether one turns it on to be tested.
 fn put_of(
     warnings: &mut Vec<Warning>,
     cards: &[SpecCard],
@@ -104,7 +104,7 @@ fn put_of(
     Ok(())
 }
 
-/// Appends the warnings of the indicators up to a number, in their order.
+/// Appends the warnings of the indicators up to a number, in numeric order.
 pub(crate) fn put_indicators(
     warnings: &mut Vec<Warning>,
     cards: &[SpecCard],

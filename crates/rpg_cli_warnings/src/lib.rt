@@ -1,5 +1,5 @@
-//! What a source without a fault is warned of: indicators that are asked and never turned on, or turned on and never asked, fields of a line over each other,
-//! results that are shorter than what they are made of, page numbers under conditions, and halts.
+//! The warnings of a source without faults: indicators that are tested but never turned on, or turned on but never tested, overlapping
+//! fields of a line, results that are shorter than their operands, page numbers with conditions, and halts.
 #![tactic(auto)]
 
 mod asking;

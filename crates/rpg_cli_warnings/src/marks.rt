@@ -1,4 +1,4 @@
-//! Which indicators cards ask for, and which they turn on for others to ask. Each card is read once.
+//! Which indicators cards test, and which they turn on to be tested. Each card is read once.
 
 ghost use Rattle.std.specs.Prelude.{◌≡◌, ℕ, ◌||◌, length};
 ghost use Rattle.std.specs.List.{list_any};
@@ -20,7 +20,7 @@ fn mark_asked(marks: &mut [bool; 256], condition: Option<ConditionSpec>)
     }
 }
 
-/// Marks the indicators that a card asks for.
+/// Marks the indicators that a card tests.
 #[tactic(auto, using(crate::proofs::Marking::or_false))]
 fn note_asked(marks: &mut [bool; 256], card: &SpecCard)
     ensures { (n : ℕ) → is_marked n marks.new ≡ (is_marked n marks.old || indicators.asks n card.now) }
@@ -32,7 +32,7 @@ fn note_asked(marks: &mut [bool; 256], card: &SpecCard)
     }
 }
 
-/// A mark at each indicator that one of the cards asks for.
+/// Marks each indicator that one of the cards tests.
 pub(crate) fn asked_by(cards: &[SpecCard]) -> [bool; 256]
     ensures { (n : ℕ) → is_marked n result ≡ list_any (indicators.asks n) cards.now }
 {
@@ -53,7 +53,7 @@ fn mark_shown(marks: &mut [bool; 256], shown: Option<Indicator>)
     }
 }
 
-/// Marks the indicators that a card turns on for others to ask.
+/// Marks the indicators that a card turns on to be tested.
 #[tactic(auto, using(crate::proofs::Marking::or_false))]
 fn note_shown(marks: &mut [bool; 256], card: &SpecCard)
     ensures { (n : ℕ) → is_marked n marks.new ≡ (is_marked n marks.old || indicators.shows n card.now) }
@@ -65,7 +65,7 @@ fn note_shown(marks: &mut [bool; 256], card: &SpecCard)
     }
 }
 
-/// A mark at each indicator that one of the cards turns on for others to ask.
+/// Marks each indicator that one of the cards turns on to be tested.
 pub(crate) fn shown_by(cards: &[SpecCard]) -> [bool; 256]
     ensures { (n : ℕ) → is_marked n result ≡ list_any (indicators.shows n) cards.now }
 {

@@ -1,4 +1,4 @@
-//! What a person reads of the warnings of a source.
+//! The diagnostics for the warnings of a source.
 
 use crate::warning::{Warning, WarningKind};
 use rpg_cli_messages::{CardLines, write_picture, write_place, write_told};
@@ -15,7 +15,7 @@ const SETS_HALT: &str =
 const SHORTER: &str =
     "the result has {} digit{} before its point, and a factor {}: those on the left can be lost";
 
-/// The places of a field that has some of another card's.
+/// Writes the places that a field shares with another card's.
 fn write_overlap(out: &mut TextWriter, first: usize, last: usize, card: u16) {
     let sentence = if first == last {
         "the field takes place {}"
@@ -68,7 +68,7 @@ fn write_warning(out: &mut TextWriter, path: &str, line: &[u8], warning: Warning
     write_picture(out, card, line, Some(columns));
 }
 
-/// How many warnings there are, and how many of them are shown.
+/// Writes how many warnings there are, and how many of them are shown.
 fn write_count(out: &mut TextWriter, path: &str, count: usize, most: u16) {
     let of_warnings = if count == 1 { "" } else { "s" };
     out.fill(
@@ -81,8 +81,8 @@ fn write_count(out: &mut TextWriter, path: &str, count: usize, most: u16) {
     out.write_char('\n');
 }
 
-/// What a person reads of these warnings of a source, which `path` names: each is written as a fault is, `most` of them at most; and how many
-/// there are. Nothing if there is none.
+/// Returns the diagnostics for these warnings of the source `path`: at most `most` of them, each written like a fault, and how many there
+/// are. Empty if there are none.
 pub fn warning_messages(
     alloc: Global,
     path: &str,

@@ -1,4 +1,4 @@
-//! W3: fields of a line over each other.
+//! W3: overlapping fields of a line.
 
 ghost use Rattle.std.specs.Prelude.{◌≡◌, ◌++◌, OnOk, find};
 ghost use Rattle.rpg_cli_warnings.specs.Overlaps as overlaps;
@@ -15,7 +15,7 @@ const END: ColumnFault = ColumnFault {
     last: 43,
 };
 
-/// The places of a line that a card's field takes, from 1.
+/// The places of a line that a card's field occupies, from 1.
 #[derive(Clone, Copy)]
 pub struct Placed {
     pub card: u16,
@@ -23,7 +23,7 @@ pub struct Placed {
     pub last: usize,
 }
 
-/// Whether a field is put out with each line: one with conditions may stand where another does.
+/// Whether a field is written with each line: one with conditions may overlap another.
 pub(crate) fn is_always_out(field: &OutputField) -> bool
     ensures { result ≡ overlaps.is_always_out field.now }
 {
@@ -55,7 +55,7 @@ fn meet(a: &Placed, b: &Placed) -> bool
     a.first <= b.last && b.first <= a.last
 }
 
-/// The first of these fields that has a place of another.
+/// Returns the first of these fields that overlaps `field`.
 fn first_below(placed: &[Placed], field: &Placed) -> Option<Placed>
     ensures { result ≡ find (overlaps.meet field.now) placed.now }
 {
@@ -67,7 +67,7 @@ fn first_below(placed: &[Placed], field: &Placed) -> Option<Placed>
     None
 }
 
-/// Appends a warning where a field lies over another of its line, else notes the field's places.
+/// Appends a warning if a field overlaps another of its line, otherwise notes the field's places.
 fn note(
     warnings: &mut Vec<Warning>,
     placed: &mut Vec<Placed>,
@@ -91,8 +91,8 @@ fn note(
     Ok(())
 }
 
-/// Appends the warnings of all lines, in the order of their cards. Fields that are noted lie beside each other, so there are no more of them than
-/// a line has places.
+/// Appends the warnings of all lines, in the order of their cards. Noted fields don't overlap, so there are no more of them than a line has
+/// places.
 pub(crate) fn put_overlaps(
     warnings: &mut Vec<Warning>,
     placed: &mut Vec<Placed>,

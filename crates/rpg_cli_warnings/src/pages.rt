@@ -1,4 +1,4 @@
-//! W6: page numbers that are put out under conditions.
+//! W6: page numbers that are written under conditions.
 
 ghost use Rattle.std.specs.Prelude.{◌≡◌, ◌++◌, OnOk};
 ghost use Rattle.std.specs.List.{filter_map};

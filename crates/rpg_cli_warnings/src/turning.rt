@@ -68,7 +68,7 @@ pub(crate) fn any_turns_on(cards: &[SpecCard], indicator: u8) -> bool
     false
 }
 
-/// The indicators that a card turns on for others to ask: those of an input field, and of a result. A search has to have one.
+/// Returns the indicators that a card turns on to be tested: those of an input field or of a result. A search requires one.
 pub(crate) fn shown_on(card: &SpecCard) -> Option<Three<Option<Indicator>>>
     ensures { result ≡ indicators.shown_on card.now.spec }
 {
@@ -91,7 +91,7 @@ fn shows(card: &SpecCard, indicator: u8) -> bool
     }
 }
 
-/// The first card that turns on an indicator for others to ask.
+/// Returns the first card that turns on an indicator to be tested.
 pub(crate) fn first_showing(cards: &[SpecCard], indicator: u8) -> Option<&SpecCard>
     ensures { option_copied result ≡ find (indicators.shows indicator) cards.now }
 {
@@ -103,7 +103,7 @@ pub(crate) fn first_showing(cards: &[SpecCard], indicator: u8) -> Option<&SpecCa
     None
 }
 
-/// Where a card turns on an indicator first.
+/// Returns the first columns in which a card turns on an indicator.
 pub(crate) fn shown_columns(card: &SpecCard, indicator: u8) -> ColumnFault
     ensures { result ≡ indicators.shown_columns indicator card.now }
 {

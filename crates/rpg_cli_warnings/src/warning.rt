@@ -1,4 +1,4 @@
-//! Warnings, and what they say.
+//! Warnings and their kinds.
 
 ghost use Rattle.std.specs.Prelude.{◌≡◌};
 ghost use Rattle.rpg_cli_warnings.specs.Warnings as warnings;
@@ -6,35 +6,37 @@ ghost use Rattle.rpg_cli_warnings.specs.Warnings as warnings;
 use rpg_cli_values::WarningCode;
 use rpg_sheet_specs::ColumnFault;
 
-/// Why a card is warned of.
+/// Why a card has a warning.
 #[derive(Clone, Copy)]
 pub enum WarningKind {
-    /// It asks for an indicator that nothing turns on.
+    /// It tests an indicator that nothing turns on.
     NeverOn {
         indicator: u8,
     },
-    /// It turns on an indicator that no card asks for.
+    /// It turns on an indicator that no card tests.
     NeverAsked {
         indicator: u8,
     },
-    /// Its field has these places of the line, of which another card's field has some.
+    /// Its field has these places of the line, some of which another card's field has
+    /// too.
     Overlap {
         first: usize,
         last: usize,
         card: u16,
     },
-    /// Its result has so many digits before the point, and a factor more.
+    /// Its result has this many digits before the decimal point, and a factor has
+    /// more.
     Shorter {
         result: u16,
         factor: u16,
     },
-    /// It asks for a control level that no field has.
+    /// It tests a control level that no field has.
     NoLevel {
         indicator: u8,
     },
-    /// It puts PAGE out under conditions.
+    /// It writes PAGE under conditions.
     PageConditions,
-    /// It turns on a halt indicator by SETON.
+    /// It turns on a halt indicator with SETON.
     SetsHalt {
         indicator: u8,
     },

@@ -17,7 +17,8 @@ use std::alloc::{AllocError, Global};
 /// The greatest number of an indicator.
 const LAST_INDICATOR: u8 = 129;
 
-/// All that a source without a fault is warned of: by indicators, then fields over each other, results that are too short, page numbers and halts by their cards.
+/// Returns all warnings of a source without faults: by indicator, then by card overlapping fields, results that are too short, page numbers
+/// and halts.
 pub fn source_warnings(alloc: Global, source: &IndexedCards) -> Result<Vec<Warning>, AllocError>
     ensures { IfOk result (λ warnings. warnings.items ≡ warned.warnings_of source.now) }
 {
@@ -63,7 +64,7 @@ fn without(
     Ok(wanted)
 }
 
-/// The warnings of a source without a fault, in the order of its cards, except those whose codes are allowed.
+/// Returns the warnings of a source without faults, in the order of its cards, except those whose codes are allowed.
 pub fn wanted_warnings(
     alloc: Global,
     cards: &[SpecCard],

@@ -1,20 +1,20 @@
-//! The commands of `rpg2`, as clap knows them.
+//! The commands of `rpg2`, built for clap.
 //!
-//! A word is made in a few functions, each of which goes on where the last one ends: the proof of a chain of calls grows with its length.
+//! An argument is built by a chain of small functions: the proof of a chain of calls grows with its length.
 
 use crate::commands::{COMMANDS, CommandRow, Word, line_of};
 use clap::error::ErrorKind;
 use clap::{Arg, ArgMatches, Command, Error};
 use std::alloc::{AllocError, Global};
 
-/// A word of which only its name, its help and whether it has to be there are settled.
+/// Builds an argument with only its name, its help and whether it is required.
 fn plain<'a>(alloc: Global, word: Word) -> Arg<'a> {
     Arg::new(alloc, word.name)
         .help(word.help)
         .required(word.is_required())
 }
 
-/// With its name, unless it is known by its place.
+/// Adds its name, unless it is positional.
 fn named<'a>(alloc: Global, word: Word) -> Arg<'a> {
     if word.is_placed() {
         plain(alloc, word)
@@ -25,14 +25,14 @@ fn named<'a>(alloc: Global, word: Word) -> Arg<'a> {
     }
 }
 
-/// With what each use does, and what a value has to be.
+/// Adds its action and its value parser.
 fn parsed<'a>(alloc: Global, word: Word) -> Arg<'a> {
     named(alloc, word)
         .action(word.action())
         .value_parser(word.value_parser())
 }
 
-/// With how many values a use takes, what help calls them, and those that stand where none is given.
+/// Adds how many values it takes, what help calls them, and their defaults.
 fn valued<'a>(alloc: Global, word: Word) -> Arg<'a> {
     parsed(alloc, word)
         .num_args(word.values())
@@ -40,20 +40,20 @@ fn valued<'a>(alloc: Global, word: Word) -> Arg<'a> {
         .default_values(word.defaults())
 }
 
-/// A word as clap knows it: with the word that doesn't go with it, and the one in whose place it has to be there.
+/// Builds an argument for clap, with the one that conflicts with it, and the one that can replace it.
 fn arg<'a>(alloc: Global, word: Word) -> Result<Arg<'a>, AllocError> {
     valued(alloc, word)
         .conflicts_with_all(word.other.as_slice())?
         .required_unless_present_any(word.unless().as_slice())
 }
 
-/// Appends what was made, if there was memory for it.
+/// Appends what was built, unless memory ran out for it.
 fn put<T: Drop>(made: &mut Vec<T>, one: Result<T, AllocError>) -> Result<(), AllocError> {
     made.push(one?)?;
     Ok(())
 }
 
-/// The words of these keys.
+/// Builds the arguments of these keys.
 fn args_of<'a>(alloc: Global, keys: &'static str) -> Result<Vec<Arg<'a>>, AllocError> {
     let mut args = Vec::new(alloc);
     for key in keys.split(' ') {
@@ -62,13 +62,13 @@ fn args_of<'a>(alloc: Global, keys: &'static str) -> Result<Vec<Arg<'a>>, AllocE
     Ok(args)
 }
 
-/// A command with its words.
+/// Builds a command with its arguments.
 fn command_of<'a>(alloc: Global, row: CommandRow) -> Result<Command<'a>, AllocError> {
     let args = args_of(alloc, row.words)?;
     Command::new(alloc, row.name).about(row.about).args(args)
 }
 
-/// The commands of these lines.
+/// Builds the commands of these lines.
 fn commands<'a>(alloc: Global, lines: &'static str) -> Result<Vec<Command<'a>>, AllocError> {
     let mut commands = Vec::new(alloc);
     for line in lines.lines() {
@@ -77,8 +77,8 @@ fn commands<'a>(alloc: Global, lines: &'static str) -> Result<Vec<Command<'a>>, 
     Ok(commands)
 }
 
-/// The line of the command that comes first after the program's name, or those of all, as where clap is asked for help: clap reads no other
-/// command, and each costs it some ten allocations.
+/// Returns the line of the command named after the program, or those of all commands, as when help is requested: clap reads no other
+/// command, and each costs some ten allocations.
 fn lines_of(words: &[String]) -> &'static str {
     match words.get(1) {
         Some(first) => line_of(first).unwrap_or(COMMANDS),
@@ -86,15 +86,16 @@ fn lines_of(words: &[String]) -> &'static str {
     }
 }
 
-/// What each exit status means, below the commands.
+/// What each exit status means, printed below the commands.
 const STATUSES: &str =
     "Exit statuses:\n  0  success\n  1  a file or a device failed, or memory ran out\n  2  the command line or the date is wrong, or a disk file or a secondary file is missing\n  3  the source, or a record, is rejected\n  4  the object program is rejected\n  5  the job halted";
 
-/// The version, as CHANGELOG.md has it; the formats of object programs; and the logic that the program is proved in. Several kits have the same logic.
+/// The version, as in CHANGELOG.md; the formats of object programs; and the logic in which the program is proved. Several kits have the
+/// same logic.
 const VERSION: &str =
     "1.0.0 (unreleased), object programs of versions 1 and 2, proved in Rattle's logic dac8208d650f15bf";
 
-/// The program's command, without its commands.
+/// Builds the program's command, without its subcommands.
 fn root<'a>(alloc: Global) -> Command<'a> {
     Command::new(alloc, "rpg2")
         .about("Compiles, checks and runs RPG II reports")
@@ -104,18 +105,18 @@ fn root<'a>(alloc: Global) -> Command<'a> {
         .arg_required_else_help(true)
 }
 
-/// The program's command, with the commands of these lines.
+/// Builds the program's command, with the commands of these lines.
 fn command<'a>(alloc: Global, lines: &'static str) -> Result<Command<'a>, AllocError> {
     let commands = commands(alloc, lines)?;
     root(alloc).subcommands(commands)
 }
 
-/// What the words say, or what clap says in place of that. The first word is the program's name.
+/// Parses the arguments, or returns what clap reports instead. The first argument is the program's name.
 pub(crate) fn matches_of<'a>(alloc: Global, words: &'a [String]) -> Result<ArgMatches<'a>, Error> {
     command(alloc, lines_of(words))?.try_get_matches_from(words)
 }
 
-/// A fault of the command line that clap doesn't see, in clap's form, where the program has this name.
+/// A fault of the command line that clap doesn't detect, in clap's form, for a program of this name.
 pub(crate) fn fault(
     alloc: Global,
     program: &str,

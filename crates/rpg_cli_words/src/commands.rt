@@ -1,10 +1,10 @@
-//! The commands and their words, as data: a line each.
+//! The commands and their arguments, as data: one a line.
 
 use clap::ArgAction;
 use clap::builder::ValueParser;
 use std::ops::RangeInclusive;
 
-/// The commands, as help has them one after another: the name, the keys of the words, and what the command does.
+/// The commands, in the order of the help: the name, the keys of the arguments, and what the command does.
 pub(crate) const COMMANDS: &str =
     "compile: SRC OBJ.new allowance faults deny allow format quiet: Compiles the source SRC to the object program OBJ
 check: SRC.each faults deny allow format quiet: Reports all faults of each source SRC on standard error, and writes nothing
@@ -18,28 +18,28 @@ show: OBJ source rows format: Shows what the object program OBJ reads, writes an
 run: OBJ INPUT PRINT date secondary disk most keep source trace watch format quiet: Runs the object program OBJ over the records of INPUT, and prints to PRINT
 go: SRC INPUT PRINT.go date secondary disk most keep trace watch allowance faults deny allow format quiet: Compiles the source SRC and runs it over the records of INPUT";
 
-/// The words: the key, what the word takes, and what help says of it. The key is the word's name; where words of two commands have one name, a dot
-/// and another name follow.
+/// The arguments: the key, what the argument takes, and its help text. The key is the argument's name; if arguments of two commands share a
+/// name, a dot and another name follow.
 ///
-/// What a word takes is a letter:
+/// What an argument takes is a letter:
 ///
 /// | | |
 /// |---|---|
-/// | `R`, `P` | a word known by its place; with `P` it may be left out |
-/// | `S`, `M` | the words from its place on; with `M` there may be none |
+/// | `R`, `P` | a positional argument; with `P` it is optional |
+/// | `S`, `M` | all arguments from its place on; with `M` there may be none |
 /// | `F` | nothing: a flag |
-/// | `Q` | nothing: the flag that `-q` stands for too |
+/// | `Q` | nothing: the flag with the short form `-q` |
 /// | `V` | a value |
-/// | `E` | a value, unless the other word is there |
+/// | `E` | a value, unless the other argument is there |
 /// | `W` | a value, several times |
-/// | `A` | an allowance: a number from 1 on, which is 1000 where it isn't given |
-/// | `N` | how many lines: a number from 0 on, which is 20 where it isn't given |
+/// | `A` | an allowance: a number from 1 on, 1000 by default |
+/// | `N` | how many lines: a number from 0 on, 20 by default |
 /// | `B` | a number that may be large |
 /// | `L` | the length of a record: 1 to 9,999 |
-/// | `D` | a form of diagnostics, which is `text` where it isn't given |
+/// | `D` | a form of diagnostics, `text` by default |
 /// | `C` | the code of a warning, several times |
 ///
-/// `=VALUE` after the letter is what help calls the value, and `!OTHER` names a word that doesn't go with this one.
+/// `=VALUE` after the letter is what help calls the value, and `!OTHER` names an argument that conflicts with this one.
 const WORDS: &str = "SRC R The source, one card per line; - is standard input
 SRC.each S The sources, one card per line; - is standard input
 SRC.short R The lines of shorthand, or with --short the cards; - is standard input
@@ -85,22 +85,22 @@ keep F Keeps the old PRINT and disk file until the job has ended well
 trace B=N Reports the first N cycles one by one: records, indicators, lines and fields
 watch F Reports control fields that go down, and counts records and lines";
 
-/// The forms of diagnostics, as they are written.
+/// The forms of diagnostics, as arguments.
 const FORMATS: &[&str] = &["text", "json"];
 
 /// The codes of warnings that may be allowed.
 const WARNING_CODES: &[&str] = &["W1", "W2", "W3", "W4", "W5", "W6", "W7"];
 
-/// Cuts a text at a mark. Without the mark nothing comes after it.
+/// Splits a text at a mark. Without the mark the second part is empty.
 pub(crate) fn cut(text: &'static str, mark: &str) -> (&'static str, &'static str) {
     text.split_once(mark).unwrap_or((text, ""))
 }
 
-/// A command, as its line has it.
+/// A command, as its line describes it.
 #[derive(Clone, Copy)]
 pub(crate) struct CommandRow {
     pub name: &'static str,
-    /// The keys of its words.
+    /// The keys of its arguments.
     pub words: &'static str,
     pub about: &'static str,
 }
@@ -113,7 +113,7 @@ impl CommandRow {
     }
 }
 
-/// The line of a command.
+/// Returns the line of a command.
 pub(crate) fn line_of(name: &str) -> Option<&'static str> {
     for line in COMMANDS.lines() {
         if CommandRow::of(line).name == name {
@@ -123,7 +123,7 @@ pub(crate) fn line_of(name: &str) -> Option<&'static str> {
     None
 }
 
-/// A word of a command, as its line has it.
+/// An argument of a command, as its line describes it.
 #[derive(Clone, Copy)]
 pub(crate) struct Word {
     pub name: &'static str,
@@ -131,11 +131,11 @@ pub(crate) struct Word {
     letter: u8,
     /// What help calls its value.
     pub value: &'static str,
-    /// The word that doesn't go with it.
+    /// The argument that conflicts with it.
     pub other: Option<&'static str>,
 }
 
-/// What stands after a key in the line of its word.
+/// Returns what follows a key in the line of its argument.
 fn row_of(key: &str) -> &'static str {
     for line in WORDS.lines() {
         let (found, row) = cut(line, " ");
@@ -147,7 +147,7 @@ fn row_of(key: &str) -> &'static str {
 }
 
 impl Word {
-    /// The word of a key.
+    /// Returns the argument with this key.
     pub fn of(key: &'static str) -> Word {
         let (name, _) = cut(key, ".");
         let (kind, help) = cut(row_of(key), " ");
@@ -165,17 +165,17 @@ impl Word {
         matches!(self.letter, b'R' | b'S')
     }
 
-    /// Whether it is known by its place, and not by its name.
+    /// Whether it is positional.
     pub fn is_placed(self) -> bool {
         matches!(self.letter, b'R' | b'P' | b'S' | b'M')
     }
 
-    /// Whether `-q` stands for it too.
+    /// Whether it has the short form `-q`.
     pub fn is_quiet(self) -> bool {
         self.letter == b'Q'
     }
 
-    /// What each use of it does.
+    /// Returns the action of each use.
     pub fn action(self) -> ArgAction {
         match self.letter {
             b'F' | b'Q' => ArgAction::SetTrue,
@@ -184,7 +184,7 @@ impl Word {
         }
     }
 
-    /// How many values a use takes.
+    /// Returns how many values a use takes.
     pub fn values(self) -> RangeInclusive<usize> {
         match self.letter {
             b'F' | b'Q' => 0..=0,
@@ -193,7 +193,7 @@ impl Word {
         }
     }
 
-    /// What a value has to be.
+    /// Returns the parser for its values.
     pub fn value_parser(self) -> ValueParser<'static> {
         match self.letter {
             b'A' => ValueParser::Signed(1, 65_535),
@@ -207,7 +207,7 @@ impl Word {
         }
     }
 
-    /// Its value where it isn't given.
+    /// Returns its default values.
     pub fn defaults(self) -> &'static [&'static str] {
         match self.letter {
             b'A' => &["1000"],
@@ -217,7 +217,7 @@ impl Word {
         }
     }
 
-    /// The word in whose place it has to be there.
+    /// Returns the argument that can replace it.
     pub fn unless(self) -> Option<&'static str> {
         if self.letter == b'E' {
             self.other

@@ -1,13 +1,13 @@
-//! The word for the date of a job.
+//! The argument for the date of a job.
 
 use rpg_cli_values::DateOrder;
 
 /// The date of a job.
 #[derive(Clone, Copy)]
 pub enum DateWord<'a> {
-    /// As it is written: six digits, or what is wrong.
+    /// As written: six digits, unless it is wrong.
     Written(&'a str),
-    /// The day on which the job is run.
+    /// The day on which the job runs.
     Today(DateOrder),
 }
 

@@ -1,4 +1,4 @@
-//! The words of the command that rewrites an old deck.
+//! The arguments of the command that rewrites an old deck.
 
 use crate::format::{Format, format_of};
 use crate::given::needed;
@@ -6,29 +6,29 @@ use crate::request::{FileWord, Request, may_be_standard};
 use clap::ArgMatches;
 use std::alloc::{AllocError, Global};
 
-/// A table file: its name on F and E cards, and where its records are.
+/// A table file: its name on F and E cards, and the path of its records.
 #[derive(Clone, Copy)]
 pub struct TableWord<'a> {
     pub name: &'a str,
     pub path: &'a str,
 }
 
-/// The words of `fit`.
+/// The arguments of `fit`.
 #[derive(Drop)]
 pub struct FitWords<'a> {
     pub source: &'a str,
-    /// Where the new deck goes, a file or `-`, if it's written.
+    /// Where the new deck goes, a file or `-`, if it is written.
     pub new_deck: Option<&'a str>,
     pub tables: Vec<TableWord<'a>>,
-    /// Eight digits: for each of U1 to U8 whether it is on. All are off if the words don't say.
+    /// Eight digits: for each of U1 to U8 whether it is on. All are off by default.
     pub switches: Option<&'a str>,
-    /// Whether no form gets more lines than its L card has.
+    /// Whether each form keeps at most the lines of its L card.
     pub keeps_forms: bool,
     pub format: Format,
 }
 
 impl<'a> FitWords<'a> {
-    /// How diagnostics call the new deck: by its file, or NEW where it isn't written.
+    /// Returns the name of the new deck in diagnostics: its file, or NEW if it isn't written.
     pub fn new_name(&self) -> &'a str {
         self.new_deck.unwrap_or("NEW")
     }
@@ -48,7 +48,7 @@ impl<'a> FitWords<'a> {
     }
 }
 
-/// The table file of a word `NAME=FILE`.
+/// Returns the table file of an argument `NAME=FILE`.
 fn table_of(text: &str) -> Option<TableWord<'_>> {
     let (name, path) = text.split_once('=')?;
     (!name.is_empty()).then_some(TableWord { name, path })
@@ -64,7 +64,7 @@ fn are_switches(text: &str) -> bool {
     text.len() == 8
 }
 
-/// What is wrong with a value that clap takes.
+/// Returns what is wrong with a value that clap accepts.
 pub(crate) fn fault_of(given: &ArgMatches) -> Option<&'static str> {
     match given.get_str("switches") {
         Some(text) if !are_switches(text) => {
@@ -80,7 +80,7 @@ pub(crate) fn fault_of(given: &ArgMatches) -> Option<&'static str> {
     None
 }
 
-/// The table files that the words name.
+/// Returns the table files that the arguments name.
 fn tables_of<'a>(alloc: Global, given: &ArgMatches<'a>) -> Result<Vec<TableWord<'a>>, AllocError> {
     let texts = given.get_strs("table").unwrap_or(&[]);
     texts.iter().copied().filter_map(table_of).collect(alloc)

@@ -1,4 +1,4 @@
-//! The word for the form of diagnostics and of the answer.
+//! The argument for the form of diagnostics and of the answer.
 
 use clap::ArgMatches;
 
@@ -7,7 +7,7 @@ use clap::ArgMatches;
 pub enum Format {
     /// Lines for people.
     Text,
-    /// An object of JSON a line.
+    /// One JSON object a line.
     Json,
 }
 

@@ -1,9 +1,9 @@
-//! The values of words without which clap takes no command line.
+//! The values of arguments that clap requires.
 
 use crate::commands::{CommandRow, Word, line_of};
 use clap::ArgMatches;
 
-/// Whether a word is there, or the other one in its place, or may be left out.
+/// Whether an argument, or the one that can replace it, is there, or it is optional.
 fn is_there(word: Word, given: &ArgMatches<'_>) -> bool {
     if given.get_str(word.name).is_some() {
         return true;
@@ -14,7 +14,7 @@ fn is_there(word: Word, given: &ArgMatches<'_>) -> bool {
     }
 }
 
-/// Whether each of the words of these keys is there that has to be.
+/// Whether all required arguments of these keys are there.
 fn are_there(keys: &'static str, given: &ArgMatches<'_>) -> bool {
     for key in keys.split(' ') {
         if !is_there(Word::of(key), given) {
@@ -24,7 +24,8 @@ fn are_there(keys: &'static str, given: &ArgMatches<'_>) -> bool {
     true
 }
 
-/// Whether there is such a command, and all words that it needs. Clap takes nothing else; if it did, no other command would run in its place.
+/// Whether the command exists and all arguments that it requires are there. Clap accepts nothing else; if it did, no other command would
+/// run instead.
 pub(crate) fn is_whole(name: &str, given: &ArgMatches<'_>) -> bool {
     match line_of(name) {
         Some(line) => are_there(CommandRow::of(line).words, given),
@@ -32,7 +33,7 @@ pub(crate) fn is_whole(name: &str, given: &ArgMatches<'_>) -> bool {
     }
 }
 
-/// The value of a word that its command needs, which `is_whole` found there.
+/// Returns the value of an argument that its command requires. `is_whole` checked that it is there.
 pub(crate) fn needed<'a>(given: &ArgMatches<'a>, name: &str) -> &'a str {
     given.get_str(name).unwrap_or("")
 }

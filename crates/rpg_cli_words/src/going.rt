@@ -1,4 +1,4 @@
-//! The words of the command that compiles a source and runs it.
+//! The arguments of the command that compiles a source and runs it.
 
 ghost use Rattle.std.specs.Prelude.{◌<◌};
 
@@ -6,10 +6,10 @@ use crate::request::{FileWord, Request, RunWords, allowance_of, run_words};
 use crate::warned::{WarningWords, warning_words};
 use clap::ArgMatches;
 
-/// The words of `go`.
+/// The arguments of `go`.
 #[derive(Clone, Copy)]
 pub struct GoWords<'a> {
-    /// Those of the run, whose program is a source.
+    /// The arguments of the run, whose program is a source.
     pub run: RunWords<'a>,
     /// How many backward branches and calls a cycle may take.
     pub allowance: u16,
@@ -18,7 +18,7 @@ pub struct GoWords<'a> {
 }
 
 impl<'a> GoWords<'a> {
-    /// The same words with those of another run.
+    /// Returns these arguments with those of another run.
     pub fn with<'b>(&'b self, run: RunWords<'b>) -> GoWords<'b> {
         GoWords {
             run,

@@ -1,4 +1,5 @@
-//! The commands of `rpg2` and their words, as data and as clap knows them, and what a command line asks for.
+//! The commands of `rpg2` and their arguments, as data and as clap builds them, and the request of a command
+//! line.
 #![tactic(auto)]
 
 mod building;

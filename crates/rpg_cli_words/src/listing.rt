@@ -1,26 +1,26 @@
-//! The words of the commands that show a source.
+//! The arguments of the commands that print a source.
 
 use crate::format::{Format, format_of};
 use crate::given::needed;
 use crate::request::Request;
 use clap::ArgMatches;
 
-/// The words of `list`.
+/// The arguments of `list`.
 #[derive(Clone, Copy)]
 pub struct ListWords<'a> {
     pub source: &'a str,
     pub format: Format,
 }
 
-/// The words of `cards`.
+/// The arguments of `cards`.
 #[derive(Clone, Copy)]
 pub struct CardsWords<'a> {
     pub source: &'a str,
-    /// What is made of the source.
+    /// What the source is converted to.
     pub wanted: CardsWanted,
 }
 
-/// What `cards` makes.
+/// What `cards` prints.
 #[derive(Clone, Copy)]
 pub enum CardsWanted {
     Cards,

@@ -1,18 +1,18 @@
-//! The words for what is reported of a job while it runs.
+//! The arguments for what is reported about a job while it runs.
 
 use clap::ArgMatches;
 
-/// What is reported of a job while it runs.
+/// What is reported about a job while it runs.
 #[derive(Clone, Copy)]
 pub struct LookWords {
-    /// How many cycles are reported one by one, the first cycles of the job.
+    /// How many of the job's first cycles are reported one by one.
     pub traced: u64,
     /// Whether control fields, records and lines are counted.
     pub watches: bool,
 }
 
 impl LookWords {
-    /// Whether the job is looked at.
+    /// Whether the job is watched.
     pub fn looks(self) -> bool {
         self.traced > 0 || self.watches
     }

@@ -1,11 +1,11 @@
-//! The words of the command that makes lines of records.
+//! The arguments of the command that converts records.
 
 use crate::format::{Format, format_of};
 use crate::given::needed;
 use crate::request::{FileWord, Request, may_be_standard};
 use clap::ArgMatches;
 
-/// Which way records go.
+/// The direction of the conversion.
 #[derive(Clone, Copy, PartialEq, Eq)]
 pub enum RecordsWay {
     /// Records become lines.
@@ -14,42 +14,42 @@ pub enum RecordsWay {
     ToRecords,
 }
 
-/// How records stand in their file.
+/// How records are delimited in their file.
 #[derive(Clone, Copy, PartialEq, Eq)]
 pub enum RecordFraming {
     EndToEnd,
-    /// Each after its record descriptor word.
+    /// Each follows its record descriptor word.
     Descriptors,
-    /// A line each.
+    /// One a line.
     Lines,
 }
 
-/// The words of `records`.
+/// The arguments of `records`.
 #[derive(Clone, Copy)]
 pub struct RecordsWords<'a> {
-    /// The records, or the lines, by a file or `-`.
+    /// The records or the lines, a file or `-`.
     pub input: &'a str,
     pub output: &'a str,
-    /// The deck of the records.
+    /// The deck that describes the records.
     pub deck: &'a str,
     pub way: RecordsWay,
     /// The file's name in the deck, if it isn't the primary one.
     pub file: Option<&'a str>,
-    /// How many bytes a record has, if the words have it: 1 to 9,999.
+    /// How many bytes a record has, if the arguments say so: 1 to 9,999.
     pub length: Option<u16>,
     pub framing: RecordFraming,
     pub is_ascii: bool,
-    /// A byte 00 among characters is a blank.
+    /// Whether a byte 00 among characters is read as a blank.
     pub low_blank: bool,
-    /// Records that begin with this byte are left out.
+    /// The first byte of records that are left out.
     pub dropped: Option<u8>,
-    /// Where the deck goes that reads the lines, if the words name it.
+    /// Where the deck goes that reads the lines, if the arguments name it.
     pub new_deck: Option<&'a str>,
     pub format: Format,
 }
 
 impl<'a> RecordsWords<'a> {
-    /// The word of the deck.
+    /// Returns the argument of the deck.
     pub fn deck_word(&self) -> FileWord {
         match self.way {
             RecordsWay::ToLines => FileWord::By,
@@ -78,7 +78,7 @@ fn framing(given: &ArgMatches) -> RecordFraming {
     }
 }
 
-/// The deck, and which way the records go.
+/// Returns the deck, and the direction.
 fn deck<'a>(given: &ArgMatches<'a>) -> (&'a str, RecordsWay) {
     match given.get_str("by") {
         Some(deck) => (deck, RecordsWay::ToLines),
@@ -86,7 +86,7 @@ fn deck<'a>(given: &ArgMatches<'a>) -> (&'a str, RecordsWay) {
     }
 }
 
-/// The byte of two hexadecimal digits.
+/// Returns the byte that two hexadecimal digits stand for.
 fn byte_of(text: &str) -> Option<u8> {
     match text.as_bytes() {
         [b'+', _] => None,
@@ -95,12 +95,12 @@ fn byte_of(text: &str) -> Option<u8> {
     }
 }
 
-/// The byte with which records begin that are left out.
+/// Returns the first byte of records that are left out.
 fn dropped(given: &ArgMatches) -> Option<u8> {
     byte_of(given.get_str("drop")?)
 }
 
-/// What is wrong with a value that clap takes.
+/// Returns what is wrong with a value that clap accepts.
 pub(crate) fn fault_of(given: &ArgMatches) -> Option<&'static str> {
     if may_be_standard(given.get_str("OUT")) {
         return Some("'<OUT>' is a file: what went to standard output can't be taken back");

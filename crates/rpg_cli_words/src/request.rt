@@ -1,4 +1,4 @@
-//! What the words ask for, or what clap says in place of that.
+//! What the arguments request, or what clap reports instead.
 
 ghost use Rattle.std.specs.Prelude.{◌<◌, ◌≤◌};
 
@@ -17,7 +17,7 @@ use clap::error::ErrorKind;
 use clap::{ArgMatches, Error};
 use std::alloc::{AllocError, Global};
 
-/// What the words ask for.
+/// What the arguments request.
 #[derive(Drop)]
 pub enum Request<'a> {
     /// Compiles a source.
@@ -26,9 +26,9 @@ pub enum Request<'a> {
     Check(CheckWords<'a>),
     /// Lists a source.
     List(ListWords<'a>),
-    /// Makes cards of shorthand, or shorthand of cards.
+    /// Converts shorthand to cards, or cards to shorthand.
     Cards(CardsWords<'a>),
-    /// Makes lines of records, or records of lines.
+    /// Converts records to lines, or lines to records.
     Records(RecordsWords<'a>),
     /// Rewrites an old deck.
     Fit(FitWords<'a>),
@@ -44,7 +44,7 @@ pub enum Request<'a> {
     Explain(ExplainWords<'a>),
 }
 
-/// The words of `compile`.
+/// The arguments of `compile`.
 #[derive(Clone, Copy)]
 pub struct CompileWords<'a> {
     pub source: &'a str,
@@ -58,7 +58,7 @@ pub struct CompileWords<'a> {
     ghost positive: { 0 < allowance },
 }
 
-/// The words of `check`.
+/// The arguments of `check`.
 #[derive(Drop)]
 pub struct CheckWords<'a> {
     pub sources: Vec<&'a str>,
@@ -68,7 +68,7 @@ pub struct CheckWords<'a> {
     pub format: Format,
 }
 
-/// The words of `verify`.
+/// The arguments of `verify`.
 #[derive(Clone, Copy)]
 pub struct VerifyWords<'a> {
     pub object: &'a str,
@@ -77,39 +77,39 @@ pub struct VerifyWords<'a> {
     pub format: Format,
 }
 
-/// The words of `show`.
+/// The arguments of `show`.
 #[derive(Clone, Copy)]
 pub struct ShowWords<'a> {
     pub object: &'a str,
-    /// The source of the object program, if the words name it.
+    /// The source of the object program, if the arguments name it.
     pub source: Option<&'a str>,
-    /// Whether all rows are wanted: where the words ask for them, or name the source, whose names stand in them.
+    /// Whether all rows are printed: if the arguments ask for them, or name the source, whose names appear in them.
     pub rows: bool,
     pub format: Format,
 }
 
-/// The words of `run`.
+/// The arguments of `run`.
 #[derive(Clone, Copy)]
 pub struct RunWords<'a> {
     /// The object program, or the source that is compiled to it.
     pub object: &'a str,
-    /// The word of that: OBJ, or SRC.
+    /// The argument that names it: OBJ or SRC.
     pub program: FileWord,
-    /// The records, by a file or `-`.
+    /// The records, a file or `-`.
     pub input: &'a str,
     /// Where the printed lines go, a file or `-`.
     pub print: &'a str,
-    /// The date, if the words have one.
+    /// The date, if the arguments have one.
     pub date: Option<DateWord<'a>>,
-    /// The records of a secondary file, if the words name them.
+    /// The records of a secondary file, if the arguments name them.
     pub secondary: Option<&'a str>,
-    /// Where the records of a disk file go, if the words name it.
+    /// Where the records of a disk file go, if the arguments name it.
     pub disk: Option<&'a str>,
-    /// The greatest bound that a program may have, if the words have one.
+    /// The greatest bound that a program may have, if the arguments limit it.
     pub most: Option<u64>,
-    /// Whether the files that are written keep what they have until the job has ended well.
+    /// Whether output files keep their contents until the job ends normally.
     pub keeps: bool,
-    /// The source of the object program, if the words name it.
+    /// The source of the object program, if the arguments name it.
     pub source: Option<&'a str>,
     pub looks: LookWords,
     /// Whether no line is printed if the exit status is 0.
@@ -117,16 +117,16 @@ pub struct RunWords<'a> {
     pub format: Format,
 }
 
-/// The words of `explain`.
+/// The arguments of `explain`.
 #[derive(Drop)]
 pub struct ExplainWords<'a> {
-    /// The codes, the number of a halt as a word of its own; where there are none, all are explained.
+    /// The codes, with the number of a halt as an argument of its own; if there are none, all are explained.
     pub codes: Vec<&'a str>,
-    /// Whether a line for each code is wanted, and no page.
+    /// Whether to print a line for each code instead of pages.
     pub lists: bool,
 }
 
-/// A word of the command line that names a file.
+/// An argument that names a file.
 #[derive(Clone, Copy)]
 pub enum FileWord {
     Source,
@@ -137,23 +137,23 @@ pub enum FileWord {
     Disk,
     /// The source of an object program that is shown or run.
     OwnSource,
-    /// Records, or lines, that are made lines, or records.
+    /// The input of `records`: records or lines.
     In,
     Out,
-    /// The deck of records.
+    /// The deck of records that are converted to lines.
     By,
-    /// The deck of records that are written.
+    /// The deck of records that lines are converted to.
     To,
     /// The deck that reads the lines.
     NewDeck,
-    /// An old deck as it is rewritten.
+    /// The rewritten form of an old deck.
     Fitted,
-    /// The records of a table file, by its place among those that the words name.
+    /// The records of a table file, by its place among those that the arguments name.
     Table(usize),
 }
 
 impl FileWord {
-    /// The word as the help has it.
+    /// Returns the name of the argument in the help.
     pub fn name(self) -> &'static str {
         match self {
             FileWord::Source => "SRC",
@@ -171,7 +171,7 @@ impl FileWord {
         }
     }
 
-    /// The word as clap's texts have it.
+    /// Returns the argument as in clap's texts.
     fn text(self) -> &'static str {
         match self {
             FileWord::Source => "<SRC>",
@@ -192,7 +192,8 @@ impl FileWord {
     }
 }
 
-/// Two words that name one file, by whatever names, or one standard stream. The second would empty it, or take what is the first one's.
+/// Two arguments that name the same file, whatever its names, or the same standard stream. The second would empty it, or take the first
+/// one's data.
 #[derive(Clone, Copy)]
 pub struct SameFile {
     pub earlier: FileWord,
@@ -200,18 +201,18 @@ pub struct SameFile {
     pub shared: Shared,
 }
 
-/// What two words name.
+/// What two arguments name.
 #[derive(Clone, Copy)]
 pub enum Shared {
     File,
-    /// The second would be left as a part in the first's file.
+    /// The second's part would replace the first's file.
     Part,
     StandardInput,
     StandardOutput,
 }
 
 impl Shared {
-    /// The texts between the two words, and after them.
+    /// Returns the texts between the two arguments, and after them.
     fn texts(self) -> (&'static str, &'static str) {
         match self {
             Shared::File => ("is the same file as", ""),
@@ -222,7 +223,7 @@ impl Shared {
     }
 }
 
-/// The file that a word names of a command that has a source, an object program, or both.
+/// Returns the file of an argument, for a command that has a source, an object program, or both.
 fn program_path<'a>(
     word: FileWord,
     source: Option<&'a str>,
@@ -246,7 +247,7 @@ impl<'a> ShowWords<'a> {
 }
 
 impl<'a> Request<'a> {
-    /// The file that a word names, if there is that word.
+    /// Returns the file that an argument names, if it is there.
     pub fn path(&self, word: FileWord) -> Option<&'a str> {
         match self {
             Request::Compile(words) => program_path(word, Some(words.source), Some(words.object)),
@@ -275,7 +276,7 @@ impl<'a> Request<'a> {
         }
     }
 
-    /// The form of diagnostics and of the answer.
+    /// Returns the form of diagnostics and of the answer.
     pub fn format(&self) -> Format {
         match self {
             Request::Compile(words) => words.format,
@@ -291,7 +292,7 @@ impl<'a> Request<'a> {
         }
     }
 
-    /// Whether the work of a command goes to standard output, so that the line of its answer can't.
+    /// Whether the output of a command goes to standard output, so that the line of its answer can't.
     pub fn writes_standard_output(&self) -> bool {
         match self {
             Request::Run(words) => words.writes_standard_output(),
@@ -302,10 +303,10 @@ impl<'a> Request<'a> {
     }
 }
 
-/// What stands for standard input or output in place of a file.
+/// The path that stands for standard input or output.
 const STANDARD: &str = "-";
 
-/// Whether a word that may name a file is standard input or output.
+/// Whether a path stands for standard input or output.
 pub fn is_standard(path: &str) -> bool {
     path == STANDARD
 }
@@ -318,7 +319,7 @@ pub(crate) fn may_be_standard(path: Option<&str>) -> bool {
 const NO_DATE: &str = "000000";
 
 impl<'a> RunWords<'a> {
-    /// The six digits of the date. A job that has none is given zeros.
+    /// Returns the six digits of the date, zeros for a job that has none.
     pub fn date_text(&self) -> &'a str {
         match self.date {
             None => NO_DATE,
@@ -327,7 +328,7 @@ impl<'a> RunWords<'a> {
         }
     }
 
-    /// The same words, with a date.
+    /// Returns these arguments with a date.
     pub fn on<'b>(&'b self, date: &'b str) -> RunWords<'b> {
         RunWords {
             date: Some(DateWord::Written(date)),
@@ -335,7 +336,7 @@ impl<'a> RunWords<'a> {
         }
     }
 
-    /// The file of records; none where they come from standard input.
+    /// Returns the file of records; None if they come from standard input.
     pub fn input_file(&self) -> Option<&'a str> {
         (!is_standard(self.input)).then_some(self.input)
     }
@@ -345,7 +346,7 @@ impl<'a> RunWords<'a> {
         is_standard(self.print) || may_be_standard(self.disk)
     }
 
-    /// The first two words that name standard input.
+    /// Returns the first two arguments that name standard input.
     fn shared_input(&self) -> Option<SameFile> {
         let (earlier, written) = match (
             is_standard(self.object),
@@ -364,7 +365,7 @@ impl<'a> RunWords<'a> {
         })
     }
 
-    /// Two words that name standard output.
+    /// Returns two arguments that name standard output.
     fn shared_output(&self) -> Option<SameFile> {
         (is_standard(self.print) && may_be_standard(self.disk)).then_some(SameFile {
             earlier: FileWord::Print,
@@ -373,7 +374,7 @@ impl<'a> RunWords<'a> {
         })
     }
 
-    /// Two words that name standard input, or standard output: what one of them reads or writes would be mixed with the other's.
+    /// Returns two arguments that name standard input, or standard output: their data would be mixed.
     pub fn shared_stream(&self) -> Option<SameFile> {
         self.shared_input().or(self.shared_output())
     }
@@ -391,7 +392,7 @@ impl<'a> RunWords<'a> {
     }
 }
 
-/// Why there is no request: a fault of the command line, help that was asked for, or want of memory.
+/// Why there is no request: a fault of the command line, a request for help, or memory that ran out.
 #[derive(Drop)]
 pub struct Refusal {
     error: Error,
@@ -417,7 +418,7 @@ impl Refusal {
         self.error.kind() == ErrorKind::OutOfMemory
     }
 
-    /// Prints clap's text, a fault on standard error and help on standard output, and returns the exit status.
+    /// Prints clap's text, a fault to standard error and help to standard output, and returns the exit status.
     pub fn explain<R: Print + Eprint + AllocGlobal>(&self, rt: &R) -> u8
         ensures { result ≤ 2 }
     {
@@ -430,10 +431,10 @@ impl Refusal {
     }
 }
 
-/// What clap's texts call the program where the words don't.
+/// The program's name in clap's texts if the arguments have none.
 const PROGRAM: &str = "rpg2";
 
-/// Refuses words of which one isn't UTF-8.
+/// Rejects arguments of which one isn't UTF-8.
 pub fn refuse_bytes(alloc: Global) -> Refusal {
     let message = "invalid UTF-8 was detected in one or more arguments";
     Refusal::of(fault(alloc, PROGRAM, ErrorKind::InvalidValue, message))
@@ -451,15 +452,15 @@ fn same_file_error(alloc: Global, same: SameFile) -> Result<Error, AllocError> {
     )
 }
 
-/// Refuses words that name one file twice.
+/// Rejects arguments that name the same file.
 pub fn refuse_same_file(alloc: Global, same: SameFile) -> Refusal {
     Refusal::of(same_file_error(alloc, same))
 }
 
-/// The allowance where the words have none.
+/// The default allowance.
 const ALLOWANCE: u16 = 1000;
 
-/// How many backward branches and calls a cycle may take: clap takes no 0.
+/// Returns how many backward branches and calls a cycle may take: clap rejects 0.
 pub(crate) fn allowance_of(given: &ArgMatches<'_>) -> u16
     ensures { 0 < result }
 {
@@ -508,7 +509,7 @@ fn show_words<'a>(given: &ArgMatches<'a>) -> Request<'a> {
     })
 }
 
-/// The words of a run whose program a word names. Where PRINT isn't given, standard output is meant.
+/// Returns the arguments of a run, whose program is the file of an argument. Without PRINT, printed lines go to standard output.
 pub(crate) fn run_words<'a>(given: &ArgMatches<'a>, program: FileWord) -> RunWords<'a> {
     RunWords {
         object: needed(given, program.name()),
@@ -535,14 +536,14 @@ fn explain_words<'a>(alloc: Global, given: &ArgMatches<'a>) -> Result<Request<'a
     }))
 }
 
-/// The words for sources and object programs that no standard stream stands for, and what is said where one does.
+/// The arguments for sources and object programs that can't be a standard stream, and the message if one is.
 const PROGRAM_FILES: &str =
     "OBJ '<OBJ>' can't be '-', a standard stream; a file of that name is './-'
 source '--source <SRC>' can't be '-', a standard stream; a file of that name is './-'
 by '--by <SRC>' can't be '-', a standard stream; a file of that name is './-'
 to '--to <SRC>' can't be '-', a standard stream; a file of that name is './-'";
 
-/// What is wrong with the words for a source and an object program, if one is a standard stream.
+/// Returns what is wrong with the arguments for a source and an object program, if one is a standard stream.
 fn fault_of_program(given: &ArgMatches) -> Option<&'static str> {
     for line in PROGRAM_FILES.lines() {
         let (name, fault) = cut(line, " ");
@@ -553,7 +554,7 @@ fn fault_of_program(given: &ArgMatches) -> Option<&'static str> {
     None
 }
 
-/// What is wrong with the values of a command that clap takes.
+/// Returns what is wrong with the values of a command that clap accepts.
 fn bad_value(matches: &ArgMatches) -> Option<&'static str> {
     let (command, given) = matches.subcommand()?;
     match (fault_of_program(given), command) {
@@ -563,7 +564,7 @@ fn bad_value(matches: &ArgMatches) -> Option<&'static str> {
     }
 }
 
-/// The request of a command whose words need no memory. The one that isn't named here is `go`.
+/// Returns the request of a command whose arguments need no memory. The command that isn't listed here is `go`.
 fn plain_request<'a>(name: &str, given: &ArgMatches<'a>) -> Request<'a> {
     match name {
         "compile" => compile_words(given),
@@ -577,7 +578,7 @@ fn plain_request<'a>(name: &str, given: &ArgMatches<'a>) -> Request<'a> {
     }
 }
 
-/// The request of a command.
+/// Returns the request of a command.
 fn command_request<'a>(
     alloc: Global,
     name: &str,
@@ -591,7 +592,7 @@ fn command_request<'a>(
     }
 }
 
-/// The program's name, as the first word ends in it.
+/// Returns the program's name, which the first argument ends in.
 fn program_name(words: &[String]) -> &str {
     let Some(path) = words.first() else {
         return PROGRAM;
@@ -602,7 +603,7 @@ fn program_name(words: &[String]) -> &str {
     }
 }
 
-/// The fault of words that clap takes and that aren't any request.
+/// Returns the fault of arguments that clap accepts but that make no request.
 fn unread(alloc: Global, words: &[String], matches: &ArgMatches<'_>) -> Result<Error, AllocError> {
     let (kind, message) = match bad_value(matches) {
         Some(message) => (ErrorKind::InvalidValue, message),
@@ -611,7 +612,7 @@ fn unread(alloc: Global, words: &[String], matches: &ArgMatches<'_>) -> Result<E
     fault(alloc, program_name(words), kind, message)
 }
 
-/// The request of words that clap takes.
+/// Returns the request of arguments that clap accepts.
 fn read<'a>(
     alloc: Global,
     words: &[String],
@@ -625,7 +626,7 @@ fn read<'a>(
     }
 }
 
-/// The request that the words ask for. The first word is the program's name.
+/// Returns the request of the arguments. The first one is the program's name.
 pub fn request_of<'a>(alloc: Global, words: &'a [String]) -> Result<Request<'a>, Refusal> {
     match matches_of(alloc, words) {
         Ok(matches) => read(alloc, words, &matches),

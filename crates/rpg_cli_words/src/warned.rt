@@ -1,13 +1,13 @@
-//! The words about warnings, and words with several values.
+//! The arguments about warnings, and arguments with several values.
 
 use clap::ArgMatches;
 use rpg_cli_values::{WarningCode, WarningCodes};
 use std::alloc::{AllocError, Global};
 
-/// How many faults or warnings are listed where the words don't say.
+/// How many faults or warnings are listed by default.
 const MOST: u16 = 20;
 
-/// What becomes of the warnings of a source.
+/// How the warnings of a source are treated.
 #[derive(Clone, Copy)]
 pub struct WarningWords {
     /// Whether a warning rejects the source.
@@ -36,7 +36,7 @@ pub(crate) fn warning_words(given: &ArgMatches<'_>) -> WarningWords {
     }
 }
 
-/// The values of a word that may have several.
+/// Returns the values of an argument that may have several.
 pub(crate) fn texts<'a>(
     alloc: Global,
     given: &ArgMatches<'a>,

@@ -13,7 +13,7 @@ use Rattle.rpg_compile.specs.declared.numbers.NameNumbers.{NameNumbers}
 abbrev pub NumberedNames : Type 0
 NumberedNames = List (List ℕ × ℕ)
 
--- the number of a name, where it has one: the first counts
+-- the number of a name, if it has one: the first counts
 abbrev pub number_named : NumberedNames → Option Name → Option ℕ
 number_named entries None = None
 number_named entries (Some n) = lookup (pointwise nat_eq n) entries

@@ -7,7 +7,7 @@ use Rattle.rpg_cards.specs.Cards.{calculation_on}
 use Rattle.rpg_cards.specs.declared.spec_card.SpecCard.{SpecCard}
 use Rattle.rpg_program.specs.declared.condition.Conditions.{Conditions}
 
--- the test of a card, where it has one
+-- the test of a card, if it has one
 abbrev pub tests_at : SpecCard → List Conditions
 tests_at c = option_map_or tests_on (calculation_on c.spec) []
 

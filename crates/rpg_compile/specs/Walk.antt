@@ -16,7 +16,7 @@ use Rattle.rpg_sheet_specs.specs.declared.calculation.ControlLevel.{ControlLevel
 
 -- ---- groups
 
--- the card in front, where it is a C card
+-- the card in front, if it is a C card
 abbrev pub first_calculation : List SpecCard → Option CalculationSpec
 first_calculation [] = None
 first_calculation (c ∷ cs) = calculation_on c.spec

@@ -11,7 +11,7 @@ use rpg_cards::SpecCard;
 use rpg_compile_program::laws::programs_are_accepted;
 use rpg_compile_program::ranges::cards_are_in_range;
 
-/// The program that a source without a fault stands for keeps all rules of the verifier, whatever its allowance.
+/// The program of a source without faults obeys all rules of the verifier, whatever its allowance.
 pub fn faultless_sources_are_accepted(cards: &[SpecCard])
     ensures { (allowance : ℕ) → Faultless cards.now → IsAccepted (program_of cards.now allowance) }
 {
@@ -19,7 +19,8 @@ pub fn faultless_sources_are_accepted(cards: &[SpecCard])
     programs_are_accepted();
 }
 
-/// In the program of a source without a fault, the level of a subroutine is the number of subroutines on the longest chain of calls that ends in it.
+/// In the program of a source without faults, a subroutine's level is the number of subroutines on the longest chain of calls that ends in
+/// it.
 pub fn levels_are_longest_chains()
     ensures { (cards : List SpecCard) (allowance : ℕ) → Faultless cards → HasCallLevels cards (program_of cards allowance) }
 {}

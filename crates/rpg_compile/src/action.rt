@@ -14,7 +14,7 @@ use rpg_compile_layouts::FieldTable;
 use rpg_program::operation::{Action, Index, Operand, Operator, Side};
 use rpg_sheet_specs::{CalculationSpec, Entry, Factor, Operation};
 
-/// What an operation does to fields: nothing where it only transfers control.
+/// Returns what an operation does to fields, or None if it only transfers control.
 pub(crate) fn action_of(
     table: &FieldTable,
     calculation: &CalculationSpec,
@@ -127,7 +127,7 @@ fn moved(side: Side, table: &FieldTable, calculation: &CalculationSpec) -> Actio
     }
 }
 
-/// Field 0 where the column is blank.
+/// Returns the operand of a factor, field 0 if it is blank.
 fn factor_of(table: &FieldTable, factor: &Option<Factor>) -> Operand<u16>
     ensures { result ≡ renamed_operand (key_number table.now) (unwrap_or (option_map keys.factor_operand factor.now) keys.nowhere) }
 {
@@ -155,7 +155,7 @@ fn given_result(table: &FieldTable, entry: &Option<Entry>) -> Option<Operand<u16
     }
 }
 
-/// A blank factor 1 is the result field.
+/// Returns factor 1, or the result field if it is blank.
 fn first_or_result(table: &FieldTable, calculation: &CalculationSpec) -> Operand<u16>
     ensures { result ≡ renamed_operand (key_number table.now) (deeds.first_or_result calculation.now) }
 {

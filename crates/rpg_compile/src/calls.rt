@@ -18,7 +18,7 @@ use rpg_sheet_specs::{CalculationSpec, Operation};
 use rpg_symbols::{LevelFault, level_of_subs};
 use std::alloc::{AllocError, Global};
 
-/// The level of each subroutine: above those of all subroutines that call it.
+/// Returns the level of each subroutine, which is above those of all subroutines that call it.
 pub(crate) fn levels_of(
     alloc: Global,
     subroutines: &NameNumbers,
@@ -38,7 +38,7 @@ pub(crate) fn levels_of(
     }
 }
 
-/// How many subroutines there are, and the calls in them: caller and callee.
+/// Returns the number of subroutines, and the calls in them, as caller and callee.
 fn calls_of(
     alloc: Global,
     subroutines: &NameNumbers,
@@ -59,7 +59,7 @@ fn calls_of(
     Ok((caller, calls))
 }
 
-/// The calls in a subroutine.
+/// Appends the calls in a subroutine.
 fn push_calls(
     calls: &mut Vec<(u16, u16)>,
     subroutines: &NameNumbers,
@@ -78,7 +78,7 @@ fn push_calls(
     Ok(())
 }
 
-/// The subroutine that an EXSR calls.
+/// Returns the subroutine that an EXSR calls.
 fn callee_of(subroutines: &NameNumbers, calculation: &CalculationSpec) -> Option<u16>
     ensures { result ≡ called.callee_in (number_by subroutines.now) (deed_of calculation.now) }
 {

@@ -1,4 +1,4 @@
-//! Instructions as they are written.
+//! Instructions, as they are generated.
 
 ghost use Rattle.std.specs.Prelude.{◌≡◌, ◌++◌, ◌∷◌, [], All, OnOk};
 ghost use Rattle.rpg_compile.specs.Marked.{IsMarked};
@@ -7,7 +7,7 @@ use rpg_program::operation::Instruction;
 use std::alloc::{AllocError, Global};
 use std::marker::Model;
 
-/// Instructions whose indicators and numbers are in their ranges.
+/// Instructions whose indicators and numbers are in range.
 #[derive(Drop)]
 pub struct Code {
     instructions: Vec<Instruction<u16>>,

@@ -9,8 +9,8 @@ use rpg_cards::SpecCard;
 use rpg_compile_program::ranges::cards_are_in_range;
 use rpg_decimal::texts_spell_by_places;
 
-/// What the fields of a source without a fault hold before the first cycle fits them: each has as many values as entries,
-/// and each value has the kind and the length of its field. Arrays and tables with data hold what is on their cards.
+/// The values that the fields of a source without faults have before the first cycle fit them: each field has one value
+/// for each entry, of the field's kind and length. Arrays and tables with data have the values on their cards.
 pub fn faultless_sources_fill_their_fields(cards: &[SpecCard])
     ensures { Faultless cards.now → AreValuesOf (forms (table_of cards.now)) (values_of cards.now) }
 {

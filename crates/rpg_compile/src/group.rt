@@ -1,4 +1,4 @@
-//! Groups: a C card with the AN and OR cards right after it.
+//! Groups: a C card with the AN and OR cards that follow it.
 
 ghost use Rattle.std.specs.Prelude.{◌≡◌, ◌+◌, ◌≤◌, ◌<◌, ◌∷◌, [], length, take, drop, None, Some, unwrap_or, MatchOption};
 ghost use Rattle.std.specs.List.{last_or};
@@ -12,7 +12,7 @@ use rpg_cards::{SpecCard, has_instruction, joins, level};
 use rpg_sheet_specs::CalculationSpec;
 use std::marker::Model;
 
-/// A group of C cards, as a part of the source.
+/// A group of C cards, as a slice of the source.
 #[derive(Drop)]
 pub(crate) struct CardGroup<'a> {
     first: &'a CalculationSpec,
@@ -38,7 +38,7 @@ impl<'a> CardGroup<'a> {
         self.first
     }
 
-    /// The card with the operation.
+    /// Returns the card with the operation.
     pub(crate) fn last(&self) -> &'a CalculationSpec
         ensures { result.now ≡ calculations.last_card self.now }
     {
@@ -52,7 +52,7 @@ impl<'a> CardGroup<'a> {
         self.cards
     }
 
-    /// How many instructions the group becomes.
+    /// Returns how many instructions the group compiles to.
     pub(crate) fn size(&self) -> u16
         requires { code_of.size (calculations.calculation_of self.now) < 65536 }
         ensures { result ≡ code_of.size (calculations.calculation_of self.now) }
@@ -64,7 +64,7 @@ impl<'a> CardGroup<'a> {
     }
 }
 
-/// The instructions of a group that has one for its operation.
+/// Returns the size of a group whose operation has an instruction.
 fn size_of(first: &CalculationSpec, cards: &[SpecCard]) -> u16
     requires { walk.size_with first.now cards.now < 65536 }
     ensures { result ≡ walk.size_with first.now cards.now }
@@ -77,7 +77,7 @@ fn size_of(first: &CalculationSpec, cards: &[SpecCard]) -> u16
     waits + count_tests(cards) + 1
 }
 
-/// The next group, and the cards after it.
+/// Returns the next group, and the cards after it.
 pub(crate) fn next_group(cards: &[SpecCard]) -> Option<(CardGroup<'_>, &[SpecCard])>
     ensures { MatchOption result (calculations.calculations cards.now ≡ [])
         (λ r. (calculations.calculations cards.now ≡ calculations.calculation_of r.0 ∷ calculations.calculations r.1.now) × (length r.1.now < length cards.now)) }
@@ -92,7 +92,7 @@ pub(crate) fn next_group(cards: &[SpecCard]) -> Option<(CardGroup<'_>, &[SpecCar
     None
 }
 
-/// The group that begins with the first of these cards, and the cards after it.
+/// Returns the group that begins with the first of these cards, and the cards after it.
 fn group_at<'a>(
     first: &'a CalculationSpec,
     cards: &'a [SpecCard],
@@ -108,7 +108,7 @@ fn group_at<'a>(
     (CardGroup { first, last, cards }, rest)
 }
 
-/// How many AN and OR cards come right after a card, and the last card of the group.
+/// Returns how many AN and OR cards follow a card, and the last card of the group.
 #[tactic(auto, using(crate::proofs::Walk::joining_more, crate::proofs::Walk::joining_apart, crate::proofs::Walk::joining_other, crate::proofs::Walk::last_more))]
 fn followers_of<'a>(
     first: &'a CalculationSpec,

@@ -14,7 +14,7 @@ use rpg_program::condition::Conditions;
 use rpg_program::operation::Instruction;
 use rpg_sheet_specs::{CalculationSpec, Operation};
 
-/// What the names on the cards of a section stand for.
+/// What the names on the cards of a section refer to.
 #[derive(Drop)]
 pub(crate) struct Section<'a> {
     pub(crate) table: &'a FieldTable,
@@ -25,7 +25,7 @@ pub(crate) struct Section<'a> {
 }
 
 impl Section<'_> {
-    /// TAG and BEGSR have none.
+    /// Returns the instruction of a calculation, or None for TAG and BEGSR.
     #[tactic(auto, using(crate::proofs::Steps::acted), unfolding(rpg_compile_program::specs::Code::step_code))]
     pub(crate) fn instruction_of(&self, calculation: &CalculationSpec) -> Option<Instruction<u16>>
         ensures value { option_to_list result ≡ deed_code self.now (deeds.deed_of calculation.now) }

@@ -1,6 +1,6 @@
-//! The compiler: from the text of a source to an object program, by the instructions of its calculations and the rows of its other cards.
-//! Laws of sources without a fault: their programs keep the limits of the object format, their first values fit their fields, they are accepted,
-//! and the levels of their subroutines are those of the longest chains.
+//! The compiler: translates the text of a source to an object program, the instructions of its calculations and the rows of its other
+//! cards. Laws of sources without faults: their programs keep the limits of the object format, their first values fit their fields, the
+//! verifier accepts them, and their subroutines have the levels of the longest chains.
 #![tactic(auto)]
 
 mod acceptance;

@@ -7,7 +7,7 @@ ghost use Rattle.rpg_compile.specs.Limits.{KeepsLimits};
 use rpg_cards::SpecCard;
 use rpg_compile_program::ranges::cards_are_in_range;
 
-/// The program that a source without a fault stands for keeps the limits of the object format.
+/// The program of a source without faults keeps the limits of the object format.
 pub fn faultless_sources_keep_limits(cards: &[SpecCard])
     ensures { Faultless cards.now → length cards.now ≤ 2000 → KeepsLimits cards.now }
 {

@@ -1,4 +1,4 @@
-//! Names with numbers.
+//! Numbers of names.
 
 ghost use Rattle.std.specs.Prelude.{◌≡◌, ◌+◌, ◌<◌, ℕ, List, [], ◌∷◌, Option, length, option_copied, IfOk, OnOk};
 ghost use Rattle.rpg_cards.specs.Deeds.{deed_of};
@@ -14,7 +14,7 @@ use rpg_sheet_specs::{CalculationSpec, Operation};
 use rpg_symbols::Name;
 use std::alloc::{AllocError, Global};
 
-/// The numbers of names: the labels of a section with their places, or the subroutines with their numbers.
+/// Numbers by name: the places of a section's labels, or the numbers of the subroutines.
 #[derive(Drop)]
 pub(crate) struct NameNumbers {
     numbers: IndexMap<Name, u16>,
@@ -30,7 +30,7 @@ impl NameNumbers {
         }
     }
 
-    /// The subroutines of these cards, from 0. Any other name gets the number after the last one.
+    /// Numbers the subroutines of these cards from 0. Any other name gets the number after the last.
     pub(crate) fn of_subroutines(alloc: Global, cards: &[SpecCard]) -> Result<Self, AllocError>
         requires { length (subroutines_in cards.now) < 65536 }
         ensures { IfOk result (λ t. (n : Option (List ℕ)) → numbers_of.number_by t n ≡ callee n (subroutines_in cards.now)) }
@@ -40,8 +40,8 @@ impl NameNumbers {
         Ok(NameNumbers { numbers, otherwise })
     }
 
-    /// The labels of a section that begins at this place, in place of those before. Any other label is at the section's end, which is
-    /// the result.
+    /// Replaces the labels by those of a section that begins at `first`. Any other label gets the place of the section's end, which is
+    /// returned.
     pub(crate) fn note_section(
         &mut self,
         part: Part,
@@ -71,7 +71,7 @@ impl NameNumbers {
     }
 }
 
-/// Notes the labels of a section that begins at this place. Returns the place after the section.
+/// Notes the labels of a section that begins at `first`. Returns the place after the section.
 fn note_labels(
     places: &mut IndexMap<Name, u16>,
     part: Part,
@@ -92,7 +92,7 @@ fn note_labels(
     Ok(place)
 }
 
-/// Notes the names of subroutines. Returns how many subroutines there are.
+/// Notes the names of subroutines. Returns their count.
 fn note_subroutines(
     numbers: &mut IndexMap<Name, u16>,
     cards: &[SpecCard],
@@ -111,7 +111,7 @@ fn note_subroutines(
     Ok(count)
 }
 
-/// Gives a name its number, unless it has one.
+/// Gives a name this number, unless it has one.
 fn note(
     numbers: &mut IndexMap<Name, u16>,
     name: Option<&Name>,
@@ -135,7 +135,7 @@ fn note_name(numbers: &mut IndexMap<Name, u16>, name: Name, number: u16) -> Resu
     Ok(())
 }
 
-/// The label of a TAG or ENDSR.
+/// Returns the label of a TAG or ENDSR.
 fn label_on(calculation: &CalculationSpec) -> Option<&Name>
     ensures { option_copied result ≡ label_on (deed_of calculation.now) }
 {

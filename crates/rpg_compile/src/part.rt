@@ -11,7 +11,7 @@ use rpg_cards::{SpecCard, begins_subroutine, is_subroutine, plain_name};
 use rpg_sheet_specs::{CalculationSpec, ControlLevel};
 use rpg_symbols::Name;
 
-/// Which calculations are written one after another.
+/// Which calculations are compiled together.
 #[derive(Clone, Copy)]
 pub(crate) enum Part {
     Detail,
@@ -21,7 +21,7 @@ pub(crate) enum Part {
 }
 
 impl Part {
-    /// Whether a group belongs to the section that has this in columns 7 and 8 of its first card.
+    /// Whether the section has the groups whose first card has this in columns 7 and 8.
     fn has(self, control_level: ControlLevel) -> bool
         ensures { result ≡ walk.belongs self control_level }
     {
@@ -33,7 +33,7 @@ impl Part {
         )
     }
 
-    /// Whether the section ends before the group of that operation.
+    /// Whether the section ends before a group with this operation.
     fn ends_before(self, calculation: &CalculationSpec) -> bool
         ensures { result ≡ walk.ends_before self (deeds.deed_of calculation.now) }
     {
@@ -44,7 +44,7 @@ impl Part {
     }
 }
 
-/// The next group of a section, and the cards after it.
+/// Returns the next group of a section, and the cards after it.
 pub(crate) fn next_in(part: Part, cards: &[SpecCard]) -> Option<(CardGroup<'_>, &[SpecCard])>
     ensures { MatchOption result (walk.section_in part cards.now ≡ [])
         (λ r. (walk.section_in part cards.now ≡ calculation_of r.0 ∷ walk.section_in part r.1.now) × (length r.1.now < length cards.now)) }
@@ -62,7 +62,7 @@ pub(crate) fn next_in(part: Part, cards: &[SpecCard]) -> Option<(CardGroup<'_>, 
     None
 }
 
-/// The name of the next subroutine, and the cards after its BEGSR.
+/// Returns the name of the next subroutine, and the cards after its BEGSR.
 pub(crate) fn next_subroutine(cards: &[SpecCard]) -> Option<(Option<&Name>, &[SpecCard])>
     ensures { MatchOption result (walk.subroutines_in cards.now ≡ [])
         (λ r. (walk.subroutines_in cards.now ≡ record { name = option_copied r.0; body = walk.section_in parts.Body r.1.now } ∷ walk.subroutines_in r.1.now) × (length r.1.now < length cards.now)) }
@@ -78,14 +78,14 @@ pub(crate) fn next_subroutine(cards: &[SpecCard]) -> Option<(Option<&Name>, &[Sp
     None
 }
 
-/// The name in factor 1.
+/// Returns the name in factor 1.
 pub(crate) fn given_name(calculation: &CalculationSpec) -> Option<&Name>
     ensures { option_copied result ≡ deeds.given_name calculation.now }
 {
     plain_name(calculation.factor_1.as_ref()?)
 }
 
-/// The name in factor 2.
+/// Returns the name in factor 2.
 pub(crate) fn wanted_name(calculation: &CalculationSpec) -> Option<&Name>
     ensures { option_copied result ≡ deeds.wanted_name calculation.now }
 {

@@ -1,4 +1,4 @@
-//! The program of cards.
+//! Compiles cards to a program.
 
 ghost use Rattle.std.specs.Prelude.{◌≡◌, ◌<◌, ◌≤◌, length, is_some, option_copied, IfOk};
 ghost use Rattle.std.specs.Option.{option_and_then};
@@ -25,8 +25,7 @@ use rpg_program::rows::{Rows, Version};
 use rpg_sheet_specs::FileSpec;
 use std::alloc::{AllocError, Global};
 
-/// The program of cards without a fault. `allowance` is what it may spend in a cycle on backward branches and calls. It fails only
-/// when memory runs out.
+/// Compiles cards without faults. `allowance` limits the backward branches and calls of a cycle. Fails only if memory runs out.
 pub fn translate(alloc: Global, cards: &[SpecCard], allowance: u16) -> Result<Program, AllocError>
     requires allowed { 0 < allowance }
     requires few { length cards.now ≤ 2000 }
@@ -40,7 +39,7 @@ pub fn translate(alloc: Global, cards: &[SpecCard], allowance: u16) -> Result<Pr
     program_of(alloc, cards, allowance)
 }
 
-/// The program of cards that keep its limits.
+/// Compiles cards that keep the limits of a program.
 fn program_of(alloc: Global, cards: &[SpecCard], allowance: u16) -> Result<Program, AllocError>
     requires allowed { 0 < allowance }
     requires few { length cards.now ≤ 2000 }
@@ -82,7 +81,7 @@ fn program_of(alloc: Global, cards: &[SpecCard], allowance: u16) -> Result<Progr
     }))
 }
 
-/// The version of a program with a secondary file or match fields, or without.
+/// The version of a program: 2 with a secondary file or match fields, else 1.
 fn version_for(secondary: Option<&FileSpec>, has_match_field: bool) -> Version
     ensures { result ≡ programs.version_with (is_some (option_copied secondary.entry)) has_match_field }
 {
@@ -93,7 +92,7 @@ fn version_for(secondary: Option<&FileSpec>, has_match_field: bool) -> Version
     }
 }
 
-/// The record length of a file, 0 where there is none.
+/// The record length of a file, 0 if there is none.
 fn length_of(file: Option<&FileSpec>) -> u16
     ensures { result ≡ lines.record_length_of (option_copied file.entry) }
 {

@@ -34,7 +34,7 @@ pub struct SectionRows {
     pub subroutines: Vec<Subroutine>,
 }
 
-/// What the cards become, whose names are numbered by the table.
+/// Compiles the calculations of cards, whose names are numbered by the table.
 pub fn section_rows(
     alloc: Global,
     table: &FieldTable,
@@ -67,18 +67,18 @@ pub fn section_rows(
     })
 }
 
-/// What all sections are written with.
+/// What is needed to compile a section.
 #[derive(Drop)]
 struct Writer<'a> {
     alloc: Global,
     table: &'a FieldTable,
-    /// Those of the section that is written.
+    /// Those of the current section.
     labels: NameNumbers,
     subroutines: NameNumbers,
 }
 
 impl Writer<'_> {
-    /// A section that begins at this place, and the place after it. `own` is the number of the subroutine.
+    /// Compiles a section that begins at `first`, and returns the place after it. `own` is the number of the subroutine.
     fn section(
         &mut self,
         own: u16,
@@ -105,7 +105,7 @@ impl Writer<'_> {
         Ok((code.into_vec(), end))
     }
 
-    /// The subroutines, which begin at this place.
+    /// Compiles the subroutines, the first at this place.
     fn subroutines(
         &mut self,
         levels: &[u16],

@@ -21,7 +21,7 @@ use rpg_program::operation::Instruction;
 use rpg_sheet_specs::CalculationSpec;
 use std::alloc::AllocError;
 
-/// The instructions of a section that begins at this place.
+/// Appends the instructions of a section that begins at `first`.
 pub(crate) fn push_section(
     code: &mut Code,
     section: &Section,
@@ -57,7 +57,7 @@ fn push_group(
     push_cards(code, group.first(), group.cards(), place, instruction)
 }
 
-/// The instructions of a group of cards, which end in this one.
+/// Appends the instructions of a group of cards, the last of which is `last`.
 fn push_cards(
     code: &mut Code,
     first: &CalculationSpec,
@@ -78,7 +78,7 @@ fn push_cards(
     code.push(last)
 }
 
-/// A SKIP past the group, where it waits for an indicator.
+/// Appends a SKIP past the group, if it waits for a level indicator.
 fn push_level(code: &mut Code, level: Option<u8>, following: u16) -> Result<(), AllocError>
     requires { ForSome level IsIndicator }
     ensures { OnOk result (code.new ≡ code.old ++ code_of.level_code following level) }

@@ -1,4 +1,4 @@
-//! From the text of a source to its program.
+//! Compiles the text of a source to its program.
 
 ghost use Rattle.std.specs.Prelude.{◌<◌, IfOk, IfErr};
 ghost use Rattle.rpg_compile.specs.Compile.{Compiles};
@@ -10,14 +10,14 @@ use rpg_faults::{SourceFault, faultless_cards};
 use rpg_program::Program;
 use std::alloc::Global;
 
-/// A source without a fault: its cards, and the program that they are compiled to.
+/// A source without faults: its cards, and the program that they compile to.
 #[derive(Drop)]
 pub struct Compiled {
     pub cards: Vec<SpecCard>,
     pub program: Program,
 }
 
-/// Compiles a source as `compile` does, and returns its cards too, so that nobody has to read and judge them again.
+/// Like `compile`, but also returns the cards, so that callers needn't read and check them again.
 pub fn compile_with_cards(
     alloc: Global,
     text: &[u8],
@@ -33,7 +33,7 @@ pub fn compile_with_cards(
     Ok(Compiled { cards, program })
 }
 
-/// Compiles a source. `allowance` is what its program may spend in a cycle on backward branches and calls.
+/// Compiles a source. `allowance` limits the backward branches and calls of a cycle of its program.
 pub fn compile(alloc: Global, text: &[u8], allowance: u16) -> Result<Program, SourceFault>
     requires { 0 < allowance }
     ensures ok { IfOk result (λ program. Compiles text.now allowance program) }

@@ -12,7 +12,7 @@ use rpg_program::condition::Conditions;
 use rpg_program::operation::Instruction;
 use std::alloc::AllocError;
 
-/// The conditions of a card, if it has any.
+/// Returns the conditions of a card, if it has any.
 fn test_at(card: &SpecCard) -> Option<Conditions>
     ensures value { option_to_list result ≡ tests.tests_at card.now }
     ensures kept { IfSome result AreConditions }
@@ -20,7 +20,7 @@ fn test_at(card: &SpecCard) -> Option<Conditions>
     test(card.calculation()?)
 }
 
-/// How many of these cards have conditions.
+/// Counts the cards that have conditions.
 pub(crate) fn count_tests(cards: &[SpecCard]) -> u16
     requires { length (tests.tests_in cards.now) < 65536 }
     ensures { result ≡ length (tests.tests_in cards.now) }
@@ -34,7 +34,7 @@ pub(crate) fn count_tests(cards: &[SpecCard]) -> u16
     count
 }
 
-/// The tests of the last alternative: each SKIPs past the group.
+/// Appends the tests of the last alternative: each SKIPs past the group.
 fn push_last(code: &mut Code, cards: &[SpecCard], following: u16) -> Result<(), AllocError>
     ensures { OnOk result (code.new ≡ code.old ++ map (code_of.skip_code following) (tests.tests_in cards.now)) }
 {
@@ -50,7 +50,7 @@ fn push_last(code: &mut Code, cards: &[SpecCard], following: u16) -> Result<(), 
     Ok(())
 }
 
-/// The tests of an alternative before the last one: SKIPs to the next one, and a JUMP to the operation. `count` is how many they are.
+/// Appends the tests of an alternative before the last: SKIPs to the next alternative, and as the last of `count` a JUMP to the operation.
 fn push_alternative(
     code: &mut Code,
     cards: &[SpecCard],
@@ -76,7 +76,7 @@ fn push_alternative(
     Ok(())
 }
 
-/// The card begins an alternative.
+/// Whether a card begins an alternative.
 fn begins(card: &SpecCard) -> bool
     ensures { result ≡ tests.begins_alternative card.now }
 {
@@ -86,7 +86,7 @@ fn begins(card: &SpecCard) -> bool
     }
 }
 
-/// Where the next alternative begins, after the first card.
+/// Returns where the next alternative begins, if there is one.
 #[tactic(auto, using(crate::proofs::Alternatives::begins_here, crate::proofs::Alternatives::goes_on))]
 fn next_alternative(cards: &[SpecCard]) -> Option<usize>
     requires { 0 < length cards.now }
@@ -101,7 +101,7 @@ fn next_alternative(cards: &[SpecCard]) -> Option<usize>
     None
 }
 
-/// The tests of a group's cards, from a place on. `following` is the place after the group.
+/// Appends the tests of a group's cards, the first at `place`. `following` is the place after the group.
 #[tactic(auto, using(crate::proofs::Alternatives::tests_step))]
 pub(crate) fn push_tests(
     code: &mut Code,

@@ -13,7 +13,7 @@ use Rattle.rpg_sheet_specs.specs.declared.input.InputFieldSpec.{InputFieldSpec}
 use Rattle.rpg_sheet_specs.specs.declared.input.RecordType.{RecordType}
 use Rattle.rpg_compile_program.specs.Types.{and_card_codes, card_type, field_at_level, input_fields_in, input_row, type_of_file}
 
--- those of the groups in these cards, where groups without a file are of the one of that name
+-- those of the groups in these cards, if groups without a file are of the one of that name
 abbrev pub types_from : List SpecCard → Option (List ℕ) → List SpecCard → List (TypeRow Key)
 types_from source name cards = map (card_type source) (groups_from input_role name cards)
 
@@ -31,7 +31,7 @@ codes_after cards = flat_map and_card_codes (followers input_role cards)
 abbrev pub fields_after : List SpecCard → List InputFieldSpec
 fields_after cards = input_fields_in (followers input_role cards)
 
--- where they have a level of that choice
+-- if they have a level of that choice
 abbrev pub levels_after : (InputFieldSpec → Option ℕ) → List SpecCard → List ControlField
 levels_after level_of cards = filter_map (field_at_level level_of) (fields_after cards)
 

@@ -19,7 +19,7 @@ use Rattle.rpg_compile_program.specs.Table.{Table, key_number}
 abbrev pub row_in_table : Table → Line Key → LineRow
 row_in_table t l = row_of_line (renamed_line (key_number t) l)
 
--- those of the groups in these cards, where groups without a file go to the one of that name
+-- those of the groups in these cards, if groups without a file go to the one of that name
 abbrev pub rows_from : Table → List SpecCard → Option (List ℕ) → List SpecCard → List LineRow
 rows_from t source name cards = map (row_in_table t) (map (card_line source) (groups_from output_role name cards))
 

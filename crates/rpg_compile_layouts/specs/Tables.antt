@@ -11,6 +11,6 @@ use Rattle.rpg_compile_program.specs.Data.{entry_value}
 abbrev pub values_on : TableData → List Value
 values_on d = map (entry_value d.table.now) (data_entries d.entries d.per_card d.width d.from d.table.now.length (followers data_role d.deck.now))
 
--- those of the first entries of a card, so many of them
+-- those of the first n entries of a card
 abbrev pub values_on_card : TableData → List ℕ → ℕ → List Value
 values_on_card d card n = map (λ i. entry_value d.table.now (entry_on d.width d.from d.table.now.length card i)) (range_with_len 0 n)

@@ -11,7 +11,7 @@ use rpg_program::condition::Condition;
 use rpg_sheet_specs::{OutputSpec, Three};
 use std::alloc::{AllocError, Global};
 
-/// Those of the record card and of the AND cards after it, and others for each OR card, up to the next record card.
+/// Returns the conditions of the record card and of the AND cards after it, then those of each OR card, up to the next record card.
 pub(crate) fn alternatives_of(
     alloc: Global,
     first: Three<Option<rpg_sheet_specs::ConditionSpec>>,
@@ -24,7 +24,7 @@ pub(crate) fn alternatives_of(
     alternatives_from(alloc, open, following)
 }
 
-/// The alternatives from one on that has these conditions so far.
+/// Returns the alternatives from the one on that has these conditions so far.
 #[tactic(auto, using(crate::proofs::LineFollowers::next_output))]
 fn alternatives_from(
     alloc: Global,
@@ -53,7 +53,7 @@ fn alternatives_from(
     Ok(alternatives)
 }
 
-/// The conditions that stand, in the order of their columns.
+/// Returns the conditions that are there, in the order of their columns.
 fn standing(
     alloc: Global,
     conditions: Three<Option<rpg_sheet_specs::ConditionSpec>>,
@@ -66,7 +66,7 @@ fn standing(
     Ok(standing)
 }
 
-/// Puts the conditions that stand after the others.
+/// Appends the conditions that are there.
 fn push_conditions(
     conditions: &mut Vec<Condition>,
     more: Three<Option<rpg_sheet_specs::ConditionSpec>>,

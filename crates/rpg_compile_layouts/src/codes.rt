@@ -11,7 +11,7 @@ use rpg_program::input::RecordCode;
 use rpg_sheet_specs::{InputSpec, Three};
 use std::alloc::{AllocError, Global};
 
-/// Those of the type card, and after them those of its AND cards.
+/// Returns the codes of the type card, then those of its AND cards.
 pub(crate) fn codes_of(
     alloc: Global,
     first: Three<Option<rpg_sheet_specs::RecordCode>>,
@@ -26,7 +26,7 @@ pub(crate) fn codes_of(
     Ok(codes)
 }
 
-/// Puts the codes of AND cards after the others, up to the next type card.
+/// Appends the codes of AND cards, up to the next type card.
 #[tactic(auto, using(crate::proofs::Followers::next_input))]
 fn push_further(codes: &mut Vec<RecordCode>, following: &[SpecCard]) -> Result<(), AllocError>
     requires { All IsCodeRow codes.old.items }
@@ -44,7 +44,7 @@ fn push_further(codes: &mut Vec<RecordCode>, following: &[SpecCard]) -> Result<(
     Ok(())
 }
 
-/// Puts the codes that stand after the others.
+/// Appends the codes that are there.
 fn push_codes(
     codes: &mut Vec<RecordCode>,
     more: Three<Option<rpg_sheet_specs::RecordCode>>,

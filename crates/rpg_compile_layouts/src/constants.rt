@@ -13,7 +13,7 @@ use rpg_program::value::Value;
 use rpg_sheet_specs::Few;
 use std::alloc::{AllocError, Global};
 
-/// The constants of cards, equal ones once, in the order in which they come first.
+/// Returns the constants of cards without duplicates, in the order of their first uses.
 pub(crate) fn constants_of(
     alloc: Global,
     cards: &[SpecCard],
@@ -27,7 +27,7 @@ pub(crate) fn constants_of(
     Ok(constants)
 }
 
-/// Puts constants after the others, each unless it is among them.
+/// Adds each constant that isn't in the set yet.
 fn add(constants: &mut IndexSet<Constant>, items: &Few<Constant>) -> Result<(), AllocError>
     ensures { OnOk result (constants.new.keys ≡ insert_all known.is_same constants.old.keys items.now) }
 {
@@ -37,7 +37,7 @@ fn add(constants: &mut IndexSet<Constant>, items: &Few<Constant>) -> Result<(), 
     Ok(())
 }
 
-/// Puts the forms and values of constants after those of the names.
+/// Appends the forms and values of constants to those of the names.
 pub(crate) fn add_constants(
     alloc: Global,
     constants: &[Constant],
@@ -58,7 +58,7 @@ pub(crate) fn add_constants(
     Ok(())
 }
 
-/// What its one entry holds.
+/// Returns the value of its one entry.
 fn values_of(alloc: Global, constant: &Constant) -> Result<Vec<Value>, AllocError>
     ensures { IfOk result (λ v. map held v.items ≡ constant_values constant.now) }
 {

@@ -1,4 +1,4 @@
-//! The fields of a program with what they hold before the first cycle.
+//! The fields of a program, with their values before the first cycle.
 
 ghost use Rattle.std.specs.Prelude.{◌≡◌, ◌+◌, ◌≤◌, All, length, map, IfOk};
 ghost use Rattle.rpg_cards.specs.Constants.{IsConstant, constants};
@@ -18,16 +18,16 @@ use rpg_program::form::FieldForm;
 use rpg_program::value::Value;
 use std::alloc::{AllocError, Global};
 
-/// The fields of a program in the order of their numbers: names, and constants after them.
+/// The fields of a program in numeric order: names, then constants.
 #[derive(Drop)]
 pub struct Fields {
     pub table: FieldTable,
     pub forms: Vec<FieldForm>,
-    /// What they hold before the first cycle, entry by entry.
+    /// Their values before the first cycle, entry by entry.
     pub values: Vec<Vec<Value>>,
 }
 
-/// The fields of cards. An error is for want of memory.
+/// Returns the fields of cards. Fails only if memory runs out.
 pub fn fields_of(alloc: Global, cards: &[SpecCard]) -> Result<Fields, AllocError>
     requires fields { length (fields.defined_fields cards.now) + length (constants cards.now) ≤ 4000 }
     requires storage { storage (fields.defined_fields cards.now) ≤ 65535 }
@@ -52,7 +52,7 @@ pub fn fields_of(alloc: Global, cards: &[SpecCard]) -> Result<Fields, AllocError
     })
 }
 
-/// The names that cards define, with the data that the cards have for them.
+/// Returns the names that cards define, with the data that the cards have for them.
 fn names_of(alloc: Global, cards: &[SpecCard]) -> Result<NameTable, AllocError>
     requires few { length (fields.defined_fields cards.now) ≤ 4000 }
     requires storage { storage (fields.defined_fields cards.now) ≤ 65535 }

@@ -1,4 +1,4 @@
-//! The files that groups of I and O cards are of.
+//! The files that groups of I and O cards belong to.
 
 ghost use Rattle.std.specs.Prelude.{◌≡◌};
 ghost use Rattle.std.specs.Option.{option_or};
@@ -11,7 +11,7 @@ use rpg_program::input::InputFile;
 use rpg_program::line::File;
 use rpg_sheet_specs::Word;
 
-/// The file that the first card of a group names, else the one before.
+/// Returns the file that the first card of a group names, else the previous one.
 pub(crate) fn own_or<'a>(
     own: &'a Option<Word<8>>,
     before: &'a Option<Word<8>>,
@@ -21,7 +21,7 @@ pub(crate) fn own_or<'a>(
     if own.is_some() { own } else { before }
 }
 
-/// The file of that name that lines are put out on; the printer where it isn't known.
+/// Returns the output file with this name, or the printer if it isn't known.
 pub(crate) fn put_on(cards: &[SpecCard], name: &Option<Word<8>>) -> File
     ensures { result ≡ lines.output_file (files.file_by name.now cards.now) }
 {
@@ -43,7 +43,7 @@ fn put_by(file_use: FileUse) -> File
     }
 }
 
-/// The file of that name that records are read from; the primary one where it isn't known.
+/// Returns the input file with this name, or the primary one if it isn't known.
 pub(crate) fn read_from(cards: &[SpecCard], name: &Option<Word<8>>) -> InputFile
     ensures { result ≡ types.input_file (files.file_by name.now cards.now) }
 {

@@ -12,7 +12,7 @@ use rpg_program::input::ControlField;
 use rpg_sheet_specs::{InputFieldSpec, InputSpec, Within};
 use std::alloc::{AllocError, Global};
 
-/// A control field for each field card with a control level, up to the next type card.
+/// Returns a control field for each field card with a control level, up to the next type card.
 #[tactic(auto, using(crate::proofs::Followers::next_input))]
 pub(crate) fn levels_of(
     alloc: Global,
@@ -33,7 +33,7 @@ pub(crate) fn levels_of(
     Ok(levels)
 }
 
-/// A match field for each field card with a match level, up to the next type card.
+/// Returns a match field for each field card with a match level, up to the next type card.
 #[tactic(auto, using(crate::proofs::Followers::next_input))]
 pub(crate) fn matches_of(
     alloc: Global,
@@ -54,7 +54,7 @@ pub(crate) fn matches_of(
     Ok(matches)
 }
 
-/// Puts a level that a field has after the others.
+/// Appends the level of a field, if it has one.
 fn push_level(levels: &mut Vec<ControlField>, level: Option<ControlField>) -> Result<(), AllocError>
     requires rows { All IsControlRow levels.old.items }
     requires row { IfSome level IsControlRow }

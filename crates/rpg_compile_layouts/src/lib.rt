@@ -1,5 +1,5 @@
-//! The fields of a program, from cards: numbers and forms of names and constants, and what they hold before the first cycle.
-//! Record types and output lines of a program, from the cards that they stand on.
+//! The fields of a program, from cards: numbers and forms of names and constants, and their values before the first cycle.
+//! Record types and output lines of a program, from their cards.
 #![tactic(auto)]
 
 mod alternatives;

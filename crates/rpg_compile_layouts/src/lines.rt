@@ -17,7 +17,7 @@ use rpg_program::rows::Line;
 use rpg_sheet_specs::OutputRecord;
 use std::alloc::{AllocError, Global};
 
-/// A row for each group of O cards, in which fields and constants stand by their numbers.
+/// Returns a row for each group of O cards, with fields and constants by number.
 #[tactic(auto, using(crate::proofs::LineFollowers::rows_other))]
 pub fn lines_of(
     alloc: Global,
@@ -43,7 +43,7 @@ pub fn lines_of(
     Ok(lines)
 }
 
-/// The line that a record card begins, with the cards after it.
+/// Returns the line that a record card begins, with the cards after it.
 fn line_of(
     alloc: Global,
     table: &FieldTable,

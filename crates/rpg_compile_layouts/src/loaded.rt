@@ -20,7 +20,7 @@ use rpg_symbols::Name;
 use std::alloc::{AllocError, Global};
 use std::marker::Model;
 
-/// The data of arrays and tables. Of a name that has data twice, those that come first.
+/// The data of arrays and tables. If a name has data twice, the first data count.
 #[derive(Drop)]
 pub(crate) struct Loaded<'a> {
     tables: IndexMap<Name, TableData<'a>>,
@@ -37,7 +37,7 @@ impl<'a> Model for Loaded<'a> {
 }
 
 impl<'a> Loaded<'a> {
-    /// The data of all cards: the E cards with entries per card take the decks in their order.
+    /// Returns the data of all cards: the E cards with entries per card take the decks in order.
     pub(crate) fn of_cards(alloc: Global, cards: &'a [SpecCard]) -> Result<Self, AllocError>
         requires sizes { KeepsRule (λ before c after. bad_size c) cards.now }
         ensures { IfOk result (λ l. HasSameData l (loads.loaded cards.now)) }
@@ -54,7 +54,8 @@ impl<'a> Loaded<'a> {
         Ok(loaded)
     }
 
-    /// With the tables of an E card, which takes the first of these decks if it wants one. Returns the cards with the other decks.
+    /// Adds the tables of an E card, which takes the first of these decks if it wants one. Returns the cards with the remaining
+    /// decks.
     fn take_deck(
         &mut self,
         extension: &'a ExtensionSpec,
@@ -105,7 +106,7 @@ impl<'a> Loaded<'a> {
         Ok(())
     }
 
-    /// With one more table, unless its name has data.
+    /// Adds a table, unless its name has data.
     fn add(&mut self, table: TableData<'a>) -> Result<(), AllocError>
         ensures { OnOk result (HasSameData self.new (self.old ++ (table.entry.table.now.name, values_on table.entry) ∷ [])) }
     {
@@ -116,7 +117,7 @@ impl<'a> Loaded<'a> {
         Ok(())
     }
 
-    /// What a field holds: its data, else zeros or blanks.
+    /// Returns the values of a field: its data, or zeros or blanks if it has none.
     pub(crate) fn values_of(
         &self,
         alloc: Global,

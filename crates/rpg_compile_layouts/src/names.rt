@@ -14,7 +14,7 @@ use rpg_program::value::Value;
 use rpg_symbols::{DefineFault, Name, Symbols};
 use std::alloc::{AllocError, Global};
 
-/// The names of a program with their numbers, and in the order of the numbers their forms, and what they hold before the first cycle.
+/// The names of a program with their numbers, and, in numeric order, their forms and their values before the first cycle.
 #[derive(Drop)]
 pub(crate) struct NameTable {
     pub(crate) symbols: Symbols,
@@ -23,7 +23,7 @@ pub(crate) struct NameTable {
 }
 
 impl NameTable {
-    /// The names that cards define.
+    /// Returns the names that cards define.
     pub(crate) fn of_cards(
         alloc: Global,
         loaded: &Loaded,
@@ -42,7 +42,7 @@ impl NameTable {
         Ok(table)
     }
 
-    /// The names that every program has.
+    /// Returns the names that every program has.
     fn given(alloc: Global, loaded: &Loaded) -> Result<Self, AllocError>
         ensures symbols { IfOk result (λ t. t.symbols ≡ given) }
         ensures forms { IfOk result (λ t. t.forms.items ≡ fields.name_forms given) }
@@ -62,7 +62,7 @@ impl NameTable {
         })
     }
 
-    /// One more field for each name that a card defines and that isn't known yet.
+    /// Adds a field for each new name that a card defines.
     fn define_on(
         &mut self,
         alloc: Global,
@@ -100,7 +100,7 @@ impl NameTable {
         Ok(())
     }
 
-    /// One more field, where the definition has a form and its name isn't known yet.
+    /// Adds a field, if the definition has a form and its name is new.
     fn define(
         &mut self,
         alloc: Global,
@@ -121,7 +121,7 @@ impl NameTable {
         }
     }
 
-    /// One more field, where the name isn't known yet.
+    /// Adds a field, if its name is new.
     fn define_name(
         &mut self,
         alloc: Global,
@@ -152,7 +152,7 @@ impl NameTable {
     }
 }
 
-/// What the fields of these forms hold that every program has.
+/// Returns the values of the fields that every program has.
 fn given_values(
     alloc: Global,
     loaded: &Loaded,

@@ -22,7 +22,7 @@ use rpg_program::operation::{Index, Operand};
 use rpg_sheet_specs::{EditCode, Entry, OutputField, OutputSpec, TextLiteral};
 use std::alloc::{AllocError, Global};
 
-/// A field for each field card up to the next record card.
+/// Returns a field for each field card up to the next record card.
 #[tactic(auto, using(crate::proofs::LineFollowers::next_output))]
 pub(crate) fn fields_of(
     alloc: Global,
@@ -45,7 +45,7 @@ pub(crate) fn fields_of(
     Ok(fields)
 }
 
-/// What an output field puts out, how it is edited, and where its text ends.
+/// Returns what an output field writes, how it is edited, and where its text ends.
 fn field_of(table: &FieldTable, field: &OutputField) -> LineField<u16>
     requires { HasIndexRow (field_row table.now field.now) }
     ensures value { result ≡ field_row table.now field.now }
@@ -65,7 +65,7 @@ fn field_of(table: &FieldTable, field: &OutputField) -> LineField<u16>
     row
 }
 
-/// A value as it is.
+/// Returns a value that isn't edited.
 fn unedited(field: u16, index: Index<u16>, end: u16, conditions: Conditions) -> LineField<u16>
     requires index { IsIndexRow index }
     requires conditions { AreConditions conditions }
@@ -83,7 +83,7 @@ fn unedited(field: u16, index: Index<u16>, end: u16, conditions: Conditions) -> 
     }
 }
 
-/// An entry, else the constant.
+/// Returns the entry, else the constant.
 fn put_out(table: &FieldTable, field: &OutputField) -> Operand<u16>
     ensures { result ≡ renamed_operand (key_number table.now) (lines.operand_put_out field.now) }
 {
@@ -105,7 +105,7 @@ fn text_number(table: &FieldTable, text: &TextLiteral<24>) -> u16
     table.constant_number(&Constant::of_text(text))
 }
 
-/// PAGE without an index is made one more before it is put out.
+/// PAGE without an index is incremented before it is written.
 fn source_of(field: &OutputField) -> Source
     ensures { result ≡ lines.output_source field.now }
 {
@@ -131,7 +131,7 @@ fn is_page(entry: &Entry) -> bool
     entry.index.is_none() && entry.name.as_slice() == b"PAGE".as_slice()
 }
 
-/// The edit code; beside a name without one the edit word; Z for PAGE with neither.
+/// The edit code; for a name without one, the edit word; Z for PAGE with neither.
 fn editing_of(table: &FieldTable, field: &OutputField) -> Editing<u16>
     ensures value { result ≡ renamed_editing (key_number table.now) (lines.editing_of field.now) }
     ensures kept { IsEditingRow result }
@@ -159,7 +159,7 @@ fn unmarked(is_page: bool) -> Editing<u16>
     }
 }
 
-/// The text beside an edit code.
+/// The fill that the text beside an edit code stands for.
 fn fill_of(field: &OutputField) -> Fill
     ensures { result ≡ lines.output_fill field.now }
 {

@@ -7,7 +7,8 @@ ghost use Rattle.rpg_compile_program.specs.Lines as lines;
 use rpg_program::line::{File, Spacing};
 use rpg_sheet_specs::{Movement, Within};
 
-/// The movements that stand; the printer spaces one after where none does.
+/// Returns the movements that are given; without any, the printer spaces one
+/// after.
 pub(crate) fn spacing_of(file: File, movement: &Movement) -> Spacing
     ensures value { result ≡ lines.spacing_of file movement.now }
     ensures kept { IsSpacingRow result }
@@ -47,7 +48,7 @@ fn spaces(number: Option<Within<0, 3>>) -> u8
     }
 }
 
-/// The line to skip to, 0 for none.
+/// Returns the line to skip to, 0 for none.
 fn line(number: Option<Within<1, 66>>) -> u8
     ensures { result ≡ unwrap_or number 0 }
 {

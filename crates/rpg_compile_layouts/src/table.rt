@@ -12,7 +12,7 @@ use rpg_sheet_specs::{Entry, EntryIndex, Factor};
 use rpg_symbols::{Name, Symbols};
 use std::marker::Model;
 
-/// The fields of a program: names, and constants after them.
+/// The fields of a program: names, then constants.
 #[derive(Drop)]
 pub struct FieldTable {
     symbols: Symbols,
@@ -45,14 +45,14 @@ impl FieldTable {
         }
     }
 
-    /// The number of a name; 0 where it isn't defined.
+    /// Returns the number of a name, 0 if it isn't defined.
     pub fn name_number(&self, name: &Name) -> u16
         ensures { result ≡ table.name_number self.now name.now }
     {
         self.symbols.look(name).unwrap_or(0)
     }
 
-    /// The number of a constant; 0 where no card has it.
+    /// Returns the number of a constant, 0 if no card has it.
     pub fn constant_number(&self, constant: &Constant) -> u16
         ensures { result ≡ table.constant_number self.now constant.now }
     {
@@ -62,7 +62,7 @@ impl FieldTable {
         }
     }
 
-    /// What stands in a factor.
+    /// Returns the operand of a factor.
     pub fn operand_of(&self, factor: &Factor) -> Operand<u16>
         ensures { result ≡ renamed_operand (table.key_number self.now) (keys.factor_operand factor.now) }
     {

@@ -14,15 +14,15 @@ use rpg_program::value::Value;
 use rpg_sheet_specs::{DataSpec, TableSpec};
 use std::alloc::{AllocError, Global};
 
-/// Where the entries of a table stand.
+/// Where the entries of a table are.
 #[derive(Clone, Copy)]
 pub(crate) struct TableData<'a> {
     pub table: &'a TableSpec,
     pub entries: u16,
     pub per_card: u16,
-    /// How many columns each takes, with that of an alternating table.
+    /// How many columns each takes, including that of an alternating table.
     pub width: u32,
-    /// The first column of the first, from 0.
+    /// The first column of the first, counted from 0.
     pub from: u16,
     /// The cards after the `**` card.
     pub deck: &'a [SpecCard],
@@ -52,7 +52,7 @@ impl TableData<'_> {
         Ok(values)
     }
 
-    /// Puts the first entries of a card after other values, so many of them.
+    /// Appends the first `count` entries of a card.
     fn add_entries(
         self,
         alloc: Global,
@@ -68,7 +68,7 @@ impl TableData<'_> {
         Ok(())
     }
 
-    /// The entry with this number on a card, from 0.
+    /// Returns an entry on a card, by its number from 0.
     fn entry(self, card: &[u8], number: u16) -> &[u8]
         ensures value { result.now ≡ entry_on self.entry.width self.entry.from self.entry.table.now.length card.now number }
         ensures length { length result.now ≤ self.entry.table.now.length }
@@ -78,7 +78,7 @@ impl TableData<'_> {
     }
 }
 
-/// So many characters from a place on; of those after the end none.
+/// Returns the `count` characters from `start` on; none after the end.
 fn part(text: &[u8], start: usize, count: usize) -> &[u8]
     requires { start + count < 2 ^ 64 }
     ensures value { result.now ≡ slice_range text.now start (start + count) }
@@ -88,7 +88,7 @@ fn part(text: &[u8], start: usize, count: usize) -> &[u8]
     &following[..count.min(following.len())]
 }
 
-/// What an entry of a table holds: zero where it should be a number, and is none.
+/// Returns the value of a table's entry, zero if it should be a number but isn't.
 fn value_of(alloc: Global, table: &TableSpec, text: &[u8]) -> Result<Value, AllocError>
     requires size { bad_size_of_table table.now ≡ false }
     requires length { length text.now ≤ table.now.length }

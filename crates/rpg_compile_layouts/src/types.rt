@@ -20,7 +20,7 @@ use rpg_program::rows::RecordType;
 use rpg_sheet_specs::InputSpec;
 use std::alloc::{AllocError, Global};
 
-/// A row for each group of I cards, in which fields stand by their numbers.
+/// Returns a row for each group of I cards, with fields by number.
 #[tactic(auto, using(crate::proofs::Followers::types_other))]
 pub fn types_of(
     alloc: Global,
@@ -46,7 +46,7 @@ pub fn types_of(
     Ok(types)
 }
 
-/// The type that a type card begins, with the cards after it.
+/// Returns the type that a type card begins, with the cards after it.
 fn type_of(
     alloc: Global,
     table: &FieldTable,
@@ -68,7 +68,7 @@ fn type_of(
     })
 }
 
-/// An input field for each field card up to the next type card.
+/// Returns an input field for each field card up to the next type card.
 #[tactic(auto, using(crate::proofs::Followers::next_input))]
 fn inputs_of(
     alloc: Global,
@@ -90,7 +90,7 @@ fn inputs_of(
     Ok(inputs)
 }
 
-/// The columns of a field, with the indicators that show its value.
+/// Returns the columns of a field, with the indicators that show its value.
 fn input_of(table: &FieldTable, field: &rpg_sheet_specs::InputFieldSpec) -> InputField<u16>
     ensures value { result ≡ renamed_input (key_number table.now) (types.input_row field.now) }
     ensures kept { IsInputRow result }

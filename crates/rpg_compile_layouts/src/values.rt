@@ -1,4 +1,4 @@
-//! Zeros and blanks, and copies of texts.
+//! Zeros and blanks, and copies of text.
 
 ghost use Rattle.std.specs.Prelude.{◌≡◌, map, replicate, IfOk};
 ghost use Rattle.rpg_program.specs.Values.{Text, held};

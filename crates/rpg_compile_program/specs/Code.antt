@@ -29,7 +29,7 @@ sizes (g ∷ gs) = size g + sizes gs
 
 -- ---- labels
 
--- the place of the next instruction of the section after a label; its end where there is no such label
+-- the place of the next instruction of the section after a label; its end if there is no such label
 abbrev pub label_place : Option Name → List (Calculation Key) → ℕ → ℕ
 label_place n [] place = place
 label_place n (g ∷ gs) place = if is_same_name n (label_on g.deed) then place else label_place n gs (place + size g)
@@ -44,15 +44,15 @@ no_conditions = record { first = None; second = None; third = None }
 abbrev pub on_level : ℕ → Conditions
 on_level n = record { first = Some (record { indicator = n; is_negated = false }); second = None; third = None }
 
--- a JUMP: it is taken where all conditions hold
+-- a JUMP: it is taken if all conditions hold
 abbrev pub jump : ℕ → Conditions → Instruction ℕ
 jump target cs = made.Branch true cs target
 
--- a SKIP: it is taken where a condition doesn't hold
+-- a SKIP: it is taken if a condition doesn't hold
 abbrev pub skip_code : ℕ → Conditions → Instruction ℕ
 skip_code target cs = made.Branch false cs target
 
--- a SKIP past the group, where it waits for an indicator
+-- a SKIP past the group, if it waits for an indicator
 abbrev pub level_code : ℕ → Option ℕ → List (Instruction ℕ)
 level_code following None = []
 level_code following (Some n) = skip_code following (on_level n) ∷ []

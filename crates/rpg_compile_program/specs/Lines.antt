@@ -40,11 +40,11 @@ use Rattle.rpg_sheet_specs.specs.declared.output.OutputSpec.TheVariants as outpu
 
 -- ---- files
 
--- the record length of a file, 0 where there is none
+-- the record length of a file, 0 if there is none
 abbrev pub record_length_of : Option FileSpec → ℕ
 record_length_of file = option_map_or (λ f. f.record_length) file 0
 
--- the file that a line goes to; the printer where it isn't known
+-- the file that a line goes to; the printer if it isn't known
 abbrev pub file_put : FileUse → File
 file_put uses.Primary = files.Printer
 file_put uses.Secondary = files.Printer
@@ -66,12 +66,12 @@ put_length cards files.Disk = record_length_of (file_for uses.Disk cards)
 abbrev pub is_unmoved : Movement → Bool
 is_unmoved m = is_none m.space_before && is_none m.space_after && is_none m.skip_before && is_none m.skip_after
 
--- on the printer one space after, where these columns are blank
+-- on the printer one space after, if these columns are blank
 abbrev pub spaces_after : File → Movement → ℕ
 spaces_after files.Printer m = if is_unmoved m then 1 else unwrap_or m.space_after 0
 spaces_after files.Disk m = unwrap_or m.space_after 0
 
--- the spaces and skips of a line, 0 where its columns are blank
+-- the spaces and skips of a line, 0 if its columns are blank
 abbrev pub spacing_of : File → Movement → Spacing
 spacing_of file m = record {
   space_before = unwrap_or m.space_before 0;
@@ -80,7 +80,7 @@ spacing_of file m = record {
   skip_after = unwrap_or m.skip_after 0;
 }
 
--- ---- when a line is put out
+-- ---- when a line is output
 
 -- an AND card continues the alternative, an OR card begins one
 abbrev pub line_alternatives : List Condition → List OutputSpec → List (List Condition)

@@ -56,7 +56,7 @@ forms t = name_forms t.names ++ map constant_form t.constants
 
 -- ---- numbers
 
--- the number of a name, its place from 1; 0 where it isn't defined
+-- the number of a name, its place from 1; 0 if it isn't defined
 abbrev pub name_number : Table → List ℕ → ℕ
 name_number t name = unwrap_or (number_of_name t.names name) 0
 

@@ -27,7 +27,7 @@ use Rattle.rpg_sheet_specs.specs.declared.input.RecordType.{RecordType}
 
 -- ---- files
 
--- the file that records are read from; the primary one where it isn't known
+-- the file that records are read from; the primary one if it isn't known
 abbrev pub file_read : FileUse → InputFile
 file_read uses.Primary = Primary
 file_read uses.Secondary = Secondary
@@ -56,11 +56,11 @@ and_card_codes (input.Field f) = []
 
 -- ---- fields
 
--- numeric where column 52 is filled
+-- numeric if column 52 is filled
 abbrev pub control_field : InputFieldSpec → ℕ → ControlField
 control_field f level = record { level = level; is_numeric = is_some f.decimals; from = f.from; to = f.to }
 
--- where the field has a level of that choice
+-- if the field has a level of that choice
 module _ (level_of : InputFieldSpec → Option ℕ) where
   -- the columns of an input field, at its level
   abbrev pub field_at_level : InputFieldSpec → Option ControlField

@@ -22,14 +22,14 @@ pub fn numbers_are_a_renaming()
     ensures { (t : tables.Table) → IsRenaming key_cmp nat_cmp (tables.key_form t) (form_at (tables.forms t)) (tables.key_number t) }
 {}
 
-/// The program's lines and words are those of the cards by names, and its code is that of their sections.
+/// The program's lines and words are those of the cards by name, and its code is that of their sections.
 pub fn programs_say_what_cards_say()
     ensures lines { (cards : List SpecCard) (allowance : ℕ) → lines_of (program_of cards allowance) ≡ map (renamed_line (key_numbers cards)) (lines_on cards) }
     ensures words { (cards : List SpecCard) (allowance : ℕ) (k : Key) → word_at (program_of cards allowance) (key_numbers cards k) ≡ tables.key_word (tables.table_of cards) k }
     ensures code { (cards : List SpecCard) (allowance : ℕ) → IsCodeOf (key_numbers cards) (subroutine_level (sections cards).subroutines) (sections cards) (program_of cards allowance) }
 {}
 
-/// The program of cards that keep the rules of cards keeps all rules of programs, so the verifier accepts it.
+/// The verifier accepts the program of cards that obey the rules of cards: it obeys all rules of programs.
 pub fn programs_are_accepted()
     ensures { (cards : List SpecCard) (allowance : ℕ) → KeepsCardRules cards → AreCards cards → IsAccepted (program_of cards allowance) }
 {}

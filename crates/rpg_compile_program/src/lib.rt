@@ -1,4 +1,4 @@
-//! The object program that the cards of a source stand for: definitions (in specs/), and what always holds for them.
+//! The object program that a source compiles to: definitions (in specs/), and laws about them.
 #![tactic(auto)]
 
 pub mod laws;

@@ -1,4 +1,5 @@
-//! What cards keep by their types, whatever faults they have. The functions do nothing: they are called only for their contracts.
+//! What the types of cards guarantee, whatever faults they have. The functions do nothing: they are called only for their
+//! contracts.
 
 ghost use Rattle.std.specs.Option.{ForSome};
 ghost use Rattle.rpg_cards.specs.Constants.{IsConstant, constant_of};

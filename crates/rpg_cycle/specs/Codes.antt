@@ -1,4 +1,4 @@
--- Codes of what a job's model has.
+-- Encodings of a job's model.
 use Rattle.std.specs.Prelude.{◌≡◌, ℕ, Bool, List, Option, ◌⊎◌, refl}
 use Rattle.std.proofs.Common.{inl, inr}
 use Rattle.std.specs.Coded.{Coded, code_by, coded×, coded⊎, coded_ℕ, coded_bool, coded_list, coded_option}
@@ -16,7 +16,7 @@ fault_to Storage = inr (inl tt)
 fault_to Kind = inr (inr (inl tt))
 fault_to Return = inr (inr (inr tt))
 
--- a fault again
+-- the fault of such a type
 abbrev fault_from : Unit {0} ⊎ (Unit {0} ⊎ (Unit {0} ⊎ Unit {0})) → Fault
 fault_from (inl u) = Jump
 fault_from (inr (inl u)) = Storage
@@ -40,7 +40,7 @@ end_to EndOfJob = inr (inl tt)
 end_to (Halt k) = inr (inr (inl k))
 end_to (Wrong f) = inr (inr (inr f))
 
--- the end of a phase again
+-- the end of a phase of such a type
 abbrev end_from : Unit {0} ⊎ (Unit {0} ⊎ (ℕ ⊎ Fault)) → PhaseEnd
 end_from (inl u) = GoesOn
 end_from (inr (inl u)) = EndOfJob
@@ -63,7 +63,7 @@ stage_to Going = inl tt
 stage_to Failed = inr (inl tt)
 stage_to (Ended e) = inr (inr e)
 
--- a stage again
+-- the stage of such a type
 abbrev stage_from : Unit {0} ⊎ (Unit {0} ⊎ PhaseEnd) → Stage
 stage_from (inl u) = Going
 stage_from (inr (inl u)) = Failed
@@ -90,7 +90,7 @@ coded_value = coded_option (coded_list coded_ℕ)
 abbrev left_to : Left → Bool × (Bool × (List ComparedBytes × (ComparedBytes × ComparedBytes)))
 left_to l = (l.any, (l.control, (l.bytes, (l.primary, l.secondary))))
 
--- what a job keeps of earlier records again
+-- what a job keeps of earlier records, from its parts
 abbrev left_from : Bool × (Bool × (List ComparedBytes × (ComparedBytes × ComparedBytes))) → Left
 left_from p = record { any = p.0; control = p.1.0; bytes = p.1.1.0; primary = p.1.1.1.0; secondary = p.1.1.1.1 }
 

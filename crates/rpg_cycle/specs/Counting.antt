@@ -1,4 +1,4 @@
--- How many records a run still has.
+-- How many records a run has left.
 use Rattle.std.specs.Prelude.{ℕ, ◌+◌, length, Option, None, Some}
 use Rattle.rpg_cycle_records.specs.Earlier.{Selected}
 use Rattle.rpg_cycle.specs.Runs.{Records}

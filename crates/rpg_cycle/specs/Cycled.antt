@@ -1,4 +1,4 @@
--- What a cycle requires, how it came out, and what one that goes on leaves.
+-- What a cycle requires, its result, and what it leaves if it goes on.
 use Rattle.std.specs.Prelude.{◌≡◌, ℕ, ◌<◌, ◌≤◌, List, Option, Result, IfOk, length}
 use Rattle.std.specs.Option.{ForSome}
 use denote.Bor.{Bor}
@@ -16,7 +16,7 @@ use Rattle.rpg_machine.specs.Running.{Running, refilled}
 use Rattle.rpg_program.specs.Object.{Object}
 use Rattle.rpg_verify.specs.Bound.{bound}
 
--- the records that are next in both files have only characters, if that was seen
+-- the next records of both files have only characters, if they were checked
 pub record AreSeen (seen : Seen) (first second : Option (Bor (List ℕ))) : Type 0 where
   pub primary : IsSeen seen.primary first
   pub secondary : IsSeen seen.secondary second
@@ -34,14 +34,14 @@ pub record HasCycled (p : Object) (k : Kept) (primary secondary : Option (Bor (L
   pub left : RenewsLeft p t k k'
   pub kept : AreFilesKept p k'
 
--- all phases of a cycle were done, up to the one that ended the job, if one did: how that came out, and what it took at most
+-- all phases of a cycle were done, up to the one that ended the job, if one did: the result, and its cost at most
 pub record DoesPhases (p : Object) (k : Kept) (primary secondary : Option (Bor (List ℕ))) (old : Running) (r : Result (Option ℕ) PhaseStop) (k' : Kept) (new : Running) : Type 0 where
   pub goes : IfOk r (λ t. HasCycled p k primary secondary old t k' new)
   pub stops : IfStops r (λ e. CycleEnds p k primary secondary old (job_end e) new)
   pub spends : UnlessNoMemory r (Spends p (phases_weight p) old new)
   pub grows : OnlyGrows old.output new.output
 
--- a cycle was done with the allowance full: how it came out, within the program's bound
+-- a cycle was done with a full allowance: its result, within the program's bound
 pub record RunsCycle (k : Kept) (primary secondary : Option (Bor (List ℕ))) (old : Running) (r : Result (Option ℕ) PhaseStop) (k' : Kept) (new : Running) : Type 0 where
   pub goes : IfOk r (λ t. HasCycled old.program k primary secondary (refilled old) t k' new)
   pub stops : IfStops r (λ e. CycleEnds old.program k primary secondary (refilled old) (job_end e) new)

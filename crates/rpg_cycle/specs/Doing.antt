@@ -1,4 +1,4 @@
--- That a machine did a phase, in the words of its calls.
+-- That a machine did a phase, in terms of its calls.
 use Rattle.std.specs.Prelude.{◌≡◌, ℕ, Bool, true, List, Option, None, IfSome}
 use Rattle.std.specs.List.{list_all}
 use Rattle.std.specs.Option.{option_map}
@@ -17,15 +17,15 @@ use Rattle.rpg_machine.specs.Running.{Running, config_on}
 use Rattle.rpg_program.specs.Object.{Object}
 use Rattle.rpg_text.specs.Texts.{is_character}
 
--- the text of the record that is next in a file, if there is one
+-- the text of a file's next record, if there is one
 abbrev pub next_text : Option (Bor (List ℕ)) → Option (List ℕ)
 next_text next = option_map (λ (text : Bor (List ℕ)). text.now) next
 
--- the record that is next in a file, if there is one, has only characters if that was seen
+-- a file's next record, if there is one, has only characters if that was checked
 abbrev pub IsSeen : Bool → Option (Bor (List ℕ)) → Type 0
 IsSeen is_seen next = is_seen ≡ true → IfSome next (λ text. list_all is_character text.now ≡ true)
 
--- what a cycle has besides the machine: the files, and the record that was selected
+-- the parts of a cycle besides the machine: the files, and the record that was selected
 pub record Beside : Type 0 where
   pub inputs : Inputs
   pub selected : Option Selected
@@ -58,11 +58,12 @@ selected_has_match p k t = if_selected (match_by p k (inputs_of k)) (selected_in
 abbrev pub cycle_by : Object → Kept → Option (List ℕ) → Option (List ℕ) → Phase
 cycle_by p k primary secondary = CycleOn p (left_of k) (match_by p k) primary secondary
 
--- a cycle so far
+-- a cycle in progress
 abbrev pub under_way : Config → Beside → UnderWay
 under_way c h = record { config = c; inputs = h.inputs; selected = h.selected }
 
--- after a line placed before, a machine did a phase, and its bytes were appended; `before` and `after` are what the cycle has besides the machine
+-- after an earlier placed line, a machine did a phase, and its bytes were appended; `before` and `after` are the parts of the cycle besides
+-- the machine
 pub record DoesAfter (P : Phase) (previous : Option Position) (old : Running) (before : Beside) (e : PhaseEnd) (new : Running) (after : Beside) : Type 0 where
   pub out : Output
   pub phase : P (under_way (config_on previous old.config) before) e (under_way (config_on (last_position_from previous out.lines) new.config) after) out
@@ -74,7 +75,7 @@ pub record Does (P : Phase) (old : Running) (before : Beside) (e : PhaseEnd) (ne
   pub program : new.program ≡ old.program
   pub following : (previous : Option Position) → old.last ≡ line_of previous → DoesAfter P previous old before e new after
 
--- a machine did a phase that left the files and the selected record as they were
+-- a machine did a phase that left the files and the selected record unchanged
 abbrev pub DoesHolding : Phase → Beside → Running → PhaseEnd → Running → Type 0
 DoesHolding P h old e new = Does P old h e new h
 
@@ -86,8 +87,8 @@ DoesWith P s old e new = (i : Inputs) → DoesHolding P (record { inputs = i; se
 pub record DoesAlone (P : Phase) (old : Running) (e : PhaseEnd) (new : Running) : Type 0 where
   pub each : (h : Beside) → DoesHolding P h old e new
 
--- With what is kept of earlier records and of its files, and with the record that is next in each, a machine with its allowance full did
--- a cycle that goes on, and selected the record of that type, if one was selected.
+-- With what is kept of earlier records and of its files, and with the next record of each, a machine with a full allowance did a cycle that
+-- goes on, and selected the record of that type, if one was selected.
 abbrev pub CycleGoesOn : Object → Kept → (primary secondary : Option (Bor (List ℕ))) → Running → Option ℕ → Kept → Running → Type 0
 CycleGoesOn p k primary secondary old t k' new =
     Does (cycle_by p k (next_text primary) (next_text secondary)) old (unselected (inputs_of k)) GoesOn new (holding_kept p k' t)

@@ -54,16 +54,16 @@ abbrev pub with_all : List ℕ → Bool → Config → Config
 with_all [] on c = c
 with_all (n ∷ ns) on c = with_all ns on (with_one n on c)
 
--- L1 to the n-th turn on
+-- L1 to the n-th level turned on
 abbrev pub with_levels : ℕ → Config → Config
 with_levels n c = with_all (take n level_indicators) true c
 
--- a record type's indicator turns on
+-- a record type's indicator turned on
 abbrev pub with_type : Option ℕ → Config → Config
 with_type None c = c
 with_type (Some n) c = with_one n true c
 
--- a record type's indicator goes off, unless it is LR
+-- a record type's indicator turned off, unless it is LR
 abbrev pub without_type : Option ℕ → Config → Config
 without_type None c = c
 without_type (Some n) c = if n == last_record then c else with_one n false c
@@ -73,7 +73,7 @@ abbrev pub without_types : List (TypeRow ℕ) → Config → Config
 without_types [] c = c
 without_types (t ∷ ts) c = without_types ts (without_type t.indicator c)
 
--- a machine's indicators were turned like that, it is as ready as before, and nothing else changed
+-- a machine's indicators were turned like this, it is as ready as before, and nothing else changed
 pub record Turns (f : Config → Config) (old new : Running) : Type 0 where
   pub turned : new ≡ record old { config = f old.config }
   pub ready : IsReady old → IsReady new

@@ -1,4 +1,4 @@
--- What a job is to its callers. Of the lines before it remembers only which was placed last, as the machine does.
+-- A job as its callers see it. Of the lines before it remembers only the last one placed, as the machine does.
 use Rattle.std.specs.Prelude.{◌≡◌, ℕ, ℤ, ◌++◌, ◌≤◌, Bool, true, false, ◌&&◌, List, [], Option, None, Some}
 use Rattle.std.specs.Ordering.{nat_cmp}
 use Rattle.rpg_paper.specs.Paper.{Position, last_position_from}
@@ -24,8 +24,8 @@ use Rattle.rpg_program.specs.Object.{Object}
 use Rattle.rpg_store.specs.First.{first_contents, first_currents}
 use Rattle.rpg_verify.specs.Bound.{bound}
 
--- a job: its program, the machine's configuration, the line that was placed last, the bytes put out since they were taken, what earlier
--- records left, its files, and how far it is
+-- a job: its program, the machine's configuration, the line placed last, the bytes output since they were taken, what is left of earlier
+-- records, its files, and its stage
 pub record AtWork : Type 0 where
   pub program : Object
   pub config : Config
@@ -37,7 +37,7 @@ pub record AtWork : Type 0 where
 
 -- ---- the start
 
--- a job before its first cycle, on a date, over what its fields hold at first
+-- a job before its first cycle, on a date, with the first values of its fields
 abbrev pub job_started : Object → ℤ → Fields nat_cmp → AtWork
 job_started p date fields = record {
   program = p;
@@ -49,13 +49,13 @@ job_started p date fields = record {
   stage = Going;
 }
 
--- on the date that a text spells
+-- on the date in a text
 pub record Starts (p : Object) (date : List ℕ) (fields : Fields nat_cmp) (j : AtWork) : Type 0 where
   pub number : ℤ
   pub spelled : date_in date ≡ Some number
   pub job : j ≡ job_started p number fields
 
--- what a program's fields hold at first
+-- the first values of a program's fields
 abbrev pub first_fields : Object → Fields nat_cmp
 first_fields p = record { values = first_contents p; current = first_currents p }
 
@@ -67,7 +67,7 @@ pub record IsFollowing (p : Object) (left : Left) (inputs : Inputs) : Type 0 whe
   pub leave : left ≡ left_by p earlier
   pub orderly : AreMergedInOrder p earlier inputs
 
--- where the job ends, so does the last line
+-- if the job ends, so does the last line
 abbrev pub feed_at : Stage → Option ℕ → List ℕ
 feed_at Going last = []
 feed_at (Ended e) last = feed_after last
@@ -77,8 +77,8 @@ feed_at Failed last = []
 abbrev pub with_feed : List ℕ → Bytes → Bytes
 with_feed feed bytes = record bytes { print = bytes.print ++ feed }
 
--- After these earlier records and a line placed before, a job did a cycle with the record that was next in each file, or with none at its
--- end. Its bytes were appended.
+-- After these earlier records and an earlier placed line, a job did a cycle with the next record of each file, or none at its end. Its
+-- bytes were appended.
 pub record DoesCycle (old : AtWork) (earlier : List Selected) (previous : Option Position) (primary secondary : Option (List ℕ)) (e : PhaseEnd) (new : AtWork) : Type 0 where
   pub stage : new.stage ≡ stage_at e
   pub program : new.program ≡ old.program
@@ -92,13 +92,13 @@ pub record DoesCycle (old : AtWork) (earlier : List Selected) (previous : Option
   pub bytes : new.output ≡ with_feed (feed_at (stage_at e) new.last) (with_output previous out.lines out.records old.output)
 
 -- A cycle after earlier records that left what the job keeps, whatever was placed before. There are such records, and it is the same cycle
--- after each list of them that came in order.
+-- after each list of them in order.
 pub record Cycles (old : AtWork) (primary secondary : Option (List ℕ)) (new : AtWork) : Type 0 where
   pub following : IsFollowing old.program old.left old.inputs
   pub does : (earlier : List Selected) → old.left ≡ left_by old.program earlier → AreMergedInOrder old.program earlier old.inputs
       → (previous : Option Position) → old.last ≡ line_of previous → (e : PhaseEnd) × DoesCycle old earlier previous primary secondary e new
 
--- the next cycle takes a record in from a file: the job goes on, and the file takes one in
+-- the next cycle reads a record from a file: the job goes on, and the file needs one
 abbrev pub job_needs_record : AtWork → InputFile → Bool
 job_needs_record j f = is_going j.stage && cycles.needs_record j.program j.config j.inputs f
 
@@ -106,14 +106,14 @@ job_needs_record j f = is_going j.stage && cycles.needs_record j.program j.confi
 abbrev pub KeepsBound : AtWork → Type 0
 KeepsBound j = has_failed j.stage ≡ false → j.config.steps ≤ bound j.program
 
--- what was put out has been taken
+-- the output was taken
 abbrev pub job_taken : AtWork → AtWork
 job_taken j = record j { output = no_bytes }
 
 -- ---- what a job keeps
 
--- while it goes on its machine runs its program and is ready, earlier records left what is kept of them, and what waits in the files is
--- kept well; the steps are in their bound
+-- while it goes on its machine runs its program and is ready, what is kept is that of earlier records, and the files' waiting records are
+-- well kept; the steps are in their bound
 pub record IsAtWork (p : Object) (machine : Running) (stage : Stage) (kept : Kept) : Type 0 where
   pub program : is_going stage ≡ true → machine.program ≡ p
   pub ready : is_going stage ≡ true → IsReady machine

@@ -21,29 +21,29 @@ CyclesKeepOrder =
     (p : Object) (earlier : List Selected) (a b : Option (List ℕ)) (c : Config) (i : Inputs) (d : UnderWay) (out : Output)
     → AreMergedInOrder p earlier i → Cycle p earlier a b (begun p c i) GoesOn d out → AreMergedInOrder p (with_record d.selected earlier) d.inputs
 
--- a cycle that seeks a match by what earlier records left, and not among all of them
+-- a cycle that looks for a match in what earlier records left, not among all of them
 abbrev pub CycleByLeft : Object → List Selected → Option (List ℕ) → Option (List ℕ) → Phase
 CycleByLeft p earlier a b = CycleOn p (left_by p earlier) (finds_match p (left_by p earlier)) a b
 
--- where records are in their order, each cycle is one that seeks so
+-- if records are in order, each cycle is one that looks for matches this way
 abbrev pub CyclesGoByLeft : Type 0
 CyclesGoByLeft =
     (p : Object) (earlier : List Selected) (a b : Option (List ℕ)) (c : Config) (i : Inputs) (e : PhaseEnd) (d : UnderWay) (out : Output)
     → AreMergedInOrder p earlier i → Cycle p earlier a b (begun p c i) e d out → CycleByLeft p earlier a b (begun p c i) e d out
 
--- and each that seeks so is a cycle
+-- and each such cycle is a cycle
 abbrev pub LeftGivesCycles : Type 0
 LeftGivesCycles =
     (p : Object) (earlier : List Selected) (a b : Option (List ℕ)) (c : Config) (i : Inputs) (e : PhaseEnd) (d : UnderWay) (out : Output)
     → AreMergedInOrder p earlier i → CycleByLeft p earlier a b (begun p c i) e d out → Cycle p earlier a b (begun p c i) e d out
 
--- where the primary file takes no record in, a cycle is the same whatever record of it is next, or none
+-- if the primary file reads no record, a cycle is the same whatever record of it is next, or none
 abbrev pub IgnoresPrimary : Object → Type 0
 IgnoresPrimary p =
     (earlier : List Selected) (c : Config) (i : Inputs) (now next b : Option (List ℕ)) (e : PhaseEnd) (d : UnderWay) (out : Output)
     → needs_record p c i Primary ≡ false → Cycle p earlier now b (begun p c i) e d out → Cycle p earlier next b (begun p c i) e d out
 
--- the same of the secondary file
+-- the same for the secondary file
 abbrev pub IgnoresSecondary : Object → Type 0
 IgnoresSecondary p =
     (earlier : List Selected) (c : Config) (i : Inputs) (a now next : Option (List ℕ)) (e : PhaseEnd) (d : UnderWay) (out : Output)
@@ -51,19 +51,19 @@ IgnoresSecondary p =
 
 -- ---- runs
 
--- two runs over the same records have one course
+-- two runs over the same records take the same course
 abbrev pub RecordsGiveOneCourse : Type 0
 RecordsGiveOneCourse =
     (p : Object) (date : ℤ) (fields : Fields nat_cmp) (records : Records) (u v : Course) (a b : Bytes)
     → IsRun p date fields records u a → IsRun p date fields records v b → u ≡ v
 
--- and put out the same bytes
+-- and output the same bytes
 abbrev pub RecordsGiveOneOutput : Type 0
 RecordsGiveOneOutput =
     (p : Object) (date : ℤ) (fields : Fields nat_cmp) (records : Records) (u v : Course) (a b : Bytes)
     → IsRun p date fields records u a → IsRun p date fields records v b → a ≡ b
 
--- a run of at most so many cycles is a run
+-- a run of at most a given number of cycles is a run
 abbrev pub RunsGoByTheirCount : Type 0
 RunsGoByTheirCount =
     (n : ℕ) (p : Object) (earlier : List Selected) (rs : Records) (c : Config) (i : Inputs) (course : Course)

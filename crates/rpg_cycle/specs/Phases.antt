@@ -22,26 +22,26 @@ use Rattle.rpg_program.specs.Object.{Object}
 use Rattle.rpg_program.specs.declared.section.Section.{Section}
 use Rattle.rpg_program.specs.declared.section.Section.TheVariants as sections
 
--- A cycle under way: the configuration, the files, and the record that phase 4 selected, if it has selected one.
+-- A cycle in progress: the configuration, the files, and the record that phase 4 selected, if it has selected one.
 pub record UnderWay : Type 0 where
   pub config : Config
   pub inputs : Inputs
   pub selected : Option Selected
 
--- A phase leads from one to another; it goes on or ends the job, and it puts something out.
+-- A phase leads from one to another; it goes on or ends the job, and it outputs something.
 abbrev pub Phase : Type 1
 Phase = UnderWay → PhaseEnd → UnderWay → Output → Type 0
 
--- a phase from where the one before has led, unless that ended the job
+-- a phase from where the previous one led, unless that ended the job
 abbrev pub from_there : Phase → PhaseEnd → UnderWay → Output → PhaseEnd → UnderWay → Output → Type 0
 from_there Q GoesOn m put e d out = (more : Output) × Q m e d more × (out ≡ with_more put more)
 from_there Q EndOfJob m put e d out = (e ≡ EndOfJob) × (d ≡ m) × (out ≡ put)
 from_there Q (Halt k) m put e d out = (e ≡ Halt k) × (d ≡ m) × (out ≡ put)
 from_there Q (Wrong f) m put e d out = (e ≡ Wrong f) × (d ≡ m) × (out ≡ put)
 
--- the one phase and then the other
+-- one phase, then the other
 infixr 5 ◌before◌
--- one phase after the other; the second is left out where the first ends the cycle
+-- one phase after the other; the second is skipped if the first ends the cycle
 abbrev pub ◌before◌ : Phase → Phase → Phase
 (P before Q) c e d out = (f : PhaseEnd) × (m : UnderWay) × (put : Output) × P c f m put × from_there Q f m put e d out
 
@@ -93,7 +93,7 @@ either false P Q = Q
 abbrev pub unless : (Config → Bool) → Phase → Phase
 unless test P c = either (test c.config) nothing_done P c
 
--- ---- 1 heading and detail lines of the cycle before, and at first those of the first page
+-- ---- 1 heading and detail lines of the previous cycle, and at first those of the first page
 
 -- heading and detail lines
 abbrev pub detail_lines : Object → Phase
@@ -101,11 +101,11 @@ detail_lines p = output p times.Detail
 
 -- ---- 2 halt 6 where a halt indicator is on
 
--- halt 6 where a halt indicator is on
+-- halt 6 if a halt indicator is on
 abbrev pub halt_where_asked : Phase
 halt_where_asked = without_output (λ c. done (if any_on c.config halt_indicators then Halt 6 else GoesOn) c)
 
--- ---- 3 1P, L1 to L9 and the indicators of record types but LR go off
+-- ---- 3 1P, L1 to L9 and the indicators of record types but LR turn off
 
 -- indicators of record types, control levels and 1P turned off
 abbrev pub all_off : Object → Config → Config
@@ -115,7 +115,7 @@ all_off p c = with_one first_page false (with_all level_indicators false (withou
 abbrev pub set_off : Object → Phase
 set_off p = without_output (λ c. done GoesOn (with_config (all_off p) c))
 
--- ---- 4 records are taken in, and one is selected
+-- ---- 4 records are read, and one is selected
 
 -- a record waits, unless its match value is lower than its file's last one, which is halt 8
 abbrev pub match_up : Object → Left → InputFile → Selected → UnderWay → Done
@@ -130,24 +130,24 @@ take_type p left f text (IsOf t) c = match_up p left f (record { type = t; text 
 take_type p left f text IsOfNone c = done (Halt 3) c
 take_type p left f text Misplaced c = done (Wrong effects.Storage) c
 
--- the types of the file are tried, which weighs the codes of all that are
+-- the types of the file are tried, which weighs the codes of all that were tried
 abbrev pub identify : Object → Left → InputFile → List ℕ → UnderWay → Done
 identify p left f text c = take_type p left f text (identified f 0 p.types text) (with_config (charged (trial_weight f p.types text)) c)
 
--- a good record is identified, a bad one is halt 7; where there is none the file is at its end
+-- a good record is identified, a bad one is halt 7; if there is none the file is at its end
 abbrev pub read_record : Object → Left → InputFile → Option (List ℕ) → UnderWay → Done
 read_record p left f None c = done GoesOn (with_inputs (with_file_over f) c)
 read_record p left f (Some text) c = if is_good_record p f text then identify p left f (padded p f text) c else done (Halt 7) c
 
--- a file that is there, not at its end and without a waiting record takes one in
+-- a file that exists, isn't at its end and has no waiting record reads one
 abbrev pub take_in : Object → Left → InputFile → Option (List ℕ) → Phase
 take_in p left f next = without_output (λ c. if takes_in p c.inputs f then read_record p left f next c else done GoesOn c)
 
--- the highest level that this record breaks, 0 where it breaks none
+-- the highest level that this record breaks, 0 if none
 abbrev pub broken_level : Object → Left → Selected → ℕ
 broken_level p left s = highest_broken (λ level. differs (last_of_level left level) (level_bytes (control_fields p s.type) s.text level)) 9
 
--- the control fields are compared; the highest level that is broken turns on, with all below it
+-- the control fields are compared; the highest broken level turns on, with all below it
 abbrev pub compare_levels : Object → Left → Selected → UnderWay → Done
 compare_levels p left s c =
     if list_all (is_in_record (length s.text)) (control_fields p s.type)
@@ -159,13 +159,13 @@ abbrev pub type_indicator : Option (TypeRow ℕ) → Option ℕ
 type_indicator None = None
 type_indicator (Some t) = t.indicator
 
--- the record that waits in a file is selected: it waits no longer, and its type's indicator turns on
+-- the record that waits in a file is selected: it no longer waits, and its type's indicator turns on
 abbrev pub select_waiting : Object → Left → InputFile → Option Selected → UnderWay → Done
 select_waiting p left f None c = done GoesOn c
 select_waiting p left f (Some s) c =
     compare_levels p left s (with_config (with_type (type_indicator (slice_get p.types s.type))) (with_inputs (with_waiting f None) c))
 
--- where no record waits, LR and all levels turn on
+-- if no record waits, LR and all levels turn on
 abbrev pub select_from : Object → Left → Option InputFile → UnderWay → Done
 select_from p left None c = done GoesOn (with_config (λ x. with_all level_indicators true (with_one last_record true x)) c)
 select_from p left (Some f) c = select_waiting p left f (waiting_in c.inputs f) c
@@ -174,7 +174,7 @@ select_from p left (Some f) c = select_waiting p left f (waiting_in c.inputs f) 
 abbrev pub select_one : Object → Left → Phase
 select_one p left = without_output (λ c. select_from p left (chosen p (waiting_in c.inputs Primary) (waiting_in c.inputs Secondary)) c)
 
--- where LR is on no record is taken in, and L1 to L9 turn on
+-- if LR is on no record is read, and L1 to L9 turn on
 abbrev pub select_record : Object → Left → Option (List ℕ) → Option (List ℕ) → Phase
 select_record p left primary secondary c =
     either (is_on c.config last_record) (without_output (λ c. done GoesOn (with_config (with_all level_indicators true) c)))
@@ -187,7 +187,7 @@ abbrev pub has_control_fields : List (TypeRow ℕ) → Bool
 has_control_fields [] = false
 has_control_fields (t ∷ ts) = is_any t.levels || has_control_fields ts
 
--- in the first cycle, and until a record with control fields was selected, if types have them; never where LR is on
+-- in the first cycle, and until a record with control fields was selected, if types have them; never if LR is on
 abbrev pub is_bypassed : Object → Bool → Bool → Config → Bool
 is_bypassed p any control c = not (is_on c last_record) && (not any || (has_control_fields p.types && not control))
 
@@ -205,7 +205,7 @@ total_time p left = total_time_by p left.any left.control
 
 -- ---- 6 the job ends where LR is on, or where no record was selected
 
--- the job ends where LR is on, or no record is left
+-- the job ends if LR is on, or no record is left
 abbrev pub end_where_last : Phase
 end_where_last = without_output (λ c. done (if is_on c.config last_record || is_none c.selected then EndOfJob else GoesOn) c)
 
@@ -216,7 +216,7 @@ abbrev pub has_no_overflow : Option ℕ → Config → Bool
 has_no_overflow None c = true
 has_no_overflow (Some n) c = not (is_on c n)
 
--- the lines for overflow, where its indicator is on
+-- the lines for overflow, if its indicator is on
 abbrev pub overflow_lines : Object → Phase
 overflow_lines p = unless (has_no_overflow p.overflow) (output p times.Overflow)
 
@@ -227,7 +227,7 @@ abbrev pub if_selected : (Selected → Bool) → Option Selected → Bool
 if_selected test None = false
 if_selected test (Some s) = test s
 
--- MR is on if the record has a match, and off if not
+-- MR is on if the record has a match, otherwise off
 abbrev pub show_match : (Inputs → Selected → Bool) → Phase
 show_match matches = without_output (λ c. done GoesOn (with_config (with_one matching_record (if_selected (matches c.inputs) c.selected)) c))
 
@@ -236,7 +236,7 @@ abbrev pub fill_from : Object → Option Selected → Phase
 fill_from p None = nothing_done
 fill_from p (Some s) = by_machine (FillsFields p s.type s.text)
 
--- the fields take what the record has
+-- the fields get their values from the record
 abbrev pub fill_fields : Object → Phase
 fill_fields p c = fill_from p c.selected c
 
@@ -248,7 +248,7 @@ detail_calculations p = section p sections.Detail
 
 -- ---- the cycle
 
--- with what earlier records leave, with a test of matching records, and with the record that is next in each file, or none at its end
+-- with what earlier records leave, a test for matching records, and the next record of each file, or none at its end
 abbrev pub CycleOn : Object → Left → (Inputs → Selected → Bool) → Option (List ℕ) → Option (List ℕ) → Phase
 CycleOn p left matches primary secondary =
     detail_lines p
@@ -262,19 +262,18 @@ CycleOn p left matches primary secondary =
     before fill_fields p
     before detail_calculations p
 
--- a cycle after those that selected the earlier records, the last of these first, with the record that is next in each file, or none at
--- its end
+-- a cycle after those that selected the earlier records, the last of these first, with the next record of each file, or none at its end
 abbrev pub Cycle : Object → List Selected → Option (List ℕ) → Option (List ℕ) → Phase
 Cycle p earlier primary secondary = CycleOn p (left_by p earlier) (has_match p earlier) primary secondary
 
--- the allowance full, no steps, and nothing selected
+-- a full allowance, no steps, and nothing selected
 abbrev pub begun : Object → Config → Inputs → UnderWay
 begun p c i = record { config = record c { allowance = p.allowance; steps = 0 }; inputs = i; selected = None }
 
--- a cycle takes records in, unless LR or one of H1 to H9 is on
+-- a cycle reads records, unless LR or one of H1 to H9 is on
 abbrev pub takes_records : Config → Bool
 takes_records c = not (is_on c last_record || any_on c halt_indicators)
 
--- of a job that goes on: whether a file takes a record in at its next cycle
+-- for a job that goes on: whether a file reads a record in its next cycle
 abbrev pub needs_record : Object → Config → Inputs → InputFile → Bool
 needs_record p c i f = takes_records c && takes_in p i f

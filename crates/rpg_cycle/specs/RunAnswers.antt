@@ -23,7 +23,7 @@ texts = map (λ (v : Vec ℕ). v.items)
 abbrev pub records_in : List (Vec ℕ) → List (Vec ℕ) → Records
 records_in primary secondary = record { primary = texts primary; secondary = texts secondary }
 
--- the course of a run that put this out and led there
+-- the course of a run that output this and led there
 abbrev pub course_of : Summary → Output → UnderWay → Course
 course_of s out there = record { ending = job_end s.ending; cycles = s.cycles; most = s.most; output = out; there = there }
 
@@ -46,18 +46,18 @@ pub record RunsRecords (old : AtWork) (records : Records) (s : Summary) (new : A
 abbrev pub summary_of : Run → Summary
 summary_of r = record { ending = r.ending; cycles = r.cycles; most = r.most }
 
--- the bytes that a run has put out
+-- the bytes that a run has output
 abbrev pub run_output : Run → Bytes
 run_output r = record { print = r.output.print.items; disk = r.output.disk.items }
 
--- a job before its first cycle ran over records to its end, and all that it had put out was taken
+-- a job before its first cycle ran over records to its end, and all its output was taken
 pub record RunsToEnd (old : AtWork) (records : Records) (r : Run) : Type 0 where
   pub at_end : AtWork
   pub runs : RunsRecords old records (summary_of r) at_end
   pub print : r.output.print.items ≡ at_end.output.print
   pub disk : r.output.disk.items ≡ at_end.output.disk
 
--- the whole run of a program over records, on the date that a text spells and over the first values of its fields
+-- the whole run of a program over records, on the date in a text and with the first values of its fields
 pub record RunsWhole (p : Object) (date : List ℕ) (records : Records) (r : Run) : Type 0 where
   pub number : ℤ
   pub spelled : date_in date ≡ Some number

@@ -1,4 +1,4 @@
--- Whole runs: cycles, each with the records that are next in the files that take one in, until one ends the job.
+-- Whole runs: cycles, each with the next records of the files that read one, until one ends the job.
 use Rattle.std.specs.Prelude.{◌≡◌, ℕ, zero, suc, ◌+◌, ◌++◌, ℤ, Bool, List, [], ◌∷◌, max, Option, None, Some, if◌then◌else◌}
 use Rattle.std.specs.Ordering.{nat_cmp}
 use Rattle.rpg_cycle_records.specs.Earlier.{Selected, with_record}
@@ -13,7 +13,7 @@ use Rattle.rpg_program.specs.declared.input.InputFile.TheVariants.{Primary, Seco
 use Rattle.rpg_machine.specs.Config.{Config, Output, with_more}
 use Rattle.rpg_program.specs.Object.{Object}
 
--- how a run ended, in how many cycles, the most steps that one of them took, what was put out, and what the last cycle led to
+-- how a run ended, in how many cycles, the most steps that one of them took, its output, and what the last cycle led to
 pub record Course : Type 0 where
   pub ending : PhaseEnd
   pub cycles : ℕ
@@ -21,7 +21,7 @@ pub record Course : Type 0 where
   pub output : Output
   pub there : UnderWay
 
--- the course of a run whose last cycle this is
+-- the course of a run with this last cycle
 abbrev pub last_cycle : PhaseEnd → UnderWay → Output → Course
 last_cycle e d out = record { ending = e; cycles = 1; most = d.config.steps; output = out; there = d }
 
@@ -57,11 +57,11 @@ abbrev pub following_first : {A : Type 0} → List A → List A
 following_first [] = []
 following_first (x ∷ xs) = xs
 
--- what a cycle takes from a file, and what it leaves
+-- what a cycle reads from a file, and what it leaves
 abbrev pub next_of : {A : Type 0} → Bool → List A → Option A
 next_of is_needed rs = if is_needed then first_if_any rs else None
 
--- the records that are left, where one is needed
+-- the records that are left, if one is needed
 abbrev pub rest_where_needed : {A : Type 0} → Bool → List A → List A
 rest_where_needed is_needed rs = if is_needed then following_first rs else rs
 
@@ -69,7 +69,8 @@ rest_where_needed is_needed rs = if is_needed then following_first rs else rs
 abbrev pub left_following : Object → Config → Inputs → Records → Records
 left_following p c i rs = record { primary = rest_where_needed (needs_record p c i Primary) rs.primary; secondary = rest_where_needed (needs_record p c i Secondary) rs.secondary }
 
--- a run of at most so many cycles from a configuration and files, after earlier records (the last first), over the records that are left
+-- a run of at most a given number of cycles from a configuration and files, after earlier records (the last first), over the remaining
+-- records
 abbrev pub RunsIn : ℕ → Object → List Selected → Records → Config → Inputs → Course → Type 0
 RunsIn zero p earlier rs c i course = ⊥
 RunsIn (suc n) p earlier rs c i course =
@@ -81,7 +82,7 @@ RunsIn (suc n) p earlier rs c i course =
 abbrev pub Runs : Object → List Selected → Records → Config → Inputs → Course → Type 0
 Runs p earlier rs c i course = RunsIn course.cycles p earlier rs c i course
 
--- a line feed after the last line, where one was placed
+-- a line feed after the last line, if one was placed
 abbrev pub last_feed : List Placed → List ℕ
 last_feed [] = []
 last_feed (x ∷ xs) = 10 ∷ []
@@ -94,7 +95,7 @@ printed out = paper out.lines ++ last_feed out.lines
 abbrev pub stored : Output → List ℕ
 stored out = disk_bytes out.records
 
--- the whole run of a program over records, with a date and with what its fields hold at first
+-- the whole run of a program over records, with a date and the first values of its fields
 pub record IsRun (p : Object) (date : ℤ) (fields : Fields nat_cmp) (records : Records) (course : Course) (bytes : Bytes) : Type 0 where
   pub runs : Runs p [] records (job_start p date fields) unread course
   pub print : bytes.print ≡ printed course.output

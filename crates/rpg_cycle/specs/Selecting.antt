@@ -1,4 +1,4 @@
--- What the parts of taking records in, and of selecting one, do.
+-- What the parts of reading records, and of selecting one, do.
 use Rattle.std.specs.Prelude.{◌≡◌, ℕ, ◌+◌, ◌<◌, ◌≤◌, All, List, length, slice_get, Option, None, Some}
 use Rattle.std.specs.Option.{ForSome}
 use denote.Bor.{Bor}
@@ -44,19 +44,19 @@ pub record IsUntaken (p : Object) (f : InputFile) (text : List ℕ) (old : Runni
   pub end : job_end e ≡ Halt 3
   pub machine : new ≡ record old { config = charged (trial_weight f p.types text) old.config }
 
--- the indicator of a type went on, its control fields were compared, and are kept
+-- the indicator of a type turned on, its control fields were compared, and are kept
 pub record IsCompared (indicator : Option ℕ) (fs : List ControlField) (text : List ℕ) (bytes : List (Option (List ℕ))) (old new : Running) (now : List (Option (List ℕ))) : Type 0 where
   pub machine : new ≡ record old { config = with_levels (broken_in fs text bytes) (charged (length fs) (with_type indicator old.config)) }
   pub kept : now ≡ renewed fs text 9 bytes
   pub inside : All (IsControlIn (length text)) fs
 
--- a file was read and gave this record or none: how that ended, and what waits then, wherever the form is
+-- a file was read and gave this record or none: the result, and what waits then, wherever the form is
 pub record HasRead (p : Object) (left : Left) (f : InputFile) (next : Option (List ℕ)) (before : Inputs) (old : Running) (e : PhaseEnd) (new : Running) (after : Inputs) : Type 0 where
   pub config : Config
   pub read : (previous : Option Position) → read_record p left f next (under_way (config_on previous old.config) (unselected before)) ≡ done e (under_way (config_on previous config) (unselected after))
   pub machine : new ≡ record old { config = config }
 
--- the record that waits in a file, if one does, was selected: what is then under way, wherever the form is
+-- the record that waits in a file, if any, was selected: the cycle in progress then, wherever the form is
 pub record HasSelected (p : Object) (left : Left) (f : InputFile) (before : Inputs) (old : Running) (t : Option ℕ) (text : List ℕ) (new : Running) (after : Inputs) : Type 0 where
   pub config : Config
   pub leads : (previous : Option Position) → select_waiting p left f (waiting_in before f) (under_way (config_on previous old.config) (unselected before)) ≡ done GoesOn (under_way (config_on previous config) (holding after t text))
@@ -66,7 +66,7 @@ pub record HasSelected (p : Object) (left : Left) (f : InputFile) (before : Inpu
 abbrev pub with_seen : List LastBytes → LastValues → Left → Left
 with_seen levels values l = record l { bytes = seen_levels levels; primary = seen_value values.primary; secondary = seen_value values.secondary }
 
--- ---- the same of what a job keeps, whatever else earlier records left, and whatever the other file has
+-- ---- the same in terms of what a job keeps, whatever else earlier records left, and whatever the other file has
 
 -- a file with this last match value was read and gave this record or none
 abbrev pub ReadsRecord : Object → InputFile → MatchValue → Option (List ℕ) → KeptFile → Running → PhaseEnd → KeptFile → Running → Type 0
@@ -74,18 +74,18 @@ ReadsRecord p f last next k old e k' new =
     (left : Left) (i : Inputs) → last_of_file left f ≡ seen_value last → input_at i f ≡ input_state_of k
     → HasRead p left f next i old e new (with_input f (input_state_of k') i)
 
--- with this record of the file the job ended, and the files were left as they were
+-- the job ended with this record of the file, and the files were left unchanged
 abbrev pub EndsAtRecord : Object → InputFile → MatchValue → List ℕ → Running → PhaseEnd → Running → Type 0
 EndsAtRecord p f last text old e new =
     (left : Left) (i : Inputs) → last_of_file left f ≡ seen_value last → HasRead p left f (Some text) i old e new i
 
--- a file with this last match value took in the record that was next, if it takes one in
+-- a file with this last match value read its next record, if it needs one
 abbrev pub TakesIn : Object → InputFile → MatchValue → Option (Bor (List ℕ)) → KeptFile → Running → KeptFile → Running → Type 0
 TakesIn p f last next k old k' new =
     (left : Left) (i : Inputs) → last_of_file left f ≡ seen_value last → input_at i f ≡ input_state_of k
     → Does (take_in p left f (next_text next)) old (unselected i) GoesOn new (unselected (with_input f (input_state_of k') i))
 
--- there the job ended, and the files were left as they were
+-- the job ended there, and the files were left unchanged
 abbrev pub EndsTakingIn : Object → InputFile → MatchValue → Option (Bor (List ℕ)) → KeptFile → Running → PhaseEnd → Running → Type 0
 EndsTakingIn p f last next k old e new =
     (left : Left) (i : Inputs) → last_of_file left f ≡ seen_value last → input_at i f ≡ input_state_of k
@@ -106,12 +106,12 @@ SelectsWaiting p levels values k old t k' new =
     (f : InputFile) (left : Left) (i : Inputs) → input_at i f ≡ input_state_of k
     → HasSelected p (with_seen levels values left) f i old t k'.record.items new (with_input f (input_state_of k') i)
 
--- levels and match values were renewed by a record of that type, if one was selected
+-- levels and match values were replaced by those of a record of that type, if one was selected
 abbrev pub RenewsSeen : Object → Option ℕ → List ℕ → List LastBytes → LastValues → List LastBytes → LastValues → Type 0
 RenewsSeen p t text levels values levels' values' =
     (left : Left) → with_seen levels' values' left ≡ renewed_by p t text (with_seen levels values left)
 
--- what is kept of earlier records was renewed by the selected one, if one was selected
+-- what is kept of earlier records was replaced by the selected record's, if one was selected
 abbrev pub RenewsLeft : Object → Option ℕ → Kept → Kept → Type 0
 RenewsLeft p t k k' = left_of k' ≡ renewed_by p t (text_in p k' t) (left_of k)
 
@@ -119,25 +119,25 @@ RenewsLeft p t k k' = left_of k' ≡ renewed_by p t (text_in p k' t) (left_of k)
 abbrev pub SelectsOne : Object → Kept → Running → Option ℕ → Kept → Running → Type 0
 SelectsOne p k old t k' new = Does (select_one p (left_of k)) old (unselected (inputs_of k)) GoesOn new (holding_kept p k' t)
 
--- Records were taken in, of those that are next in the files, and the one of that type was selected, or none.
+-- Records were read, of the files' next ones, and the one of that type was selected, or none.
 abbrev pub SelectsRecord : Object → Kept → (primary secondary : Option (Bor (List ℕ))) → Running → Option ℕ → Kept → Running → Type 0
 SelectsRecord p k primary secondary old t k' new =
     Does (select_record p (left_of k) (next_text primary) (next_text secondary)) old (unselected (inputs_of k)) GoesOn new (holding_kept p k' t)
 
--- there the job ended, and none was selected
+-- the job ended there, and none was selected
 abbrev pub EndsSelecting : Object → Kept → (primary secondary : Option (Bor (List ℕ))) → Running → PhaseEnd → Running → Type 0
 EndsSelecting p k primary secondary old e new =
     (i : Inputs) × Does (select_record p (left_of k) (next_text primary) (next_text secondary)) old (unselected (inputs_of k)) e new (unselected i)
 
--- ---- what follows can count on
+-- ---- what later phases rely on
 
--- a record was taken in, if the file takes one in: few steps were taken, and what is kept of the file fits the program
+-- a record was read, if the file reads one: few steps were taken, and what is kept of the file fits the program
 pub record IsTakenIn (p : Object) (f : InputFile) (old : Running) (k' : KeptFile) (new : Running) : Type 0 where
   pub ready : IsReady old → IsReady new
   pub few : new.config.steps ≤ old.config.steps + 20009
   pub kept : IsFileKept p f k'
 
--- the record that waits in a file, if one does, waits no longer, and levels and match values were renewed by it
+-- the record that waits in a file, if any, no longer waits, and levels and match values were replaced by its own
 pub record IsTakenUp (p : Object) (levels : List LastBytes) (values : LastValues) (k : KeptFile) (old : Running) (t : Option ℕ) (levels' : List LastBytes) (values' : LastValues) (k' : KeptFile) (new : Running) : Type 0 where
   pub row : t ≡ k.waiting
   pub file : k' ≡ record k { waiting = None }
@@ -145,14 +145,14 @@ pub record IsTakenUp (p : Object) (levels : List LastBytes) (values : LastValues
   pub ready : IsReady old → IsReady new
   pub left : RenewsSeen p t k'.record.items levels values levels' values'
 
--- one of the records that wait was selected, or none: its control fields were paid for, and what is kept was renewed by it
+-- one of the waiting records was selected, or none: its control fields were paid for, and what is kept was replaced by its own
 pub record IsPicked (p : Object) (k : Kept) (old : Running) (t : Option ℕ) (k' : Kept) (new : Running) : Type 0 where
   pub ready : IsReady old → IsReady new
   pub spends : Spends p (compared_weight p t) old new
   pub kept : AreFilesKept p k'
   pub left : RenewsLeft p t k k'
 
--- a record was selected, or none, and everything is as the phases that follow require
+-- a record was selected, or none, and everything is as the following phases require
 pub record IsChosen (p : Object) (k : Kept) (t : Option ℕ) (k' : Kept) (new : Running) : Type 0 where
   pub ready : IsReady new
   pub held : HoldsSelected p k' t

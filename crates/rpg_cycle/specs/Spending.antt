@@ -1,4 +1,4 @@
--- What the phases of a cycle take at most.
+-- The greatest costs of a cycle's phases.
 use Rattle.std.specs.Option.{ForSome}
 use Rattle.rpg_cycle_records.specs.Earlier.{control_fields, file_of}
 use Rattle.std.specs.Prelude.{ℕ, ◌≡◌, List, slice_get, ◌+◌, ◌*◌, ◌≤◌, length, Option, None, Some, is_some, if◌then◌else◌}
@@ -15,7 +15,7 @@ use Rattle.rpg_program.specs.declared.section.Section.{Section}
 use Rattle.rpg_program.specs.declared.section.Section.TheVariants as sections
 use Rattle.rpg_verify.specs.Bound.{cost, most}
 
--- the steps used, and those that what is left of the allowance can still lead to
+-- the steps used, and those that the remaining allowance can still lead to
 abbrev pub reach : Object → Running → ℕ
 reach p r = r.config.steps + r.config.allowance * most p
 
@@ -46,7 +46,7 @@ abbrev pub matched_weight : Object → Option ℕ → ℕ
 matched_weight p None = 0
 matched_weight p (Some t) = match_field_count p.types t
 
--- what the taking in of a file's record cost at most: the trying of its types on a text, and the match fields of one of them, or of none
+-- the greatest cost of reading a file's record: trying its types on a text, and the match fields of one of them, or of none
 pub record SpendsTakingIn (p : Object) (f : InputFile) (old new : Running) : Type 0 where
   pub text : List ℕ
   pub row : Option ℕ
@@ -69,7 +69,7 @@ detail_time_weight p t = full_page_weight p + (fields_weight p t + section_cost 
 abbrev pub record_weight : Object → Option ℕ → ℕ
 record_weight p t = totals_weight p + detail_time_weight p t
 
--- all phases of a cycle; what types weigh pays for the fields of the selected record
+-- all phases of a cycle; the weight of the types pays for the fields of the selected record
 abbrev pub phases_weight : Object → ℕ
 phases_weight p = output_weight p times.Detail + (types_weight p.types + (totals_weight p + (full_page_weight p + section_cost p sections.Detail)))
 

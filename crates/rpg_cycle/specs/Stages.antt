@@ -1,4 +1,4 @@
--- How far a job is, and which stage each result of the code means.
+-- The stages of a job, and the stage that each result of the code means.
 use Rattle.std.specs.Prelude.{Bool, true, false, Result, Ok, Err}
 use Rattle.rpg_program.specs.Halts.{halt_number}
 use Rattle.rpg_cycle.specs.Ends.{PhaseEnd, GoesOn, EndOfJob, Halt, Wrong}
@@ -11,7 +11,7 @@ use Rattle.rpg_cycle.specs.declared.ends.PhaseStop.TheVariants as stops
 use Rattle.rpg_cycle.specs.declared.ends.Progress as kept
 use Rattle.rpg_cycle.specs.declared.ends.Progress.TheVariants as progresses
 
--- under way, at its end, or failed for lack of memory
+-- under way, at its end, or failed since memory ran out
 pub data Stage : Type 0 where
   Going : Stage
   Ended : PhaseEnd → Stage
@@ -54,13 +54,14 @@ stage_of progresses.Going = Going
 stage_of (progresses.Ended e) = Ended (job_end e)
 stage_of progresses.Failed = Failed
 
--- about a call that ended the job; nothing about one that goes on, or that ran out of memory
+-- holds of a call that ended the job; says nothing about one that goes on, or that ran out
+-- of memory
 abbrev pub IfStops : {A : Type 0} → Result A PhaseStop → (JobEnd → Type 0) → Type 0
 IfStops (Ok x) P = Unit {0}
 IfStops (Err (stops.Ends e)) P = P e
 IfStops (Err stops.NoMemory) P = Unit {0}
 
--- of a call that found its memory
+-- holds of a call that didn't run out of memory
 abbrev pub UnlessNoMemory : {A : Type 0} → Result A PhaseStop → Type 0 → Type 0
 UnlessNoMemory (Ok x) P = P
 UnlessNoMemory (Err (stops.Ends e)) P = P

@@ -1,4 +1,4 @@
--- How a phase of a cycle came out, and several of them one after another, up to one that ends the job.
+-- The result of a phase of a cycle, and of several phases, up to one that ends the job.
 use Rattle.std.specs.Prelude.{◌+◌, ◌^◌, ◌≤◌, ℕ, Bool, Option, Result, Ok, IfOk}
 use Rattle.rpg_cycle.specs.Doing.{Beside, DoesAlone, DoesHolding, holding_kept, match_by, selected_in}
 use Rattle.rpg_cycle.specs.Ends.{GoesOn}
@@ -23,7 +23,7 @@ pub record CanDo (r : Running) : Type 0 where
   pub ready : IsReady r
   pub few : r.config.steps ≤ 2 ^ 60
 
--- it is ready, and has room for phases that weigh so much
+-- it is ready, and has room for phases of this weight
 pub record CanSpend (n : ℕ) (r : Running) : Type 0 where
   pub ready : IsReady r
   pub few : reach r.program r + n ≤ 2 ^ 59
@@ -35,7 +35,7 @@ pub record KeepsSelected (p : Object) (k : Kept) (t : Option ℕ) : Type 0 where
 
 -- ---- single phases
 
--- A phase was done that neither reads nor selects: how that came out, and what it took at most.
+-- A phase was done that neither reads nor selects: its result, and its greatest cost.
 pub record DoesPhase (P : Phase) (n : ℕ) (old : Running) (r : Result (Unit {0}) PhaseStop) (new : Running) : Type 0 where
   pub goes : IfOk r (λ _. DoesAlone P old GoesOn new)
   pub stops : IfStops r (λ e. DoesAlone P old (job_end e) new)
@@ -53,11 +53,11 @@ DoesFreely P old new = DoesPhase (P old.program) 0 old (Ok tt) new
 abbrev pub detail_time : Object → (Inputs → Selected → Bool) → Phase
 detail_time p matches = overflow_lines p before show_match matches before fill_fields p before detail_calculations p
 
--- what of a cycle follows the selection of a record
+-- the part of a cycle after the selection of a record
 abbrev pub after_selection : Object → Left → (Inputs → Selected → Bool) → Phase
 after_selection p left matches = total_time p left before end_where_last before detail_time p matches
 
--- Phases were done that select nothing, up to the one that ended the job, if one did: how that came out, and what it took at most.
+-- Phases were done that select nothing, up to the one that ended the job, if one did: the result, and its greatest cost.
 pub record DoesStage (p : Object) (P : Phase) (n : ℕ) (h : Beside) (old : Running) (r : Result (Unit {0}) PhaseStop) (new : Running) : Type 0 where
   pub goes : IfOk r (λ _. DoesHolding P h old GoesOn new)
   pub stops : IfStops r (λ e. DoesHolding P h old (job_end e) new)

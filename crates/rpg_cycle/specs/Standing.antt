@@ -1,4 +1,4 @@
--- Where a job is when a cycle ends, and when a run does.
+-- Where a job is at the end of a cycle, and of a run.
 use Rattle.std.specs.Prelude.{◌≡◌, ℤ, ◌⊎◌, None}
 use Rattle.std.specs.Ordering.{nat_cmp}
 use Rattle.rpg_cycle.specs.Ends.{PhaseEnd, GoesOn, EndOfJob, Halt, Wrong}

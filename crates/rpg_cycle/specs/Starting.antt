@@ -15,23 +15,23 @@ use Rattle.rpg_machine.specs.Config.{Config}
 use Rattle.rpg_program.specs.Object.{Object}
 use Rattle.rpg_program.specs.declared.section.Section.TheVariants.{Detail}
 
--- the number that a text of just six digits spells
+-- the number in a text of exactly six digits
 abbrev pub date_in : List ℕ → Option ℤ
 date_in text = if (length text == 6) && list_all is_digit text then number_in text else None
 
--- the date goes into each date field; the first of these has that number
+-- the date is stored in each date field; fields are numbered from here on
 abbrev pub dated : ℤ → ℕ → List FieldForm → Fields nat_cmp → Fields nat_cmp
 dated date field [] fields = fields
 dated date field (f ∷ fs) fields = dated date (field + 1) fs (if is_date f.class then with_value (field, 1) (Number date) fields else fields)
 
--- L0 and 1P are on, no division has left anything, and the form is at line 1 of page 1
+-- L0 and 1P are on, there is no remainder yet, and the form is at line 1 of page 1
 abbrev pub job_first_world : Fields nat_cmp → World nat_cmp
 job_first_world fields = record {
   «data» = record { fields = fields; on = set.from_list (level_zero ∷ first_page ∷ []); remainder = with_decimals (pos 0) 0 };
   paper = record { here = record { page = 1; line = 1 }; was_overflow = false; has_turned_on = false };
 }
 
--- a job's configuration before its first cycle, over these values and current entries: after detail calculations, as before every other
+-- a job's configuration before its first cycle, with these values and current entries: after detail calculations, as before any other
 abbrev pub job_start : Object → ℤ → Fields nat_cmp → Config
 job_start p date fields = record {
   world = job_first_world (dated date 1 p.fields fields);

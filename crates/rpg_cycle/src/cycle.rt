@@ -17,7 +17,7 @@ use rpg_cycle_records::Kept;
 use rpg_machine::Machine;
 use rpg_store::Store;
 
-/// 7 to 9, with the record that was selected.
+/// Phases 7 to 9, with the selected record.
 #[inline(always)]
 fn take_detail_time<S: Store + Drop>(
     machine: &mut Machine<S>,
@@ -34,7 +34,7 @@ fn take_detail_time<S: Store + Drop>(
     calculate_details(machine)
 }
 
-/// 5 to 9, with the record that was selected.
+/// Phases 5 to 9, with the selected record.
 #[inline(always)]
 fn follow_selection<S: Store + Drop>(
     machine: &mut Machine<S>,
@@ -50,7 +50,7 @@ fn follow_selection<S: Store + Drop>(
     take_detail_time(machine, kept, selected)
 }
 
-/// The nine phases, with the allowance full. Returns the selected record's type.
+/// The nine phases, from a full allowance. Returns the selected record's type.
 #[inline(always)]
 fn do_phases<S: Store + Drop>(
     machine: &mut Machine<S>,
@@ -74,7 +74,7 @@ fn do_phases<S: Store + Drop>(
     Ok(selected)
 }
 
-/// One cycle, with the record that is next in each file, or none at its end: its nine phases. Returns the selected record's type.
+/// One cycle of nine phases, with the next record of each file, or none at its end. Returns the selected record's type.
 pub(crate) fn run_cycle<S: Store + Drop>(
     machine: &mut Machine<S>,
     kept: &mut Kept,

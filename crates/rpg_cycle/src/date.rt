@@ -21,7 +21,7 @@ pub struct Date {
 }
 
 impl Date {
-    /// The date that a text of just six digits spells.
+    /// Reads a date from a text of exactly six digits.
     pub fn read(text: &[u8]) -> Option<Date>
         ensures { option_map (λ d. d.value) result ≡ date_in text.now }
     {
@@ -41,7 +41,7 @@ fn are_digits(text: &[u8]) -> bool
     text.iter().all(|c| 48 <= *c && *c <= 57)
 }
 
-/// Whether a field has the date.
+/// Whether a field holds the date.
 fn has_date(form: FieldForm) -> bool
     ensures { result ≡ is_date form.class }
 {
@@ -51,7 +51,7 @@ fn has_date(form: FieldForm) -> bool
     }
 }
 
-/// The forms of a program's fields.
+/// Returns the forms of a program's fields.
 fn forms_of<'a, S: Store + Drop>(memory: &Memory<'a, S>) -> &'a [FieldForm]
     ensures same { result.now ≡ memory.now.program.fields }
     ensures rows { All IsFieldRow result.now }
@@ -60,7 +60,7 @@ fn forms_of<'a, S: Store + Drop>(memory: &Memory<'a, S>) -> &'a [FieldForm]
     memory.rows().fields.as_slice()
 }
 
-/// Puts a date into a field, where it is a date field.
+/// Stores a date in a field if it is a date field.
 #[tactic(auto, using(crate::proofs::Dating::date_value, crate::proofs::Dating::date_short))]
 fn put_into<S: Store + Drop>(memory: &mut Memory<'_, S>, form: FieldForm, field: u16, date: i64)
     requires form { forms_in memory.old field ≡ Some form }
@@ -73,7 +73,7 @@ fn put_into<S: Store + Drop>(memory: &mut Memory<'_, S>, form: FieldForm, field:
     }
 }
 
-/// Puts a date into all date fields.
+/// Stores a date in all date fields.
 pub(crate) fn put_date<S: Store + Drop>(memory: &mut Memory<'_, S>, date: i64)
     requires { unsigned_abs date < 10 ^ 6 }
     ensures { memory.new ≡ memory_dated date 1 memory.old.program.fields memory.old }

@@ -11,7 +11,7 @@ pub enum JobEnd {
     Halt(Halt),
 }
 
-/// What a cycle led to, as its caller sees it. `JobEnd` covers only jobs that are over, and a caller first tests whether the job goes on.
+/// What a cycle led to, for its caller. `JobEnd` covers only jobs that have ended, and a caller first tests whether the job goes on.
 #[derive(Clone, Copy)]
 pub enum CycleEnd {
     GoesOn,
@@ -21,7 +21,7 @@ pub enum CycleEnd {
     Failed,
 }
 
-/// How far a job is, as it keeps it between cycles: with its end as one value, which a run hands on as it is.
+/// A job's progress between cycles. It holds the job's end as one value, which a run returns unchanged.
 #[derive(Clone, Copy)]
 pub enum Progress {
     Going,
@@ -29,7 +29,7 @@ pub enum Progress {
     Failed,
 }
 
-/// Why a phase doesn't go on: the error that `?` hands up from phase to phase, so that going on isn't among its values.
+/// Why a phase stopped the cycle: the error that `?` passes on, so it has no value for going on.
 #[derive(Clone, Copy)]
 pub enum PhaseStop {
     Ends(JobEnd),

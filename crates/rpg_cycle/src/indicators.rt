@@ -38,7 +38,7 @@ pub(crate) fn turn_all<S: Store + Drop>(machine: &mut Machine<S>, numbers: &[u8]
     }
 }
 
-/// Turns a record type's indicator off, unless it is LR.
+/// Turns off a record type's indicator, unless it is LR.
 pub(crate) fn turn_type_off<S: Store + Drop>(machine: &mut Machine<S>, indicator: Option<u8>)
     requires { ForSome indicator IsIndicator }
     ensures { spec.Turns (spec.without_type indicator) machine.old machine.new }
@@ -49,7 +49,7 @@ pub(crate) fn turn_type_off<S: Store + Drop>(machine: &mut Machine<S>, indicator
     }
 }
 
-/// Turns a record type's indicator on.
+/// Turns on a record type's indicator.
 pub(crate) fn turn_type_on<S: Store + Drop>(machine: &mut Machine<S>, indicator: Option<u8>)
     requires { ForSome indicator IsIndicator }
     ensures { spec.Turns (spec.with_type indicator) machine.old machine.new }

@@ -1,4 +1,4 @@
-//! Jobs: a program at work on its records.
+//! Jobs: a program running over its records.
 ghost use Rattle.std.specs.Prelude.{◌≡◌};
 ghost use Rattle.rpg_cycle.specs.Stages.{stage_of, told};
 
@@ -19,7 +19,7 @@ use rpg_verify::Verified;
 use std::alloc::{AllocError, Global};
 use std::marker::Model;
 
-/// A program at work: one cycle for each record.
+/// A running program: one cycle for each record.
 #[derive(Drop)]
 pub struct Job<'a, S: Store + Drop> {
     program: &'a Verified,
@@ -54,14 +54,14 @@ impl<'a, S: Store + Drop> Model for Job<'a, S> {
     ghost invariant = { λ j. IsAtWork j.program.now j.machine (stage_of j.progress) j.kept };
 }
 
-/// From which files a cycle takes a record in.
+/// Which files a cycle reads a record from.
 #[derive(Clone, Copy)]
 pub struct Need {
     pub primary: bool,
     pub secondary: bool,
 }
 
-/// The result of a cycle at a job's stage.
+/// Returns what a cycle leads to, by the job's stage.
 fn answer_from(progress: Progress) -> CycleEnd
     ensures { told result ≡ stage_of progress }
 {
@@ -78,7 +78,7 @@ impl<'a> Job<'a, FlatStore> {
     ghost use Rattle.rpg_cycle.specs.Job.{Starts, first_fields};
     ghost use Rattle.rpg_cycle.specs.Starting.{date_in};
 
-    /// A job at its start, on a date of six digits, over the first values of the program's fields.
+    /// Starts a job on a date of six digits, with the first values of the program's fields.
     pub fn start(
         alloc: Global,
         program: &'a Verified,
@@ -113,7 +113,7 @@ impl<'a, S: Store + Drop> Job<'a, S> {
     ghost use Rattle.rpg_memory.specs.Memory.{first_working};
     ghost use Rattle.rpg_verify.specs.Bound.{bound};
 
-    /// A job at its start, on a date of six digits, over the values of a memory that no cycle has changed yet.
+    /// Starts a job on a date of six digits, with the values of a memory that no cycle has changed yet.
     pub fn start_in(
         alloc: Global,
         program: &'a Verified,
@@ -130,7 +130,7 @@ impl<'a, S: Store + Drop> Job<'a, S> {
         Ok(Job::start_on(alloc, program, date, memory)?)
     }
 
-    /// A job at its start on a date.
+    /// Starts a job on a date.
     fn start_on(
         alloc: Global,
         program: &'a Verified,
@@ -151,7 +151,7 @@ impl<'a, S: Store + Drop> Job<'a, S> {
         })
     }
 
-    /// From which files the next cycle takes a record in.
+    /// Returns which files the next cycle reads a record from.
     pub fn needs(&self) -> Need
         ensures primary { result.primary ≡ of.job_needs_record self.now files.Primary }
         ensures secondary { result.secondary ≡ of.job_needs_record self.now files.Secondary }
@@ -164,7 +164,7 @@ impl<'a, S: Store + Drop> Job<'a, S> {
         }
     }
 
-    /// Whether the job goes on, and neither LR nor one of H1 to H9 is on.
+    /// Whether the job goes on, with LR and H1 to H9 all off.
     fn takes_records(&self) -> bool
         ensures { result ≡ is_going self.now.stage && takes_records self.now.config }
     {
@@ -176,8 +176,8 @@ impl<'a, S: Store + Drop> Job<'a, S> {
         }
     }
 
-    /// Does one cycle, with the record that is next in each file, or with `None` at its end. A record that isn't needed is
-    /// ignored. After an `Err` the job has failed: it returns `Failed` from then on.
+    /// Does one cycle, with the next record of each file, or `None` at its end. Ignores a record that isn't needed. After an `Err` the job
+    /// has failed: it returns `Failed` from then on.
     pub fn cycle(
         &mut self,
         primary: Option<&[u8]>,
@@ -193,7 +193,7 @@ impl<'a, S: Store + Drop> Job<'a, S> {
         self.cycle_with_seen(primary, secondary, NOTHING_SEEN)
     }
 
-    /// The same, where some records are known to have only characters: their bytes aren't tested again.
+    /// Like `cycle`, but doesn't test the bytes of records that are known to have only characters.
     #[tactic(auto, using(rpg_program::proofs::Fronts::grows_not))]
     pub fn cycle_with_seen(
         &mut self,
@@ -220,7 +220,7 @@ impl<'a, S: Store + Drop> Job<'a, S> {
         }
     }
 
-    /// A cycle of a job that goes on. The job counts as failed until the cycle is through.
+    /// Does a cycle of a job that goes on. The job counts as failed until the cycle is complete.
     pub(crate) fn cycle_on(
         &mut self,
         primary: Option<&[u8]>,
@@ -253,14 +253,14 @@ impl<'a, S: Store + Drop> Job<'a, S> {
         }
     }
 
-    /// The steps of the last cycle.
+    /// Returns the steps of the last cycle.
     pub fn steps(&self) -> u64
         ensures { result ≡ self.now.config.steps }
     {
         self.machine.steps()
     }
 
-    /// The place of the running instruction, and after a halt of the one that halted. None where no instruction runs.
+    /// Returns the place of the running instruction, or of the one that halted. None if no instruction runs.
     pub fn running_place(&self) -> Option<Place>
         ensures { result ≡ running_place self.now.program self.now.config }
     {
@@ -272,14 +272,14 @@ impl<'a, S: Store + Drop> Job<'a, S> {
         }
     }
 
-    /// What its program's fields hold, and which indicators are on.
+    /// Returns the values of the program's fields, and its indicators.
     pub fn memory(&self) -> &Memory<'a, S>
         ensures { result.now.world ≡ self.now.config.world }
     {
         self.machine.memory()
     }
 
-    /// What it keeps of earlier records, and the record that waits in each file.
+    /// Returns what the job keeps of earlier records, and the record that waits in each file.
     pub fn kept(&self) -> &Kept
         ensures left { left_of result.now ≡ self.now.left }
         ensures inputs { inputs_of result.now ≡ self.now.inputs }
@@ -287,7 +287,7 @@ impl<'a, S: Store + Drop> Job<'a, S> {
         &self.kept
     }
 
-    /// What was put out since it was taken last.
+    /// Takes the output since the last call.
     pub fn take_output(&mut self) -> Output
         ensures print { result.print.items ≡ self.old.output.print }
         ensures disk { result.disk.items ≡ self.old.output.disk }
@@ -295,7 +295,7 @@ impl<'a, S: Store + Drop> Job<'a, S> {
     {
         self.machine.take_output()
     }
-    /// What was put out since it was taken or dropped last.
+    /// Returns the output since it was last taken or cleared.
     pub fn output(&self) -> &Output
         ensures print { result.now.print.items ≡ self.now.output.print }
         ensures disk { result.now.disk.items ≡ self.now.output.disk }
@@ -303,7 +303,7 @@ impl<'a, S: Store + Drop> Job<'a, S> {
         self.machine.pending_output()
     }
 
-    /// Drops the output and keeps its room, so that the next cycle allocates nothing for it.
+    /// Clears the output and keeps its capacity, so that the next cycle allocates nothing for it.
     pub fn clear_output(&mut self)
         ensures { self.new ≡ of.job_taken self.old }
     {

@@ -11,8 +11,8 @@ ghost use Rattle.rpg_program.specs.Object.{Object};
 
 use rpg_verify::Verified;
 
-/// Before the first cycle nothing is out of order, and a cycle that goes on keeps it so. From there a cycle is the same whether a match
-/// is sought among all records that were taken in, or by what a job keeps.
+/// Before the first cycle nothing is out of order, and a cycle that goes on preserves this. From there a cycle is the same whether a match
+/// is sought among all records read so far, or in what a job keeps.
 #[tactic(auto, using(crate::proofs::Cycling::at_first))]
 pub fn cycles_keep_order()
     ensures first { (p : Object) → AreMergedInOrder p [] unread }
@@ -21,18 +21,18 @@ pub fn cycles_keep_order()
     ensures from_last { LeftGivesCycles }
 {}
 
-/// Two runs of a program over the same records have the same course, and put out the same bytes.
+/// Two runs of a program over the same records take the same course and output the same bytes.
 pub fn runs_are_one()
     ensures course { RecordsGiveOneCourse }
     ensures bytes { RecordsGiveOneOutput }
 {}
 
-/// A run has at most one cycle more than there are records in both files.
+/// A run has at most one cycle more than both files have records.
 pub fn runs_are_short()
     ensures { (p : Object) (rs : Records) (c : Config) (course : Course) → Runs p [] rs c unread course → course.cycles ≤ records_count rs + 1 }
 {}
 
-/// A run of at most so many cycles is a run.
+/// A run of at most a given number of cycles is a run.
 pub fn runs_go_by_their_count()
     ensures { RunsGoByTheirCount }
 {}
@@ -42,8 +42,8 @@ pub fn runs_stand_right()
     ensures { RunsStandRight }
 {}
 
-/// Where a file takes no record in, since LR or one of H1 to H9 is on, the file is at its end, or a record of it waits, a cycle is the
-/// same whatever record of the file is next, or none.
+/// If a file needs no record, because LR or one of H1 to H9 is on, the file is at its end or a record of it waits, a cycle doesn't depend
+/// on the file's next record.
 pub fn unneeded_records_are_ignored(program: &Verified)
     ensures primary { IgnoresPrimary program.now }
     ensures secondary { IgnoresSecondary program.now }

@@ -1,4 +1,4 @@
-//! The fixed program cycle: a job does a cycle for each record; whole runs.
+//! The fixed program cycle: jobs, which do a cycle for each record, and whole runs.
 #![tactic(auto)]
 
 mod cycle;

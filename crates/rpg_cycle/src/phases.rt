@@ -35,7 +35,7 @@ use rpg_program::section::Section;
 use rpg_store::Store;
 use rpg_verify::Verified;
 
-/// What the machine's answer means for the cycle.
+/// Returns how the cycle goes on after the machine's answer.
 fn go_on(end: End) -> Result<(), PhaseStop>
     ensures goes { IfOk result (λ _. end ≡ End.GoesOn) }
     ensures stops { IfStops result (λ e. ends.phase_end (effects.end_of end) ≡ job_end e) }
@@ -46,7 +46,7 @@ fn go_on(end: End) -> Result<(), PhaseStop>
     }
 }
 
-/// The lines of a time.
+/// Outputs the lines of a time.
 fn put_out<S: Store + Drop>(machine: &mut Machine<S>, time: OutputTime) -> Result<(), PhaseStop>
     requires { CanDo machine.old }
     ensures { DoesPhase (spec.output machine.old.program time) (output_weight machine.old.program time) machine.old result machine.new }
@@ -55,7 +55,7 @@ fn put_out<S: Store + Drop>(machine: &mut Machine<S>, time: OutputTime) -> Resul
     go_on(end)
 }
 
-/// A section of calculations.
+/// Runs a section of calculations.
 #[inline(always)]
 fn calculate<S: Store + Drop>(machine: &mut Machine<S>, section: Section) -> Result<(), PhaseStop>
     requires section { has_end section ≡ true }
@@ -74,7 +74,7 @@ pub(crate) fn put_out_details<S: Store + Drop>(machine: &mut Machine<S>) -> Resu
     put_out(machine, OutputTime::Detail)
 }
 
-/// 2. Halt 6 where a halt indicator is on.
+/// 2. Halt 6 if a halt indicator is on.
 pub(crate) fn halt_where_asked<S: Store + Drop>(machine: &Machine<S>) -> Result<(), PhaseStop>
     ensures goes { IfOk result (λ _. DoesAlone spec.halt_where_asked machine.now GoesOn machine.now) }
     ensures stops { IfStops result (λ e. DoesAlone spec.halt_where_asked machine.now (job_end e) machine.now) }
@@ -85,7 +85,7 @@ pub(crate) fn halt_where_asked<S: Store + Drop>(machine: &Machine<S>) -> Result<
     Ok(())
 }
 
-/// Turns the indicators of record types off.
+/// Turns off the indicators of record types.
 fn turn_types_off<S: Store + Drop>(machine: &mut Machine<S>, types: &[RecordType])
     requires { All (λ t. ForSome t.indicator IsIndicator) types.now }
     ensures { lights.Turns (lights.without_types (map type_row types.now)) machine.old machine.new }
@@ -95,7 +95,7 @@ fn turn_types_off<S: Store + Drop>(machine: &mut Machine<S>, types: &[RecordType
     }
 }
 
-/// Turns the indicators of record types, L1 to L9 and 1P off.
+/// Turns off the indicators of record types, L1 to L9 and 1P.
 fn turn_off<S: Store + Drop>(machine: &mut Machine<S>)
     ensures { lights.Turns (spec.all_off machine.old.program) machine.old machine.new }
 {
@@ -104,7 +104,7 @@ fn turn_off<S: Store + Drop>(machine: &mut Machine<S>)
     machine.set_indicator(FIRST_PAGE, false);
 }
 
-/// 3. The indicators of record types, L1 to L9 and 1P go off.
+/// 3. Turns off the indicators of record types, L1 to L9 and 1P.
 pub(crate) fn set_off<S: Store + Drop>(machine: &mut Machine<S>)
     requires { IsReady machine.old }
     ensures { DoesFreely spec.set_off machine.old machine.new }
@@ -157,7 +157,7 @@ pub(crate) fn take_total_time<S: Store + Drop>(
     do_totals(machine)
 }
 
-/// 6. The job ends where LR is on, or where no record was selected.
+/// 6. The job ends if LR is on, or if no record was selected.
 pub(crate) fn end_where_last<S: Store + Drop>(
     machine: &Machine<S>,
     selected: Option<usize>,
@@ -182,7 +182,7 @@ fn has_no_overflow<S: Store + Drop>(machine: &Machine<S>, overflow: Option<u8>) 
     }
 }
 
-/// 7. All lines of a new page, where the overflow indicator is on.
+/// 7. All lines of a new page, if the overflow indicator is on.
 #[inline(always)]
 pub(crate) fn put_out_overflow<S: Store + Drop>(machine: &mut Machine<S>) -> Result<(), PhaseStop>
     requires { CanDo machine.old }
@@ -206,7 +206,7 @@ fn finds_match_of(program: &Verified, kept: &Kept, selected: Option<usize>) -> b
     }
 }
 
-/// 8. MR shows whether the selected record has a match.
+/// 8. Sets MR to whether the selected record has a match.
 #[inline(always)]
 pub(crate) fn show_match<S: Store + Drop>(
     machine: &mut Machine<S>,
@@ -222,7 +222,7 @@ pub(crate) fn show_match<S: Store + Drop>(
     machine.set_indicator(MATCHING_RECORD, is_found);
 }
 
-/// 8. The columns of the selected record become values of fields.
+/// 8. Fills fields from the columns of the selected record.
 #[inline(always)]
 pub(crate) fn fill_fields<S: Store + Drop>(
     machine: &mut Machine<S>,

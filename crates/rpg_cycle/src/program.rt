@@ -42,7 +42,7 @@ pub(crate) fn is_end(program: &Verified, place: Place) -> bool
     }
 }
 
-/// What all phases weigh together is within the program's bound.
+/// The weight of all phases together is within the program's bound.
 #[tactic(auto, using(crate::proofs::Spending::within_bound))]
 pub(crate) fn is_bounded(program: &Verified)
     ensures sum { cycle_weight program.now ≤ words.bound program.now }

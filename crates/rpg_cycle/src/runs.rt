@@ -49,7 +49,7 @@ pub fn run_records(
     run_to_end(&mut job, primary, secondary)
 }
 
-/// Runs a job that is before its first cycle over records to its end, and takes what it has put out. The only fault is no memory.
+/// Runs a job from its first cycle over records to its end, and takes its output. Fails only if memory runs out.
 fn run_to_end<S: Store + Drop>(
     job: &mut Job<S>,
     primary: &[Vec<u8>],
@@ -70,7 +70,7 @@ fn run_to_end<S: Store + Drop>(
     })
 }
 
-/// The first of some records, where it is needed, and the rest.
+/// Splits records into the first one, if it is needed, and the rest.
 fn split_needed(is_needed: bool, records: &[Vec<u8>]) -> (Option<&[u8]>, &[Vec<u8>])
     ensures next { option_map (λ t. t.now) result.0 ≡ next_of is_needed (texts records.now) }
     ensures rest { texts result.1.now ≡ rest_where_needed is_needed (texts records.now) }
@@ -81,7 +81,7 @@ fn split_needed(is_needed: bool, records: &[Vec<u8>]) -> (Option<&[u8]>, &[Vec<u
     }
 }
 
-/// Runs a job that goes on over the records that are left, to its end.
+/// Runs a job that goes on over the remaining records to its end.
 fn run_on<S: Store + Drop>(
     job: &mut Job<S>,
     primary: &[Vec<u8>],

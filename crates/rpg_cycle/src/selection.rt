@@ -1,4 +1,4 @@
-//! Records are taken in, and one is selected.
+//! Reading records, and selecting one.
 ghost use Rattle.std.specs.Prelude.{◌≡◌, ◌^◌, ◌<◌, ◌≤◌, IfOk, OnOk, Some, length, true};
 ghost use Rattle.std.specs.List.{list_all};
 ghost use Rattle.rpg_cycle.specs.Cycled.{AreSeen, KeepsWell};
@@ -31,7 +31,7 @@ use rpg_store::Store;
 use rpg_verify::Verified;
 use std::alloc::AllocError;
 
-/// L1 to the n-th turn on.
+/// Turns on L1 to the n-th level.
 fn turn_levels_on<S: Store + Drop>(machine: &mut Machine<S>, n: usize)
     requires { n ≤ 9 }
     ensures { lights.Turns (lights.with_levels n) machine.old machine.new }
@@ -61,7 +61,7 @@ fn take_type<S: Store + Drop>(
     }
 }
 
-/// Whether the program can take a record from a file. The bytes of one that is known to have only characters aren't tested again.
+/// Whether the program accepts a record from a file. Doesn't test the bytes of one that is known to have only characters.
 fn can_take(program: &Verified, file: InputFile, text: &[u8], is_seen: bool) -> bool
     requires { is_seen ≡ true → list_all is_character text.now ≡ true }
     ensures { result ≡ is_good_record program.now file text.now }
@@ -73,7 +73,7 @@ fn can_take(program: &Verified, file: InputFile, text: &[u8], is_seen: bool) -> 
     }
 }
 
-/// Takes a record in: it is filled and identified, and waits unless its match value is lower than the file's last one.
+/// Reads a record: pads and identifies it. It waits, unless its match value is lower than the file's last one.
 #[inline(always)]
 fn read<S: Store + Drop>(
     program: &Verified,
@@ -105,7 +105,7 @@ fn read<S: Store + Drop>(
     Ok(())
 }
 
-/// A file that is there, not at its end and without a waiting record takes one in.
+/// Reads a record of a file that exists, isn't at its end and has no waiting record.
 #[inline(always)]
 fn take_in<S: Store + Drop>(
     program: &Verified,
@@ -136,7 +136,7 @@ fn take_in<S: Store + Drop>(
     read(program, machine, kept, last, file, text, is_seen)
 }
 
-/// Turns the indicator of a record's type on, compares its control fields with the last bytes of their levels, and keeps them.
+/// Turns on the indicator of a record's type, compares its control fields with the last bytes of their levels, and keeps them.
 #[inline(always)]
 fn compare_levels<S: Store + Drop>(
     program: &Verified,
@@ -161,7 +161,7 @@ fn compare_levels<S: Store + Drop>(
     Ok(())
 }
 
-/// Selects the record that waits in a file: it waits no longer.
+/// Selects the record that waits in a file, which then waits no longer.
 #[inline(always)]
 fn select_waiting<S: Store + Drop>(
     program: &Verified,
@@ -187,7 +187,7 @@ fn select_waiting<S: Store + Drop>(
     Ok(Some(row))
 }
 
-/// Selects one of the waiting records; where none waits, LR and L1 to L9 turn on.
+/// Selects one of the waiting records; if none waits, turns on LR and L1 to L9.
 #[inline(always)]
 fn select_one<S: Store + Drop>(
     program: &Verified,
@@ -220,7 +220,7 @@ fn select_one<S: Store + Drop>(
     }
 }
 
-/// 4. Each file that needs one takes a record in, and one is selected. If LR is on, L1 to L9 turn on instead.
+/// 4. Reads a record from each file that needs one, and selects one. If LR is on, turns on L1 to L9 instead.
 pub(crate) fn select_record<S: Store + Drop>(
     program: &Verified,
     machine: &mut Machine<S>,

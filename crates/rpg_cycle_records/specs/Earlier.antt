@@ -1,4 +1,4 @@
--- The records of earlier cycles, and what they leave.
+-- The records of earlier cycles, and what is left of them.
 use Rattle.std.specs.Prelude.{ℕ, ◌-◌, Bool, true, false, ◌||◌, List, [], ◌∷◌, map, slice_get, slice_index_or, Option, None, Some, if◌then◌else◌}
 use Rattle.std.specs.Option.{option_map_or}
 use Rattle.rpg_cycle_records.specs.Levels.{level_bytes}
@@ -10,7 +10,7 @@ use Rattle.rpg_program.specs.declared.input.InputFile.{InputFile}
 use Rattle.rpg_program.specs.declared.input.InputFile.TheVariants.{Primary, Secondary}
 use Rattle.rpg_program.specs.Object.{Object}
 
--- a record that was taken in: its type (the first row is 0), and its text, filled to the length of its file's records
+-- a record that was read: its type (the first row is 0), and its text, padded to the length of its file's records
 pub record Selected : Type 0 where
   pub type : ℕ
   pub text : List ℕ
@@ -45,7 +45,7 @@ file_at p s = file_of (slice_get p.types s.type)
 abbrev pub match_value : Object → Selected → Option (List ℕ)
 match_value p s = match_value_in (match_fields p s.type) s.text
 
--- there are some
+-- the list isn't empty
 abbrev pub is_any : {A : Type 0} → List A → Bool
 is_any [] = false
 is_any (x ∷ xs) = true
@@ -55,17 +55,17 @@ abbrev pub any_control : Object → List Selected → Bool
 any_control p [] = false
 any_control p (s ∷ ss) = any_control p ss || is_any (control_fields p s.type)
 
--- the later of two, where there is one
+-- the later of two, if there is one
 abbrev pub or_before : Option (List ℕ) → Option (List ℕ) → Option (List ℕ)
 or_before before None = before
 or_before before (Some now) = Some now
 
--- the bytes of a level in the last of these records whose type has it, the records being given from the last to the first
+-- the bytes of a level in the last of these records whose type has it; the records are given last first
 abbrev pub last_bytes : Object → ℕ → List Selected → Option (List ℕ)
 last_bytes p level [] = None
 last_bytes p level (s ∷ ss) = or_before (last_bytes p level ss) (level_bytes (control_fields p s.type) s.text level)
 
--- a record of this file has its match value
+-- the match value of a record, if it is of this file
 abbrev pub value_from : Object → InputFile → Selected → Option (List ℕ)
 value_from p f s = if same_file (file_at p s) f then match_value p s else None
 
@@ -83,8 +83,8 @@ any_agrees p f v (s ∷ ss) = agrees v (value_from p f s) || any_agrees p f v ss
 abbrev pub nine : List ℕ
 nine = 1 ∷ 2 ∷ 3 ∷ 4 ∷ 5 ∷ 6 ∷ 7 ∷ 8 ∷ 9 ∷ []
 
--- what earlier records leave: whether there were any, whether one had control fields, of each level, L1 first, the last bytes, and of
--- each file the last match value
+-- what is left of earlier records: whether there were any, whether one had control fields, the last bytes of each level, L1 first, and the
+-- last match value of each file
 pub record Left : Type 0 where
   pub any : Bool
   pub control : Bool
@@ -92,7 +92,7 @@ pub record Left : Type 0 where
   pub primary : Option (List ℕ)
   pub secondary : Option (List ℕ)
 
--- what these records leave; they are given from the last to the first
+-- what is left of these records, given last first
 abbrev pub left_by : Object → List Selected → Left
 left_by p earlier = record {
   any = is_any earlier;
@@ -111,7 +111,7 @@ abbrev pub last_of_file : Left → InputFile → Option (List ℕ)
 last_of_file l Primary = l.primary
 last_of_file l Secondary = l.secondary
 
--- the earlier records, the last first, with the one that a cycle selected
+-- the earlier records, the last first, preceded by the one that a cycle selected
 abbrev pub with_record : Option Selected → List Selected → List Selected
 with_record None earlier = earlier
 with_record (Some s) earlier = s ∷ earlier

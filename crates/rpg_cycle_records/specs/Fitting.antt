@@ -1,4 +1,4 @@
--- What the cycle requires of record types: that their columns are those of their file's records, and that there are few.
+-- What the cycle requires of record types: their columns are those of their file's records, and there are few.
 use Rattle.std.specs.Prelude.{◌≡◌, ℕ, ◌≤◌, All, List, length, slice_get, true}
 use Rattle.std.specs.Option.{ForSome}
 use Rattle.rpg_cycle_records.specs.Earlier.{file_of}
@@ -10,7 +10,7 @@ use Rattle.rpg_program.specs.declared.input.RecordCode.{RecordCode}
 use Rattle.rpg_program.specs.Kept.{IsIndicator}
 use Rattle.rpg_program.specs.Object.{Object, input_length}
 
--- the position of a code is one of a record of that length
+-- the position of a code is within a record of that length
 pub record IsCodeIn (len : ℕ) (c : RecordCode) : Type 0 where
   pub low : 1 ≤ c.position
   pub high : c.position ≤ len
@@ -39,6 +39,6 @@ IsTypeOf f len t = same_file t.file f ≡ true → IsTypeIn len t
 abbrev pub IsTypeFit : Object → TypeRow ℕ → Type 0
 IsTypeFit p t = IsTypeIn (input_length p t.file) t
 
--- a text is as long as the records of the file of that type
+-- a text has the length of the records in the file of that type
 abbrev pub IsFilledAs : Object → ℕ → List ℕ → Type 0
 IsFilledAs p t text = length text ≡ input_length p (file_of (slice_get p.types t))

@@ -26,7 +26,7 @@ input_state_of k = record { waiting = selected_as k.waiting k.record.items; is_o
 abbrev pub inputs_of : Kept → Inputs
 inputs_of k = record { primary = input_state_of k.primary; secondary = input_state_of k.secondary }
 
--- the record that was taken in last from a file
+-- the record that was read last from a file
 abbrev pub last_record_in : Kept → InputFile → List ℕ
 last_record_in k Primary = k.primary.record.items
 last_record_in k Secondary = k.secondary.record.items
@@ -45,7 +45,7 @@ abbrev pub kept_at : Kept → InputFile → KeptFile
 kept_at k Primary = k.primary
 kept_at k Secondary = k.secondary
 
--- a file that is there, not at its end and without a waiting record takes one in
+-- a file that exists, isn't at its end and has no waiting record reads one
 abbrev pub takes_from : Object → InputFile → InputState → Bool
 takes_from p f i = has_file p f && (not i.is_over && is_none i.waiting)
 
@@ -61,7 +61,7 @@ pub record HoldsRecord (p : Object) (f : InputFile) (k : KeptFile) (t : ℕ) : T
   pub characters : All IsCharacter k.record.items
   pub value : seen_value k.value ≡ match_value p (record_as t k)
 
--- the record that waits, if one does, is held so
+-- the record that waits, if any, is held this way
 abbrev pub IsFileKept : Object → InputFile → KeptFile → Type 0
 IsFileKept p f k = ForSome k.waiting (λ t. HoldsRecord p f k t)
 
@@ -70,6 +70,6 @@ pub record AreFilesKept (p : Object) (k : Kept) : Type 0 where
   pub primary : IsFileKept p Primary k.primary
   pub secondary : IsFileKept p Secondary k.secondary
 
--- what was selected, if anything was, is the record that its file holds
+-- the selected record, if any, is the one that its file holds
 abbrev pub HoldsSelected : Object → Kept → Option ℕ → Type 0
 HoldsSelected p k t = ForSome t (λ n. HoldsRecord p (file_of (slice_get p.types n)) (kept_at k (file_of (slice_get p.types n))) n)

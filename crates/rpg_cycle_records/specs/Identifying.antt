@@ -1,4 +1,4 @@
--- Which type a record is of, among those of its file.
+-- The type of a record, among those of its file.
 use Rattle.std.specs.Prelude.{ℕ, ◌+◌, ◌-◌, Bool, true, false, not, ◌&&◌, ◌==◌, nat_le, List, [], ◌∷◌, ◌++◌, length, replicate, slice_index_or, if◌then◌else◌}
 use Rattle.std.specs.List.{list_all}
 use Rattle.rpg_program.specs.Input.{TypeRow}
@@ -14,7 +14,7 @@ use Rattle.rpg_text.specs.Texts.{is_character}
 abbrev pub is_good_record : Object → InputFile → List ℕ → Bool
 is_good_record p f text = nat_le (length text) (input_length p f) && list_all is_character text
 
--- filled with blanks to the length of the file's records
+-- padded with blanks to the length of the file's records
 abbrev pub padded : Object → InputFile → List ℕ → List ℕ
 padded p f text = text ++ replicate (input_length p f - length text) 32
 
@@ -24,7 +24,7 @@ padded p f text = text ++ replicate (input_length p f - length text) 32
 abbrev pub character_at_code : List ℕ → RecordCode → ℕ
 character_at_code text c = slice_index_or text (c.position - 1) 0
 
--- it is the code's character; where the code is negated, another
+-- it is the code's character; if the code is negated, another
 abbrev pub code_holds : List ℕ → RecordCode → Bool
 code_holds text c = if c.is_negated then not (character_at_code text c == c.character) else character_at_code text c == c.character
 
@@ -41,13 +41,13 @@ same_file Primary Secondary = false
 same_file Secondary Primary = false
 same_file Secondary Secondary = true
 
--- how the trying of record types comes out
+-- the result of trying record types
 pub data Trial : Type 0 where
   IsOf : ℕ → Trial  -- the first type of the file all of whose codes hold; the first row is 0
   IsOfNone : Trial
   Misplaced : Trial  -- a type that was tried has a code on a column that isn't there
 
--- the types of a file are tried in order; the first row of these has that number
+-- the types of a file are tried in order; rows are numbered from here on
 abbrev pub identified : InputFile → ℕ → List (TypeRow ℕ) → List ℕ → Trial
 identified f n [] text = IsOfNone
 identified f n (t ∷ ts) text =
@@ -55,7 +55,7 @@ identified f n (t ∷ ts) text =
     else (if list_all (has_position text) t.codes then (if list_all (code_holds text) t.codes then IsOf n else identified f (n + 1) ts text)
     else Misplaced)
 
--- all codes of each type that is tried weigh 1
+-- all codes of each type that was tried weigh 1
 abbrev pub trial_weight : InputFile → List (TypeRow ℕ) → List ℕ → ℕ
 trial_weight f [] text = 0
 trial_weight f (t ∷ ts) text =

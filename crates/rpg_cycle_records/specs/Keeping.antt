@@ -32,7 +32,7 @@ left_of k = record {
   secondary = seen_value k.values.secondary;
 }
 
--- of the first n levels the bytes of this record, where its type has the level, in the place of those before
+-- of the first n levels the bytes of this record, if its type has the level, otherwise the previous ones
 abbrev pub renewed : List ControlField → List ℕ → ℕ → List (Option (List ℕ)) → List (Option (List ℕ))
 renewed fs text zero bytes = bytes
 renewed fs text (suc n) bytes = slice_set (renewed fs text n bytes) n (or_before (slice_index_or bytes n None) (level_bytes fs text (n + 1)))
@@ -42,25 +42,25 @@ abbrev pub selected_as : Option ℕ → List ℕ → Option Selected
 selected_as None text = None
 selected_as (Some t) text = Some (record { type = t; text = text })
 
--- the last match value of a file, renewed by a record of a type where it is of that file and has one
+-- the last match value of a file, replaced by that of a record if its type is of that file and has match fields
 abbrev pub value_following : Object → InputFile → ℕ → List ℕ → Option (List ℕ) → Option (List ℕ)
 value_following p f t text before = or_before before (value_from p f (record { type = t; text = text }))
 
--- the match value of its file renewed by a record that has one
+-- the match value of its file replaced by that of a record that has one
 abbrev pub with_match_value : Object → Selected → Left → Left
 with_match_value p s l = record l { primary = or_before l.primary (value_from p Primary s); secondary = or_before l.secondary (value_from p Secondary s) }
 
--- the levels and the match value of its file renewed by the record that was selected, if one was
+-- the levels and the match value of its file replaced by those of the selected record, if one was selected
 abbrev pub renewed_by : Object → Option ℕ → List ℕ → Left → Left
 renewed_by p None text l = l
 renewed_by p (Some t) text l = with_match_value p (record { type = t; text = text }) (record l { bytes = renewed (control_fields p t) text 9 l.bytes })
 
--- that a record was selected is kept, and whether its type has control fields
+-- it is noted that a record was selected, and whether its type has control fields
 abbrev pub noted : Object → Option ℕ → Left → Left
 noted p None l = l
 noted p (Some t) l = record l { any = true; control = l.control || is_any (control_fields p t) }
 
--- what a job has before its first record
+-- the state of a job before its first record
 abbrev pub nothing_left : Left
 nothing_left = record {
   any = false;

@@ -1,4 +1,4 @@
--- What a record has in common with the one before: control fields whose bytes are the last ones of their levels.
+-- What a record has in common with the previous one: control fields with the last bytes of their levels.
 use Rattle.std.specs.Prelude.{ℕ, ◌-◌, Bool, true, false, not, ◌&&◌, nat_le, List, [], ◌∷◌, slice_index_or, Option, None, Some}
 use Rattle.rpg_cycle_records.specs.Levels.{compared, has_level, same_bytes}
 use Rattle.rpg_program.specs.declared.input.ControlField.{ControlField}

@@ -9,19 +9,19 @@ use Rattle.rpg_cycle_records.specs.Levels.{joined_bytes}
 
 -- ---- the match value of a record
 
--- the bytes of the n lowest levels, joined from the highest of them down
+-- the bytes of the n lowest levels, joined from the highest down
 abbrev pub joined_down : List ControlField → List ℕ → ℕ → List ℕ
 joined_down fs text zero = []
 joined_down fs text (suc n) = joined_bytes fs text (n + 1) ++ joined_down fs text n
 
--- the bytes of all match fields, from M9 down to M1; a type without match fields gives its records no value
+-- the bytes of all match fields, from M9 down to M1; records of a type without match fields have no value
 abbrev pub match_value_in : List ControlField → List ℕ → Option (List ℕ)
 match_value_in [] text = None
 match_value_in (f ∷ fs) text = Some (joined_down (f ∷ fs) text 9)
 
 -- ---- order
 
--- values, which are as long as each other, are ordered by the places of their characters in the collating sequence
+-- values of the same length are ordered by the places of their characters in the collating sequence
 abbrev pub value_cmp : List ℕ → List ℕ → Ordering
 value_cmp = on (map rank) (slice_cmp nat_cmp)
 
@@ -35,13 +35,13 @@ neither_is_greater v w = not (is_greater v w) && not (is_greater w v)
 
 -- ---- values that may be missing
 
--- both are there, and the one is greater than the other
+-- both exist, and one is greater than the other
 abbrev pub exceeds : Option (List ℕ) → Option (List ℕ) → Bool
 exceeds None w = false
 exceeds (Some v) None = false
 exceeds (Some v) (Some w) = is_greater v w
 
--- both are there and the same
+-- both exist and are equal
 abbrev pub agrees : Option (List ℕ) → Option (List ℕ) → Bool
 agrees None w = false
 agrees (Some v) None = false

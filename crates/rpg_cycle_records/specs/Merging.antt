@@ -1,4 +1,4 @@
--- Match values were taken in order. So the last value of each file is enough to find a match.
+-- Match values were read in order. So the last value of each file is enough to find a match.
 use Rattle.std.specs.Prelude.{◌≡◌, ℕ, Bool, false, not, ◌&&◌, ◌||◌, List, [], ◌∷◌, Option, None, Some, is_none}
 use Rattle.rpg_program.specs.declared.input.InputFile.{InputFile}
 use Rattle.rpg_program.specs.declared.input.InputFile.TheVariants.{Primary, Secondary}
@@ -7,7 +7,7 @@ use Rattle.rpg_cycle_records.specs.Earlier.{Selected, file_at, last_value, left_
 use Rattle.rpg_cycle_records.specs.Matching.{exceeds}
 use Rattle.rpg_cycle_records.specs.Waiting.{InputState, Inputs, finds_match, has_match, waiting_value}
 
--- A value, where there is one, is no greater than this one; and where this one is missing, so is the value.
+-- A value, if there is one, is no greater than this one; if this one is missing, so is the value.
 abbrev pub IsUpTo : Option (List ℕ) → Option (List ℕ) → Type 0
 IsUpTo None m = m ≡ None
 IsUpTo (Some v) m = exceeds m (Some v) ≡ false
@@ -22,12 +22,12 @@ abbrev pub IsTopIfAny : Object → Option (List ℕ) → List Selected → Type 
 IsTopIfAny p None ss = Unit {0}
 IsTopIfAny p (Some v) ss = IsTopOf p (Some v) ss
 
--- the match values of both files together rise from record to record, the last one being given first
+-- the match values of both files together ascend from record to record, given last first
 abbrev pub IsMerged : Object → List Selected → Type 0
 IsMerged p [] = Unit {0}
 IsMerged p (s ∷ ss) = IsTopIfAny p (match_value p s) ss × IsMerged p ss
 
--- no record comes from the file any more
+-- the file has no more records
 abbrev pub is_spent : Object → InputFile → InputState → Bool
 is_spent p f i = is_none i.waiting && (not (has_file p f) || i.is_over)
 
@@ -51,7 +51,7 @@ pub record AreMergedInOrder (p : Object) (earlier : List Selected) (i : Inputs) 
   pub primary : IsFileOrderly p earlier Primary i.primary
   pub secondary : IsFileOrderly p earlier Secondary i.secondary
 
--- The law: where match values were selected in their order, the test by the last values is the test over all records that were taken in.
+-- The law: if match values were selected in order, testing the last values is the same as testing all records that were read.
 abbrev pub LastValuesTellMatches : Type 0
 LastValuesTellMatches =
     (p : Object) (earlier : List Selected) (i : Inputs) (s : Selected)

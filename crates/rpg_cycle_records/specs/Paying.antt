@@ -1,4 +1,4 @@
--- What is charged of record types besides the trying of their codes.
+-- What is charged for record types besides trying their codes.
 use Rattle.std.specs.Prelude.{◌≡◌, ◌≤◌, ℕ, ◌+◌, List, length, slice_get, Option, None, Some}
 use Rattle.rpg_cycle_records.specs.Earlier.{file_of, row_match_fields}
 use Rattle.rpg_cycle_records.specs.Identifying.{trial_weight}
@@ -16,11 +16,11 @@ abbrev pub moved_of : Option (TypeRow ℕ) → ℕ
 moved_of None = 0
 moved_of (Some t) = length t.levels + length t.inputs
 
--- a record of a file is taken in: its types are tried on a text, and it is of that row
+-- a record of a file is read: its types are tried on a text, and it is of that row
 abbrev pub taken_weight : List (TypeRow ℕ) → InputFile → List ℕ → ℕ → ℕ
 taken_weight ts f text k = trial_weight f ts text + match_field_count ts k
 
--- The law: a record taken in from each file, and one of them selected and its fields filled, weigh no more than all types.
+-- The law: a record read from each file, one of them selected and its fields filled, weigh no more than all types.
 abbrev pub TypesArePaid : Type 0
 TypesArePaid =
     (ts : List (TypeRow ℕ)) (x y : List ℕ) (j k n : ℕ) → file_of (slice_get ts j) ≡ Primary → file_of (slice_get ts k) ≡ Secondary

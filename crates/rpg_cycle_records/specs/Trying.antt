@@ -1,4 +1,4 @@
--- What the result of the code means for the search for a type.
+-- What the code's result means for the search for a type.
 use Rattle.std.specs.Prelude.{ℕ, Option, None, Some}
 use Rattle.rpg_cycle_records.specs.Identifying.{Trial, IsOf, IsOfNone}
 

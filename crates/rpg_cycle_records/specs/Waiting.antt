@@ -42,14 +42,14 @@ with_file_over f i = with_input f (record { waiting = None; is_over = true }) i
 abbrev pub with_waiting : InputFile → Option Selected → Inputs → Inputs
 with_waiting f s i = with_input f (record { waiting = s; is_over = (input_at i f).is_over }) i
 
--- a file that is there, not at its end and without a waiting record takes one in
+-- a file that exists, isn't at its end and has no waiting record reads one
 abbrev pub takes_in : Object → Inputs → InputFile → Bool
 takes_in p i f = has_file p f && (not (input_at i f).is_over && is_none (waiting_in i f))
 
 -- ---- selection
 
--- of two match values the one that goes first: the primary's where it is missing, else the secondary's where that is, else the
--- primary's unless it is greater
+-- the file whose match value goes first: the primary's if its value is missing, otherwise the secondary's if its value is, otherwise
+-- the primary's unless it is greater
 abbrev pub first_of : Option (List ℕ) → Option (List ℕ) → InputFile
 first_of None w = Primary
 first_of (Some v) None = Secondary
@@ -69,7 +69,7 @@ abbrev pub other_file : InputFile → InputFile
 other_file Primary = Secondary
 other_file Secondary = Primary
 
--- one of the records that were taken in, those selected earlier and those that wait, is of the other file and has the record's match value
+-- one of the records that were read, selected earlier or waiting, is of the other file and has the record's match value
 abbrev pub has_match : Object → List Selected → Inputs → Selected → Bool
 has_match p earlier i s =
     any_agrees p (other_file (file_at p s)) (match_value p s) (with_record (waiting_in i (other_file (file_at p s))) earlier)
@@ -80,7 +80,7 @@ abbrev pub waiting_value : Object → InputFile → Option Selected → Option (
 waiting_value p f None = None
 waiting_value p f (Some s) = value_from p f s
 
--- the record matches one of the other file: the one that waits, or the last one of that file
+-- the record matches one of the other file: the waiting one, or the last one of that file
 abbrev pub finds_match : Object → Left → Inputs → Selected → Bool
 finds_match p left i s =
     agrees (match_value p s) (waiting_value p (other_file (file_at p s)) (waiting_in i (other_file (file_at p s))))

@@ -1,4 +1,4 @@
-//! Files: the record that waits in each, and which of them is selected.
+//! Files: the waiting record of each, and which of them is selected.
 ghost use Rattle.std.specs.Prelude.{◌≡◌, ◌<◌, ◌||◌, Some, true, false, not, length};
 ghost use Rattle.rpg_cycle_records.specs.Earlier.{match_value};
 ghost use Rattle.rpg_cycle_records.specs.Fitting.{IsFilledAs};
@@ -14,14 +14,14 @@ use rpg_program::input::InputFile;
 use rpg_verify::Verified;
 use std::alloc::{AllocError, Global};
 
-/// What a job keeps of a file. Its room is allocated at the start, so that a cycle allocates nothing.
+/// What a job keeps of a file. Its buffers are allocated at the start, so that a cycle allocates nothing.
 #[derive(Drop)]
 pub struct KeptFile {
-    /// The row of the waiting record's type, the first being 0, if a record waits.
+    /// The row of the waiting record's type, counted from 0, if a record waits.
     pub waiting: Option<usize>,
     /// Whether the end of the file was read.
     pub is_over: bool,
-    /// The record that was taken in last, filled to its length.
+    /// The record that was read last, padded to its length.
     pub record: Vec<u8>,
     /// The match value of that record.
     pub value: MatchValue,
@@ -30,7 +30,7 @@ pub struct KeptFile {
 impl KeptFile {
     ghost use Rattle.std.specs.Prelude.{None, IfOk, OnOk};
 
-    /// Nothing was read yet. Room is made for a record of the file and for a match value.
+    /// A file of which nothing was read yet. Allocates room for a record and for a match value.
     pub fn new(alloc: Global, program: &Verified, file: InputFile) -> Result<KeptFile, AllocError>
         ensures nothing { IfOk result (λ k. k.waiting ≡ None) }
         ensures open { IfOk result (λ k. k.is_over ≡ false) }
@@ -43,16 +43,15 @@ impl KeptFile {
         })
     }
 
-    /// Whether the file takes a record in: it is there, not at its end, and no record of it waits.
+    /// Whether the file reads a record: it exists, isn't at its end, and no record of it waits.
     pub fn takes_in(&self, program: &Verified, file: InputFile) -> bool
         ensures { result ≡ takes_from program.now file (input_state_of self.now) }
     {
         input_length(program, file) != 0 && !self.is_over && self.waiting.is_none()
     }
 
-    /// Takes the match value of the record, which is of type `row`, counted from 0. The record waits, unless its value is lower than
-    /// the file's last one; returns whether it does. Allocates only where the room of a value is too small; after an error the value is
-    /// unusable.
+    /// Takes the match value of the record, which is of type `row`, counted from 0. The record waits, unless its value is lower than the
+    /// file's last one; returns whether it does. Allocates only if the value's buffer is too small; after an error the value is unusable.
     #[inline(always)]
     pub fn wait(
         &mut self,
@@ -77,7 +76,7 @@ impl KeptFile {
     }
 }
 
-/// The file whose record goes first, by the match values of two records that wait.
+/// Returns the file whose record goes first, by the match values of two waiting records.
 fn first_of(primary: &MatchValue, secondary: &MatchValue) -> InputFile
     ensures { result ≡ spec.first_of (seen_value primary.now) (seen_value secondary.now) }
 {
@@ -88,7 +87,7 @@ fn first_of(primary: &MatchValue, secondary: &MatchValue) -> InputFile
     }
 }
 
-/// The file whose record is selected, if any waits.
+/// Returns the file whose record is selected, if any waits.
 #[tactic(auto, using(crate::proofs::Choosing::both_wait))]
 pub fn chosen(program: &Verified, primary: &KeptFile, secondary: &KeptFile) -> Option<InputFile>
     requires primary { IsFileKept program.now files.Primary primary.now }

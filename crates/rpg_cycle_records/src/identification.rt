@@ -21,7 +21,7 @@ fn holds(text: &[u8], code: RecordCode) -> bool
     if code.is_negated { !is_there } else { is_there }
 }
 
-/// Whether all codes hold of a record.
+/// Whether a record satisfies all codes.
 fn all_hold(text: &[u8], codes: &[RecordCode]) -> bool
     requires { All (IsCodeIn (length text.now)) codes.now }
     ensures { result ≡ list_all (spec.code_holds text.now) codes.now }
@@ -34,12 +34,12 @@ fn all_hold(text: &[u8], codes: &[RecordCode]) -> bool
     true
 }
 
-/// How the trying of types came out.
+/// The result of trying types.
 #[derive(Clone, Copy)]
 pub struct Found {
-    /// The first type whose codes all hold; the first row is 0.
+    /// The first type whose codes all hold; rows are counted from 0.
     pub row: Option<usize>,
-    /// The codes of all types that were tried, 20,000 at most.
+    /// The number of codes in all types that were tried, 20,000 at most.
     pub codes: u32,
 }
 
@@ -79,7 +79,7 @@ fn identify_as(types: &[RecordType], file: InputFile, text: &[u8]) -> Found
     }
 }
 
-/// Tries the types of a file in order on one of its records, which is filled to its length.
+/// Tries the types of a file in order on one of its records, which is padded to its length.
 pub fn identify(program: &Verified, file: InputFile, text: &[u8]) -> Found
     requires { length text.now ≡ input_length program.now file }
     ensures row { trial_of result.row ≡ spec.identified file 0 program.now.types text.now }

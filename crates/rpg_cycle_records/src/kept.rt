@@ -15,15 +15,15 @@ use rpg_program::input::InputFile;
 use rpg_verify::Verified;
 use std::alloc::{AllocError, Global};
 
-/// Bytes that the control fields of a level have together, at most.
+/// The most bytes that the control fields of a level have together.
 const LONGEST_LEVEL: usize = 256;
 
-/// What earlier records left, and the files. Its room is allocated at the start, so that a cycle allocates nothing.
+/// What is left of earlier records, and the files. Its buffers are allocated at the start, so that a cycle allocates nothing.
 #[derive(Drop)]
 pub struct Kept {
     /// Whether a cycle selected a record.
     pub has_any: bool,
-    /// Whether one with control fields was selected.
+    /// Whether a record with control fields was selected.
     pub has_control: bool,
     /// Of each level, L1 first.
     pub levels: Vec<LastBytes>,
@@ -33,8 +33,8 @@ pub struct Kept {
 }
 
 impl Kept {
-    /// Nothing is left yet, and no file was read. All room is made here: 256 bytes for each of nine levels, and of each file for two match
-    /// values and a record.
+    /// Nothing is kept yet, and no file was read. Allocates all buffers: 256 bytes for each of nine levels, and two match values and a
+    /// record for each file.
     pub fn new(alloc: Global, program: &Verified) -> Result<Kept, AllocError>
         ensures left { IfOk result (λ k. left_of k ≡ nothing_left) }
         ensures inputs { IfOk result (λ k. inputs_of k ≡ unread) }
@@ -50,7 +50,7 @@ impl Kept {
         })
     }
 
-    /// The record that was taken in last from the file of a type, counted from 0. It is filled to its length.
+    /// Returns the record that was read last from the file of a type, counted from 0. It is padded to its length.
     pub fn text(&self, program: &Verified, row: usize) -> &[u8]
         requires { row < length program.now.types }
         ensures { result.now ≡ last_record_in self.now (file_of (slice_get program.now.types row)) }
@@ -61,8 +61,8 @@ impl Kept {
         }
     }
 
-    /// Whether a record that was selected from a file has a match: the record that waits in the other file has its match value, or the
-    /// last one that was selected from there.
+    /// Whether a record selected from a file has a match: its match value is that of the record that waits in the other file, or of the
+    /// last one selected from there.
     #[inline(always)]
     pub fn finds_match(&self, program: &Verified, row: usize) -> bool
         requires held { HoldsRecord program.now (file_of (slice_get program.now.types row)) (kept_at self.now (file_of (slice_get program.now.types row))) row }
@@ -79,7 +79,7 @@ impl Kept {
         }
     }
 
-    /// Notes that a record was selected, if one was: the row of its type, the first being 0.
+    /// Notes the row of the selected record's type, counted from 0, if a record was selected.
     pub fn note(&mut self, program: &Verified, selected: Option<usize>)
         requires { ForSome selected (λ t. t < length program.now.types) }
         ensures left { left_of self.new ≡ noted program.now selected (left_of self.old) }
@@ -93,7 +93,7 @@ impl Kept {
     }
 }
 
-/// Whether a value that is there is that of the record that waits in a file, or the file's last one.
+/// Whether a value is that of the record that waits in a file, or the file's last one.
 #[inline(never)]
 fn is_met(value: &MatchValue, other: &KeptFile, last: &MatchValue) -> bool
     ensures { result ≡ matches_file value.now other.now last.now }
@@ -101,7 +101,7 @@ fn is_met(value: &MatchValue, other: &KeptFile, last: &MatchValue) -> bool
     (other.waiting.is_some() && value.agrees(&other.value)) || value.agrees(last)
 }
 
-/// The same of a value that may be missing.
+/// Like `is_met`, for a value that may be missing.
 #[inline(always)]
 fn is_matched(value: &MatchValue, other: &KeptFile, last: &MatchValue) -> bool
     ensures { result ≡ matches_file value.now other.now last.now }
@@ -109,7 +109,7 @@ fn is_matched(value: &MatchValue, other: &KeptFile, last: &MatchValue) -> bool
     value.is_there && is_met(value, other, last)
 }
 
-/// Nine levels that no record has had.
+/// Nine levels that no record has had yet.
 fn no_levels(alloc: Global) -> Result<Vec<LastBytes>, AllocError>
     ensures { IfOk result (λ v. seen_levels v.items ≡ replicate 9 None) }
 {

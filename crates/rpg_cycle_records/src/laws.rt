@@ -5,8 +5,8 @@ ghost use Rattle.rpg_cycle_records.specs.Merging.{LastValuesTellMatches};
 ghost use Rattle.rpg_cycle_records.specs.Paying.{TypesArePaid};
 ghost use Rattle.rpg_decimal_words.specs.Order.{text_cmp};
 
-/// What a job keeps is enough: where match values were selected in their order, the test by the last values is the test over all
-/// records that were taken in.
+/// What a job keeps is enough: if match values were selected in order, testing the last values is the same as testing all records
+/// that were read.
 #[tactic(auto, using(crate::proofs::Matches::found))]
 pub fn matches_are_found()
     ensures { LastValuesTellMatches }
@@ -18,8 +18,8 @@ pub fn values_are_texts()
     ensures { (v w : List ℕ) → length v ≡ length w → value_cmp v w ≡ text_cmp v w }
 {}
 
-/// What a cycle charges of record types is at most their weight: the trying of two records, the match fields of both, and the control
-/// fields and input fields of the one that is selected.
+/// The steps that a cycle charges for record types are at most their weight: trying two records, the match fields of both, and the
+/// control fields and input fields of the selected one.
 #[tactic(auto, using(crate::proofs::Weighing::few))]
 pub fn types_are_paid()
     ensures { TypesArePaid }

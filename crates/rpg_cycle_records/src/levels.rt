@@ -11,7 +11,7 @@ ghost use Rattle.rpg_cycle_records.specs.Lasting.{are_last, is_last};
 use rpg_program::input::ControlField;
 use std::alloc::AllocError;
 
-/// The digit that a byte of a numeric control field has.
+/// Returns the digit of a byte in a numeric control field.
 fn digit_of(byte: u8) -> u8
     ensures { result ≡ spec.unsigned_digit byte }
 {
@@ -37,7 +37,7 @@ fn columns_of(text: &[u8], field: ControlField) -> &[u8]
     &text[field.from as usize - 1..field.to as usize]
 }
 
-/// What follows a first byte, if it is that one.
+/// Returns what follows the first byte, if it is `first`.
 fn after_one(bytes: &[u8], first: u8) -> Option<&[u8]>
     ensures { option_map (λ r. r.now) result ≡ rest_following (first ∷ []) bytes.now }
 {
@@ -47,7 +47,7 @@ fn after_one(bytes: &[u8], first: u8) -> Option<&[u8]>
     }
 }
 
-/// What follows a control field's bytes, if the bytes begin with them.
+/// Returns what follows a control field's bytes, if `bytes` begins with them.
 fn following<'a>(bytes: &'a [u8], text: &[u8], field: ControlField) -> Option<&'a [u8]>
     requires { IsControlIn (length text.now) field }
     ensures { option_map (λ r. r.now) result ≡ rest_following (spec.compared text.now field) bytes.now }
@@ -63,7 +63,7 @@ fn following<'a>(bytes: &'a [u8], text: &[u8], field: ControlField) -> Option<&'
     Some(rest)
 }
 
-/// The same of a control field that may be of another level.
+/// Like `following`, but skips a control field of another level.
 fn after_level<'a>(bytes: &'a [u8], text: &[u8], field: ControlField, level: u8) -> Option<&'a [u8]>
     requires { IsControlIn (length text.now) field }
     ensures { option_map (λ r. r.now) result ≡ rest_following (spec.at_level text.now level field) bytes.now }
@@ -91,7 +91,7 @@ fn is_joined(bytes: &[u8], fields: &[ControlField], text: &[u8], level: u8) -> b
     rest.is_empty()
 }
 
-/// Adds the bytes of a control field.
+/// Appends the bytes of a control field.
 fn add(bytes: &mut Vec<u8>, text: &[u8], field: ControlField) -> Result<(), AllocError>
     requires { IsControlIn (length text.now) field }
     ensures { OnOk result (bytes.new.items ≡ bytes.old.items ++ spec.compared text.now field) }
@@ -103,7 +103,7 @@ fn add(bytes: &mut Vec<u8>, text: &[u8], field: ControlField) -> Result<(), Allo
     Ok(())
 }
 
-/// Adds the bytes of a level.
+/// Appends the bytes of a level.
 pub(crate) fn join(
     bytes: &mut Vec<u8>,
     fields: &[ControlField],
@@ -129,7 +129,7 @@ pub struct LastBytes {
     pub bytes: Vec<u8>,
 }
 
-/// Compares a level's bytes with the last ones, and keeps them in their place. Returns whether they differ.
+/// Compares a level's bytes with the last ones and replaces these. Returns whether they differ.
 fn renew(
     last: &mut LastBytes,
     fields: &[ControlField],
@@ -155,7 +155,7 @@ fn has_level(fields: &[ControlField], level: u8) -> bool
     fields.iter().any(|f| f.level == level)
 }
 
-/// The same, where the fields have the level.
+/// Like `renew`, if the fields have the level.
 fn renew_if_there(
     last: &mut LastBytes,
     fields: &[ControlField],
@@ -178,7 +178,7 @@ fn higher(is_broken: bool, level: usize, lower: usize) -> usize
     if is_broken { level } else { lower }
 }
 
-/// The highest level that a control field is of, 0 where there is none.
+/// Returns the highest level of the control fields, 0 if there are none.
 fn highest_level(fields: &[ControlField]) -> u8
     ensures { (k : ℕ) → result < k → spec.has_level fields.now k ≡ false }
 {
@@ -269,9 +269,8 @@ fn renew_all(
     Ok(broken)
 }
 
-/// Compares the levels of a record, which is filled to its length, with the last bytes, L1 first, and keeps the record's. Returns the
-/// highest level that differs, 1 to 9, 0 for none. It takes memory only where the room of a level's bytes is too small; on an error
-/// some levels may be kept and others not.
+/// Compares the levels of a record, padded to its length, with the last bytes, L1 first, and keeps the record's. Returns the highest level
+/// that differs, 1 to 9, or 0. Allocates only if a level's buffer is too small; after an error some levels may be kept and others not.
 #[inline(always)]
 pub fn compare(
     levels: &mut [LastBytes],

@@ -1,4 +1,4 @@
-//! Match values: of a record, and how they compare.
+//! Match values: a record's value, and how values compare.
 ghost use Rattle.std.specs.Prelude.{◌≡◌, ◌++◌, All, OnOk, Some, length};
 ghost use Rattle.rpg_cycle_records.specs.Fitting.{IsControlIn};
 ghost use Rattle.rpg_cycle_records.specs.Keeping.{seen_value};
@@ -12,10 +12,10 @@ use rpg_verify::Verified;
 use std::alloc::{AllocError, Global};
 use std::cmp::Ordering;
 
-/// Bytes that the match fields of a type have together, at most.
+/// The most bytes that the match fields of a type have together.
 pub(crate) const LONGEST_VALUE: usize = 256;
 
-/// The match value of a record, which has none where its type has no match fields.
+/// The match value of a record; none if its type has no match fields.
 #[derive(Drop)]
 pub struct MatchValue {
     pub is_there: bool,
@@ -25,7 +25,7 @@ pub struct MatchValue {
 impl MatchValue {
     ghost use Rattle.std.specs.Prelude.{None, IfOk};
 
-    /// No value, with room for one of some bytes.
+    /// No value, with room for one of `room` bytes.
     pub fn none(alloc: Global, room: usize) -> Result<MatchValue, AllocError>
         ensures { IfOk result (λ v. seen_value v ≡ None) }
     {
@@ -35,8 +35,8 @@ impl MatchValue {
         })
     }
 
-    /// The value of a record, which is filled to its length, in the place of another. Allocates only where the room is too small; after
-    /// an error the value is unusable.
+    /// Replaces the value by that of a record, which is padded to its length. Allocates only if the buffer is too small; after an error the
+    /// value is unusable.
     #[inline(always)]
     pub fn take(&mut self, fields: &[ControlField], text: &[u8]) -> Result<(), AllocError>
         requires { All (IsControlIn (length text.now)) fields.now }
@@ -51,7 +51,7 @@ impl MatchValue {
         join_down(&mut self.bytes, fields, text)
     }
 
-    /// Whether both are there, and this one is greater than the other.
+    /// Whether both values exist and this one is greater than the other.
     #[inline(always)]
     pub fn exceeds(&self, other: &MatchValue) -> bool
         ensures { result ≡ spec.exceeds (seen_value self.now) (seen_value other.now) }
@@ -61,7 +61,7 @@ impl MatchValue {
             && compare_values(&self.bytes, &other.bytes) == Ordering::Greater
     }
 
-    /// Whether both are there and the same.
+    /// Whether both values exist and are equal.
     #[tactic(auto, using(crate::proofs::Order::same_is_equal))]
     pub fn agrees(&self, other: &MatchValue) -> bool
         ensures { result ≡ spec.agrees (seen_value self.now) (seen_value other.now) }
@@ -72,7 +72,7 @@ impl MatchValue {
     }
 }
 
-/// The match values of the last records of the two files that have one.
+/// The match values of the last record in each file that has one.
 #[derive(Drop)]
 pub struct LastValues {
     pub primary: MatchValue,
@@ -96,8 +96,8 @@ impl LastValues {
         })
     }
 
-    /// Keeps the match value of a record of a type, counted from 0, as the last one of its file, if the type has match fields. The
-    /// record is filled to its length. Allocates only where the room is too small; after an error the value is unusable.
+    /// Keeps the match value of a record of a type, counted from 0, as the last one of its file, if the type has match fields. The record
+    /// is padded to its length. Allocates only if the buffer is too small; after an error the value is unusable.
     #[inline(always)]
     pub fn keep(&mut self, program: &Verified, row: usize, text: &[u8]) -> Result<(), AllocError>
         requires there { row < length program.now.types }
@@ -116,7 +116,7 @@ impl LastValues {
     }
 }
 
-/// Adds the bytes of all levels, from L9 down.
+/// Appends the bytes of all levels, from L9 down.
 #[inline(never)]
 fn join_down(bytes: &mut Vec<u8>, fields: &[ControlField], text: &[u8]) -> Result<(), AllocError>
     requires { All (IsControlIn (length text.now)) fields.now }
@@ -128,7 +128,7 @@ fn join_down(bytes: &mut Vec<u8>, fields: &[ControlField], text: &[u8]) -> Resul
     Ok(())
 }
 
-/// Compares two values by the first place where they differ, and where there is none by their lengths.
+/// Compares two values at the first byte where they differ; if there is none, compares their lengths.
 #[inline(never)]
 #[tactic(auto, using(crate::proofs::Order::by_shared))]
 fn compare_values(a: &[u8], b: &[u8]) -> Ordering

@@ -1,4 +1,4 @@
-//! What is read of a program: its record types.
+//! What is read from a program: its record types.
 ghost use Rattle.std.specs.Prelude.{◌≡◌, ◌≤◌, ◌<◌, All, Some, length, map, slice_get};
 ghost use Rattle.rpg_cycle_records.specs.Earlier as earlier;
 ghost use Rattle.rpg_cycle_records.specs.Fitting.{IsControlIn, IsTypeFit};
@@ -17,7 +17,7 @@ pub fn rows_of(program: &Verified) -> &Rows
     program.program().rows()
 }
 
-/// What the rules and the format give of record types: their columns are those of their file's records, and there are few.
+/// What the rules and the format imply for record types: their columns are those of their file's records, and there are few.
 #[tactic(auto, using(crate::proofs::Fitting::types_fit))]
 fn types_fit(program: &Verified)
     ensures fit { All (IsTypeFit program.now) program.now.types }
@@ -74,7 +74,7 @@ pub fn file_of(program: &Verified, row: usize) -> InputFile
     type_at(program, row).file
 }
 
-/// The columns of a file's records, 0 where there is no such file.
+/// Returns the length of a file's records, 0 if there is no such file.
 pub fn input_length(program: &Verified, file: InputFile) -> usize
     ensures { result ≡ length_of program.now file }
 {

@@ -9,16 +9,16 @@ use rpg_text::has_only_characters;
 use rpg_verify::Verified;
 use std::alloc::AllocError;
 
-/// Whether a program can take the record from a file: one of characters, 0x20 to 0x7E, no longer than the file's records. It may be
-/// empty.
+/// Whether a program accepts the record from a file: only characters, 0x20 to 0x7E, and no longer than the file's records. It may
+/// be empty.
 pub fn is_good(program: &Verified, file: InputFile, text: &[u8]) -> bool
     ensures { result ≡ spec.is_good_record program.now file text.now }
 {
     text.len() <= input_length(program, file) && has_only_characters(text)
 }
 
-/// The record, filled with blanks to the length of the file's records, in the place of another. It takes memory only where the
-/// room of that one is less than this length; on an error the record is of no use.
+/// Replaces a record by this one, padded with blanks to the length of the file's records. Allocates only if the buffer is too
+/// small; after an error the record is unusable.
 #[inline(always)]
 pub fn fill(
     room: &mut Vec<u8>,

@@ -16,7 +16,7 @@ pub record LeadsBack (p : Object) (x : Place) (target : ℕ) : Type 0 where
   pub there : IsAt p x (Branch is_taken_where conditions target)
   pub back : target ≤ x.number
 
--- nothing; or the cost of where such a branch leads; or that of a subroutine's first place
+-- nothing; or the cost of such a branch's target; or that of a subroutine's first place
 abbrev pub IsSpendCost : Object → ℕ → Type 0
 IsSpendCost p n =
     (n ≡ 0)

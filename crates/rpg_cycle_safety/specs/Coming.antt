@@ -31,8 +31,7 @@ IsJobEnd EndOfJob = Unit {0}
 IsJobEnd (Halt k) = IsCycleEnd (Halt k)
 IsJobEnd (Wrong f) = ⊥
 
--- a cycle ends with values that hold, with waiting records that are well kept, and within the program's bound; where the job
--- goes on no subroutine runs
+-- a cycle ends with valid values, with well-kept waiting records, and within the program's bound; if the job goes on, no subroutine runs
 pub record CyclesWell (p : Object) (e : PhaseEnd) (d : UnderWay) : Type 0 where
   pub ending : IsCycleEnd e
   pub values : Holds p d.config.world.data
@@ -40,7 +39,7 @@ pub record CyclesWell (p : Object) (e : PhaseEnd) (d : UnderWay) : Type 0 where
   pub waiting : AreWaiting p d.inputs
   pub few : d.config.steps ≤ bound p
 
--- there is a cycle, and this is what it leads to
+-- there is a cycle, with this result
 pub record HasCycle (p : Object) (earlier : List Selected) (primary secondary : Option (List ℕ)) (c : Config) (i : Inputs) : Type 0 where
   pub ending : PhaseEnd
   pub last : UnderWay
@@ -48,17 +47,18 @@ pub record HasCycle (p : Object) (earlier : List Selected) (primary secondary : 
   pub cycle : Cycle p earlier primary secondary (begun p c i) ending last output
   pub well : CyclesWell p ending last
 
--- a run's next cycle, with the records that are next in the files that take one in
+-- a run's next cycle, with the next records of the files that read one
 abbrev pub next_cycle : Object → List Selected → Records → Config → Inputs → Phase
 next_cycle p earlier rs c i = Cycle p earlier (next_of (needs_record p c i Primary) rs.primary) (next_of (needs_record p c i Secondary) rs.secondary)
 
--- a run over so many records of both files ends at the end of the job or at a halt, within one cycle more, none of which took more steps than the bound
+-- a run over this many records of both files ends at the end of the job or at a halt, within one cycle more, and none took more steps than
+-- the bound
 pub record RunsWell (p : Object) (records : ℕ) (course : Course) : Type 0 where
   pub ending : IsJobEnd course.ending
   pub cycles : course.cycles ≤ records + 1
   pub few : course.most ≤ bound p
 
--- there is a run, and this is what it leads to
+-- there is a run, with this result
 pub record HasRun (p : Object) (date : ℤ) (fields : Fields nat_cmp) (records : Records) : Type 0 where
   pub course : Course
   pub bytes : Bytes

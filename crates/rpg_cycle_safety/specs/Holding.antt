@@ -1,4 +1,4 @@
--- What holds of the data all along a run of an accepted program, and what keeps it.
+-- What holds of the data throughout a run of an accepted program, and what preserves it.
 use Rattle.std.specs.Prelude.{◌≡◌, ◌≤◌}
 use Rattle.std.specs.Ordering.{nat_cmp}
 use Rattle.rpg_program.specs.Effect.{Effect}
@@ -19,12 +19,12 @@ IsEffectEnd GoesOn = Unit {0}
 IsEffectEnd (Halt k) = (1 ≤ k) × (k ≤ 4) × (k ≡ 3 → ⊥)
 IsEffectEnd (Wrong f) = ⊥
 
--- nothing is wrong with what is done to data, and what is to hold of them holds
+-- nothing is wrong with what is done to the data, and what must hold of it still holds
 pub record KeepsData (p : Object) (e : Ended nat_cmp) : Type 0 where
   pub ending : IsEffectEnd e.ending
   pub holds : Holds p e.data
 
--- the same of an effect
+-- the same for an effect
 pub record Keeps (p : Object) (e : Effect nat_cmp) : Type 0 where
   pub ending : IsEffectEnd e.ending
   pub holds : Holds p e.world.data

@@ -1,4 +1,4 @@
--- What holds of a configuration all along a run of an accepted program, what a step of it may lead to, and what a section's run may lead to.
+-- What holds of a configuration throughout a run of an accepted program, and the possible results of a step and of a section's run.
 use Rattle.std.specs.Prelude.{◌≡◌, ◌+◌, ◌*◌, ◌≤◌, true}
 use Rattle.std.specs.FinMap as map
 use Rattle.rpg_program.specs.Ends.{End, GoesOn, Halt, Wrong}
@@ -13,7 +13,7 @@ use Rattle.rpg_program.specs.Sections.{first_place}
 use Rattle.rpg_program.specs.declared.section.Section.{Section}
 use Rattle.rpg_verify.specs.Bound.{cost, most}
 
--- the values are what they are to be, the place is one of the running section, and the return cells are one chain
+-- the values are valid, the place is in the running section, and the return cells form one chain
 pub record IsSteady (p : Object) (c : Config) : Type 0 where
   pub values : Holds p c.world.data
   pub control : IsSafe p c
@@ -24,23 +24,22 @@ IsNamedEnd GoesOn = Unit {0}
 IsNamedEnd (Halt k) = (1 ≤ k) × (k ≤ 5) × (k ≡ 3 → ⊥)
 IsNamedEnd (Wrong f) = ⊥
 
--- a step goes on or halts, at such a configuration; a section's end is no step
+-- a step goes on or halts, at such a configuration; at a section's end there is no step
 abbrev pub StepsWell : Object → Outcome → Type 0
 StepsWell p (Next d o) = IsSteady p d
 StepsWell p (Stop GoesOn d o) = ⊥
 StepsWell p (Stop (Halt k) d o) = IsNamedEnd (Halt k) × IsSteady p d
 StepsWell p (Stop (Wrong f) d o) = ⊥
 
--- so far as a run has come: at such a configuration, at one that is its end, or at one where it halted
+-- the progress of a run: at such a configuration, at one that is its end, or at one where it halted
 abbrev pub StandsWell : Object → Outcome → Type 0
 StandsWell p (Next d o) = IsSteady p d
 StandsWell p (Stop GoesOn d o) = IsSteady p d × (is_end p d ≡ true)
 StandsWell p (Stop (Halt k) d o) = IsNamedEnd (Halt k) × IsSteady p d
 StandsWell p (Stop (Wrong f) d o) = ⊥
 
--- What a run of a section leads to: its end or a halt, with values that hold. At the section's end no subroutine
--- runs. What it took, and all that is left of the allowance can still buy, are at most the cost of the section's first place and what
--- the allowance could buy before.
+-- The result of a section's run: its end or a halt, with valid values. At the section's end no subroutine runs. Its steps, and what the
+-- remaining allowance can still buy, are at most the cost of the section's first place plus what the allowance could buy before.
 pub record EndsWell (p : Object) (section : Section) (c : Config) (e : End) (d : Config) : Type 0 where
   pub ending : IsNamedEnd e
   pub values : Holds p d.world.data
@@ -48,7 +47,7 @@ pub record EndsWell (p : Object) (section : Section) (c : Config) (e : End) (d :
   pub spent : d.allowance ≤ c.allowance
   pub bound : d.steps + d.allowance * most p ≤ c.steps + cost p (record { section = section; number = first_place p section }) + c.allowance * most p
 
--- a section has a run, and this is what it leads to
+-- a section has a run, with this result
 pub record HasSectionRun (p : Object) (section : Section) (c : Config) : Type 0 where
   pub ending : End
   pub last : Config
@@ -56,7 +55,7 @@ pub record HasSectionRun (p : Object) (section : Section) (c : Config) : Type 0 
   pub runs : RunsTo p section c ending last output
   pub ends : EndsWell p section c ending last
 
--- a step leads to a place of its section, with a chain of cells, and the sum of the steps and of all that may still come hasn't grown
+-- a step leads to a place of its section, with a chain of cells, and the steps so far plus those that may still come haven't grown
 pub record StaysInBound (p : Object) (c : Config) (d : Config) (before : IsSafe p c) : Type 0 where
   pub control : IsSafe p d
   pub bound : potential (cost p) (most p) d control.cells ≤ potential (cost p) (most p) c before.cells

@@ -32,21 +32,21 @@ use Rattle.rpg_verify.specs.Bound.{bound}
 
 -- ---- cycles
 
--- there is a cycle, whatever was read before and is next, from any configuration whose values hold, in which no subroutine runs, and whose
+-- there is a cycle, whatever was read before and is next, from any configuration with valid values, in which no subroutine runs, and whose
 -- waiting records are well kept
 abbrev pub CyclesAreThere : Type 0
 CyclesAreThere =
     (p : Object) (earlier : List Selected) (primary secondary : Option (List ℕ)) (c : Config) (i : Inputs)
     → IsProgram p → IsAccepted p → Holds p c.world.data → c.cells ≡ map.empty → AreWaiting p i → HasCycle p earlier primary secondary c i
 
--- each cycle from there ends well: never wrong, with values that hold, within the bound
+-- each cycle from there ends well: never wrong, with valid values, within the bound
 abbrev pub CyclesEndWell : Type 0
 CyclesEndWell =
     (p : Object) (earlier : List Selected) (primary secondary : Option (List ℕ)) (c : Config) (i : Inputs) (e : PhaseEnd) (d : UnderWay) (out : Output)
     → IsProgram p → IsAccepted p → Holds p c.world.data → c.cells ≡ map.empty → AreWaiting p i
     → Cycle p earlier primary secondary (begun p c i) e d out → CyclesWell p e d
 
--- two cycles from one configuration and its files, after the same records and with the same ones next, are one
+-- two cycles from one configuration and its files, after the same records and with the same next ones, are the same
 abbrev pub CyclesAreOne : Type 0
 CyclesAreOne =
     (p : Object) (earlier : List Selected) (primary secondary : Option (List ℕ)) (c : UnderWay) (e f : PhaseEnd) (x y : UnderWay) (a b : Output)
@@ -54,7 +54,7 @@ CyclesAreOne =
 
 -- ---- runs
 
--- there is a run over any records of both files, on any date, from values that hold
+-- there is a run over any records of both files, on any date, from valid values
 abbrev pub RunsAreThere : Type 0
 RunsAreThere =
     (p : Object) (text : List ℕ) (date : ℤ) (fields : Fields nat_cmp) (records : Records)
@@ -67,7 +67,7 @@ RunsEndWell =
     → IsProgram p → IsAccepted p → date_in text ≡ Some date → Holds p (job_first_world fields).data
     → IsRun p date fields records course bytes → RunsWell p (records_count records) course
 
--- and each configuration that it comes by is steady
+-- and each configuration on its way is steady
 abbrev pub RunsAreSteady : Type 0
 RunsAreSteady =
     (p : Object) (text : List ℕ) (date : ℤ) (fields : Fields nat_cmp) (records : Records) (c : Config)
@@ -76,14 +76,14 @@ RunsAreSteady =
 
 -- ---- output
 
--- whatever calculations put out takes the steps that pay for it
+-- all output of calculations takes the steps that pay for it
 abbrev pub SectionsPayForOutput : Type 0
 SectionsPayForOutput =
     (p : Object) (section : Section) (previous : Option Position) (c : Config) (e : End) (d : Config) (out : Output)
     → IsProgram p → IsAccepted p → has_end section ≡ true → c.cells ≡ map.empty → Holds p c.world.data → StandsNear previous c.world.paper.here
     → RunsTo p section c e d out → PaysForOutput previous c d out
 
--- so does what a cycle puts out, which is no more than the steps of the bound may put out
+-- so does the output of a cycle, which is no more than the steps of the bound may output
 abbrev pub CyclesPayForOutput : Type 0
 CyclesPayForOutput =
     (p : Object) (earlier : List Selected) (primary secondary : Option (List ℕ)) (previous : Option Position) (c : Config) (i : Inputs) (e : PhaseEnd) (d : UnderWay) (out : Output)
@@ -91,14 +91,14 @@ CyclesPayForOutput =
     → Cycle p earlier primary secondary (begun p c i) e d out
     → PaysForOutput previous (begun p c i).config d.config out × StaysInOutput p previous out
 
--- nor is it in any cycle of a run
+-- nor is it more in any cycle of a run
 abbrev pub RunsStayInOutput : Type 0
 RunsStayInOutput =
     (p : Object) (text : List ℕ) (date : ℤ) (fields : Fields nat_cmp) (records : Records) (last : Option Position) (out : Output)
     → IsProgram p → IsAccepted p → date_in text ≡ Some date → Holds p (job_first_world fields).data
     → IsPutInRun p date fields records last out → StaysInOutput p last out
 
--- a job from which all was taken before a cycle holds no more after it, but for the line feed that ends the job's last line
+-- a job whose output was taken before a cycle holds no more after it, except the line feed that ends the job's last line
 abbrev pub JobsStayInOutput : Type 0
 JobsStayInOutput =
     (old new : AtWork) (earlier : List Selected) (previous : Option Position) (primary secondary : Option (List ℕ)) (e : PhaseEnd)
@@ -106,7 +106,7 @@ JobsStayInOutput =
     → AreWaiting old.program old.inputs → StandsNear previous (config_on previous old.config).world.paper.here → old.output ≡ no_bytes
     → DoesCycle old earlier previous primary secondary e new → pending new ≤ bound old.program * bytes_of_step + 1
 
--- all that a run puts out is at most so much for each of its cycles, with that line feed
+-- a run outputs at most this much for each of its cycles, plus that line feed
 abbrev pub RunsPutOutFew : Type 0
 RunsPutOutFew =
     (p : Object) (text : List ℕ) (date : ℤ) (fields : Fields nat_cmp) (records : Records) (course : Course) (bytes : Bytes)

@@ -24,31 +24,31 @@ use Rattle.rpg_program.specs.Sections.{has_end}
 use Rattle.rpg_program.specs.declared.section.Section.{Section}
 use Rattle.rpg_verify_rules.specs.Accepted.{IsAccepted}
 
--- an operation with nothing wrong in its row keeps what holds of the values
+-- an operation whose row has no fault preserves what holds of the values
 abbrev pub OperationsKeep : Type 0
 OperationsKeep =
     (p : Object) (a : Action (Operand ℕ)) (d : Data nat_cmp)
     → IsProgram p → IsRightRow (form_at p.fields) (row_of (form_of (form_at p.fields)) a) → Holds p d → KeepsData p (operate (form_at p.fields) a d)
 
--- so do the input fields of a record type, over a record as long as those of its file
+-- so do the input fields of a record type, over a record as long as its file's records
 abbrev pub InputFieldsKeep : Type 0
 InputFieldsKeep =
     (p : Object) (row : ℕ) (text : List ℕ) (d : Data nat_cmp)
     → IsProgram p → IsAccepted p → length text ≡ length_at p row → All IsCharacter text → Holds p d
     → KeepsData p (record_in (form_at p.fields) text (inputs_at p row) d)
 
--- a step from where control is safe keeps it so, and the sum of the steps and of all that may still come doesn't grow
+-- a step from a safe place leads to a safe one, and the steps so far plus those that may still come don't grow
 abbrev pub StepsStayInBound : Type 0
 StepsStayInBound =
     (p : Object) (c d : Config) (o : Output) → IsProgram p → IsAccepted p → (before : IsSafe p c) → step p c ≡ Next d o → StaysInBound p c d before
 
--- detail and total calculations have a run from any configuration whose values hold and in which no subroutine runs
+-- detail and total calculations have a run from any configuration with valid values in which no subroutine runs
 abbrev pub SectionsHaveRuns : Type 0
 SectionsHaveRuns =
     (p : Object) (section : Section) (c : Config)
     → IsProgram p → IsAccepted p → has_end section ≡ true → c.cells ≡ map.empty → Holds p c.world.data → HasSectionRun p section c
 
--- each run of theirs ends well
+-- each of their runs ends well
 abbrev pub SectionsEndWell : Type 0
 SectionsEndWell =
     (p : Object) (section : Section) (c : Config) (e : End) (d : Config) (o : Output)

@@ -1,4 +1,4 @@
--- The configurations that a run comes by: where each cycle starts, where each of its phases leads, and all within its sections.
+-- The configurations on the way of a run: where each cycle starts, where each of its phases leads, and all within its sections.
 use Rattle.std.specs.Prelude.{◌≡◌, ℕ, zero, suc, Bool, false, ◌⊎◌, ℤ, List, [], Option}
 use Rattle.std.specs.Ordering.{nat_cmp}
 use Rattle.rpg_cycle_records.specs.Earlier.{Left, Selected, left_by, with_record}
@@ -18,7 +18,7 @@ use Rattle.rpg_program.specs.Object.{Object}
 use Rattle.rpg_program.specs.declared.section.Section.{Section}
 use Rattle.rpg_program.specs.declared.section.Section.TheVariants as sections
 
--- the configurations that something comes by, from where it starts
+-- the configurations on a way from its start
 abbrev pub Way : Type 1
 Way = UnderWay → Config → Type 0
 
@@ -35,7 +35,7 @@ config_left (Stop e c o) = c
 abbrev pub within : Object → Section → Way
 within p s c x = (n : ℕ) × (x ≡ config_left (run p n (at_first p s c.config)))
 
--- those of a phase, and where it goes on, those of what follows
+-- those of a phase and, if it goes on, those of what follows
 abbrev pub along : Phase → Way → Way → Way
 along P V W c x = V c x ⊎ ((m : UnderWay) × (out : Output) × P c GoesOn m out × W m x)
 
@@ -61,7 +61,7 @@ phases_way p left matches primary secondary =
     onto along (total_time p left) (total_way p left)
     (end_where_last onto overflow_lines p onto show_match matches onto fill_fields p onto within p sections.Detail)
 
--- those of a cycle after those that selected the earlier records, with the records that are next
+-- those of a cycle after those that selected the earlier records, with the next records
 abbrev pub cycle_way : Object → List Selected → Option (List ℕ) → Option (List ℕ) → Way
 cycle_way p earlier primary secondary c x = (x ≡ c.config) ⊎ phases_way p (left_by p earlier) (has_match p earlier) primary secondary c x
 
@@ -69,13 +69,14 @@ cycle_way p earlier primary secondary c x = (x ≡ c.config) ⊎ phases_way p (l
 abbrev pub next_way : Object → List Selected → Records → Config → Inputs → Way
 next_way p earlier rs c i = cycle_way p earlier (next_of (needs_record p c i Primary) rs.primary) (next_of (needs_record p c i Secondary) rs.secondary)
 
--- those of so many cycles of a run from a configuration and files, after earlier records (the last first), over the records that are left
+-- those of a given number of cycles of a run from a configuration and files, after earlier records (the last first), over the remaining
+-- records
 abbrev pub Visits : ℕ → Object → List Selected → Records → Config → Inputs → Config → Type 0
 Visits zero p earlier rs c i x = ⊥
 Visits (suc n) p earlier rs c i x =
     along (next_cycle p earlier rs c i) (next_way p earlier rs c i)
     (λ d y. Visits n p (with_record d.selected earlier) (left_following p c i rs) d.config d.inputs y) (begun p c i) x
 
--- those of the whole run of a program over records, on a date, with what its fields hold at first
+-- those of the whole run of a program over records, on a date, with the first values of its fields
 abbrev pub IsOfRun : Object → ℤ → Fields nat_cmp → Records → Config → Type 0
 IsOfRun p date fields records x = (n : ℕ) × Visits n p [] records (job_start p date fields) unread x

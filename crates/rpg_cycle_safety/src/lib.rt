@@ -1,5 +1,5 @@
-//! What every run of an accepted program keeps, as laws of the definitions.
-//! What every cycle and every run of an accepted program leads to, as laws of the definitions.
+//! Laws of the definitions: what every run of an accepted program preserves, and what every
+//! cycle and every run leads to.
 #![tactic(auto)]
 
 pub mod run_laws;

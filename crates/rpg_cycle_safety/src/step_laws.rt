@@ -22,50 +22,50 @@ ghost use Rattle.rpg_verify_rules.specs.Sound.{IsAt};
 ghost use Rattle.rpg_verify.specs.Bound.{most};
 ghost use Rattle.rpg_store.specs.First.{first_contents, first_currents};
 
-/// What a program starts with is what its values are to be.
+/// The values that a program starts with are valid.
 pub fn first_values_hold()
     ensures { (p : Object) (d : Data nat_cmp) → IsProgram p → d.fields ≡ record { values = first_contents p; current = first_currents p } →
         Holds p d }
 {}
 
-/// An operation with nothing wrong in its row goes on or halts, and keeps what holds of the values.
+/// An operation whose row has no fault goes on or halts, and preserves what holds of the values.
 pub fn operations_keep()
     ensures { OperationsKeep }
 {}
 
-/// So do the input fields of a record type, over a record as long as those of its file.
+/// So do the input fields of a record type, over a record as long as its file's records.
 pub fn input_fields_keep()
     ensures { InputFieldsKeep }
 {}
 
-/// So do the lines of each passage, and the outputs of a cycle.
+/// So do the lines of each pass, and the outputs of a cycle.
 pub fn outputs_keep()
     ensures passage { (p : Object) (pass : Pass) (w : World nat_cmp) → IsProgram p → IsAccepted p → Holds p w.data → Keeps p (passage_effect p pass w) }
     ensures output { (p : Object) (time : OutputTime) (w : World nat_cmp) → IsProgram p → IsAccepted p → Holds p w.data →
         Keeps p (output_effect p time w) }
 {}
 
-/// So does each instruction, EXCPT among them.
+/// So does each instruction, including EXCPT.
 pub fn instructions_keep()
     ensures { (p : Object) (x : Place) (i : Instruction ℕ) (w : World nat_cmp) → IsProgram p → IsAccepted p → IsAt p x i → Holds p w.data →
         Keeps p (effect p i w) }
 {}
 
-/// From a steady configuration that is no section's end a step continues at a steady one, or halts. Nothing is wrong, and the sum of the
-/// steps and of all that may still come doesn't grow.
+/// From a steady configuration that isn't a section's end, a step leads to a steady one or halts. Nothing goes wrong, and the steps so far
+/// plus those that may still come don't grow.
 pub fn steps_keep()
     ensures leads { (p : Object) (c : Config) → IsProgram p → IsAccepted p → IsSteady p c → is_end p c ≡ false → StepsWell p (step p c) }
     ensures bound { StepsStayInBound }
 {}
 
-/// The bound's factor of the allowance is the greatest cost that a spend leads to, and no more.
+/// The bound's factor of the allowance is exactly the greatest cost that a spend leads to.
 pub fn most_is_greatest()
     ensures { (p : Object) → IsProgram p → IsGreatestSpend p (most p) }
 {}
 
-/// Detail and total calculations have a run, from any configuration whose values hold and in which no subroutine runs. Each such run
-/// reaches their end or a halt, within its bound, with values that hold; after any number of steps it is at a steady configuration, at that
-/// end or at that halt.
+/// Detail and total calculations have a run from any configuration whose values are valid and in which no subroutine runs. Each such run
+/// reaches their end or a halt within its bound, with valid values; after any number of steps it is at a steady configuration, at that end
+/// or at that halt.
 pub fn sections_keep()
     ensures exists { SectionsHaveRuns }
     ensures each { SectionsEndWell }

@@ -27,7 +27,7 @@ pub record MovesDigitsFromRight (k : ℕ) (n : ℤ) (len : ℕ) (old moved : ℤ
   pub digits : (i : ℕ) → i < len → digit_at moved i ≡ (if nat_lt i k then digit_at n i else digit_at old i)
   pub sign : moved ≢ pos 0 → is_negative moved ≡ is_negative n
 
--- counted from the left; the sign is the source's where it reaches the last place, else the old one
+-- counted from the left; the sign is the source's if it reaches the last place, else the old one
 pub record MovesDigitsFromLeft (k : ℕ) (n : ℤ) (len : ℕ) (old moved : ℤ) : Type 0 where
   pub fits : unsigned_abs moved < 10 ^ len
   pub digits : (i : ℕ) → i < len → digit_at moved (len - 1 - i) ≡ (if nat_lt i k then digit_at n (k - 1 - i) else digit_at old (len - 1 - i))
@@ -40,7 +40,7 @@ pub record SpellsByPlaces (text : List ℕ) (n : ℤ) : Type 0 where
   pub digits : (i : ℕ) → i < length text → digit_of (from_right text i) ≡ digit_at n i
   pub sign : n ≡ (if is_minus (last_of text) then neg_ℤ (pos (unsigned_abs n)) else pos (unsigned_abs n))
 
--- the text spells n with plain digits, but for a letter in the last place where n is below 0
+-- the text spells n with plain digits, but for a letter in the last place if n is below 0
 pub record SpellsPlainly (text : List ℕ) (n : ℤ) : Type 0 where
   pub spells : Spells text n
   pub front : (i : ℕ) → i + 1 < length text → IsTrue (is_digit (slice_index text i))

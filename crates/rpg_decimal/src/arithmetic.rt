@@ -1,5 +1,5 @@
-//! Sums, differences and products, as a result field keeps them. That digits too many on the left are
-//! lost with no halt is this profile's rule.
+//! Sums, differences and products, as a result field keeps them. That excess digits on the left are lost
+//! without a halt is a rule of this profile.
 ghost use Rattle.std.specs.Prelude.{◌≡◌, ◌+◌, ◌*◌, ◌^◌, ◌<◌, ◌≤◌, max, pos, ◌*ℤ◌, unsigned_abs};
 ghost use Rattle.rpg_decimal_words.specs.Fraction.{stored_number, plus, minus, times, with_decimals};
 ghost use Rattle.rpg_decimal.specs.Num.{value_of};
@@ -7,7 +7,7 @@ ghost use Rattle.rpg_decimal.specs.Num.{value_of};
 use crate::num::{Num, Scale, Target};
 use crate::whole::{align, fit, fit_small, power_of_ten};
 
-/// The number `n` of `from` decimals as the target keeps it, by a shift.
+/// Returns the number `n` of `from` decimals as the target keeps it, by a shift.
 fn kept_by_shift(n: i128, from: Scale, target: Target) -> i64
     requires { unsigned_abs n < 10 ^ 36 }
     ensures value { result ≡ stored_number target.half target.dec target.len (with_decimals n from.value) }
@@ -15,15 +15,15 @@ fn kept_by_shift(n: i128, from: Scale, target: Target) -> i64
 {
     let to = Scale { value: target.dec };
     if from.value < target.dec {
-        // A shift up may pass 128 bits, so the digits that no field keeps go first.
+        // A shift up may exceed 128 bits, so digits that no field keeps are dropped first.
         let lowest = i128::from(fit(n, 15));
         return fit(align(lowest, from, to, target.half), target.len);
     }
     fit(align(n, from, to, target.half), target.len)
 }
 
-/// The number `n` of `from` decimals as the target keeps it: aligned, and without the digits too
-/// many on the left.
+/// Returns the number `n` of `from` decimals as the target keeps it: aligned, and without excess digits on the
+/// left.
 pub fn keep(n: i128, from: Scale, target: Target) -> i64
     requires { unsigned_abs n < 10 ^ 36 }
     ensures value { result ≡ stored_number target.half target.dec target.len (with_decimals n from.value) }
@@ -35,7 +35,7 @@ pub fn keep(n: i128, from: Scale, target: Target) -> i64
     kept_by_shift(n, from, target)
 }
 
-/// The value with `scale` decimals more.
+/// Returns the value with `scale` more decimals.
 pub(crate) fn widened(value: i64, scale: u8) -> i128
     requires value_in { unsigned_abs value < 10 ^ 15 }
     requires scale_in { scale ≤ 18 }
@@ -45,7 +45,7 @@ pub(crate) fn widened(value: i64, scale: u8) -> i128
     i128::from(value) * i128::from(power_of_ten(scale))
 }
 
-/// The decimals of the one of two numbers that has more.
+/// Returns the greater number of decimals.
 fn more_decimals(a: Num, b: Num) -> Scale
     ensures { result.value ≡ max a.dec b.dec }
 {
@@ -54,7 +54,7 @@ fn more_decimals(a: Num, b: Num) -> Scale
     }
 }
 
-/// The decimals of two numbers together.
+/// Returns the sum of the decimals.
 fn both_decimals(a: Num, b: Num) -> Scale
     ensures { result.value ≡ a.dec + b.dec }
 {
@@ -63,7 +63,7 @@ fn both_decimals(a: Num, b: Num) -> Scale
     }
 }
 
-/// `a` and `b` added up, each widened to the decimals of the one that has more.
+/// Adds `a` and `b`, widened to the decimals of the one that has more.
 fn added_by_scale(a: Num, b: Num, target: Target) -> i64
     ensures value { result ≡ stored_number target.half target.dec target.len (plus (value_of a) (value_of b)) }
     ensures fits { unsigned_abs result < 10 ^ target.len }
@@ -73,7 +73,7 @@ fn added_by_scale(a: Num, b: Num, target: Target) -> i64
     keep(sum, scale, target)
 }
 
-/// `a` and `b` added up.
+/// Adds `a` and `b`.
 pub fn add(a: Num, b: Num, target: Target) -> i64
     ensures value { result ≡ stored_number target.half target.dec target.len (plus (value_of a) (value_of b)) }
     ensures fits { unsigned_abs result < 10 ^ target.len }
@@ -84,7 +84,7 @@ pub fn add(a: Num, b: Num, target: Target) -> i64
     added_by_scale(a, b, target)
 }
 
-/// `b` taken from `a`, each widened to the decimals of the one that has more.
+/// Subtracts `b` from `a`, widened to the decimals of the one that has more.
 fn subtracted_by_scale(a: Num, b: Num, target: Target) -> i64
     ensures value { result ≡ stored_number target.half target.dec target.len (minus (value_of a) (value_of b)) }
     ensures fits { unsigned_abs result < 10 ^ target.len }
@@ -94,7 +94,7 @@ fn subtracted_by_scale(a: Num, b: Num, target: Target) -> i64
     keep(difference, scale, target)
 }
 
-/// `b` taken from `a`.
+/// Subtracts `b` from `a`.
 pub fn sub(a: Num, b: Num, target: Target) -> i64
     ensures value { result ≡ stored_number target.half target.dec target.len (minus (value_of a) (value_of b)) }
     ensures fits { unsigned_abs result < 10 ^ target.len }
@@ -105,7 +105,7 @@ pub fn sub(a: Num, b: Num, target: Target) -> i64
     subtracted_by_scale(a, b, target)
 }
 
-/// `a` times `b`.
+/// Multiplies `a` by `b`.
 pub fn mult(a: Num, b: Num, target: Target) -> i64
     ensures value { result ≡ stored_number target.half target.dec target.len (times (value_of a) (value_of b)) }
     ensures fits { unsigned_abs result < 10 ^ target.len }

@@ -1,4 +1,4 @@
-//! Quotients, and what they leave for MVR.
+//! Quotients, and the remainders for MVR.
 ghost use Rattle.std.specs.Prelude.{◌≡◌, ◌↔◌, ◌*◌, ◌^◌, ◌<◌, ◌≤◌, pos, ◌*ℤ◌, unsigned_abs, false, IfOk, Err};
 ghost use Rattle.std.specs.Int.{int_signum};
 ghost use Rattle.rpg_decimal_words.specs.Fraction.{stored_number, aligned_number, with_decimals, over, rest_of, rest_decimals, IsSameValue};
@@ -14,7 +14,7 @@ use thiserror::Error;
 #[error("division by zero")]
 pub struct ZeroDivisor;
 
-/// The magnitude of `value` with `scale` decimals more.
+/// Returns the magnitude of `value` with `scale` more decimals.
 fn widened_size(value: i64, scale: u8) -> u128
     requires value_in { unsigned_abs value < 10 ^ 15 }
     requires scale_in { scale ≤ 18 }
@@ -24,7 +24,7 @@ fn widened_size(value: i64, scale: u8) -> u128
     u128::from(value.unsigned_abs()) * u128::from(power_of_ten(scale))
 }
 
-/// The dividend over a positive divisor: `value` with `scale` more decimals, under both signs.
+/// Returns the dividend for a positive divisor: `value` with `scale` more decimals, with the sign of the quotient.
 fn dividend(value: i64, scale: u8, divisor: i64) -> i128
     requires value_in { unsigned_abs value < 10 ^ 15 }
     requires scale_in { scale ≤ 18 }
@@ -34,7 +34,7 @@ fn dividend(value: i64, scale: u8, divisor: i64) -> i128
     widened(value, scale) * i128::from(divisor.signum())
 }
 
-/// `a` divided by `b`.
+/// Divides `a` by `b`.
 pub fn div(a: Num, b: Num, target: Target) -> Result<i64, ZeroDivisor>
     ensures zero { (result ≡ Err record {}) ↔ (b.value ≡ pos 0) }
     ensures value { IfOk result (λ n. n ≡ stored_number target.half target.dec target.len (over (value_of a) (value_of b))) }
@@ -48,13 +48,13 @@ pub fn div(a: Num, b: Num, target: Target) -> Result<i64, ZeroDivisor>
     Ok(fit(quotient, target.len))
 }
 
-/// `a` minus `b` times the quotient, which is cut to `dec` decimals.
+/// Returns `a` minus `b` times the quotient, which is truncated to `dec` decimals.
 pub fn remainder(a: Num, b: Num, dec: u8) -> Result<Rest, ZeroDivisor>
     requires { dec ≤ 9 }
     ensures zero { (result ≡ Err record {}) ↔ (b.value ≡ pos 0) }
     ensures scale { IfOk result (λ r. r.dec.value ≡ rest_decimals a.dec b.dec dec) }
     ensures value { IfOk result (λ r. r.value ≡ aligned_number false (rest_decimals a.dec b.dec dec) (rest_of (value_of a) (value_of b) dec)) }
-    // no digit of the rest is lost
+    // no digit of the remainder is lost
     ensures exact { IfOk result (λ r. IsSameValue (with_decimals r.value r.dec.value) (rest_of (value_of a) (value_of b) dec)) }
 {
     if b.value == 0 {

@@ -9,7 +9,7 @@ ghost use Rattle.rpg_decimal.specs.Source.{moved_right, moved_left};
 ghost use Rattle.rpg_decimal_words.specs.Zoned.{zoned_text, number_in, Spells};
 ghost use Rattle.rpg_decimal.specs.declared.moves.Source.{Source};
 
-/// A move goes place by place, and takes the sign with the last place.
+/// A move goes digit by digit, and takes the sign with the last one.
 pub fn moves_go_by_places()
     ensures right { (source old : List ℕ) → MovesFromRight source old (overlay_right source old) }
     ensures left { (source old : List ℕ) → MovesFromLeft source old (overlay_left source old) }
@@ -17,7 +17,7 @@ pub fn moves_go_by_places()
     ensures left_digits { (k : ℕ) (n : ℤ) (len : ℕ) (old : ℤ) → MovesDigitsFromLeft k n len old (number_moved_left k n len old) }
 {}
 
-/// A text spells the number whose digits are at its places, and a number has one plain text of each length.
+/// A text represents the number with these digits in its places, and a number has one plain text of each length.
 pub fn texts_spell_by_places()
     ensures spells { (text : List ℕ) (n : ℤ) → Spells text n ↔ SpellsByPlaces text n }
     ensures written { (k : ℕ) (n : ℤ) → 1 ≤ k → unsigned_abs n < 10 ^ k → SpellsPlainly (zoned_text k n) n }
@@ -27,14 +27,14 @@ pub fn texts_spell_by_places()
     ensures alone { (text : List ℕ) (n : ℤ) → 1 ≤ length text → SpellsPlainly text n → text ≡ zoned_text (length text) n }
 {}
 
-/// What is stored in a form, or moved to one, fits it.
+/// A number that is stored in a form, or moved to one, fits it.
 pub fn stored_numbers_fit()
     ensures stored { (half : Bool) (dec len : ℕ) (p : Fraction) → unsigned_abs (stored_number half dec len p) < 10 ^ len }
     ensures right { (source : Source) (len : ℕ) (old n : ℤ) → 1 ≤ len → moved_right source len old ≡ Some n → unsigned_abs n < 10 ^ len }
     ensures left { (source : Source) (len : ℕ) (old n : ℤ) → 1 ≤ len → moved_left source len old ≡ Some n → unsigned_abs n < 10 ^ len }
 {}
 
-/// The collating sequence has each of the 95 characters, from the blank to `~`, once.
+/// The collating sequence contains each of the 95 characters, from the blank to `~`, once.
 #[tactic(auto, unfolding(rpg_decimal_words::specs::Order::rank, rpg_decimal_words::specs::Order::collating_sequence))]
 pub fn each_character_has_one_place()
     ensures count { length collating_sequence ≡ 95 }

@@ -1,5 +1,5 @@
-//! MOVE and MOVEL: places of a source over an old value, aligned right and left. What becomes of the sign,
-//! and which characters may go to a number, are this profile's rules.
+//! MOVE and MOVEL: places of a source overwrite an old value, aligned right and left. What happens to the sign, and which characters may be
+//! moved to a number, are rules of this profile.
 ghost use Rattle.std.specs.Prelude.{◌≡◌, ◌+◌, ◌-◌, ◌<◌, ◌≤◌, ◌^◌, unsigned_abs, length, IfOk, IfErr};
 ghost use Rattle.std.specs.Result.{result_ok};
 ghost use Rattle.rpg_decimal_words.specs.Move.{overlay_right, overlay_left, number_moved_right, number_moved_left};
@@ -12,14 +12,14 @@ use crate::num::Figure;
 use crate::whole::power_of_ten;
 use crate::zoned::{BadDigit, read_zoned, write_zoned};
 
-/// What is moved: a number by its digits, or a text.
+/// What is moved: the digits of a number, or a text.
 #[derive(Clone, Copy)]
 pub enum Source<'a> {
     Number(Figure),
     Text(&'a [u8]),
 }
 
-/// Puts the last places of a text over those of another.
+/// Overwrites the end of a text with the end of another.
 fn overlay_right(source: &[u8], target: &mut [u8])
     ensures { target.new ≡ overlay_right source.now target.old }
 {
@@ -28,7 +28,7 @@ fn overlay_right(source: &[u8], target: &mut [u8])
     target[to..].copy_from_slice(&source[from..]);
 }
 
-/// Puts the first places of a text over those of another.
+/// Overwrites the start of a text with the start of another.
 fn overlay_left(source: &[u8], target: &mut [u8])
     ensures { target.new ≡ overlay_left source.now target.old }
 {
@@ -36,7 +36,7 @@ fn overlay_left(source: &[u8], target: &mut [u8])
     target[..moved].copy_from_slice(&source[..moved]);
 }
 
-/// MOVE to a text: a number as the text that is written for it.
+/// MOVE to a text. A number moves as its zoned text.
 pub fn move_right_text(source: Source<'_>, target: &mut [u8])
     ensures { target.new ≡ overlay_right (source_characters source.entry) target.old }
 {
@@ -66,7 +66,7 @@ pub fn move_left_text(source: Source<'_>, target: &mut [u8])
     }
 }
 
-/// MOVE of a text to a number: the old number's text with the source over it is read.
+/// MOVE of a text to a number: reads the old number's text, overwritten by the source.
 fn move_right_of_text(text: &[u8], before: Figure) -> Result<i64, BadDigit>
     ensures value { result_ok result ≡ number_in (overlay_right text.now (zoned_text before.len before.value)) }
     ensures fits { IfOk result (λ n. unsigned_abs n < 10 ^ before.len) }
@@ -98,7 +98,7 @@ fn move_left_of_text(text: &[u8], before: Figure) -> Result<i64, BadDigit>
     read_zoned(places)
 }
 
-/// The digits of a number without its sign.
+/// Returns the digits of a number without its sign.
 fn size_of(figure: Figure) -> u64
     ensures value { result ≡ unsigned_abs figure.value }
     ensures bound { result < 10 ^ 15 }
@@ -106,7 +106,7 @@ fn size_of(figure: Figure) -> u64
     figure.value.unsigned_abs()
 }
 
-/// The first digits of the old number, and after them the source's last ones.
+/// Returns the first digits of the old number, followed by the source's last ones.
 fn digits_moved_right(source: Figure, before: Figure) -> u64
     ensures value { result ≡ place_value (overlay_right (lowest_digits source.len (unsigned_abs source.value)) (lowest_digits before.len (unsigned_abs before.value))) }
     ensures bound { result < 10 ^ before.len }
@@ -116,7 +116,7 @@ fn digits_moved_right(source: Figure, before: Figure) -> u64
     size_of(before) / moved * moved + size_of(source) % moved
 }
 
-/// The source's first digits before the last ones of the old number.
+/// Returns the source's first digits, followed by the last ones of the old number.
 fn digits_moved_left(source: Figure, before: Figure) -> u64
     ensures value { result ≡ place_value (overlay_left (lowest_digits source.len (unsigned_abs source.value)) (lowest_digits before.len (unsigned_abs before.value))) }
     ensures bound { result < 10 ^ before.len }
@@ -128,7 +128,7 @@ fn digits_moved_left(source: Figure, before: Figure) -> u64
     taken * kept + size_of(before) % kept
 }
 
-/// The number of this size under the sign of another.
+/// Returns this magnitude with the sign of another number.
 fn under_sign_of(n: i64, size: u64) -> i64
     requires { size < 10 ^ 15 }
     ensures value { result ≡ with_sign_of n size }
@@ -137,7 +137,7 @@ fn under_sign_of(n: i64, size: u64) -> i64
     if n < 0 { -(size as i64) } else { size as i64 }
 }
 
-/// MOVE of a number to a number: its last place is always replaced, so the sign is the source's.
+/// MOVE of a number to a number. It always replaces the last digit, so the sign is the source's.
 fn move_right_of_number(source: Figure, before: Figure) -> i64
     ensures value { result ≡ number_moved_right source.len source.value before.len before.value }
     ensures fits { unsigned_abs result < 10 ^ before.len }
@@ -145,7 +145,7 @@ fn move_right_of_number(source: Figure, before: Figure) -> i64
     under_sign_of(source.value, digits_moved_right(source, before))
 }
 
-/// MOVEL of a number to a number: a source that is too short for the last place leaves the sign.
+/// MOVEL of a number to a number. A source that is too short to reach the last digit keeps the sign.
 fn move_left_of_number(source: Figure, before: Figure) -> i64
     ensures value { result ≡ number_moved_left source.len source.value before.len before.value }
     ensures fits { unsigned_abs result < 10 ^ before.len }
@@ -158,7 +158,7 @@ fn move_left_of_number(source: Figure, before: Figure) -> i64
     }
 }
 
-/// MOVE to a number of `len` digits; decimals are ignored. A bad digit is counted in the source.
+/// MOVE to a number of `len` digits. Ignores decimals. A bad digit is counted in the source.
 pub fn move_right(source: Source<'_>, before: i64, len: u8) -> Result<i64, BadDigit>
     requires low { 1 ≤ len }
     requires high { len ≤ 15 }
@@ -174,7 +174,7 @@ pub fn move_right(source: Source<'_>, before: i64, len: u8) -> Result<i64, BadDi
     }
 }
 
-/// MOVEL to a number of `len` digits; decimals are ignored. A bad digit is counted in the source.
+/// MOVEL to a number of `len` digits. Ignores decimals. A bad digit is counted in the source.
 pub fn move_left(source: Source<'_>, before: i64, len: u8) -> Result<i64, BadDigit>
     requires low { 1 ≤ len }
     requires high { len ≤ 15 }

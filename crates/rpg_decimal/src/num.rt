@@ -1,14 +1,14 @@
-//! Numbers, and the forms in which results are kept. The limits are this profile's.
+//! Numbers, and the forms that results are kept in. The limits are this profile's.
 ghost use Rattle.std.specs.Prelude.{◌≡◌, ◌^◌, ◌<◌, ◌≤◌, unsigned_abs};
 
-/// How many digits follow a point.
+/// How many digits follow the decimal point.
 #[derive(Clone, Copy)]
 pub struct Scale {
     pub value: u8,
     pub ghost in_range: { value ≤ 18 },
 }
 
-/// The number `value` with its point before the last `dec` digits.
+/// The number `value` with its decimal point before the last `dec` digits.
 #[derive(Clone, Copy)]
 pub struct Num {
     pub value: i64,
@@ -17,7 +17,7 @@ pub struct Num {
     pub ghost dec_in: { dec ≤ 9 },
 }
 
-/// What a result is kept in: `len` digits, `dec` of them after the point, and whether it is half adjusted.
+/// How a result is kept: in `len` digits, `dec` of them decimals, half adjusted or not.
 #[derive(Clone, Copy)]
 pub struct Target {
     pub len: u8,
@@ -38,7 +38,7 @@ pub struct Figure {
     pub ghost fits: { unsigned_abs value < 10 ^ len },
 }
 
-/// What a division leaves: `value` with its point before the last `dec` digits.
+/// The remainder of a division: `value` with its decimal point before the last `dec` digits.
 #[derive(Clone, Copy)]
 pub struct Rest {
     pub value: i128,
@@ -47,7 +47,7 @@ pub struct Rest {
 }
 
 impl Figure {
-    /// The number with its point before the last `dec` digits.
+    /// Returns the number with its decimal point before the last `dec` digits.
     pub fn with_point(self, dec: u8) -> Num
         requires { dec ≤ 9 }
         ensures value { result.value ≡ self.value }

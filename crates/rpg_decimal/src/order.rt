@@ -13,10 +13,10 @@ use std::cmp::Ordering;
 const COLLATING_SEQUENCE: &[u8; 95] =
     b" .<(+|&!$*);-/,%_>?`:#@'=\"abcdefghijklmnopqr~stuvwxyz^[]{ABCDEFGHI}JKLMNOPQR\\STUVWXYZ0123456789";
 
-/// As many zeros as any value may get after it in 64 bits.
+/// The most zeros that any value can get after it in 64 bits.
 const FEW_ZEROS: u8 = 3;
 
-/// A value with a few zeros after it.
+/// Returns a value with a few zeros after it.
 fn lengthened(value: i64, zeros: u8) -> i64
     requires value_in { unsigned_abs value < 10 ^ 15 }
     requires zeros_in { zeros ≤ 3 }
@@ -25,7 +25,7 @@ fn lengthened(value: i64, zeros: u8) -> i64
     value * power_of_ten(zeros) as i64
 }
 
-/// Compares the values of two numbers. Those of few decimals stay within 64 bits.
+/// Compares the values of two numbers. With few decimals it needs only 64 bits.
 pub fn compare(a: Num, b: Num) -> Ordering
     ensures { result ≡ fraction_cmp (value_of a) (value_of b) }
 {
@@ -38,14 +38,14 @@ pub fn compare(a: Num, b: Num) -> Ordering
     widened(a.value, b.dec).cmp(&widened(b.value, a.dec))
 }
 
-/// The place of a character in a sequence.
+/// Returns the place of a character in a sequence.
 fn place_in(sequence: &[u8], c: u8) -> Option<usize>
     ensures { result ≡ position (λ x. x == c) sequence.now }
 {
     sequence.iter().position(|x| *x == c)
 }
 
-/// The place of a character in the order; any other byte comes after them all, by its value.
+/// Returns the rank of a character; any other byte comes after all of them, by its value.
 #[tactic(auto, unfolding(rpg_decimal_words::specs::Order::rank, rpg_decimal_words::specs::Order::collating_sequence))]
 fn rank(c: u8) -> usize
     ensures { result ≡ rank c }
@@ -54,7 +54,7 @@ fn rank(c: u8) -> usize
     place_in(COLLATING_SEQUENCE, c).unwrap_or(following)
 }
 
-/// The character at a place, a blank after the end.
+/// Returns the character at a place, a blank after the end.
 fn character_at(text: &[u8], place: usize) -> u8
     ensures { result ≡ slice_index_or text.now place 32 }
 {
@@ -65,7 +65,7 @@ fn character_at(text: &[u8], place: usize) -> u8
     }
 }
 
-/// Compares two texts by the first place where they differ, the shorter one padded with blanks.
+/// Compares two texts at the first place where they differ, the shorter one padded with blanks.
 pub fn compare_text(a: &[u8], b: &[u8]) -> Ordering
     ensures { result ≡ text_cmp a.now b.now }
 {

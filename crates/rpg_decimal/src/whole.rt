@@ -28,7 +28,7 @@ const POWERS_OF_TEN: [u64; 19] = [
     1_000_000_000_000_000_000,
 ];
 
-/// 10^k.
+/// Returns 10^k.
 pub(crate) fn power_of_ten(k: u8) -> u64
     requires { k ≤ 18 }
     ensures value { result ≡ 10 ^ k }
@@ -38,7 +38,7 @@ pub(crate) fn power_of_ten(k: u8) -> u64
     POWERS_OF_TEN[usize::from(k)]
 }
 
-/// The magnitude `size` under the sign of `n`.
+/// Returns the magnitude `size` with the sign of `n`.
 pub(crate) fn with_sign_of(n: i128, size: u128) -> i128
     requires { size < 2 ^ 127 }
     ensures value { result ≡ with_sign_of n size }
@@ -47,7 +47,7 @@ pub(crate) fn with_sign_of(n: i128, size: u128) -> i128
     if n < 0 { -(size as i128) } else { size as i128 }
 }
 
-/// `size` / `divisor`, in 64 bits where both fit them.
+/// Returns `size` / `divisor`, computed in 64 bits if both fit.
 pub(crate) fn quotient(size: u128, divisor: u128) -> u128
     requires { 0 < divisor }
     ensures { result ≡ size / divisor }
@@ -58,7 +58,7 @@ pub(crate) fn quotient(size: u128, divisor: u128) -> u128
     }
 }
 
-/// `n` / `divisor` as a whole number: half adjusted, or cut toward zero.
+/// Returns `n` / `divisor` as a whole number, half adjusted or truncated toward zero.
 pub(crate) fn rounded_quotient(n: i128, divisor: u128, half: bool) -> i128
     requires divisor_low { 0 < divisor }
     requires divisor_high { divisor ≤ 10 ^ 37 }
@@ -74,7 +74,7 @@ pub(crate) fn rounded_quotient(n: i128, divisor: u128, half: bool) -> i128
     }
 }
 
-/// `fit` of a number of 64 bits.
+/// Like `fit`, for a number of 64 bits.
 pub(crate) fn fit_small(n: i64, len: u8) -> i64
     requires low { 1 ≤ len }
     requires high { len ≤ 15 }
@@ -89,7 +89,7 @@ pub(crate) fn fit_small(n: i64, len: u8) -> i64
     }
 }
 
-/// The lowest `len` digits of `n` under its sign; minus zero is zero.
+/// Returns the lowest `len` digits of `n` with its sign; minus zero is zero.
 pub fn fit(n: i128, len: u8) -> i64
     requires low { 1 ≤ len }
     requires high { len ≤ 15 }
@@ -102,7 +102,7 @@ pub fn fit(n: i128, len: u8) -> i64
     }
 }
 
-/// The number `n` of `from` decimals, with `to` decimals: extra digits on the right are cut off, or
+/// Returns the number `n` of `from` decimals with `to` decimals: extra digits on the right are cut off or
 /// half adjusted.
 pub fn align(n: i128, from: Scale, to: Scale, half: bool) -> i128
     requires n_in { unsigned_abs n < 10 ^ 37 }

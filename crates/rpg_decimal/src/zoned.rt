@@ -1,5 +1,4 @@
-//! Numbers as texts: a digit in each place, and the sign over the last one: `}` and J to R mean minus 0 to
-//! 9, `{` and A to I plus 0 to 9.
+//! Zoned numbers: a digit in each place, with the sign over the last one: `}` and J to R are minus 0 to 9, `{` and A to I plus 0 to 9.
 ghost use Rattle.std.specs.Prelude.{◌≡◌, ◌+◌, ◌-◌, ◌/◌, ◌%◌, ◌<◌, ◌≤◌, ◌^◌, true, unsigned_abs, length, map, set, IfOk, IfErr, OnOk, EachIndex};
 ghost use Rattle.std.specs.Int.{is_negative};
 ghost use Rattle.std.specs.Result.{result_ok};
@@ -9,14 +8,14 @@ ghost use Rattle.rpg_decimal_words.specs.Zoned.{digit_of, is_minus, may_stand, l
 use crate::pairs::pair_of;
 use thiserror::Error;
 
-/// A character that no number has at its place, counted from 0.
+/// A character that isn't allowed at its place, counted from 0.
 #[derive(Clone, Copy, Debug, Error)]
 #[error("a bad digit at {spot}")]
 pub struct BadDigit {
     pub spot: usize,
 }
 
-/// The digit that a character means.
+/// Returns the digit of a character.
 fn digit_of(c: u8) -> u8
     ensures value { result ≡ digit_of c }
     ensures below { result < 10 }
@@ -38,7 +37,7 @@ fn is_minus(c: u8) -> bool
     matches!(c, b'}' | b'J'..=b'R')
 }
 
-/// Whether a number may have this character, in its last place or before it.
+/// Whether a number may have this character in its last place, or before it.
 fn may_stand(last: bool, c: u8) -> bool
     ensures { result ≡ may_stand last c }
 {
@@ -52,7 +51,7 @@ fn may_stand(last: bool, c: u8) -> bool
     }
 }
 
-/// The last character that is written for a number below zero.
+/// Returns the last character of a negative number.
 fn last_character(n: i64) -> u8
     requires { is_negative n ≡ true }
     ensures { result ≡ last_character n }
@@ -63,8 +62,7 @@ fn last_character(n: i64) -> u8
     }
 }
 
-/// The number that a text spells, its first character first. A blank is a zero, and the last
-/// character has the sign. The rule is this profile's.
+/// Reads a zoned number. A blank is a zero, and the last character has the sign. The rule is this profile's.
 pub fn read_zoned(text: &[u8]) -> Result<i64, BadDigit>
     requires low { 1 ≤ length text.now }
     requires high { length text.now ≤ 15 }
@@ -80,7 +78,7 @@ pub fn read_zoned(text: &[u8]) -> Result<i64, BadDigit>
     Ok(size as i64)
 }
 
-/// The number that the digits of a text spell, without its sign.
+/// Reads the digits of a text, without its sign.
 fn read_digits(text: &[u8]) -> Result<u64, BadDigit>
     requires { length text.now ≤ 15 }
     ensures value { IfOk result (λ size. size ≡ place_value (map digit_of text.now)) }
@@ -98,7 +96,7 @@ fn read_digits(text: &[u8]) -> Result<u64, BadDigit>
     Ok(size)
 }
 
-/// The last digit of a number, given the number in front of it.
+/// Returns the last digit of a number, given the number before that digit.
 fn last_digit(size: u64, front: u64) -> u8
     requires { front ≡ size / 10 }
     ensures { result ≡ 48 + size % 10 }
@@ -106,7 +104,7 @@ fn last_digit(size: u64, front: u64) -> u8
     b'0' + (size - front * 10) as u8
 }
 
-/// Writes the lowest two digits of a number before a place, and returns the number in front of them.
+/// Writes the lowest two digits of a number before a place. Returns the number before them.
 #[inline(always)]
 fn write_pair(size: u64, text: &mut [u8], place: usize) -> u64
     requires low { 2 ≤ place }
@@ -121,7 +119,7 @@ fn write_pair(size: u64, text: &mut [u8], place: usize) -> u64
     front
 }
 
-/// Writes the lowest digits of a number, as many as the text has places.
+/// Writes the lowest digits of a number, filling the text.
 fn write_digits(size: u64, text: &mut [u8])
     ensures { text.new ≡ map (λ d. 48 + d) (lowest_digits (length text.old) size) }
 {
@@ -136,7 +134,7 @@ fn write_digits(size: u64, text: &mut [u8])
     }
 }
 
-/// Writes a number with plain digits, and a letter in the last place where it is below zero.
+/// Writes a zoned number with plain digits, and a letter in the last place if it is negative.
 pub fn write_zoned(n: i64, text: &mut [u8])
     requires low { 1 ≤ length text.old }
     requires high { length text.old ≤ 15 }

@@ -5,12 +5,12 @@ use Rattle.std.specs.Ordering.{int_cmp}
 use Rattle.std.specs.Int.{int_signum}
 use Rattle.rpg_decimal_words.specs.Whole.{rounded_quotient, fit}
 
--- top / bottom, where bottom is above 0
+-- top / bottom, if bottom is above 0
 pub record Fraction : Type 0 where
   pub top : ℤ
   pub bottom : ℕ
 
--- n with so many digits after its point
+-- n with this many digits after its decimal point
 abbrev pub with_decimals : ℤ → ℕ → Fraction
 with_decimals n dec = record { top = n; bottom = 10 ^ dec }
 
@@ -26,7 +26,7 @@ minus p q = record { top = p.top *ℤ pos q.bottom -ℤ q.top *ℤ pos p.bottom;
 abbrev pub times : Fraction → Fraction → Fraction
 times p q = record { top = p.top *ℤ q.top; bottom = p.bottom * q.bottom }
 
--- p / q, where q is not 0: its sign goes to the top
+-- p / q, if q is not 0: its sign goes to the top
 abbrev pub over : Fraction → Fraction → Fraction
 over p q = record { top = p.top *ℤ pos q.bottom *ℤ int_signum q.top; bottom = p.bottom * unsigned_abs q.top }
 

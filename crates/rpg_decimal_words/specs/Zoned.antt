@@ -67,6 +67,6 @@ minus_letter d = if d == 0 then 125 else 73 + d
 abbrev pub last_character : ℤ → ℕ
 last_character n = if is_negative n then minus_letter (unsigned_abs n % 10) else 48 + unsigned_abs n % 10
 
--- the text of k characters that is written for n: digits, and a letter in the last place where n is below 0
+-- the text of k characters that is written for n: digits, and a letter in the last place if n is below 0
 abbrev pub zoned_text : ℕ → ℤ → List ℕ
 zoned_text k n = map (λ d. 48 + d) (lowest_digits (k - 1) (unsigned_abs n / 10)) ++ last_character n ∷ []

@@ -1,2 +1,3 @@
-//! Numbers, their texts, moves and the order of texts: only definitions (in specs/).
+//! Numbers, their texts, moves, and the order of texts: only definitions (in
+//! specs/).
 #![tactic(auto)]

@@ -6,7 +6,7 @@ ghost use Rattle.rpg_deck.specs.Begins as spec;
 use rpg_cards::joins;
 use rpg_sheet_specs::{CalculationSpec, DataSpec, InputSpec, OutputSpec};
 
-/// A card of a sheet whose cards make groups.
+/// A card of a sheet whose cards form groups.
 pub(crate) trait Grouped: Drop {
     ghost begins: { Self → Bool };
 

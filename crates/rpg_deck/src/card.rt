@@ -1,6 +1,6 @@
 //! A card of a sheet.
 
-/// What a card of a sheet stands for, with the card's number in the source.
+/// The meaning of a sheet's card, with the card's number in the source.
 #[derive(Drop)]
 pub struct Card<X> {
     pub number: u16,

@@ -1,4 +1,4 @@
-//! The cards of a sheet, cut into groups.
+//! The cards of a sheet, split into groups.
 
 ghost use Rattle.std.specs.Prelude.{◌≡◌, ◌≤◌, length, map, take, drop, IfOk};
 ghost use Rattle.rpg_deck.specs.Cut as spec;
@@ -8,7 +8,7 @@ use crate::begins::Grouped;
 use crate::card::Card;
 use std::alloc::{AllocError, Global};
 
-/// A card that begins a group, and the cards after it up to the next that begins one.
+/// A card that begins a group, and the cards after it, up to the next one that begins a group.
 #[derive(Drop)]
 pub struct Group<'deck, 'source, X> {
     pub first: &'deck Card<&'source X>,
@@ -22,7 +22,7 @@ pub struct Sheet<'deck, 'source, X> {
     pub groups: Vec<Group<'deck, 'source, X>>,
 }
 
-/// The cards of a sheet, cut.
+/// Splits the cards of a sheet.
 pub(crate) fn sheet_of<'deck, 'source, X: Grouped>(
     alloc: Global,
     cards: &'deck [Card<&'source X>],
@@ -34,7 +34,7 @@ pub(crate) fn sheet_of<'deck, 'source, X: Grouped>(
     Ok(Sheet { strays, groups })
 }
 
-/// The groups of cards of which the first begins one, whatever it is.
+/// Returns the groups of cards. The first card begins one, whatever it is.
 pub(crate) fn groups_of<'deck, 'source, X: Grouped>(
     alloc: Global,
     cards: &'deck [Card<&'source X>],
@@ -55,7 +55,7 @@ pub(crate) fn groups_of<'deck, 'source, X: Grouped>(
     Ok(groups)
 }
 
-/// How many cards at the front begin no group.
+/// Counts the cards before the first one that begins a group.
 fn stray_count<X: Grouped>(cards: &[Card<&X>]) -> usize
     ensures within { result ≤ length cards.now }
     ensures strays { take result cards.now ≡ spec.strays (λ c. X.begins c.spec.now) cards.now }

@@ -42,7 +42,7 @@ impl<'source> Deck<'source> {
         Ok(deck)
     }
 
-    /// One more card.
+    /// Adds a card.
     fn add(&mut self, card: &'source SpecCard) -> Result<(), AllocError>
         ensures { OnOk result ((before : List SpecCard) → IsDeckOf before self.old → IsDeckOf (before ++ card.now ∷ []) self.new) }
     {

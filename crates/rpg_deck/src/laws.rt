@@ -10,7 +10,7 @@ ghost use Rattle.rpg_deck.specs.Same as same;
 ghost use Rattle.rpg_deck.specs.Steps as steps;
 ghost use Rattle.rpg_deck.specs.Tree.{tree};
 
-/// Nothing is lost: the tree of cards in the order of the sheets gives the cards back.
+/// Nothing is lost: from the tree of cards in the order of the sheets, the cards can be restored.
 pub fn nothing_is_lost()
     ensures { (cards : List SpecCard) → IsInOrder 0 cards → flat (tree cards) ≡ cards }
 {}
@@ -20,7 +20,7 @@ pub fn calculations_are_groups()
     ensures { (cards : List SpecCard) → IsInOrder 0 cards → cards_of.calculations cards ≡ map same.calculation_in (tree cards).calculations }
 {}
 
-/// The labels of cards in the order of the sheets are those of the steps, with the same sections.
+/// The labels of cards in the order of the sheets are those of the steps, in the same sections.
 pub fn labels_are_of_steps()
     ensures { (cards : List SpecCard) → IsInOrder 0 cards → labels.labels (cards_of.calculations cards) ≡ steps.labels_of_steps (steps.steps_in (tree cards)) }
 {}

@@ -10,21 +10,21 @@ use rpg_cards::{Section, begins_subroutine, ends_subroutine, is_subroutine};
 use rpg_sheet_specs::{CalculationSpec, ControlLevel};
 use std::alloc::{AllocError, Global};
 
-/// A calculation, and where it stands.
+/// A calculation, with its section.
 #[derive(Clone, Copy)]
 pub struct Step<'tree, 'deck, 'source> {
     pub section: Section,
     pub group: &'tree Group<'deck, 'source, CalculationSpec>,
 }
 
-/// After some calculations: how many subroutines are begun, and the one that is open.
+/// The state after some calculations: how many subroutines were begun, and which one is open.
 #[derive(Clone, Copy)]
 struct Place {
     begun: u16,
     own: Option<u16>,
 }
 
-/// The card of a calculation that has the operation.
+/// Returns the card of a calculation that has the operation.
 pub fn last_card<'deck, 'source>(
     group: &Group<'deck, 'source, CalculationSpec>,
 ) -> &'deck Card<&'source CalculationSpec>
@@ -69,7 +69,7 @@ impl Place {
         }
     }
 
-    /// After one more calculation.
+    /// Returns the state after one more calculation.
     fn after(self, group: &Group<CalculationSpec>) -> Self
         requires { self.begun ≤ 2000 }
         ensures place { subroutine_state_of result ≡ spec.subroutine_state_after (subroutine_state_of self) (group_in group.now) }
@@ -91,7 +91,7 @@ impl Place {
     }
 }
 
-/// Each calculation with its section.
+/// Returns each calculation with its section.
 pub fn steps_of<'tree, 'deck, 'source>(
     alloc: Global,
     groups: &'tree [Group<'deck, 'source, CalculationSpec>],

@@ -13,7 +13,7 @@ use rpg_sheet_specs::{
 };
 use std::alloc::{AllocError, Global};
 
-/// The cards of a source, sheet by sheet; cards that go together are a group.
+/// The cards of a source, sheet by sheet and in groups.
 #[derive(Drop)]
 pub struct Tree<'deck, 'source> {
     pub headers: &'deck [Card<&'source HeaderSpec>],

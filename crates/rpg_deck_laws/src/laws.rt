@@ -6,12 +6,12 @@ ghost use Rattle.rpg_deck.specs.Tree.{tree};
 ghost use Rattle.rpg_faults.specs.Source.{AreFaultless, cards_in};
 ghost use Rattle.rpg_sheet.specs.Sheet.{first_sheet_fault, source};
 
-/// The cards of a source without a sheet fault are in the order of the sheets.
+/// The cards of a source without sheet faults are in the order of the sheets.
 pub fn sources_are_in_order()
     ensures { (text : List ℕ) → first_sheet_fault (source text) ≡ None → IsInOrder 0 (cards_in text) }
 {}
 
-/// The tree of the cards of a source without a fault gives these cards back.
+/// From the tree of the cards of a source without faults, the cards can be restored.
 pub fn sources_come_back()
     ensures { (text : List ℕ) → (cards : List SpecCard) → AreFaultless text cards → flat (tree cards) ≡ cards }
 {}

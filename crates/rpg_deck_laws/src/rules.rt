@@ -3,12 +3,12 @@ ghost use Rattle.rpg_faults_tree.specs.Rules.{Finds, leaving_cards, lost_cards, 
 ghost use Rattle.rpg_faults.specs.Rules.{rule};
 ghost use Rattle.rpg_faults.specs.declared.code.FaultCode.TheVariants.{F10, F12, F13, F14, F15};
 
-/// The cards of a tree with a GOTO or an EXSR to what isn't given are those that break F10.
+/// The cards of a tree with a GOTO or an EXSR to an undefined name are those that break F10.
 pub fn lost_cards_break_f10()
     ensures { Finds lost_cards (rule F10) }
 {}
 
-/// The cards of a tree that stand out of order are those that break F12.
+/// The cards of a tree that are out of order are those that break F12.
 pub fn misplaced_cards_break_f12()
     ensures { Finds misplaced_cards (rule F12) }
 {}
@@ -23,7 +23,7 @@ pub fn recursive_cards_break_f14()
     ensures { Finds recursive_cards (rule F14) }
 {}
 
-/// The cards of a tree that round wrongly are those that break F15.
+/// The cards of a tree with a wrong H or MVR are those that break F15.
 pub fn wrongly_rounding_cards_break_f15()
     ensures { Finds wrongly_rounding_cards (rule F15) }
 {}

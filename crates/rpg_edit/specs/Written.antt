@@ -48,7 +48,7 @@ pub record WritesTo (marks : List Mark) (left : ℕ) (old : Pass) (before : List
   pub writes : Writes marks old before new now
   pub rest : new.rest ≡ left
 
--- one or two digits are written, at most so many; where they are fewer, nothing is left of the number
+-- one or two digits are written, at most as many as allowed; if fewer, nothing is left of the number
 pub record WritesLast (digits written : ℕ) (old : Pass) (before : List ℕ) (new : Pass) (now : List ℕ) : Type 0 where
   pub some : 0 < written
   pub two : written ≤ 2
@@ -60,7 +60,7 @@ pub record WritesLast (digits written : ℕ) (old : Pass) (before : List ℕ) (n
 abbrev pub AreFewLeft : ℕ → Pass → Type 0
 AreFewLeft more p = IsTrue (nat_le more 2 || nat_lt p.rest 100)
 
--- three digits or more are written, at most so many, and then few are left
+-- three digits or more are written, at most as many as allowed, and then few are left
 pub record WritesThrees (digits written : ℕ) (old : Pass) (before : List ℕ) (new : Pass) (now : List ℕ) : Type 0 where
   pub least : 3 ≤ written
   pub most : written ≤ digits
@@ -88,7 +88,7 @@ is_suppressed (Insert c) = true
 is_suppressed (Always c) = false
 is_suppressed (Sign c) = false
 
--- the last mark is a digit, where there is one
+-- the last mark is a digit, if there is one
 abbrev pub is_digit_last : List Mark → Bool
 is_digit_last [] = true
 is_digit_last (m ∷ []) = is_digit_place m
@@ -99,13 +99,13 @@ pub record IsUsedUp (p : Pass) : Type 0 where
   pub rest : p.rest ≡ 0
   pub kept : p.suppression.kept ≤ p.after
 
--- digits are written, at most so many; where they are fewer, no more show
+-- digits are written, at most as many as allowed; if fewer, no more are printed
 pub record WritesShown (digits written : ℕ) (old : Pass) (before : List ℕ) (new : Pass) (now : List ℕ) : Type 0 where
   pub most : written ≤ digits
   pub writes : Writes (replicate written Digit) old before new now
   pub used : written < digits → IsUsedUp new
 
--- digits with commas between groups are written, at most so many; where they are fewer, no more show
+-- digits with commas between groups are written, at most as many as allowed; if fewer, no more are printed
 pub record WritesGrouped (digits written : ℕ) (old : Pass) (before : List ℕ) (new : Pass) (now : List ℕ) : Type 0 where
   pub most : written ≤ digits
   pub writes : Writes (whole_marks true written) old before new now
@@ -124,7 +124,7 @@ abbrev pub marks_before : Bool → ℕ → ℕ → List Mark
 marks_before commas left zero = []
 marks_before commas left (suc n) = (Digit ∷ comma_marks commas (n + left)) ++ marks_before commas left n
 
--- after full groups come more digits and a comma, at most so many digits in all; where they are fewer, no more show
+-- after full groups come more digits and a comma, at most as many in all as allowed; if fewer, no more are printed
 pub record WritesAfter (digits full written : ℕ) (old : Pass) (before : List ℕ) (new : Pass) (now : List ℕ) : Type 0 where
   pub most : written ≤ digits
   pub more : full ≤ written

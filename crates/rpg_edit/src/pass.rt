@@ -1,7 +1,7 @@
-//! Numbers written at their marks, leading zeros suppressed.
+//! Numbers written at their marks, with leading zeros suppressed.
 //!
-//! A number is written from its last mark to the first: what shows at a mark depends on the digits in front of those that follow it,
-//! and these are what is left of the number once it is divided by ten for each digit written.
+//! A number is written from its last mark to the first: what a mark prints depends on the digits before those that follow it, and these are
+//! what is left of the number after it is divided by ten for each digit written.
 
 ghost use Rattle.std.specs.Prelude.{◌≡◌, ◌+◌, ◌-◌, ◌/◌, ◌%◌, ◌^◌, ◌<◌, ◌≤◌, List, ◌==◌, ◌||◌, [], ◌∷◌, IsTrue, length, nat_le, nat_lt, not, replicate, true, unsigned_abs};
 ghost use Rattle.std.specs.List.{list_all};
@@ -14,7 +14,7 @@ use rpg_edit_marks::Mark;
 use rpg_edit_widths::Suppression;
 
 impl Pass {
-    /// A pass over a text that ends at this place.
+    /// Begins a pass over a text that ends at this place.
     pub(crate) fn new(n: i64, suppression: Suppression, end: usize) -> Pass
         ensures begins { Begins n end result }
         ensures suppression { result.suppression ≡ suppression }
@@ -31,7 +31,7 @@ impl Pass {
         }
     }
 
-    /// The character at a mark that the digits written so far follow.
+    /// Returns the character at a mark before the digits written so far.
     fn character(&self, mark: Mark) -> u8
         ensures { result ≡ character self.now.number.negative self.now.number.size
             self.now.suppression.kept self.now.suppression.fill mark self.now.after }
@@ -47,7 +47,7 @@ impl Pass {
         }
     }
 
-    /// Whether something is left of the number: what is next, a digit or a character before it, shows then.
+    /// Whether any of the number is left: then the next digit, or a character before it, is printed.
     pub(crate) fn is_left(&self) -> bool
         ensures begun { result ≡ is_begun self.now.number.size self.now.after }
         ensures rest { result ≡ not (self.now.rest == 0) }
@@ -55,14 +55,14 @@ impl Pass {
         self.rest != 0
     }
 
-    /// Whether the next digit shows.
+    /// Whether the next digit is printed.
     fn is_clear(&self) -> bool
         ensures { result ≡ is_clear self.now }
     {
         self.rest != 0 || self.after < usize::from(self.suppression.kept)
     }
 
-    /// Writes the fill at marks of which so many are digits, the others characters between digits, once the number is used up.
+    /// Writes the fill at marks, `digits` of which are digits and the others characters between digits, after the number is used up.
     #[inline(always)]
     pub(crate) fn put_fill(&mut self, marks: usize, digits: usize, out: &mut [u8])
         requires used_up { IsUsedUp self.old }
@@ -78,7 +78,7 @@ impl Pass {
         self.after += digits;
     }
 
-    /// The character at a digit, of a number that is `rest` without it.
+    /// Returns the character for a digit, of a number that is `rest` without it.
     fn digit(&self, rest: u64) -> u8
         requires { rest ≡ self.now.rest / 10 }
         ensures { result ≡ character self.now.number.negative self.now.number.size
@@ -91,7 +91,7 @@ impl Pass {
         }
     }
 
-    /// The digit itself, of a number that is `rest` without it.
+    /// Returns the digit itself, of a number that is `rest` without it.
     fn shown_digit(&self, rest: u64) -> u8
         requires { rest ≡ self.now.rest / 10 }
         ensures { result ≡ digit_character self.now.number.size self.now.after }
@@ -99,7 +99,7 @@ impl Pass {
         b'0' + (self.rest - rest * 10) as u8
     }
 
-    /// Moves in front of a digit, to a number that is `rest` without it.
+    /// Moves past a digit, to a number that is `rest` without it.
     fn pass_digit(&mut self, rest: u64)
         requires few { self.old.after + 1 + self.old.start < 2 ^ 64 }
         requires rest { rest ≡ self.old.rest / 10 }
@@ -109,7 +109,7 @@ impl Pass {
         self.after += 1;
     }
 
-    /// Writes the character at the next digit: one division gives it and what is left of the number.
+    /// Writes the next digit: one division gives it and the rest of the number.
     pub(crate) fn put_digit(&mut self, out: &mut [u8])
         requires room { HasRoom 1 self.old out.old }
         ensures { Writes (Mark.Digit ∷ []) self.old out.old self.new out.new }
@@ -132,7 +132,7 @@ impl Pass {
         }
     }
 
-    /// Whether so many digits more always show.
+    /// Whether the next `count` digits are always printed.
     pub(crate) fn keeps(&self, count: u8) -> bool
         requires room { count ≤ self.now.start }
         ensures { result ≡ nat_le (self.now.after + count) self.now.suppression.kept }
@@ -140,7 +140,7 @@ impl Pass {
         self.after + usize::from(count) <= usize::from(self.suppression.kept)
     }
 
-    /// Writes digits that always show. Mostly they are two.
+    /// Writes digits that are always printed, usually two.
     #[inline(always)]
     pub(crate) fn put_kept_digits(&mut self, count: u8, out: &mut [u8])
         requires kept { self.old.after + count ≤ self.old.suppression.kept }
@@ -155,7 +155,7 @@ impl Pass {
         }
     }
 
-    /// Writes a character between digits that always shows.
+    /// Writes a character between digits that is always printed.
     pub(crate) fn put_kept_character(&mut self, character: u8, out: &mut [u8])
         requires kept { self.old.after ≤ self.old.suppression.kept }
         requires room { HasRoom 1 self.old out.old }
@@ -165,7 +165,7 @@ impl Pass {
         out[self.start] = character;
     }
 
-    /// Writes two digits that show, by one division of the number.
+    /// Writes two printed digits, by one division of the number.
     #[inline(always)]
     fn put_two(&mut self, out: &mut [u8])
         requires shows { are_clear self.old ≡ true }
@@ -176,7 +176,7 @@ impl Pass {
         self.put_pair((self.rest - rest * 100) as u8, rest, out);
     }
 
-    /// Writes two digits that show, of a number that is `rest` without them.
+    /// Writes two printed digits, of a number that is `rest` without them.
     #[inline(always)]
     fn put_pair(&mut self, two: u8, rest: u64, out: &mut [u8])
         requires shows { are_clear self.old ≡ true }
@@ -190,7 +190,7 @@ impl Pass {
         self.put_known(tens, rest, out);
     }
 
-    /// Writes a digit that shows.
+    /// Writes a printed digit.
     #[inline(always)]
     pub(crate) fn put_clear_digit(&mut self, out: &mut [u8])
         requires shows { is_clear self.old ≡ true }
@@ -201,7 +201,7 @@ impl Pass {
         self.put_known(b'0' + (self.rest - rest * 10) as u8, rest, out);
     }
 
-    /// Writes a digit that shows, of a number that is `rest` without it.
+    /// Writes a printed digit, of a number that is `rest` without it.
     #[inline(always)]
     fn put_known(&mut self, character: u8, rest: u64, out: &mut [u8])
         requires shows { is_clear self.old ≡ true }
@@ -215,14 +215,14 @@ impl Pass {
         self.pass_digit(rest);
     }
 
-    /// Whether so much is left of the number that three digits more show.
+    /// Whether enough of the number is left to print three more digits.
     pub(crate) fn has_three(&self) -> bool
         ensures { result ≡ nat_le 100 self.now.rest }
     {
         self.rest >= 100
     }
 
-    /// Writes three digits of what is left of the number, all of which show, by one division of it.
+    /// Writes three digits of what is left of the number, all of which are printed, by one division of it.
     #[inline(always)]
     pub(crate) fn put_three(&mut self, out: &mut [u8])
         requires left { 100 ≤ self.old.rest }
@@ -236,8 +236,8 @@ impl Pass {
         self.put_known(b'0' + hundreds as u8, rest, out);
     }
 
-    /// Writes one or two digits of a number that has no more, or where `most` allows no more. Returns how many: `most`, or as many as
-    /// are left.
+    /// Writes one or two digits of a number that has no more, or if `most` allows no more. Returns how many: `most`, or as many as are
+    /// left.
     #[inline(always)]
     pub(crate) fn put_last_digits(&mut self, most: usize, out: &mut [u8]) -> usize
         requires shows { is_clear self.old ≡ true }
@@ -258,7 +258,7 @@ impl Pass {
         2
     }
 
-    /// Writes as many digits of such a number as show, which may be none.
+    /// Writes those digits of such a number that are printed, if any.
     #[inline(always)]
     pub(crate) fn put_first_digits(&mut self, most: usize, out: &mut [u8]) -> usize
         requires kept { self.old.suppression.kept ≤ self.old.after + 1 }
@@ -273,7 +273,7 @@ impl Pass {
         self.put_last_digits(most, out)
     }
 
-    /// Writes digits by threes while three more show, but no more than `most`. Returns how many.
+    /// Writes printed digits three at a time while three more are left, but no more than `most`. Returns how many.
     #[inline(always)]
     fn put_threes(&mut self, most: usize, out: &mut [u8]) -> usize
         requires least { 3 ≤ most }
@@ -290,7 +290,7 @@ impl Pass {
         written
     }
 
-    /// Writes the digits that show, but no more than `most`. Returns how many: `most`, unless no more show.
+    /// Writes the printed digits, but no more than `most`. Returns how many: `most`, unless no more are printed.
     #[inline(always)]
     pub(crate) fn put_shown_digits(&mut self, most: usize, out: &mut [u8]) -> usize
         requires kept { self.old.suppression.kept ≤ self.old.after + 1 }
@@ -329,7 +329,7 @@ impl Pass {
     }
 }
 
-/// Fills a text. Mostly it is short, and costs less without a call.
+/// Fills a text. It is usually short, which costs less without a call.
 #[inline(always)]
 fn fill(character: u8, text: &mut [u8])
     requires { 0 < length text.old }
@@ -344,7 +344,7 @@ fn fill(character: u8, text: &mut [u8])
     }
 }
 
-/// Fills a text by so many characters at its front and as many at its end, which meet or overlap.
+/// Fills a text by `count` characters at each end, which meet or overlap.
 #[inline(always)]
 fn fill_ends(character: u8, count: usize, text: &mut [u8])
     requires within { count ≤ length text.old }

@@ -15,12 +15,12 @@ use Rattle.rpg_edit_marks.specs.Edited.{marked_text, with_dollar}
 abbrev pub comma_marks : Bool → ℕ → List Mark
 comma_marks commas left = if commas && nat_lt 0 left && (left % 3 == 0) then Insert 44 ∷ [] else []
 
--- the whole digits, with their commas where commas are on
+-- the whole digits, with their commas if commas are on
 abbrev pub whole_marks : Bool → ℕ → List Mark
 whole_marks commas zero = []
 whole_marks commas (suc left) = (Digit ∷ comma_marks commas left) ++ whole_marks commas left
 
--- a point and the decimals, where there are any
+-- a point and the decimals, if there are any
 abbrev pub decimal_marks : ℕ → List Mark
 decimal_marks zero = []
 decimal_marks (suc d) = Insert 46 ∷ replicate (suc d) Digit
@@ -48,7 +48,7 @@ code_marks X fill len dec = replicate len Digit
 code_marks Y fill len dec = date_marks
 code_marks Z fill len dec = replicate len Digit
 
--- how many of the last digits always show: the decimals, or the last digit where there are none, and none in a blank zero
+-- how many of the last digits always show: the decimals, or the last digit if there are none, and none in a blank zero
 abbrev pub kept_digits : EditCode → ℕ → ℕ → ℕ → ℕ
 kept_digits (Combination commas zeros ending) len dec size = if (size == 0) && not zeros then 0 else max dec 1
 kept_digits X len dec size = len
@@ -61,7 +61,7 @@ fill_of Blank = 32
 fill_of Star = 42
 fill_of Dollar = 32
 
--- the text with its dollar sign, where the fill has one
+-- the text with its dollar sign, if the fill has one
 abbrev pub dollar_in : Fill → List ℕ → List ℕ
 dollar_in Blank text = text
 dollar_in Star text = text

@@ -25,7 +25,7 @@ is_begun size k = not (size / 10 ^ k == 0)
 abbrev pub digit_character : ℕ → ℕ → ℕ
 digit_character size k = 48 + size / 10 ^ k % 10
 
--- the character at a mark that k digits follow, where the last `kept` digits always show: a digit, and a character
+-- the character at a mark that k digits follow, if the last `kept` digits always show: a digit, and a character
 -- between digits, once a digit that isn't zero came before, or where so few digits follow, else the fill
 abbrev pub character : Bool → ℕ → ℕ → ℕ → Mark → ℕ → ℕ
 character negative size kept fill Digit k = if is_begun size k || nat_lt k kept then digit_character size k else fill

@@ -2,7 +2,7 @@
 
 ghost use Rattle.std.specs.Prelude.{◌≡◌, ◌==◌, ◌%◌, nat_lt};
 
-/// What follows a number: nothing, or its sign, which shows as blanks where the number isn't negative.
+/// What follows a number: nothing, or its sign, which is blank unless the number is negative.
 #[derive(Clone, Copy)]
 pub enum Ending {
     Unsigned,
@@ -13,7 +13,7 @@ pub enum Ending {
 impl Ending {
     ghost use Rattle.rpg_edit_marks.specs.Code.{first_character};
 
-    /// The character of the first code with this ending.
+    /// Returns the character of the first code with this ending.
     fn first_character(self) -> u8
         ensures { result ≡ first_character self }
     {
@@ -36,7 +36,7 @@ pub enum Fill {
 impl Fill {
     ghost use Rattle.rpg_edit_marks.specs.Code.{fill_by, is_blank_fill};
 
-    /// The fill of a constant beside an edit code: an asterisk, or a dollar sign.
+    /// Returns the fill of a constant beside an edit code: an asterisk, or a dollar sign.
     pub fn of(text: &[u8]) -> Option<Fill>
         ensures { result ≡ fill_by text.now }
     {
@@ -57,7 +57,7 @@ impl Fill {
     }
 }
 
-/// An edit code by its columns in the table of codes (this profile): 1 to 4, A to D and J to M are `Combination`.
+/// An edit code, by the columns of this profile's table of codes: 1 to 4, A to D and J to M are `Combination`.
 #[derive(Clone, Copy)]
 pub enum EditCode {
     Combination {
@@ -73,7 +73,7 @@ pub enum EditCode {
 impl EditCode {
     ghost use Rattle.rpg_edit_marks.specs.Code.{code_character, code_of, fits_code, takes_fill};
 
-    /// The code of a character, where it is one.
+    /// Returns the code of a character, if it is one.
     pub fn of(character: u8) -> Option<EditCode>
         ensures { result ≡ code_of character }
     {
@@ -88,7 +88,7 @@ impl EditCode {
         }
     }
 
-    /// The character of the code.
+    /// Returns the character of the code.
     pub fn character(self) -> u8
         ensures { result ≡ code_character self }
     {
@@ -104,7 +104,7 @@ impl EditCode {
         }
     }
 
-    /// Whether the code takes this fill: X, Y and Z take none.
+    /// Whether the code allows this fill: X, Y and Z allow none.
     pub fn takes(self, fill: Fill) -> bool
         ensures { result ≡ takes_fill self fill }
     {
@@ -114,7 +114,8 @@ impl EditCode {
         }
     }
 
-    /// Whether the code edits numbers of this form with this fill: X, Y and Z take no fill, and Y edits six digits without decimals.
+    /// Whether the code can edit numbers of this form with this fill: X, Y and Z allow no fill, and Y edits six digits without
+    /// decimals.
     pub fn fits(self, fill: Fill, length: u16, decimals: u8) -> bool
         ensures { result ≡ fits_code length decimals self fill }
     {

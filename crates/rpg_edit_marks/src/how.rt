@@ -2,7 +2,7 @@
 
 use crate::code::{EditCode, Fill};
 
-/// How a number is edited: as its zoned text, by an edit code, or by an edit word. `W` is what holds a word.
+/// How a number is edited: as its zoned text, by an edit code, or by an edit word, which a `W` holds.
 #[derive(Drop)]
 pub enum How<W> {
     Plain,

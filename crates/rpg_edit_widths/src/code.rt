@@ -1,11 +1,11 @@
-//! How many marks a number has that is edited by a code.
+//! The number of marks for an edit code.
 
 ghost use Rattle.std.specs.Prelude.{◌≡◌, ◌≤◌, length};
 ghost use Rattle.rpg_edit_marks.specs.Code.{code_marks, decimal_marks, dollar_marks, ending_marks, whole_marks};
 
 use rpg_edit_marks::{EditCode, Ending, Fill};
 
-/// How many marks a number has.
+/// Returns how many marks a number has.
 pub(crate) fn width_by(code: EditCode, fill: Fill, len: u8, dec: u8) -> usize
     requires high { len ≤ 15 }
     requires decimals { dec ≤ len }
@@ -23,7 +23,7 @@ pub(crate) fn width_by(code: EditCode, fill: Fill, len: u8, dec: u8) -> usize
     }
 }
 
-/// Two, two and two digits between slashes.
+/// Three pairs of digits with slashes between them.
 const DATE_WIDTH: usize = 8;
 
 fn dollar_width(fill: Fill) -> usize

@@ -10,7 +10,7 @@ use crate::word::EditWord;
 /// How a number is edited: as its zoned text, by an edit code, or by an edit word.
 pub type How = rpg_edit_marks::How<EditWord>;
 
-/// The characters that a number of `len` digits with `dec` decimals takes.
+/// Returns how many characters a number of `len` digits with `dec` decimals takes.
 pub fn width(len: u8, dec: u8, how: &How) -> usize
     requires low { 1 ≤ len }
     requires high { len ≤ 15 }
@@ -24,7 +24,8 @@ pub fn width(len: u8, dec: u8, how: &How) -> usize
     }
 }
 
-/// The characters that a number takes by an edit word: as many as the word has. No marks are made.
+/// Returns how many characters a number takes with an edit word: as many as the word has. Creates
+/// no marks.
 #[tactic(auto, using(crate::proofs::Places::word_widths))]
 pub fn word_width(word: &[u8]) -> usize
     ensures { result ≡ length (word_marks word.now) }

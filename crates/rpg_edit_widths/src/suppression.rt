@@ -1,6 +1,7 @@
-//! What is suppressed in a number.
+//! Zero suppression.
 
-/// What replaces leading zeros, and how many of the last digits always show.
+/// What replaces leading zeros, and how many of the last digits are always
+/// printed.
 #[derive(Clone, Copy)]
 pub struct Suppression {
     pub kept: u8,

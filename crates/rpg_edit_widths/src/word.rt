@@ -13,7 +13,7 @@ use std::error::Error;
 use std::fmt;
 use std::marker::Model;
 
-/// The word's places aren't as many as the digits, or a dollar sign comes right before its stop.
+/// The word's places don't match the digits, or a dollar sign comes right before its stop.
 #[derive(Clone, Copy, Debug)]
 pub struct EditFault;
 
@@ -44,7 +44,7 @@ impl Model for EditWord {
 }
 
 impl EditWord {
-    /// The word, where it fits a number of so many digits.
+    /// Parses a word, if it fits a number of `digits` digits.
     pub fn parse(word: &[u8], digits: u8) -> Result<EditWord, EditFault>
         requires low { 1 ≤ length word.now }
         requires high { length word.now ≤ 24 }
@@ -65,7 +65,7 @@ impl EditWord {
         }
     }
 
-    /// Whether a word fits a number of so many digits, as `parse` takes it. No marks are made.
+    /// Whether a word fits a number of `digits` digits, so that `parse` accepts it. Creates no marks.
     pub fn fits(word: &[u8], digits: u8) -> bool
         requires { length word.now ≤ 24 }
         ensures { result ≡ ((places (word_marks word.now) == digits) && not (has_dollar_at_stop word.now)) }
@@ -74,14 +74,14 @@ impl EditWord {
         count_places(word, stop) == digits && !is_dollar_before(word, stop)
     }
 
-    /// The mark of each of its places.
+    /// Returns the mark of each of its places.
     pub fn marks(&self) -> &[Mark]
         ensures { result.now ≡ word_marks self.now }
     {
         &self.marks
     }
 
-    /// What is suppressed in front of its stop.
+    /// Returns what is suppressed before its stop.
     pub fn suppression(&self) -> Suppression
         ensures kept { result.kept ≡ digits_after_stop self.now }
         ensures fill { result.fill ≡ word_fill self.now }
@@ -96,7 +96,7 @@ fn is_stop(character: u8) -> bool
     character == b'0' || character == b'*'
 }
 
-/// The places for digits: the blanks, and the stop where there is one.
+/// Counts the places for digits: the blanks, and the stop if there is one.
 fn count_places(word: &[u8], stop: usize) -> u8
     requires high { length word.now ≤ 24 }
     requires stop { stop ≡ stop_of word.now }
@@ -128,7 +128,7 @@ fn is_dollar_before(word: &[u8], stop: usize) -> bool
     stop < word.len() && word[stop.saturating_sub(1)] == b'$'
 }
 
-/// What is suppressed in front of the stop.
+/// Returns what is suppressed before the stop.
 fn suppression(word: &[u8], stop: usize) -> Suppression
     requires high { length word.now ≤ 24 }
     requires within { stop ≤ length word.now }
@@ -164,7 +164,7 @@ fn fill_at(word: &[u8], stop: usize) -> u8
     }
 }
 
-/// What a character of the word shows as.
+/// Returns what a character of the word prints as.
 fn shown(character: u8) -> u8
     ensures { result ≡ shown_character character }
 {
@@ -236,7 +236,7 @@ fn push_marks(marks: &mut Marks, part: &[u8])
     }
 }
 
-/// How many marks there are up to the last place.
+/// Returns how many marks there are up to the last place.
 fn places_end(marks: &[Mark]) -> usize
     ensures end { result ≡ places_end marks.now }
     ensures within { result ≤ length marks.now }
@@ -254,7 +254,7 @@ fn begins_credit(part: &[u8]) -> bool
     matches!(part, [b'C', b'R', ..])
 }
 
-/// The marks after the last place.
+/// Appends the marks after the last place.
 fn push_sign_part(marks: &mut Marks, part: &[u8])
     requires { array_vec_len marks.old + length part.now ≤ 24 }
     ensures { marks.new.items ≡ marks.old.items ++ sign_part part.now }

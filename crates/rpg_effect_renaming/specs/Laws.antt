@@ -23,7 +23,7 @@ OperationsAgree {K} {L} R S =
     → (x : Action (Operand K)) (v : Data R) (w : Data S) → AgreeData old at v w → Uses old x
     → SameEnd old at (operate old x v) (operate new (renamed_action at x) w)
 
--- so do lines, of exceptions and of each other time, where their edit words are the same
+-- so do lines, of exceptions and of each other time, if their edit words are the same
 abbrev pub LinesAgree : {K L : Type 0} → (K → K → Ordering) → (L → L → Ordering) → Type 0
 LinesAgree {K} {L} R S =
     (old : K → Option FieldForm) (new : L → Option FieldForm) (at : K → L) → IsRenaming R S old new at

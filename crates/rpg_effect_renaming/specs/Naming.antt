@@ -111,7 +111,7 @@ module _ {K : Type 0} (forms : K → Option FieldForm) where
   Uses (Move side b c) = IsNamed b × IsNamed c
   Uses (SetIndicators is_on s) = Unit {0}
 
-  -- all that lines put out is named
+  -- all that lines output is named
   abbrev pub AreNamed : List (Line K) → Type 0
   AreNamed ls = All (λ (l : Line K). All (λ (f : LineField K). IsNamed f.operand) l.fields) ls
 
@@ -147,7 +147,7 @@ module _ {K L : Type 0} {R : K → K → Ordering} {S : L → L → Ordering} (o
     pub ending : e.ending ≡ d.ending
     pub «data» : AgreeData d.data e.data
 
-  -- two effects end alike, leave worlds that agree, and put out the same
+  -- two effects end alike, leave worlds that agree, and output the same
   pub record SameEffect (d : Effect R) (e : Effect S) : Type 0 where
     pub ending : e.ending ≡ d.ending
     pub world : Agree d.world e.world

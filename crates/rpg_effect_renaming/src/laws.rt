@@ -1,7 +1,7 @@
 //! Laws of the definitions. The functions do nothing: they are called only for their contracts.
 ghost use Rattle.rpg_effect_renaming.specs.Laws.{InputsAgree, LinesAgree, OperationsAgree, RowsAgree, WorldsAgree};
 
-/// Operations, lines, input fields and what the rules require of operands are the same by any names.
+/// Operations, lines, input fields and the rules' requirements on operands don't depend on names.
 pub fn names_make_no_difference<K: Ord, L: Ord>()
     ensures operations { OperationsAgree K.cmp L.cmp }
     ensures lines { LinesAgree K.cmp L.cmp }
@@ -9,7 +9,7 @@ pub fn names_make_no_difference<K: Ord, L: Ord>()
     ensures rows { RowsAgree K.cmp L.cmp }
 {}
 
-/// Whatever a program's fields hold, there are values by name that agree with them.
+/// For any values of a program's fields there are values by name that agree with them.
 pub fn numbers_have_names<K: Ord>()
     ensures { WorldsAgree K.cmp }
 {}

@@ -1,4 +1,4 @@
-//! The same things by other names: fields that cards name and an object program numbers.
+//! Renaming: fields that have names on cards and numbers in an object program.
 #![tactic(auto)]
 
 pub mod laws;

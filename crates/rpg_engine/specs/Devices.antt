@@ -16,7 +16,7 @@ use Rattle.rpg_engine.specs.declared.files.OutputFile.TheVariants.{Print, Disk}
 use Rattle.rpg_engine.specs.declared.files.Readers.{Readers}
 use Rattle.rpg_engine.specs.declared.files.Writers.{Writers}
 
--- a value that is lent to a call: `entry.now` as the call begins, and `exit.now` at the return
+-- a value that is lent to a call: `entry.now` when the call begins, `exit.now` when it returns
 abbrev pub Lent : Type 0 → Type 0
 Lent T = Both (MutBor T) (MutBor T)
 
@@ -36,23 +36,23 @@ abbrev pub NoneFailed : {P D : Type 0} → (before after : Writers P D) → Type
 NoneFailed before after = (file : OutputFile) → write_faults after file ≡ write_faults before file
 
 module _ {R S : Type 0} (remaining : R → Option (List ℕ)) (others : S → Option (List ℕ)) where
-  -- Fact holds of each two inputs that begin with what was read of both readers.
+  -- Fact holds of any two inputs that begin with what was read from both readers.
   abbrev pub OfReaders : (old new : Readers R S) → (List ℕ → List ℕ → Type 0) → Type 0
   OfReaders old new Fact =
       OfInputs (remaining (device_of old.primary)) (remaining (device_of new.primary)) (others (device_of old.secondary)) (others (device_of new.secondary)) Fact
 
-  -- Fact holds of what was read of both readers.
+  -- Fact holds of what was read from both readers.
   abbrev pub OfRead : (old new : Readers R S) → (Front → Front → Type 0) → Type 0
   OfRead old new Fact =
       OfFronts (remaining (device_of old.primary)) (remaining (device_of new.primary)) (others (device_of old.secondary)) (others (device_of new.secondary)) Fact
 
-  -- the error names the device whose fault it was that there is no report
+  -- the error names the device that is to blame if there is no report
   abbrev pub NamesFault : {P D X : Type 0} → (old new : Readers R S) → (before after : Writers P D) → Result X RunFault → Type 0
   NamesFault old new before after result =
       FaultsAre result (remaining (device_of old.primary)) (remaining (device_of new.primary)) (others (device_of old.secondary)) (others (device_of new.secondary))
       (device_counts old before) (device_counts new after)
 
-  -- the same of readers and writers that are lent to a call
+  -- the same for readers and writers that are lent to a call
   abbrev pub TellsWhoseFault : {P D X : Type 0} → Lent (Readers R S) → Lent (Writers P D) → Result X RunFault → Type 0
   TellsWhoseFault readers writers result = NamesFault readers.entry.now readers.exit.now writers.entry.now writers.exit.now result
 
@@ -62,22 +62,22 @@ module _ {P D : Type 0} (contents : P → Option (List ℕ)) (stored : D → Opt
   file_contents writers Print = contents (device_of writers.printer)
   file_contents writers Disk = stored (device_of writers.disk)
 
-  -- Fact holds of what each file had and has.
+  -- Fact holds of what each file had before and has after.
   abbrev pub OfWriters : {X : Type 0} → (before after : Writers P D) → (Contents → Contents → X → X → Type 0) → X → X → Type 0
   OfWriters before after Fact = Fact (file_contents before) (file_contents after)
 
 -- ---- readers of records
 
--- the readers that two readers of records read from
+-- the readers that two record readers read from
 abbrev pub readers_of : {R S : Type 0} → RecordReader R → RecordReader S → Readers R S
 readers_of primary secondary = record { primary = reader_of primary; secondary = reader_of secondary }
 
--- both readers of records still read from what was lent to them
+-- both record readers still read from what was lent to them
 abbrev pub AreLentOn : {R S : Type 0} → Lent (RecordReader R) → Lent (RecordReader S) → Type 0
 AreLentOn primary secondary =
     (primary.exit.now.reader.ghost_name ≡ primary.entry.now.reader.ghost_name) × (secondary.exit.now.reader.ghost_name ≡ secondary.entry.now.reader.ghost_name)
 
--- the error says whose fault it was, of readers of records
+-- the error names the device that is to blame, for record readers
 abbrev pub TellsWhoseFaultOf : {R S P D X : Type 0} → (R → Option (List ℕ)) → (S → Option (List ℕ)) → Lent (RecordReader R) → Lent (RecordReader S) → Lent (Writers P D) → Result X RunFault → Type 0
 TellsWhoseFaultOf remaining others primary secondary writers result =
     NamesFault remaining others (readers_of primary.entry.now secondary.entry.now) (readers_of primary.exit.now secondary.exit.now) writers.entry.now writers.exit.now result

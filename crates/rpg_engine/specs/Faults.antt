@@ -1,4 +1,4 @@
--- Whose fault it is that a run gave no report.
+-- Which device is to blame if a run gave no report.
 use Rattle.std.specs.Prelude.{◌≡◌, ℕ, ◌+◌, ◌⊎◌, List, Option, Result, Err}
 use Rattle.rpg_program.specs.declared.input.InputFile.{InputFile}
 use Rattle.rpg_program.specs.declared.input.InputFile.TheVariants.{Primary, Secondary}
@@ -36,12 +36,12 @@ device_counts readers writers (Writer file) = write_faults writers file
 abbrev pub NoneRises : (old new : Counts) → Type 0
 NoneRises old new = (device : Device) → new device ≡ old device
 
--- the count of one device rose by one, and no other
+-- the count of one device rose by one, and no other count rose
 abbrev pub OnlyRises : (failed : Device) → (old new : Counts) → Type 0
 OnlyRises failed old new = (new failed ≡ old failed + 1) × ((device : Device) → (device ≡ failed → ⊥) → new device ≡ old device)
 
--- A device's fault is reported exactly if its count rose by one, and too many records of a file only if its bytes have them. Where memory
--- ran out, a writer may have failed over what was still sent, which isn't reported. No other count rises.
+-- A device's fault is reported exactly if its count rose by one, and too many records of a file only if its bytes have them. If memory ran
+-- out, a writer may have failed while sending what was left, which isn't reported. No other count rises.
 abbrev pub FaultsAre : {X : Type 0} → Result X RunFault → (given left others rest : Option (List ℕ)) → (old new : Counts) → Type 0
 FaultsAre (Err (faults.Write file sent)) given left others rest old new = OnlyRises (Writer file) old new
 FaultsAre (Err (faults.Read file reading.Device)) given left others rest old new = OnlyRises (Reader file) old new

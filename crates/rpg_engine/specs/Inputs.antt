@@ -1,4 +1,4 @@
--- What holds of two inputs, some bytes of each of which were read.
+-- What holds of two inputs after some bytes of each were read.
 use Rattle.std.specs.Prelude.{◌≡◌, ℕ, ◌<◌, Bool, true, List, ◌++◌, length, Option}
 use Rattle.std.specs.Io.KnownBytes.{Consumes, IsAtEnd}
 use Rattle.rpg_cycle.specs.Runs.{Records}
@@ -7,15 +7,15 @@ use Rattle.rpg_program.specs.declared.input.InputFile.TheVariants.{Primary, Seco
 use Rattle.rpg_files.specs.NextLine.{CanFollow}
 use Rattle.rpg_files.specs.Records.{max_records, records}
 
--- of an input that had these bytes and has those left, these were read, and its end where that was seen
+-- of an input with `given` bytes at first and `left` bytes now, these were read, and its end if that was seen
 pub record WasRead (given left : Option (List ℕ)) : Type 0 where
   pub read : List ℕ
   pub ended : Bool
   pub consumed : Consumes given left read
   pub at_end : ended ≡ true → IsAtEnd left
 
--- Such bytes were read of a primary and of a secondary input, and Fact holds of every two inputs that each begin with what was read
--- of them; where the end of one was seen, only of that one.
+-- These bytes were read from a primary and a secondary input, and Fact holds of any two inputs that begin with what was read from them; if
+-- the end of one was seen, only of that one.
 pub record OfInputs (given left others rest : Option (List ℕ)) (Fact : List ℕ → List ℕ → Type 0) : Type 0 where
   pub primary : WasRead given left
   pub secondary : WasRead others rest
@@ -30,17 +30,17 @@ pub record Front : Type 0 where
 abbrev pub front_of : {given left : Option (List ℕ)} → WasRead given left → Front
 front_of w = record { read = w.read; ended = w.ended }
 
--- So much was read of a primary and of a secondary input, and Fact holds of that.
+-- This much was read from a primary and a secondary input, and Fact holds of it.
 pub record OfFronts (given left others rest : Option (List ℕ)) (Fact : Front → Front → Type 0) : Type 0 where
   pub primary : WasRead given left
   pub secondary : WasRead others rest
   pub fact : Fact (front_of primary) (front_of secondary)
 
--- Fact holds of every two inputs that begin so.
+-- Fact holds of any two inputs that begin this way.
 abbrev pub OfEach : Front → Front → (List ℕ → List ℕ → Type 0) → Type 0
 OfEach a b Fact = (more following : List ℕ) → CanFollow a.ended more → CanFollow b.ended following → Fact (a.read ++ more) (b.read ++ following)
 
--- of the bytes of two inputs, those of one
+-- the bytes of one of two inputs
 abbrev pub bytes_of_input : InputFile → (primary secondary : List ℕ) → List ℕ
 bytes_of_input Primary primary secondary = primary
 bytes_of_input Secondary primary secondary = secondary

@@ -1,5 +1,5 @@
--- What is wrong with an object, what the engine refuses, what it reports of a run, and what a run does a cycle at a time. And the
--- definitions from below that a caller needs.
+-- What is wrong with an object, what the engine rejects, what it reports of a run, and what a run does cycle by cycle. Also the
+-- definitions from lower crates that a caller needs.
 pub mod Devices
 pub mod Faults
 pub mod Inputs

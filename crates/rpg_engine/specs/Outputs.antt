@@ -1,4 +1,4 @@
--- The files that a run writes to, in the order in which they are sent to, and what they have.
+-- The files that a run writes to, in the order in which they are sent, and what they hold.
 use Rattle.std.specs.Prelude.{ℕ, List, Option}
 use Rattle.std.specs.Io.KnownBytes.{Appends}
 use Rattle.std.specs.Ordering.{nat_cmp}
@@ -21,12 +21,12 @@ bytes_for Disk bytes = bytes.disk
 abbrev pub bytes_with : (lines records : List ℕ) → Bytes
 bytes_with lines records = record { print = lines; disk = records }
 
--- how many files are sent to before a file: the printer is the first
+-- how many files are sent before a file: the printer is the first
 abbrev pub turn : OutputFile → ℕ
 turn Print = 0
 turn Disk = 1
 
--- whether a file is sent to before another one
+-- the order in which two files are sent
 abbrev pub order : (file other : OutputFile) → Ordering
 order file other = nat_cmp (turn file) (turn other)
 
@@ -34,6 +34,6 @@ order file other = nat_cmp (turn file) (turn other)
 abbrev pub HaveAll : (before after : Contents) → Bytes → Type 0
 HaveAll before after bytes = (file : OutputFile) → Appends (before file) (after file) (bytes_for file bytes)
 
--- each file has a first part of its bytes
+-- each file has a prefix of its bytes
 abbrev pub HaveParts : (before after : Contents) → Bytes → Type 0
 HaveParts before after bytes = (file : OutputFile) → AppendsPrefix (before file) (after file) (bytes_for file bytes)

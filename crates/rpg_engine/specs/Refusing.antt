@@ -1,4 +1,4 @@
--- What is refused before anything is read: bytes that are no object program, a program that breaks a rule, a date that is none.
+-- What is rejected before anything is read: bytes that aren't an object program, a program that breaks a rule, a bad date.
 use Rattle.std.specs.Prelude.{◌≡◌, ℕ, ℤ, List, Some, None, Result, Ok, Err}
 use Rattle.rpg_cycle.specs.Starting.{date_in}
 use Rattle.rpg_cycle.specs.declared.ends.StartFault.{StartFault}
@@ -9,19 +9,19 @@ use Rattle.rpg_engine.specs.Objects.{HasObjectFault, SpellsProgram}
 use Rattle.rpg_engine.specs.declared.fault.RunFault.{RunFault}
 use Rattle.rpg_engine.specs.declared.fault.RunFault.TheVariants as faults
 
--- the bytes are that program's, it keeps all rules, and the date is that one
+-- the bytes are that program's, it obeys all rules, and the date is that one
 pub record IsJobOf (object date : List ℕ) (p : Object) (day : ℤ) : Type 0 where
   pub spells : SpellsProgram object p
   pub accepted : IsAccepted p
   pub dated : date_in date ≡ Some day
 
--- there is such a program and such a date
+-- there are such a program and such a date
 abbrev pub MayRun : List ℕ → List ℕ → Type 0
 MayRun object date = (p : Object) × (day : ℤ) × IsJobOf object date p day
 
--- Bytes that are no program are reported by their first fault; a program that breaks a rule, by the least one and the first row
--- that breaks it; with an accepted program, a date that isn't six digits is reported. All else is reported only of a job that
--- may run; that memory ran out, of any.
+-- Bytes that aren't a program are reported by their first fault; a program that breaks a rule, by the lowest-numbered one and
+-- the first row that breaks it; with an accepted program, a date that isn't six digits is reported. Everything else is reported
+-- only for a job that may run; running out of memory, for any.
 abbrev pub IsToldOf : {X : Type 0} → Result X RunFault → List ℕ → List ℕ → Type 0
 IsToldOf (Ok x) object date = MayRun object date
 IsToldOf (Err (faults.Object fault)) object date = HasObjectFault fault object
@@ -30,11 +30,11 @@ IsToldOf (Err (faults.Read file fault)) object date = MayRun object date
 IsToldOf (Err (faults.Write file sent)) object date = MayRun object date
 IsToldOf (Err (faults.NoMemory cycles)) object date = Unit {0}
 
--- the date is a day's
+-- the date is a valid one
 abbrev pub HasDay : List ℕ → Type 0
 HasDay date = (day : ℤ) × (date_in date ≡ Some day)
 
--- The same where the program is accepted already: no fault of an object is reported.
+-- The same for a program that is already accepted: no fault of an object is reported.
 abbrev pub IsToldOfDate : {X : Type 0} → Result X RunFault → List ℕ → Type 0
 IsToldOfDate (Ok x) date = HasDay date
 IsToldOfDate (Err (faults.Object fault)) date = ⊥

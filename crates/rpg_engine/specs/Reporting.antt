@@ -1,4 +1,4 @@
--- What is reported of a run, and what each writer has of its output.
+-- What is reported of a run, and what each writer gets of its output.
 use Rattle.std.specs.Prelude.{◌≡◌, ℕ, zero, suc, ◌+◌, ◌<◌, ◌≤◌, ◌⊎◌, ℤ, true, false, List, [], ◌++◌, length, Option, None, Some}
 use Rattle.std.specs.Io.KnownBytes.{Appends}
 use Rattle.std.specs.declared.cmp.Ordering.{Ordering}
@@ -54,7 +54,7 @@ pub record Reports (p : Object) (day : ℤ) (report : Report) (before after : Co
   pub few : report.most ≤ report.bound
   pub sent : HaveAll before after bytes
 
--- The report is of a run that ends well: at the end of the job or at a halt that has a number from 1 to 8, never wrong, within one cycle more
+-- The report is of a run that ends well: at the end of the job or at a halt with a number from 1 to 8, never wrong, within one cycle more
 -- than both inputs have records; and no cycle takes more steps than the program's bound.
 pub record JobEndsWell (p : Object) (day : ℤ) (report : Report) (primary secondary : List ℕ) : Type 0 where
   pub course : Course
@@ -74,18 +74,18 @@ abbrev pub EachRunEndsWell : Object → Type 0
 EachRunEndsWell p = (date : List ℕ) (day : ℤ) (rs : Records) (course : Course) (bytes : Bytes) → IsProgram p → IsAccepted p → date_in date ≡ Some day
     → IsRun p day (first_fields p) rs course bytes → RunsWell p (records_count rs) course
 
--- The writer that failed has as many bytes of its output as the fault reports, and every other a first part.
+-- The writer that failed has as many bytes of its output as the fault reports, and every other one a prefix.
 abbrev pub HasParts : RunFault → (before after : Contents) → Bytes → Type 0
 HasParts (faults.Write failed sent) before after bytes = AppendsFirst (before failed) (after failed) sent (bytes_for failed bytes) × HaveParts before after bytes
 HasParts e before after bytes = HaveParts before after bytes
 
--- such parts of the bytes of the run over the inputs' records
+-- such prefixes of the bytes of the run over the inputs' records
 abbrev pub SendsFirstParts : Object → ℤ → RunFault → (before after : Contents) → (primary secondary : List ℕ) → Type 0
 SendsFirstParts p day e before after primary secondary =
     (course : Course) (bytes : Bytes) → IsRunOver p day primary secondary course bytes → HasParts e before after bytes
 
--- So many cycles of a run, after earlier records, went on one after another and put this out; Then holds of what they led to: the
--- earlier records, the records that are left, the configuration and the files.
+-- The given number of cycles of a run, after earlier records, went on one after another and output this; Then holds of what they led to:
+-- the earlier records, the remaining records, the configuration and the files.
 abbrev pub GoesOnFor : ℕ → Object → List Selected → Records → Config → Inputs → Output → (List Selected → Records → Config → Inputs → Type 0) → Type 0
 GoesOnFor zero p earlier rs c i out Then = (out ≡ no_output) × Then earlier rs c i
 GoesOnFor (suc n) p earlier rs c i out Then =
@@ -94,43 +94,43 @@ GoesOnFor (suc n) p earlier rs c i out Then =
     × (out ≡ with_more first more)
     × GoesOnFor n p (with_record d.selected earlier) (left_following p c i rs) d.config d.inputs more Then
 
--- so many cycles of the run over the inputs' records
+-- the given number of cycles of the run over the inputs' records
 abbrev pub WentOn : ℕ → Object → ℤ → (primary secondary : List ℕ) → Output → (List Selected → Records → Config → Inputs → Type 0) → Type 0
 WentOn cycles p day primary secondary out Then = GoesOnFor cycles p [] (records_of primary secondary) (job_start p day (first_fields p)) unread out Then
 
 -- ---- what the writers have
 
--- the bytes of what is put out
+-- the bytes of what is output
 abbrev pub bytes_of : Output → Bytes
 bytes_of out = record { print = paper out.lines; disk = disk_bytes out.records }
 
--- so many cycles of the run went on, and put these bytes out
+-- the given number of cycles of the run went on, and output these bytes
 abbrev pub IsPutOutBy : ℕ → Object → ℤ → (primary secondary : List ℕ) → Bytes → Type 0
 IsPutOutBy cycles p day primary secondary bytes = (out : Output) × WentOn cycles p day primary secondary out (λ earlier rs c i. Unit {0}) × (bytes ≡ bytes_of out)
 
--- these bytes had been put out by the end of a cycle that went on
+-- these bytes had been output by the end of a cycle that went on
 abbrev pub IsPutOut : Object → ℤ → (primary secondary : List ℕ) → Bytes → Type 0
 IsPutOut p day primary secondary bytes = (cycles : ℕ) × IsPutOutBy cycles p day primary secondary bytes
 
--- or by the end of the one that ended the job; where memory ran out, by the end of as many cycles as the fault reports
+-- or by the end of the one that ended the job; if memory ran out, by the end of as many cycles as the fault reports
 abbrev pub MayBePutOut : RunFault → Object → ℤ → (primary secondary : List ℕ) → Bytes → Type 0
 MayBePutOut (faults.NoMemory cycles) p day primary secondary bytes = IsPutOutBy cycles p day primary secondary bytes
 MayBePutOut e p day primary secondary bytes = IsPutOut p day primary secondary bytes ⊎ ((course : Course) × IsRunOver p day primary secondary course bytes)
 
--- what a file has of its bytes where a writer failed: all, if it was sent to before that one; so many, if it is that one; else a first part
+-- what a file has of its bytes if a writer failed: all if it was sent before that one, `sent` bytes if it is that one, otherwise a prefix
 abbrev pub HasUpTo : Ordering → (sent : ℕ) → (before after : Option (List ℕ)) → List ℕ → Type 0
 HasUpTo Less sent before after bytes = Appends before after bytes
 HasUpTo Equal sent before after bytes = AppendsFirst before after sent bytes × (sent < length bytes)
 HasUpTo Greater sent before after bytes = AppendsPrefix before after bytes
 
--- The files are sent these bytes one after another, up to the one whose writer failed. Where memory ran out each has them, unless a writer
--- failed over them.
+-- The files are sent these bytes in order, up to the one whose writer failed. If memory ran out each has them, unless a writer failed while
+-- sending them.
 abbrev pub HasSent : RunFault → (none_failed : Type 0) → (before after : Contents) → Bytes → Type 0
 HasSent (faults.Write failed sent) none_failed before after bytes = (file : OutputFile) → HasUpTo (order file failed) sent (before file) (after file) (bytes_for file bytes)
 HasSent (faults.NoMemory cycles) none_failed before after bytes = HaveParts before after bytes × (none_failed → HaveAll before after bytes)
 HasSent e none_failed before after bytes = Unit {0}
 
--- of the run over the inputs' records each writer has a first part, and so much of what had been put out by the end of a cycle
+-- of the run over the inputs' records each writer has a prefix, of what was output by the end of a cycle
 pub record StopsOver (p : Object) (day : ℤ) (e : RunFault) (none_failed : Type 0) (before after : Contents) (primary secondary : List ℕ) : Type 0 where
   pub parts : SendsFirstParts p day e before after primary secondary
   pub bytes : Bytes
@@ -139,7 +139,7 @@ pub record StopsOver (p : Object) (day : ℤ) (e : RunFault) (none_failed : Type
 
 -- ---- a reader that failed
 
--- a record that no program can take
+-- a record that no program accepts
 abbrev pub IsBad : Object → InputFile → Option (List ℕ) → Type 0
 IsBad p f None = ⊥
 IsBad p f (Some r) = is_good_record p f r ≡ false
@@ -153,21 +153,21 @@ abbrev pub records_of_file : InputFile → Records → List (List ℕ)
 records_of_file Primary rs = rs.primary
 records_of_file Secondary rs = rs.secondary
 
--- Of these records those are left, and the next hadn't been read: of what is left a part of a line was read, and no more; or it is one more
--- than an input may have.
+-- Of these records those are left, and the next one hadn't been read: only part of a line of what is left was read; or it is one more than
+-- an input may have.
 abbrev pub IsUnread : ReadFault → (all left : List (List ℕ)) → (part more : List ℕ) → Type 0
 IsUnread reading.Device all left part more = (is_line part ≡ true) × (left ≡ records (part ++ more))
 IsUnread reading.TooMany all left part more = (0 < length left) × (length all ≡ max_records + length left)
 
--- The next cycle needs a record of a file that hadn't been read. The primary's reader is read first: if it isn't the one that failed, what is
--- needed of its file is known, whatever follows.
+-- The next cycle needs a record of a file that hadn't been read. The primary's reader is read first: if it isn't the one that failed, the
+-- record needed from its file is known, whatever follows.
 pub record WaitsFor (p : Object) (file : InputFile) (fault : ReadFault) (all left : Records) (c : Config) (i : Inputs) (part more : List ℕ) (known : Option (List ℕ)) : Type 0 where
   pub needed : needs_record p c i file ≡ true
   pub unread : IsUnread fault (records_of_file file all) (records_of_file file left) part more
   pub first : file ≡ Secondary → needs_record p c i Primary ≡ true → AreSameOrBad p Primary known (first_if_any left.primary)
 
--- The job hadn't ended: of the run over the inputs' records so many cycles went on, each writer has just what they put out, and the next
--- waits for a record of the reader that failed. So each run over them has more cycles.
+-- The job hadn't ended: the given number of cycles of the run over the inputs' records went on, each writer has exactly what they output,
+-- and the next waits for a record of the reader that failed. So each run over them has more cycles.
 pub record NeedsRecord (p : Object) (day : ℤ) (file : InputFile) (fault : ReadFault) (before after : Contents) (a b : Front) : Type 0 where
   pub cycles : ℕ
   pub out : Output
@@ -178,7 +178,8 @@ pub record NeedsRecord (p : Object) (day : ℤ) (file : InputFile) (fault : Read
       (λ earlier rs c i. WaitsFor p file fault (records_of (a.read ++ more) (b.read ++ following)) rs c i part (bytes_of_input file more following) known)
   pub longer : OfEach a b (λ primary secondary. (course : Course) (bytes : Bytes) → IsRunOver p day primary secondary course bytes → cycles < course.cycles)
 
--- there is a run over the inputs' records, and each writer has such parts of its bytes; where a reader failed the job waited for its record
+-- there is a run over the inputs' records, and each writer has such prefixes of its bytes; if a reader failed, the job waited for its
+-- record
 pub record SendsParts (p : Object) (day : ℤ) (e : RunFault) (none_failed : Type 0) (before after : Contents) (a b : Front) : Type 0 where
   pub run : OfEach a b (λ primary secondary. HasRun p day (first_fields p) (records_of primary secondary))
   pub stops : OfEach a b (StopsOver p day e none_failed before after)

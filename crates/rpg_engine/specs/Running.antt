@@ -1,4 +1,4 @@
--- What a call promises that runs a job over its readers and its writers.
+-- What a call that runs a job over its readers and writers promises.
 use Rattle.std.specs.Prelude.{◌≡◌, ℕ, ℤ, List, None, Option, Some, Result, IfErr, IfOk}
 use Rattle.rpg_cycle.specs.Starting.{date_in}
 use Rattle.rpg_program.specs.Object.{Object}
@@ -16,7 +16,7 @@ module _ {R S P D : Type 0} (remaining : R → Option (List ℕ)) (others : S �
   abbrev pub ReportsRun : Object → ℤ → (old new : Readers R S) → (before after : Writers P D) → Report → Type 0
   ReportsRun p day old new before after report = OfReaders remaining others old new (OfWriters contents stored before after (Reports p day report))
 
-  -- Each writer has a first part of that run's output, and where a reader failed the job waited for its record.
+  -- Each writer has a prefix of that run's output, and if a reader failed, the job waited for its record.
   abbrev pub SendsPartsOfRun : Object → ℤ → (old new : Readers R S) → (before after : Writers P D) → RunFault → Type 0
   SendsPartsOfRun p day old new before after e = OfRead remaining others old new (OfWriters contents stored before after (SendsParts p day e (NoneFailed before after)))
 
@@ -26,14 +26,14 @@ module _ {R S P D : Type 0} (remaining : R → Option (List ℕ)) (others : S �
     pub headline : IfOk result (λ report. OfReaders remaining others old new (JobEndsWell p day report))
     -- The report and all output are those of the run over the inputs' records.
     pub report : IfOk result (ReportsRun p day old new before after)
-    -- Where it stops early each writer has a first part of the run's output, the printer before the disk file; where a reader failed the job
-    -- had sent all that was put out, and waited for a record of that reader's file; and where memory ran out each writer has the output of as
-    -- many cycles as the fault reports, unless one failed over that.
+    -- If it stops early, each writer has a prefix of the run's output, the printer's before the disk file's; if a reader failed, the job
+    -- had sent all its output, and waited for a record of that reader's file; and if memory ran out, each writer has the output of as many
+    -- cycles as the fault reports, unless one failed while it was sent.
     pub early : IfErr result (SendsPartsOfRun p day old new before after)
 
   -- what holds of the run of an accepted program on the day that a date spells
   pub record IsProgramRun (p : Object) (date : List ℕ) (old new : Readers R S) (before after : Writers P D) (result : Result Report RunFault) : Type 0 where
-    -- A date that is no date is reported. Then nothing is read and nothing written.
+    -- A bad date is reported. Then nothing is read or written.
     pub refused : IsToldOfDate result date
     pub untouched : date_in date ≡ None → (new ≡ old) × (after ≡ before)
     -- The secondary input is never read if the program has no such file.
@@ -42,7 +42,7 @@ module _ {R S P D : Type 0} (remaining : R → Option (List ℕ)) (others : S �
 
   -- what holds of the run of the program that an object's bytes spell
   pub record IsObjectRun (object date : List ℕ) (old new : Readers R S) (before after : Writers P D) (result : Result Report RunFault) : Type 0 where
-    -- First the object is judged, then its rules, then the date. Where they don't make a job nothing is read and nothing written.
+    -- First the object is checked, then its rules, then the date. If one of them is wrong, nothing is read or written.
     pub refused : IsToldOf result object date
     pub untouched : (MayRun object date → ⊥) → (new ≡ old) × (after ≡ before)
     -- The secondary input is never read if the program has no such file.

@@ -1,4 +1,4 @@
--- What is required of two readers for a cycle, and what becomes of its output.
+-- What a cycle requires of two readers, and what happens to its output.
 use Rattle.std.specs.Prelude.{◌≡◌, ℕ, ℤ, ◌-◌, ◌^◌, ◌<◌, ◌≤◌, Bool, true, false, List, [], ◌∷◌, Option, None, Some, Result, Ok, Err}
 use Rattle.rpg_cycle.specs.Job.{AtWork, Cycles, first_fields, job_needs_record, job_started}
 use Rattle.rpg_cycle.specs.Stages.{Ended, Going, Stage, job_end}
@@ -40,32 +40,32 @@ abbrev pub ended_stage : Option JobEnd → Stage
 ended_stage None = Going
 ended_stage (Some e) = Ended (job_end e)
 
--- the next cycle of a job takes a record in from these files
+-- the next cycle of a job reads a record from these files
 pub record IsNeedOf (need : Need) (job : AtWork) : Type 0 where
   pub primary : need.primary ≡ job_needs_record job Primary
   pub secondary : need.secondary ≡ job_needs_record job Secondary
 
--- the reader of a file that isn't over gave a record last
+-- the reader of a file that isn't over returned a record last
 abbrev pub StandsAfterRecord : {R : Type 0} → AtWork → InputFile → RecordReader R → Type 0
 StandsAfterRecord job f reader = (input_at job.inputs f).is_over ≡ false → is_record (answer_of reader) ≡ true
 
--- a reader can be asked for the record that the next cycle of a job needs of its file: it gave one last, and one more fault of it can be counted
+-- a reader can be asked for the record that a job's next cycle needs: it returned one last, and one more fault of it can be counted
 pub record CanBeAsked {R : Type 0} (job : AtWork) (f : InputFile) (reader : RecordReader R) : Type 0 where
   pub following : StandsAfterRecord job f reader
   pub faults : faults_of (reader_of reader) < 2 ^ 64 - 1
 
--- the record for a cycle, by what a reader returned: for a bad record, one that no program can take
+-- the record for a cycle, by what a reader returned: for a bad record, one that no program accepts
 abbrev pub record_with : {R : Type 0} → RecordReader R → Next → Option (List ℕ)
 record_with reader next.Record = Some (record_of reader)
 record_with reader next.Bad = Some (0 ∷ [])
 record_with reader next.End = None
 
--- a reader returned what comes next if that was needed, and else it wasn't read and there was nothing
+-- a reader returned its next record if that was needed; otherwise it wasn't read
 pub record Asks {R : Type 0} (remaining : R → Option (List ℕ)) (is_needed : Bool) (old : RecordReader R) (answer : Result Next ReadFault) (new : RecordReader R) : Type 0 where
   pub needed : is_needed ≡ true → ReadsNext remaining old answer new × (answer_of new ≡ answer)
   pub unneeded : is_needed ≡ false → (answer ≡ Ok next.End) × (new ≡ old)
 
--- a file can't fail where a record is read from it: none is needed, or it is certain what comes next
+-- a file can't fail if a record is needed from it, since the next record is certain
 abbrev pub IsSureWhereAsked : {R : Type 0} → Bool → RecordReader R → Type 0
 IsSureWhereAsked is_needed reader = is_needed ≡ true → is_sure reader ≡ true
 
@@ -84,7 +84,7 @@ pub record TakesCycle {R S : Type 0} (remaining : R → Option (List ℕ)) (othe
   pub asks_secondary : Asks others (job_needs_record job Secondary) secondary (Ok second) secondary'
   pub cycle : CyclesTo job (record_with primary' first) (record_with secondary' second) ended job'
 
--- a reader was read if that was needed, and it returned an answer
+-- a reader was read if needed, and returned an answer
 abbrev pub HasAnswered : {R : Type 0} → (R → Option (List ℕ)) → Bool → RecordReader R → RecordReader R → Type 0
 HasAnswered remaining is_needed old new = (answer : Next) × Asks remaining is_needed old (Ok answer) new
 
@@ -92,7 +92,7 @@ HasAnswered remaining is_needed old new = (answer : Next) × Asks remaining is_n
 abbrev pub FailsToRead : {R : Type 0} → (R → Option (List ℕ)) → Bool → ReadFault → RecordReader R → RecordReader R → Type 0
 FailsToRead remaining is_needed fault old new = (is_needed ≡ true) × ReadsNext remaining old (Err fault) new
 
--- no cycle was done: the primary's reader failed, or then the secondary's; or memory ran out after they were read
+-- no cycle was done: the primary's reader failed, or otherwise the secondary's; or memory ran out after they were read
 abbrev pub TakesNone : {R S : Type 0} → (R → Option (List ℕ)) → (S → Option (List ℕ)) → AtWork → RecordReader R → RecordReader S → CycleFault → RecordReader R → RecordReader S → Type 0
 TakesNone remaining others job primary secondary (stops.Read Primary fault) primary' secondary' =
     FailsToRead remaining (job_needs_record job Primary) fault primary primary' × (secondary' ≡ secondary)
@@ -103,19 +103,19 @@ TakesNone remaining others job primary secondary stops.NoMemory primary' seconda
 
 -- ---- where the run stops
 
--- a run stopped early: each writer has such parts of its output, and where a reader failed the job waited for its record
+-- a run stopped early: each writer has such prefixes of its output, and if a reader failed, the job waited for its record
 pub record StopsEarly (p : Object) (day : ℤ) (e : RunFault) (none_failed : Type 0) (before after : Contents) (a b : Front) : Type 0 where
   pub stops : OfEach a b (StopsOver p day e none_failed before after)
   pub needs : (file : InputFile) (fault : ReadFault) → e ≡ faults.Read file fault → NeedsRecord p day file fault before after a b
 
--- of a fault of a run that has begun
+-- a fault of a run that has begun
 abbrev pub IsRunFault : RunFault → Type 0
 IsRunFault (faults.Read file fault) = Unit {0}
 IsRunFault (faults.Write file sent) = Unit {0}
 IsRunFault (faults.NoMemory cycles) = Unit {0}
 IsRunFault e = ⊥
 
--- ---- the run of a job that hadn't begun, over readers of records
+-- ---- the run of a job that hadn't begun, over record readers
 
 module _ {R S P D : Type 0} (remaining : R → Option (List ℕ)) (others : S → Option (List ℕ)) (contents : P → Option (List ℕ)) (stored : D → Option (List ℕ)) where
   -- The report and all output are those of the run of a job that hadn't begun.

@@ -1,4 +1,4 @@
-//! The next cycle of a job, with what comes next in its files.
+//! The next cycle of a job, with the next records of its files.
 
 ghost use Rattle.std.specs.Prelude.{◌≡◌, ◌-◌, ◌^◌, ◌<◌, IfErr, IfOk, IsOk, Ok, true};
 ghost use Rattle.std.specs.Option.{option_map};
@@ -19,10 +19,10 @@ use rpg_program::input::InputFile;
 use rpg_store::Store;
 use std::io::Read;
 
-/// What a bad record is to a cycle: one that no program can take.
+/// Stands in for a bad record: no program accepts it.
 const BAD_RECORD: &[u8] = &[0];
 
-/// Does a cycle of a job that goes on, and returns how the job ended, if it did.
+/// Does a cycle of a job that goes on. Returns how the job ended, if it did.
 fn cycle_with<S: Store + Drop>(
     job: &mut Job<'_, S>,
     primary: Option<&[u8]>,
@@ -44,7 +44,7 @@ fn cycle_with<S: Store + Drop>(
     }
 }
 
-/// What comes next in a file, if it is needed; else nothing is read from it.
+/// Reads the next record of a file if it is needed; otherwise reads nothing.
 fn ask<R: Read>(records: &mut RecordReader<'_, R>, is_needed: bool) -> Result<Next, ReadFault>
     requires faults { faults_of (reader_of records.old) < 2 ^ 64 - 1 }
     requires stands_after_record { is_needed ≡ true → is_record (answer_of records.old) ≡ true }
@@ -59,7 +59,7 @@ fn ask<R: Read>(records: &mut RecordReader<'_, R>, is_needed: bool) -> Result<Ne
     }
 }
 
-/// The record for a cycle, where this comes next.
+/// Returns the record that a cycle is given, if any.
 fn record_for<'a, R>(records: &'a RecordReader<'_, R>, next: Next) -> Option<&'a [u8]>
     ensures { option_map (λ t. t.now) result ≡ record_with records.now next }
 {
@@ -70,15 +70,15 @@ fn record_for<'a, R>(records: &'a RecordReader<'_, R>, next: Next) -> Option<&'a
     }
 }
 
-/// Whether a reader has given a record: then it is known to have only characters.
+/// Whether the reader returned a record, which then has only characters.
 fn is_given(next: Next) -> bool
     ensures { result ≡ is_record (Ok next) }
 {
     matches!(next, Next::Record)
 }
 
-/// Does the next cycle, and returns how the job ended, if it did. A record is read of each file that the cycle needs one from, of the
-/// primary's reader first.
+/// Does the next cycle. Returns how the job ended, if it did. Reads a record from each file that the cycle needs one from, the primary file
+/// first.
 pub(crate) fn next_cycle<S: Store + Drop, R1: Read, R2: Read>(
     job: &mut Job<'_, S>,
     need: Need,

@@ -25,7 +25,7 @@ use rpg_verify::Verified;
 use std::alloc::Global;
 use std::io::{Read, Write};
 
-/// An accepted program has a run over any records of both files, on any date, from its first values; and each such run ends well. It does
+/// An accepted program has a run over any records of both files, on any date, from its first values, and each such run ends well. Does
 /// nothing: it is called only for its contract.
 fn runs_end_well()
     ensures exists { (p : Object) → HasRunOnAnyDay p }
@@ -35,7 +35,7 @@ fn runs_end_well()
     runs_keep();
 }
 
-/// A job at its start, over the store that lists its values.
+/// Returns a job at its start, over the store that lists its values.
 fn first_job<'a>(
     alloc: Global,
     program: &'a Verified,
@@ -85,12 +85,11 @@ fn run_through_files<R1: Read, R2: Read, W1: Write, W2: Write, W: Watcher>(
     report
 }
 
-/// Runs an accepted program over the records of both inputs, on a date of six digits, and sends what it prints and what it writes to the
-/// disk file. A watcher looks at the job between its cycles; whatever it does, the run is the same.
-///
-/// The date is read before anything else is. Then a record is read of each file that the cycle needs one from, of the primary first, and
-/// its output waits until there are 32 KiB for a writer, or for no cycle if the watcher looks at each. All waiting output is sent before a
-/// call of a reader, when memory runs out, and at the end, the printer's first. Memory use doesn't grow with the number of records.
+/// Runs an accepted program over the records of both inputs, on a date of six digits, and sends its printed lines and disk records to the
+/// writers. A watcher looks at the job between cycles and can't change the run. The date is checked first. Then each cycle reads the
+/// records that it needs, from the primary file first. Output is buffered until a file has 32 KiB of it, or sent after each cycle if the
+/// watcher looks at each. All buffered output is sent before a call of a reader, when memory runs out, and at the end, the printer's first.
+/// Memory use doesn't grow with the number of records.
 pub fn watch_program<R1: Read, R2: Read, W1: Write, W2: Write, W: Watcher>(
     alloc: Global,
     program: &Verified,
@@ -114,7 +113,7 @@ pub fn watch_program<R1: Read, R2: Read, W1: Write, W2: Write, W: Watcher>(
     )
 }
 
-/// Runs an accepted program as `watch_program` does, with nothing that watches it.
+/// Runs an accepted program as `watch_program` does, without a watcher.
 pub fn execute_program<R1: Read, R2: Read, W1: Write, W2: Write>(
     alloc: Global,
     program: &Verified,
@@ -130,7 +129,7 @@ pub fn execute_program<R1: Read, R2: Read, W1: Write, W2: Write>(
     watch_program(alloc, program, date, readers, writers, &mut watcher)
 }
 
-/// Decodes and verifies an object program, and runs it as `execute_program` does. The date is read after that, before anything of an input.
+/// Decodes and verifies an object program, then runs it as `execute_program` does. The date is checked next, before any input is read.
 pub fn execute<R1: Read, R2: Read, W1: Write, W2: Write>(
     alloc: Global,
     object: &[u8],

@@ -1,4 +1,4 @@
-//! Why a run gave no report.
+//! Why a run produced no report.
 
 ghost use Rattle.std.specs.Prelude.{◌≡◌};
 ghost use Rattle.rpg_engine.specs.declared.fault.RunFault.TheVariants as faults;
@@ -10,7 +10,7 @@ use rpg_files::ReadFault;
 use rpg_program::input::InputFile;
 use std::alloc::AllocError;
 
-/// Why a run gave no report.
+/// Why a run produced no report.
 #[derive(Clone, Copy)]
 pub enum RunFault {
     /// The bytes aren't those of an accepted program.
@@ -21,7 +21,7 @@ pub enum RunFault {
     Read { file: InputFile, fault: ReadFault },
     /// The writer of a file failed after this many bytes were written to it.
     Write { file: OutputFile, sent: u128 },
-    /// Memory ran out after so many cycles had finished. Their output was sent, unless a writer failed over it.
+    /// Memory ran out after this many complete cycles. Their output was sent, unless a writer failed while sending it.
     NoMemory { cycles: u64 },
 }
 
@@ -46,7 +46,7 @@ impl From<StartFault> for RunFault {
     }
 }
 
-/// Why a cycle wasn't done: what `?` hands up from it, small, so that a cycle that goes well carries no count of what was sent.
+/// Why a cycle failed, for `?`. It is small: a cycle that succeeds carries no count of bytes sent.
 #[derive(Clone, Copy)]
 pub(crate) enum CycleFault {
     Read { file: InputFile, fault: ReadFault },

@@ -1,11 +1,11 @@
-//! The files of a job: those that it reads, and those that it writes.
+//! The files that a job reads and writes.
 
 ghost use Rattle.std.specs.Prelude.{◌≡◌};
 ghost use Rattle.rpg_files.specs.Counting.{device_of, faults_of};
 
 use rpg_files::Counted;
 
-/// The inputs of a job. Nothing is read of the secondary one if the program has no secondary file.
+/// The inputs of a job. The secondary one isn't read if the program has no secondary file.
 #[derive(Drop)]
 pub struct Readers<R1, R2> {
     pub primary: Counted<R1>,
@@ -13,7 +13,7 @@ pub struct Readers<R1, R2> {
 }
 
 impl<R1, R2> Readers<R1, R2> {
-    /// Readers of which no call has failed yet.
+    /// Returns readers that haven't failed yet.
     pub fn new(primary: R1, secondary: R2) -> Readers<R1, R2>
         ensures primary { device_of result.primary ≡ primary }
         ensures secondary { device_of result.secondary ≡ secondary }
@@ -27,14 +27,14 @@ impl<R1, R2> Readers<R1, R2> {
     }
 }
 
-/// A file that a run writes to: the printed lines, or the records of the disk file.
+/// A file that a run writes: the printed lines, or the records of the disk file.
 #[derive(Clone, Copy, PartialEq, Eq)]
 pub enum OutputFile {
     Print,
     Disk,
 }
 
-/// What a job writes: the lines that it prints, and the records of its disk file.
+/// What a job writes: printed lines, and the records of its disk file.
 #[derive(Drop)]
 pub struct Writers<W1, W2> {
     pub printer: Counted<W1>,
@@ -42,7 +42,7 @@ pub struct Writers<W1, W2> {
 }
 
 impl<W1, W2> Writers<W1, W2> {
-    /// Writers of which no call has failed yet.
+    /// Returns writers that haven't failed yet.
     pub fn new(printer: W1, disk: W2) -> Writers<W1, W2>
         ensures printer { device_of result.printer ≡ printer }
         ensures disk { device_of result.disk ≡ disk }

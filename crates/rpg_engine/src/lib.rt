@@ -1,5 +1,5 @@
-//! The engine: from object bytes to the verifier's result, and from these and input bytes to the report and the output bytes,
-//! a record at a time.
+//! The engine: verifies the bytes of an object program, and runs it over input bytes to a report and output bytes, a record
+//! at a time.
 #![tactic(auto)]
 
 mod cycle;

@@ -1,4 +1,4 @@
-//! The bytes of an object program, and the verifier's result for it.
+//! Decodes and verifies the bytes of an object program.
 
 ghost use Rattle.std.specs.Prelude.{◌≡◌, nat_lt, IfErr, IfOk};
 ghost use Rattle.rpg_program.specs.Object.{Object};
@@ -13,9 +13,10 @@ use std::alloc::Global;
 /// Why bytes aren't those of an accepted program.
 #[derive(Clone, Copy)]
 pub enum ObjectFault {
-    /// They spell no program: where their first fault is, counted from 0, and its code.
+    /// They encode no program: the offset of the first fault, counted from 0, and its code.
     NotAnObject { offset: usize, code: Code },
-    /// The program breaks a rule: the least that a row breaks, and its first such row, counted from 0 in the rule's table.
+    /// The program breaks a rule: the lowest-numbered one that a row breaks, and its first such row, counted from 0 in the
+    /// rule's table.
     Refused(BrokenRule),
     NoMemory,
 }
@@ -46,7 +47,7 @@ impl From<VerifyFault> for ObjectFault {
     }
 }
 
-/// The program that the bytes spell, whether it keeps the rules or not.
+/// Decodes a program, whether or not it obeys the rules.
 pub fn decode_object(alloc: Global, bytes: &[u8]) -> Result<Program, ObjectFault>
     ensures spelled { IfOk result (λ p. SpellsProgram bytes.now p) }
     ensures only { IfOk result (λ p. (q : Object) → SpellsProgram bytes.now q → p ≡ q) }
@@ -55,7 +56,7 @@ pub fn decode_object(alloc: Global, bytes: &[u8]) -> Result<Program, ObjectFault
     Ok(decode(alloc, bytes)?)
 }
 
-/// The program, if it keeps all rules.
+/// Returns the program if it obeys all rules.
 pub fn accept(alloc: Global, program: Program) -> Result<Verified, ObjectFault>
     ensures same { IfOk result (λ v. v ≡ program) }
     ensures accepted { IfOk result (λ v. IsAccepted v) }
@@ -67,7 +68,7 @@ pub fn accept(alloc: Global, program: Program) -> Result<Verified, ObjectFault>
     }
 }
 
-/// The program that the bytes spell, if it keeps all rules.
+/// Decodes the program, and returns it if it obeys all rules.
 pub(crate) fn accepted_object(alloc: Global, bytes: &[u8]) -> Result<Verified, ObjectFault>
     ensures spelled { IfOk result (λ v. SpellsProgram bytes.now v) }
     ensures only { IfOk result (λ v. (p : Object) → SpellsProgram bytes.now p → v ≡ p) }
@@ -78,7 +79,7 @@ pub(crate) fn accepted_object(alloc: Global, bytes: &[u8]) -> Result<Verified, O
     accept(alloc, program)
 }
 
-/// The bound of the program that the bytes spell, where it keeps all rules: the most steps that a cycle of it can take.
+/// Decodes and verifies the program. Returns its bound: the most steps that one of its cycles can take.
 pub fn verify_bytes(alloc: Global, bytes: &[u8]) -> Result<u64, ObjectFault>
     ensures accepted { IfOk result (λ bound. IsAcceptedWith bound bytes.now) }
     ensures refused { IfErr result (λ fault. HasObjectFault fault bytes.now) }

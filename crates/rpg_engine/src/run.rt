@@ -1,4 +1,4 @@
-//! A whole run, a cycle at a time.
+//! A whole run, cycle by cycle.
 
 ghost use Rattle.std.specs.Prelude.{◌≡◌, IfErr, IfOk};
 ghost use Rattle.rpg_verify.specs.Bound as words;
@@ -18,8 +18,8 @@ use rpg_files::RecordReader;
 use rpg_store::Store;
 use std::io::{Read, Write};
 
-/// Does the cycles of a job that hasn't begun, up to the one that ends it, and sends their output: where there are 32 KiB, before a
-/// device is read, and at the end. A watcher that looks at each cycle does so before its output is sent, which doesn't wait then.
+/// Runs a job from its first cycle to the one that ends it. Sends its output when 32 KiB are buffered, before a device is read, and
+/// at the end. A watcher that looks at each cycle does so before that cycle's output is sent, with no buffering.
 pub(crate) fn run<S: Store + Drop, R1: Read, R2: Read, W1: Write, W2: Write, W: Watcher>(
     job: &mut Job<'_, S>,
     primary: &mut RecordReader<'_, R1>,

@@ -1,4 +1,4 @@
-//! What a run puts out, on its way to the writers. It waits in the job, so that a writer is called once for many cycles.
+//! A run's output on its way to the writers. It is buffered in the job, so that a writer is called once for many cycles.
 
 ghost use Rattle.std.specs.Prelude.{◌≡◌, ◌-◌, ◌^◌, ◌<◌, ◌≤◌, ◌⊎◌, length, take, true, is_some, OnOk};
 ghost use Rattle.rpg_machine.specs.Running.{no_bytes};
@@ -15,11 +15,11 @@ use rpg_files::{Counted, RecordReader, send};
 use rpg_store::Store;
 use std::io::{Read, Write};
 
-/// How many bytes of a file wait before they are sent, if no watcher looks at each cycle.
+/// How many bytes of a file are buffered before they are sent, if no watcher looks at each cycle.
 const ENOUGH: usize = 32_768;
 
-/// How many bytes of a file wait before the watcher looks at the job and they are sent. It is found once, so that a run without a watcher
-/// takes no step more for it.
+/// How many bytes of a file are buffered before the watcher looks at the job and they are sent. Computed once, so that a run without a
+/// watcher pays nothing for it.
 pub(crate) fn enough_for<W: Watcher>(watcher: &W) -> usize {
     if watcher.looks() { 0 } else { ENOUGH }
 }
@@ -31,14 +31,14 @@ pub(crate) struct Sent {
     pub disk: u128,
 }
 
-/// How many bytes of each file wait.
+/// How many bytes of each file are buffered.
 #[derive(Clone, Copy)]
 pub(crate) struct Waiting {
     pub print: usize,
     pub disk: usize,
 }
 
-/// How many bytes of each file wait in an output.
+/// Returns how many bytes of each file an output buffers.
 #[inline(always)]
 pub(crate) fn waiting_in(output: &Output) -> Waiting
     ensures print { result.print ≡ length output.now.print.items }
@@ -50,7 +50,7 @@ pub(crate) fn waiting_in(output: &Output) -> Waiting
     }
 }
 
-/// Sends bytes to a file, and counts them.
+/// Sends bytes to a file and counts them.
 fn send_to<W: Write>(
     file: OutputFile,
     writer: &mut Counted<W>,
@@ -69,7 +69,7 @@ fn send_to<W: Write>(
     Ok(())
 }
 
-/// Sends bytes to the printer, and then bytes to the disk file.
+/// Sends bytes to the printer, then bytes to the disk file.
 fn send_both<W1: Write, W2: Write>(
     writers: &mut Writers<W1, W2>,
     lines: &[u8],
@@ -84,7 +84,7 @@ fn send_both<W1: Write, W2: Write>(
     send_to(OutputFile::Disk, disk, records, &mut sent.disk)
 }
 
-/// Sends all that waits at a job.
+/// Sends all of a job's buffered output.
 #[inline(never)]
 fn send_waiting<S: Store + Drop, W1: Write, W2: Write>(
     job: &mut Job<'_, S>,
@@ -101,7 +101,7 @@ fn send_waiting<S: Store + Drop, W1: Write, W2: Write>(
     Ok(())
 }
 
-/// Whether no fault of a file can come in the next cycle: no record is needed of it, or what its reader has suffices.
+/// Whether reading a file can't fail in the next cycle: no record of it is needed, or its reader's buffer suffices.
 #[inline(always)]
 fn is_sure<R: Read>(records: &RecordReader<'_, R>, is_needed: bool) -> bool
     ensures { result ≡ true → IsSureWhereAsked is_needed records.now }
@@ -109,8 +109,8 @@ fn is_sure<R: Read>(records: &RecordReader<'_, R>, is_needed: bool) -> bool
     !is_needed || records.is_sure()
 }
 
-/// Sends what waits if a reader may fail in the next cycle. So all earlier output is sent before the reader's fault is reported, and
-/// no other device can fail after it.
+/// Sends the buffered output if a reader may fail in the next cycle. So all earlier output is sent before that fault is reported, and no
+/// other device can fail after it.
 #[inline(always)]
 pub(crate) fn send_before_reading<S: Store + Drop, R1: Read, R2: Read, W1: Write, W2: Write>(
     job: &mut Job<'_, S>,
@@ -130,7 +130,7 @@ pub(crate) fn send_before_reading<S: Store + Drop, R1: Read, R2: Read, W1: Write
     send_waiting(job, writers, sent)
 }
 
-/// Has the watcher look at a job after a cycle, and sends all that waits there.
+/// Shows the job to the watcher after a cycle, then sends all buffered output.
 #[inline(never)]
 fn look_and_send<S: Store + Drop, W1: Write, W2: Write, W: Watcher>(
     job: &mut Job<'_, S>,
@@ -147,7 +147,7 @@ fn look_and_send<S: Store + Drop, W1: Write, W2: Write, W: Watcher>(
     send_waiting(job, writers, sent)
 }
 
-/// Has the watcher look at a job after a cycle and sends what waits there, once there is enough of it, or after the last cycle.
+/// Shows the job to the watcher and sends the buffered output, if there is enough of it or the cycle was the last.
 #[inline(always)]
 pub(crate) fn send_where_enough<S: Store + Drop, W1: Write, W2: Write, W: Watcher>(
     job: &mut Job<'_, S>,
@@ -168,7 +168,7 @@ pub(crate) fn send_where_enough<S: Store + Drop, W1: Write, W2: Write, W: Watche
     look_and_send(job, ended, watcher, writers, sent)
 }
 
-/// Sends bytes to the printer, and then bytes to the disk file, unless the printer fails. Failures are ignored.
+/// Sends bytes to the printer, then, unless the printer fails, bytes to the disk file. Failures are ignored.
 fn send_or_leave<W1: Write, W2: Write>(
     writers: &mut Writers<W1, W2>,
     lines: &[u8],
@@ -181,8 +181,8 @@ fn send_or_leave<W1: Write, W2: Write>(
     let _told = send_both(writers, lines, records, &mut sent);
 }
 
-/// The fault to report where a cycle wasn't done after so many that were. Where memory ran out, what waited before that cycle is still
-/// sent, and a writer that fails then isn't reported: memory ran out first. Where a reader failed, nothing was left waiting.
+/// Returns the fault to report after `cycles` complete cycles. If memory ran out, what was buffered before that cycle is still sent, and a
+/// writer that fails then isn't reported: memory ran out first. If a reader failed, nothing was buffered.
 #[inline(never)]
 pub(crate) fn fault_after<W1: Write, W2: Write>(
     fault: CycleFault,

@@ -1,21 +1,21 @@
-//! What looks at a job between its cycles.
+//! Watchers, which look at a job between its cycles.
 
 use rpg_cycle::{Job, JobEnd};
 use rpg_store::Store;
 
 /// Looks at a job between its cycles. It only reads the job, so the run is the same whatever it does.
 pub trait Watcher {
-    /// Whether it looks at the job after each cycle. Then each cycle's output is sent before the next one, else it waits.
+    /// Whether it looks at the job after each cycle. If so, output isn't buffered from one cycle to the next.
     fn looks(&self) -> bool;
 
     /// Looks at a job before its first cycle.
     fn begin<S: Store + Drop>(&mut self, job: &Job<'_, S>);
 
-    /// Looks at a job after a cycle, before its output is sent. `ended` says how the job ended, if it did.
+    /// Looks at a job after a cycle, before its output is sent. `ended` is how the job ended, if it did.
     fn look<S: Store + Drop>(&mut self, job: &Job<'_, S>, ended: Option<JobEnd>);
 }
 
-/// Looks at nothing.
+/// A watcher that looks at nothing.
 #[derive(Clone, Copy)]
 pub struct Unwatched;
 

@@ -19,6 +19,6 @@ numbered_specs specs = numbered_cards 1 specs
 abbrev pub unreadable_told : UnreadableCard → CardFault
 unreadable_told u = record { card = u.card; code = codes.Sheet u.code; columns = u.columns }
 
--- all cards that can't be read; where there is none, all faults of the cards
+-- all cards that can't be read; if there is none, all faults of the cards
 abbrev pub AreSourceFaults : List ℕ → List CardFault → Type 0
 AreSourceFaults text told = MatchOption (first_sheet_fault (source text)) (AreFaultsOf (cards_in text) told) (λ fault. told ≡ map unreadable_told (unreadable_cards (source text)))

@@ -35,7 +35,7 @@ pub record IsLeastFault (cards : List SpecCard) (f : Fault) : Type 0 where
 abbrev pub codes : List FaultCode
 codes = F1 ∷ F2 ∷ F3 ∷ F4 ∷ F5 ∷ F6 ∷ F7 ∷ F8 ∷ F9 ∷ F10 ∷ F11 ∷ F12 ∷ F13 ∷ F14 ∷ F15 ∷ F16 ∷ F17 ∷ F18 ∷ []
 
--- ---- how it is found: on the first card that breaks a rule, the least code; before all cards what the source as a whole breaks
+-- ---- how it is found: on the first card that breaks a rule, the lowest code; before all cards what the source as a whole breaks
 
 -- a fault of a card
 abbrev pub fault_on : SpecCard → FaultCode → Fault

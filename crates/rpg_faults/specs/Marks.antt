@@ -1,4 +1,4 @@
--- Which columns of a card a fault speaks of: none where the card as a whole is meant.
+-- Which columns of a card a fault speaks of: none if the card as a whole is meant.
 use Rattle.std.specs.Prelude.{◌≡◌, ℕ, ◌==◌, List, ◌∷◌, ◌++◌, Option, None, Some, if◌then◌else◌}
 use Rattle.std.specs.Option.{option_map, option_map_or, option_or}
 use Rattle.rpg_cards.specs.Cards.{extension_on, input_on, output_field_on}
@@ -80,7 +80,7 @@ order_columns c = option_or (flow.calculation_order_columns c) (limits.stray_col
 
 -- ---- each code
 
--- the columns of a card that break the rule of a code; none where the whole card does
+-- the columns of a card that break the rule of a code; none if the whole card does
 unfoldable pub fault_range : FaultCode → List SpecCard → SpecCard → List SpecCard → Option ColumnRange
 fault_range F1 before c after = Some (operands.unknown_name (before ++ c ∷ after) c after)
 fault_range F2 before c after = limits.redefined_columns before c

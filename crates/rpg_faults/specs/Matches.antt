@@ -48,7 +48,7 @@ abbrev pub AreWith : List InputFieldSpec → InputFieldSpec → Option (List ℕ
 AreWith fs f (Some lengths) = AreGood (fs ++ f ∷ []) (Some lengths)
 AreWith fs f None = (rest : List InputFieldSpec) → good_matches (fs ++ f ∷ rest) ≡ None
 
--- the lengths of match fields, with one more field of that level and so many columns
+-- the lengths of match fields, with one more field of that level and this many columns
 abbrev pub AddsMatch : ℕ → ℕ → Option (List ℕ) → Option (List ℕ) → Type 0
 AddsMatch level columns old new = (fs : List InputFieldSpec) (f : InputFieldSpec) → AreGood fs old → f.match_level ≡ Some level → columns ≡ input_columns f → AreWith fs f new
 

@@ -34,7 +34,7 @@ is_code_outside file code = option_map_or (λ (c : RecordCode). c.position == 0 
 abbrev pub bad_codes : Option FileSpec → Three (Option RecordCode) → Bool
 bad_codes file codes = is_code_outside file codes.first || (is_code_outside file codes.second || is_code_outside file codes.third)
 
--- columns from 0, to 0, turned round, or past the record
+-- columns from 0, to 0, reversed, or past the record
 abbrev pub outside_record : Option FileSpec → InputFieldSpec → Bool
 outside_record file f = f.from == 0 || (f.to == 0 || (nat_lt f.to f.from || is_past file f.to))
 
@@ -54,7 +54,7 @@ outside_line cards file f = f.end == 0 || (is_past file f.end || is_wider cards 
 
 -- ---- control fields: those of one level and one type are joined
 
--- 0 where the columns are 0 or turned round
+-- 0 if the columns are 0 or reversed
 abbrev pub input_columns : InputFieldSpec → ℕ
 input_columns f = if f.from == 0 then 0 else f.to + 1 - f.from
 
@@ -74,7 +74,7 @@ joined_length level specs = sum_by input_columns (level_fields level specs)
 abbrev pub has_bad : List InputFieldSpec → Bool
 has_bad fs = list_any (λ f. input_columns f == 0) fs
 
--- that of a type that has the level, where all its columns are good
+-- that of a type that has the level, if all its columns are good
 abbrev pub good_length : List InputFieldSpec → Option ℕ
 good_length [] = None
 good_length (f ∷ fs) = if has_bad (f ∷ fs) then None else Some (sum_by input_columns (f ∷ fs))
@@ -134,7 +134,7 @@ abbrev pub has_twice : List InputFieldSpec → Bool
 has_twice [] = false
 has_twice (f ∷ fs) = repeats fs f || has_twice fs
 
--- the lengths of a type that has match fields, where no level stands twice and all columns are good
+-- the lengths of a type that has match fields, if no level stands twice and all columns are good
 abbrev pub good_matches : List InputFieldSpec → Option (List ℕ)
 good_matches [] = None
 good_matches (f ∷ fs) = if has_bad (f ∷ fs) || has_twice (f ∷ fs) then None else Some (match_lengths (f ∷ fs))

@@ -30,7 +30,7 @@ abbrev pub of_sheet : SheetFault → SourceFault
 of_sheet (sheet.At card code columns) = At card (Sheet code) columns
 of_sheet sheet.NoMemory = NoMemory
 
--- what a refusal says: the least fault of the sheets, where there is none the least of the others, and nothing where memory was wanted
+-- what a refusal says: the first fault of the sheets, if there is none the least of the others, and nothing if memory was wanted
 abbrev pub IsSourceRefusal : SourceFault → List ℕ → Type 0
 IsSourceRefusal (At card (Sheet code) columns) text = first_sheet_fault (source text) ≡ Some (sheet.At card code columns)
 IsSourceRefusal (At card (Fault code) columns) text = (first_sheet_fault (source text) ≡ None) × IsLeastFault (cards_in text) (record { card = card; code = code }) × (columns ≡ None)

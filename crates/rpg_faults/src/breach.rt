@@ -11,8 +11,8 @@ use crate::seen::Seen;
 use rpg_cards::SpecCard;
 use rpg_faults_tree::AnalyzedCards;
 
-/// Whether a card breaks the rule of a code. Each card is asked for each code, so it is compiled in place. Where its operands are known to
-/// be good, the rules on them aren't asked.
+/// Whether a card breaks the rule of a code. Inlined, since each card is tested for each code. If its operands are known to be good, the
+/// rules on them aren't tested.
 #[inline(always)]
 #[tactic(auto, unfolding(crate::specs::Rules::rule))]
 pub(crate) fn breaks(

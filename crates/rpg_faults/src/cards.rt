@@ -1,4 +1,4 @@
-//! The cards of a source that are on a sheet.
+//! The cards of a source that belong to a sheet.
 
 ghost use Rattle.std.specs.Prelude.{◌≡◌, ◌≤◌, length, vec_len, IfOk};
 ghost use Rattle.rpg_cards.specs.Cards.{Numbered};
@@ -10,7 +10,7 @@ use rpg_cards::SpecCard;
 use rpg_sheet::{Cards, Spec};
 use std::alloc::{AllocError, Global};
 
-/// The cards of a source that are on a sheet: at most 2,000, numbered, and in the order of the sheets.
+/// The cards of a source that belong to a sheet: at most 2,000, numbered, and in the order of the sheets.
 #[derive(Drop)]
 pub(crate) struct OrderedCards {
     pub cards: Vec<SpecCard>,
@@ -19,7 +19,7 @@ pub(crate) struct OrderedCards {
     pub ghost few: { length cards.items ≤ 2000 },
 }
 
-/// Gives each card that is on a sheet its number. An error is for want of memory.
+/// Numbers each card that belongs to a sheet. Fails only if memory runs out.
 #[tactic(auto, using(crate::proofs::Numbering::numbers_go_up, crate::proofs::Numbering::no_more_than_cards))]
 pub(crate) fn spec_cards(alloc: Global, cards: Cards) -> Result<OrderedCards, AllocError>
     requires { IsInOrder 0 (specs_of.numbered_cards 1 cards) }

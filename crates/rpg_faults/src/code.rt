@@ -1,25 +1,25 @@
-//! The codes of what a card breaks.
+//! The codes of the rules that a card can break.
 
 ghost use Rattle.std.specs.Prelude.{◌≡◌, ◌≤◌, length};
 ghost use Rattle.rpg_faults.specs.Codes as codes;
 ghost use Rattle.rpg_faults.specs.Faults as faults;
 
-/// A rule that a card breaks. Of two codes the one with the lower number is the lesser.
+/// A rule that a card breaks. Codes are ordered by number.
 #[derive(Clone, Copy)]
 pub enum FaultCode {
     /// A name isn't defined.
     F1 = 1,
     /// A name is defined again in another form.
     F2 = 2,
-    /// A length or decimals are past their limit, or decimals have no length.
+    /// A length or decimals are over their limit, or decimals have no length.
     F3 = 3,
     /// An operand is of the wrong kind, a result can't be written, or LOKUP's result has too few entries.
     F4 = 4,
-    /// An index is missing, not allowed, out of range, or no plain whole number that is long enough.
+    /// An index is missing, not allowed, out of range, or isn't a plain whole number that is long enough.
     F5 = 5,
     /// A limit is passed.
     F6 = 6,
-    /// A file is unknown, given twice, of the wrong use or length, or there is no input file.
+    /// A file is unknown, described twice, of the wrong use or length, or there is no input file.
     F7 = 7,
     /// An indicator isn't allowed.
     F8 = 8,
@@ -27,7 +27,7 @@ pub enum FaultCode {
     F9 = 9,
     /// A label or a subroutine is missing.
     F10 = 10,
-    /// A label's or a subroutine's name is given twice, or is a field's too.
+    /// The name of a label or a subroutine is defined twice, or is also a field's.
     F11 = 11,
     /// Sections are out of order, BEGSR and ENDSR aren't paired, or a card needs one before it.
     F12 = 12,
@@ -37,7 +37,8 @@ pub enum FaultCode {
     F14 = 14,
     /// H isn't allowed, or MVR doesn't follow a division without H.
     F15 = 15,
-    /// A column is outside the record or the line, a field is wider than its end, or control or match fields don't agree.
+    /// A column is outside the record or the line, a field is too wide for its end position, or control or match fields don't
+    /// agree.
     F16 = 16,
     /// An edit code or an edit word doesn't fit.
     F17 = 17,
@@ -46,7 +47,7 @@ pub enum FaultCode {
 }
 
 impl FaultCode {
-    /// All codes, the least first.
+    /// Returns all codes in numeric order.
     pub fn all() -> [FaultCode; 18]
         ensures { result ≡ faults.codes }
     {
@@ -78,7 +79,7 @@ impl FaultCode {
         self as u8
     }
 
-    /// The letter F and the number.
+    /// Returns the letter F and the number.
     pub const fn text(self) -> &'static str
         ensures value { result.now ≡ codes.fault_code_text self }
         ensures len { length result.now ≤ 4 }
@@ -105,7 +106,7 @@ impl FaultCode {
         }
     }
 
-    /// The rule that is broken, as a person reads it.
+    /// Returns the rule that is broken, in words.
     pub const fn sentence(self) -> &'static str {
         match self {
             FaultCode::F1 => "a name is used that no card defines",

@@ -12,7 +12,7 @@ use rpg_cards::{GroupFile, IndexedCards, Sheets, SpecCard};
 use rpg_faults_operands::width;
 use rpg_sheet_specs::{InputFieldSpec, InputSpec, OutputField, RecordCode, Three};
 
-/// Whether columns lie outside the record or the line, a field is wider than its end, or control fields or match fields don't agree.
+/// Whether columns lie outside the record or the line, a field is too wide for its end position, or control or match fields don't agree.
 pub fn misplaces(
     source: &IndexedCards,
     sheets: &Sheets,
@@ -38,7 +38,7 @@ pub fn misplaces(
     }
 }
 
-/// The record length of the file of an I card: that of the open type, or the one that a type card names.
+/// Returns the record length of an I card's file: that of the open type, or of the file that a type card names.
 pub(crate) fn own_length(
     source: &IndexedCards,
     file: Option<GroupFile>,
@@ -103,7 +103,7 @@ fn outside_line(source: &IndexedCards, length: Option<u16>, field: &OutputField)
     field.end == 0 || is_past(length, field.end) || is_wider(source, field)
 }
 
-/// Nothing is held against the length of a file that is unknown.
+/// Whether a column is after the length; not if the file is unknown.
 fn is_past(length: Option<u16>, column: u16) -> bool
     ensures { (file : Option FileSpec) → length ≡ option_map (λ f. f.record_length) file → result ≡ rules.is_past file column }
 {
@@ -113,7 +113,7 @@ fn is_past(length: Option<u16>, column: u16) -> bool
     }
 }
 
-/// Whether a field takes more columns than there are up to its end.
+/// Whether a field is wider than its end position allows.
 fn is_wider(source: &IndexedCards, field: &OutputField) -> bool
     ensures { result ≡ rules.is_wider source.now field.now }
 {

@@ -16,8 +16,8 @@ use rpg_faults_operands::has_good_operands;
 use rpg_faults_tree::AnalyzedCards;
 use std::alloc::{AllocError, Global};
 
-/// All faults by card, then by code, each with the columns that it speaks of, found in one pass over the cards. There are none exactly where
-/// `first_fault` finds none. An error is for want of memory.
+/// Returns all faults by card, then by code, each with its columns, in one pass over the cards. There are none exactly if `first_fault`
+/// finds none. Fails only if memory runs out.
 pub(crate) fn all_faults(alloc: Global, cards: &OrderedCards) -> Result<Vec<CardFault>, AllocError>
     ensures { IfOk result (λ faults. told.AreFaultsOf cards.now.cards.items faults.items) }
 {
@@ -34,7 +34,7 @@ fn faults_in(alloc: Global, source: &AnalyzedCards) -> Result<Vec<CardFault>, Al
     Ok(faults)
 }
 
-/// What the source as a whole breaks.
+/// Returns the faults of the source as a whole.
 fn faults_of_whole(alloc: Global, source: &IndexedCards) -> Result<Vec<CardFault>, AllocError>
     ensures { IfOk result (λ faults. faults.items ≡ told.told_of_whole source.now) }
 {
@@ -49,7 +49,7 @@ fn faults_of_whole(alloc: Global, source: &IndexedCards) -> Result<Vec<CardFault
     Ok(faults)
 }
 
-/// Appends what the cards break, card by card.
+/// Appends the faults of the cards, card by card.
 fn put_faults(faults: &mut Vec<CardFault>, source: &AnalyzedCards) -> Result<(), AllocError>
     ensures { OnOk result (faults.new.items ≡ faults.old.items ++ told.told_from [] source.now.cards.now) }
 {
@@ -64,7 +64,7 @@ fn put_faults(faults: &mut Vec<CardFault>, source: &AnalyzedCards) -> Result<(),
     Ok(())
 }
 
-/// Appends what a card breaks, code by code.
+/// Appends the faults of a card, code by code.
 fn put_faults_on(
     faults: &mut Vec<CardFault>,
     source: &AnalyzedCards,

@@ -1,4 +1,4 @@
-//! From the text of a source to all that is wrong with it.
+//! Finds all faults in the text of a source.
 
 ghost use Rattle.std.specs.Prelude.{◌≡◌, map, IfErr, IfOk};
 ghost use Rattle.rpg_deck.specs.Flat.{IsInOrder};
@@ -14,9 +14,9 @@ use crate::source_fault::{CardFault, SourceCode, SourceFault};
 use rpg_sheet::{Cards, SheetFault, UnreadableCard};
 use std::alloc::{AllocError, Global};
 
-/// What is wrong with a source: all faults of its cards, in the order of cards and codes, each with the columns that it speaks of; or where
-/// cards can't be read, all of these, each with its least code, since what the others mean hangs on them. There is none exactly where
-/// `faultless_cards` returns the cards. The only error is `NoMemory`.
+/// Returns all faults of a source's cards, in the order of cards and codes, each with its columns. If cards can't be read, returns all of
+/// these instead, each with its lowest code, since the other cards depend on them. There are none exactly if `faultless_cards` returns the
+/// cards. The only error is `NoMemory`.
 pub fn source_faults(alloc: Global, text: &[u8]) -> Result<Vec<CardFault>, SourceFault>
     ensures faults { IfOk result (λ faults. every.AreSourceFaults text.now faults.items) }
     ensures memory { IfErr result (λ fault. fault ≡ NoMemory) }
@@ -28,7 +28,7 @@ pub fn source_faults(alloc: Global, text: &[u8]) -> Result<Vec<CardFault>, Sourc
     }
 }
 
-/// All faults of cards that can be read.
+/// Returns all faults of cards that can be read.
 fn faults_of(alloc: Global, cards: Cards) -> Result<Vec<CardFault>, AllocError>
     requires { IsInOrder 0 (every.numbered_specs cards) }
     ensures { IfOk result (λ faults. AreFaultsOf (every.numbered_specs cards) faults.items) }
@@ -37,7 +37,7 @@ fn faults_of(alloc: Global, cards: Cards) -> Result<Vec<CardFault>, AllocError>
     all_faults(alloc, &cards)
 }
 
-/// All cards that can't be read.
+/// Returns all cards that can't be read.
 fn unreadable(alloc: Global, text: &[u8]) -> Result<Vec<CardFault>, AllocError>
     ensures { IfOk result (λ told. told.items ≡ map every.unreadable_told (unreadable_cards (source text.now))) }
 {
@@ -45,7 +45,7 @@ fn unreadable(alloc: Global, text: &[u8]) -> Result<Vec<CardFault>, AllocError>
     told(alloc, &cards)
 }
 
-/// Cards that can't be read, as they are reported for a source.
+/// Converts cards that can't be read to faults of a source.
 fn told(alloc: Global, cards: &[UnreadableCard]) -> Result<Vec<CardFault>, AllocError>
     ensures { IfOk result (λ told. told.items ≡ map every.unreadable_told cards.now) }
 {

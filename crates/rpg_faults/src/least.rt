@@ -1,4 +1,4 @@
-//! The least fault.
+//! The first fault.
 
 ghost use Rattle.std.specs.Prelude.{◌≡◌, [], ◌∷◌, find, MatchOption, IfOk};
 ghost use Rattle.rpg_faults.specs.Faults as faults;
@@ -16,7 +16,7 @@ use rpg_faults_operands::has_good_operands;
 use rpg_faults_tree::AnalyzedCards;
 use std::alloc::{AllocError, Global};
 
-/// The least fault by card, then by code, found in one pass over the cards. An error is for want of memory.
+/// Returns the first fault by card, then by code, in one pass over the cards. Fails only if memory runs out.
 pub(crate) fn first_fault(alloc: Global, cards: &OrderedCards) -> Result<Option<Fault>, AllocError>
     ensures { IfOk result (λ found. MatchOption found (faults.Faultless cards.now.cards.items) (λ fault. faults.IsLeastFault cards.now.cards.items fault)) }
 {
@@ -37,7 +37,7 @@ fn least_fault(source: &AnalyzedCards) -> Option<Fault>
     first_on_cards(source)
 }
 
-/// The least code of the first card that breaks a rule.
+/// Returns the lowest code of the first card that breaks a rule.
 fn first_on_cards(source: &AnalyzedCards) -> Option<Fault>
     ensures { result ≡ faults.least_fault_from [] source.now.cards.now }
 {
@@ -57,7 +57,7 @@ fn first_on_cards(source: &AnalyzedCards) -> Option<Fault>
     None
 }
 
-/// The least code whose rule a card breaks.
+/// Returns the lowest code whose rule a card breaks.
 fn least_code(
     source: &AnalyzedCards,
     seen: &Seen,

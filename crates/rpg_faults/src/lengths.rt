@@ -16,14 +16,14 @@ const LIMIT: u16 = 256;
 /// The joined lengths of the control levels, L1 first.
 #[derive(Clone, Copy)]
 pub(crate) struct JoinedLengths {
-    /// In the first type that has the level.
+    /// The lengths in the first type that has the level.
     first: [Option<u32>; 9],
-    /// In the open type, of the fields so far; what is longer counts as `u16::MAX`.
+    /// The lengths of the open type's fields so far; longer ones count as `u16::MAX`.
     open_type: Option<[u16; 9]>,
 }
 
 impl JoinedLengths {
-    /// Before all cards.
+    /// Returns the state before the first card.
     pub(crate) fn nothing() -> Self
         ensures { (cards : List SpecCard) → AreJoinedLengths cards [] result }
     {
@@ -33,7 +33,7 @@ impl JoinedLengths {
         }
     }
 
-    /// With one more card, before those after it.
+    /// Returns the state after one more card, given those after it.
     pub(crate) fn with(self, card: &SpecCard, after: &[SpecCard]) -> Self
         requires { length after.now ≤ 2000 }
         ensures { AddsCard AreJoinedLengths card.now after.now self result }
@@ -56,7 +56,7 @@ impl JoinedLengths {
         }
     }
 
-    /// Whether a type has other joined lengths than the first types with its levels, or a field's level passes the limit with it.
+    /// Whether a type's joined lengths differ from those of the first types with its levels, or a field puts its level over the limit.
     pub(crate) fn join_badly(&self, card: &SpecCard, after: &[SpecCard]) -> bool
         requires { length after.now ≤ 2000 }
         ensures { TellsInput AreJoinedLengths rules.controls_badly card.now after.now self.now result }
@@ -68,7 +68,7 @@ impl JoinedLengths {
         }
     }
 
-    /// Whether a type's joined lengths aren't the first ones.
+    /// Whether a type's joined lengths differ from the first ones.
     fn differ_from(&self, after: &[SpecCard]) -> bool
         requires { length after.now ≤ 2000 }
         ensures { result ≡ any_differs self.now.first (followers input_role after.now) }
@@ -82,7 +82,7 @@ impl JoinedLengths {
         false
     }
 
-    /// Whether the joined length of a field's level passes its limit with it.
+    /// Whether a field puts the joined length of its level over the limit.
     pub(crate) fn pass_limit_with(&self, field: &InputFieldSpec) -> bool
         ensures { (before : List SpecCard) → AreOpenLengths before self.now → result ≡ rules.passes_length before field.now }
     {
@@ -93,7 +93,7 @@ impl JoinedLengths {
         joined <= LIMIT && joined.saturating_add(columns_of(field)) > LIMIT
     }
 
-    /// That of a level in the open type.
+    /// Returns the joined length of a level in the open type.
     fn open_length(&self, level: u8) -> u16
         requires low { 1 ≤ level }
         requires high { level ≤ 9 }
@@ -106,7 +106,7 @@ impl JoinedLengths {
     }
 }
 
-/// The first lengths with those of a further type.
+/// Adds the lengths of another type to the first lengths.
 fn with_type(first: [Option<u32>; 9], after: &[SpecCard]) -> [Option<u32>; 9]
     requires { length after.now ≤ 2000 }
     ensures { result ≡ with_lengths first (followers input_role after.now) }
@@ -119,7 +119,7 @@ fn with_type(first: [Option<u32>; 9], after: &[SpecCard]) -> [Option<u32>; 9]
     first
 }
 
-/// The lengths of the open type with a further field.
+/// Adds a field to the lengths of the open type.
 fn with_field(open_type: Option<[u16; 9]>, field: &InputFieldSpec) -> Option<[u16; 9]>
     ensures { AddsField lengths_of field.now open_type result }
 {
@@ -140,7 +140,7 @@ fn is_other(first: Option<u32>, own: Option<u32>) -> bool
     }
 }
 
-/// The joined length of a level's fields up to the next record type: none without a field, or with bad columns.
+/// Returns the joined length of a level's fields up to the next record type; None without a field, or with bad columns.
 fn level_length(level: u8, after: &[SpecCard]) -> Option<u32>
     requires { length after.now ≤ 2000 }
     ensures { result ≡ rules.level_length level (followers input_role after.now) }
@@ -177,7 +177,7 @@ fn is_at_level(level: u8, field: &InputFieldSpec) -> bool
     }
 }
 
-/// How many columns a field has: 0 where they begin at 0 or are turned round.
+/// Returns how many columns a field has: 0 if they begin at 0 or are reversed.
 pub(crate) fn columns_of(field: &InputFieldSpec) -> u16
     ensures { result ≡ rules.input_columns field.now }
 {

@@ -1,4 +1,5 @@
-//! The cards of a source without a fault, or what is wrong with it; and columns of records and of lines.
+//! The cards of a source without faults, or the faults of a source; and the columns of records and
+//! lines.
 #![tactic(auto)]
 
 mod breach;

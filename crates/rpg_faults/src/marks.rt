@@ -1,4 +1,4 @@
-//! Which columns of a card a fault speaks of.
+//! Which columns of a card a fault points at.
 
 ghost use Rattle.std.specs.Prelude.{◌≡◌, ◌∷◌, Option};
 ghost use Rattle.std.specs.Option.{option_map};
@@ -17,7 +17,7 @@ use rpg_cards::{IndexedCards, Sheets, SpecCard};
 use rpg_faults_tree::AnalyzedCards;
 use rpg_sheet_specs::{ColumnFault, ColumnRange, InputFieldSpec, InputSpec, RecordCode, Three};
 
-/// The columns that a fault of a card speaks of: none where the card as a whole is meant.
+/// Returns the columns that a fault of a card points at, or None for the card as a whole.
 pub(crate) fn fault_columns(
     code: FaultCode,
     source: &AnalyzedCards,
@@ -98,7 +98,7 @@ fn order_columns(card: &SpecCard) -> Option<ColumnRange>
     }
 }
 
-/// F16: the first code that is outside, the column of a field that is wrong or a level of it, or the end of an output field.
+/// F16: the first code that is outside, the wrong column or level of a field, or the end of an output field.
 fn place_columns(
     source: &IndexedCards,
     sheets: &Sheets,
@@ -163,7 +163,7 @@ fn field_range(length: Option<u16>, lengths: &JoinedLengths, field: &InputFieldS
     }
 }
 
-/// F18: the entries per card, which ask for data.
+/// F18: the entries per card, which require data.
 fn deck_columns(card: &SpecCard) -> Option<ColumnRange>
     ensures { result ≡ marks.deck_columns card.now }
 {

@@ -14,39 +14,39 @@ use crate::lengths::columns_of;
 use rpg_cards::SpecCard;
 use rpg_sheet_specs::{InputFieldSpec, InputSpec};
 
-/// The greatest length of a type's match fields together.
+/// The greatest total length of a type's match fields.
 const LIMIT: u16 = 256;
 
 /// The match fields of a type so far.
 #[derive(Clone, Copy)]
 pub(crate) struct OpenMatches {
-    /// Whether one has the level, M1 first.
+    /// Whether a field has the level, M1 first.
     levels: [bool; 9],
-    /// The columns of all; what is more counts as `u16::MAX`.
+    /// The total length of the fields; longer ones count as `u16::MAX`.
     length: u16,
 }
 
 /// The match fields of record types.
 #[derive(Clone, Copy)]
 pub(crate) struct Matches {
-    /// The lengths of M1 to M9 in the first type that has match fields, all of them good.
+    /// The lengths of M1 to M9 in the first type that has match fields, all of them valid.
     first: Option<[u16; 9]>,
     open_type: Option<OpenMatches>,
 }
 
-/// What a further card makes of the match fields of a type.
+/// What one more card does to the match fields of a type.
 #[derive(Clone, Copy)]
 enum Further {
-    /// It is another type's.
+    /// It belongs to another type.
     OtherType,
-    /// A level stands twice, or the columns are bad.
+    /// A level appears twice, or the columns are bad.
     Bad,
-    /// The lengths with those of the card.
+    /// The lengths including those of the card.
     Found(Option<[u16; 9]>),
 }
 
 impl OpenMatches {
-    /// Before the fields of a type.
+    /// The match fields before the first field of a type.
     const NONE: OpenMatches = OpenMatches {
         levels: [false; 9],
         length: 0,
@@ -68,7 +68,7 @@ impl OpenMatches {
         }
     }
 
-    /// Whether a match field has a level that is there, or all of them are too long with it.
+    /// Whether the level of a match field is already there, or the field puts the total length over its limit.
     fn refuse(self, field: &InputFieldSpec) -> bool
         ensures { (specs : List InputSpec) → self ≡ matches_of specs → result ≡ rules.refuses (rules.matched_fields specs) field.now }
     {
@@ -86,7 +86,7 @@ impl OpenMatches {
         self.levels[level as usize - 1]
     }
 
-    /// Whether the length passes its limit with so many columns.
+    /// Whether this many more columns put the length over its limit.
     fn pass_limit_with(self, columns: u16) -> bool
         ensures { result ≡ (nat_le self.length 256 && nat_lt 256 (self.length + columns)) }
     {
@@ -95,7 +95,7 @@ impl OpenMatches {
 }
 
 impl Matches {
-    /// Before all cards.
+    /// Returns the state before the first card.
     pub(crate) fn nothing() -> Self
         ensures { (cards : List SpecCard) → AreMatches cards [] result }
     {
@@ -105,7 +105,7 @@ impl Matches {
         }
     }
 
-    /// With one more card, before those after it.
+    /// Returns the state after one more card, given those after it.
     pub(crate) fn with(self, card: &SpecCard, after: &[SpecCard]) -> Self
         ensures { AddsCard AreMatches card.now after.now self result }
     {
@@ -128,7 +128,8 @@ impl Matches {
         }
     }
 
-    /// Whether a type has other match fields than the first type with some, or a field's match level is there or the fields are too long with it.
+    /// Whether a type's match fields differ from those of the first type that has some, or a field repeats a match level or makes the
+    /// fields too long.
     pub(crate) fn join_badly(&self, card: &SpecCard, after: &[SpecCard]) -> bool
         ensures { TellsInput AreMatches rules.matches_badly card.now after.now self.now result }
     {
@@ -145,7 +146,7 @@ impl Matches {
         }
     }
 
-    /// Those of the open type: none where no type is open.
+    /// Returns the match fields of the open type, empty if no type is open.
     fn of_open_type(&self) -> OpenMatches
         ensures { (before : List SpecCard) → AreOpenMatches before self.now → result ≡ matches_of (rules.open_specs before) }
     {
@@ -156,7 +157,7 @@ impl Matches {
     }
 }
 
-/// The match fields of the open type with a further field.
+/// Adds a field to the match fields of the open type.
 fn with_field(open_type: Option<OpenMatches>, field: &InputFieldSpec) -> Option<OpenMatches>
     ensures { AddsField matches_of field.now open_type result }
 {
@@ -172,7 +173,7 @@ fn are_other(first: Option<[u16; 9]>, own: Option<[u16; 9]>) -> bool
     }
 }
 
-/// The lengths of M1 to M9 up to the next record type: none without a match field, with a level that stands twice, or with bad columns.
+/// Returns the lengths of M1 to M9 up to the next record type; None without a match field, or if a level appears twice or columns are bad.
 fn good_matches(after: &[SpecCard]) -> Option<[u16; 9]>
     ensures { result ≡ rules.good_matches (rules.matched_fields (followers input_role after.now)) }
 {
@@ -189,7 +190,7 @@ fn good_matches(after: &[SpecCard]) -> Option<[u16; 9]>
     found
 }
 
-/// What a further card makes of the lengths of match fields that stand before it.
+/// Adds a card to the lengths of the match fields before it.
 fn matches_on(found: Option<[u16; 9]>, card: &SpecCard) -> Further
     ensures { (fs : List InputFieldSpec) → AreGood fs found → MakesOf fs card.now found result }
 {
@@ -207,7 +208,7 @@ fn matches_on(found: Option<[u16; 9]>, card: &SpecCard) -> Further
     }
 }
 
-/// The lengths with a field of a level: none where the level is there, or the columns are bad.
+/// Adds a field to the lengths; None if its level is already there, or its columns are bad.
 fn lengths_with(found: Option<[u16; 9]>, level: u8, columns: u16) -> Option<[u16; 9]>
     requires low { 1 ≤ level }
     requires high { level ≤ 9 }

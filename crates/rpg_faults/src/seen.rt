@@ -1,4 +1,4 @@
-//! What the cards before a card come to.
+//! The state after the cards before a card.
 
 ghost use Rattle.std.specs.Prelude.{◌≡◌, [], ◌∷◌, ◌++◌};
 ghost use Rattle.rpg_faults.specs.Seen.{AreCardsSeen};
@@ -8,7 +8,7 @@ use rpg_cards::{IndexedCards, Sheets, SpecCard};
 use rpg_faults_limits::Limits;
 use rpg_faults_tree::{AnalyzedCards, Counts};
 
-/// The cards before a card, with what they come to.
+/// The cards before a card, with the state after them.
 #[derive(Clone, Copy)]
 pub(crate) struct Seen<'a> {
     pub before: &'a [SpecCard],
@@ -19,7 +19,7 @@ pub(crate) struct Seen<'a> {
 }
 
 impl<'a> Seen<'a> {
-    /// Before the first card.
+    /// Returns the state before the first card.
     pub fn nothing(source: &AnalyzedCards<'a>) -> Self
         ensures before { result.before.now ≡ [] }
         ensures seen { AreCardsSeen source.now.cards.now source.now.cards.now result }
@@ -34,7 +34,7 @@ impl<'a> Seen<'a> {
         }
     }
 
-    /// On to the next card. It is large, so it is changed where it is kept.
+    /// Moves on to the next card, in place, since the state is large.
     pub fn pass(&mut self, source: &IndexedCards<'a>, card: &SpecCard, after: &[SpecCard])
         requires { AreCardsSeen source.now (card.now ∷ after.now) self.old }
         ensures before { self.new.before.now ≡ self.old.before.now ++ card.now ∷ [] }
@@ -49,7 +49,7 @@ impl<'a> Seen<'a> {
     }
 }
 
-/// The cards before the next card.
+/// Appends a card to those before the next one.
 fn with_card<'a>(
     source: &IndexedCards<'a>,
     before: &[SpecCard],

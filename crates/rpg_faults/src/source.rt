@@ -1,4 +1,4 @@
-//! From the text of a source to its cards.
+//! Reads the text of a source to its cards.
 
 ghost use Rattle.std.specs.Prelude.{IfOk, IfErr};
 ghost use Rattle.rpg_faults.specs.Source as sources;
@@ -9,7 +9,8 @@ use crate::source_fault::{SourceCode, SourceFault};
 use rpg_cards::SpecCard;
 use std::alloc::Global;
 
-/// The cards on a sheet of a source that has no fault, each with its number.
+/// Returns the cards of a source without faults that belong to a sheet, each with its
+/// number.
 pub fn faultless_cards(alloc: Global, text: &[u8]) -> Result<Vec<SpecCard>, SourceFault>
     ensures ok { IfOk result (λ cards. sources.AreFaultless text.now cards.items) }
     ensures err { IfErr result (λ fault. sources.IsSourceRefusal fault text.now) }

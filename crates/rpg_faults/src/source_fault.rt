@@ -9,7 +9,7 @@ use rpg_sheet::{ColumnFault, SheetCode, SheetFault};
 use std::alloc::AllocError;
 use std::fmt;
 
-/// What is wrong with a card: as a card of its sheet, or among the others.
+/// The fault of a card: in its own columns, or with respect to the others.
 #[derive(Clone, Copy)]
 pub enum SourceCode {
     Sheet(SheetCode),
@@ -17,7 +17,7 @@ pub enum SourceCode {
 }
 
 impl SourceCode {
-    /// The letter and the number.
+    /// Returns the letter and the number.
     pub const fn text(self) -> &'static str
         ensures value { result.now ≡ codes.source_code_text self }
         ensures len { length result.now ≤ 4 }
@@ -28,7 +28,7 @@ impl SourceCode {
         }
     }
 
-    /// What is wrong, as a person reads it.
+    /// Returns what is wrong, in words.
     pub const fn sentence(self) -> &'static str {
         match self {
             SourceCode::Sheet(code) => code.sentence(),
@@ -43,14 +43,15 @@ pub struct CardFault {
     /// Cards are numbered from 1. Card 0 is the source as a whole.
     pub card: u16,
     pub code: SourceCode,
-    /// The columns that the code speaks of. None where the card as a whole is meant, and with the codes of sheets but for S5.
+    /// The columns that the fault points at; None for the card as a whole, and for all S codes but S5.
     pub columns: Option<ColumnFault>,
 }
 
 /// What is wrong with a source.
 #[derive(Clone, Copy)]
 pub enum SourceFault {
-    /// Cards are numbered from 1. Card 0 is the source as a whole. The columns are those of the least bad value, with S5 alone.
+    /// Cards are numbered from 1; card 0 is the source as a whole. The columns are those of the leftmost bad value, with S5
+    /// only.
     At {
         card: u16,
         code: SourceCode,

@@ -1,4 +1,4 @@
-//! What is kept of the cards before a card.
+//! The state that is kept of the cards before a card.
 
 ghost use Rattle.std.specs.Prelude.{◌≡◌, ◌≤◌, [], ◌∷◌, ◌++◌, length};
 ghost use Rattle.rpg_faults.specs.State.{IsPlaces};
@@ -8,7 +8,7 @@ use crate::matches::Matches;
 use rpg_cards::{IndexedCards, SpecCard};
 use rpg_faults_data::Decks;
 
-/// The decks of data that are left, the joined lengths of control fields, and the match fields.
+/// The remaining decks of data, the joined lengths of control fields, and the match fields.
 #[derive(Clone, Copy)]
 pub struct Places<'a> {
     pub(crate) decks: Decks<'a>,
@@ -17,7 +17,7 @@ pub struct Places<'a> {
 }
 
 impl<'a> Places<'a> {
-    /// Before all cards.
+    /// Returns the state before the first card.
     pub fn nothing(source: &IndexedCards<'a>) -> Self
         ensures { IsPlaces source.now [] result }
     {
@@ -28,7 +28,7 @@ impl<'a> Places<'a> {
         }
     }
 
-    /// On to the next card. Only an I card changes what is known of control fields and match fields.
+    /// Moves on to the next card. Only an I card changes control fields and match fields.
     pub fn pass(
         &mut self,
         source: &IndexedCards,

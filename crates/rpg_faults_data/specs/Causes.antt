@@ -70,15 +70,15 @@ placed_entry_at card column text = record { card = card; column = column; text =
 abbrev pub placed_entry_on : ℕ → ℕ → ℕ → DataCard → ℕ → PlacedEntry
 placed_entry_on width from len c i = placed_entry_at c.number (i * width + from + 1) (entry_on width from len c.text i)
 
--- so many entries of the cards, in their order
+-- the first n entries of the cards, in order
 abbrev pub placed_entries : ℕ → ℕ → ℕ → ℕ → ℕ → List DataCard → List PlacedEntry
 placed_entries n per_card width from len cards = take n (flat_map (λ c. map (placed_entry_on width from len c) (range_with_len 0 per_card)) cards)
 
--- so many entries of a card, by their layout
+-- the first n entries of a card, by their layout
 abbrev pub entries_on_card : Layout → DataCard → ℕ → List PlacedEntry
 entries_on_card l c n = map (placed_entry_on l.width l.from l.length c) (range_with_len 0 n)
 
--- so many entries of a deck, by their layout
+-- the first n entries of a deck, by their layout
 abbrev pub on_deck : Layout → ℕ → List SpecCard → List PlacedEntry
 on_deck l n cards = placed_entries n l.per_card l.width l.from l.length (deck_cards cards)
 
@@ -115,7 +115,7 @@ of_tables e per_card cards from (t ∷ ts) = option_or (of_table e per_card card
 
 -- ---- the data of an E card
 
--- so many entries, so many on a card, and the cards that they need
+-- a number of entries, how many go on a card, and the cards that they need
 abbrev pub need_of : ExtensionSpec → ℕ → Need
 need_of e per_card = record { entries = e.entries; per_card = per_card; cards = cards_for e.entries per_card }
 
@@ -131,7 +131,7 @@ of_deck e per_card cards =
     else if not (length cards == cards_for e.entries per_card) then Some (cause.OtherCards (need_of e per_card) (length cards))
     else option_map cause.Entry (of_tables e per_card cards 0 (tables_on e))
 
--- no further rule applies where a table has no form
+-- no further rule applies if a table has no form
 abbrev pub of_after : ExtensionSpec → ℕ → List SpecCard → Option DataCause
 of_after e per_card following = if has_forms e then of_deck e per_card (deck_cards following) else None
 

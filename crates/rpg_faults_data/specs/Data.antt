@@ -39,7 +39,7 @@ entry_on width from len card i = slice_range card (i * width + from) (i * width 
 abbrev pub entries_on : ℕ → ℕ → ℕ → ℕ → List ℕ → List (List ℕ)
 entries_on per_card width from len card = map (entry_on width from len card) (range_with_len 0 per_card)
 
--- so many of the cards' in their order
+-- the first n of the cards', in order
 abbrev pub data_entries : ℕ → ℕ → ℕ → ℕ → ℕ → List (List ℕ) → List (List ℕ)
 data_entries n per_card width from len cards = take n (flat_map (entries_on per_card width from len) cards)
 
@@ -67,7 +67,7 @@ descends lower [] = false
 descends lower (x ∷ []) = false
 descends lower (x ∷ y ∷ ys) = lower y x || descends lower (y ∷ ys)
 
--- the entries of a table are bad: one isn't a value of its form, or they don't ascend where they should
+-- the entries of a table are bad: one isn't a value of its form, or they don't ascend if they should
 abbrev pub bad_table_data : TableSpec → List (List ℕ) → Bool
 bad_table_data t texts = list_any (is_bad t.decimals) texts || (t.ascending && descends (is_lower t.decimals) texts)
 
@@ -77,7 +77,7 @@ bad_table_data t texts = list_any (is_bad t.decimals) texts || (t.ascending && d
 abbrev pub data_columns : ExtensionSpec → ℕ
 data_columns e = sum_by (λ (t : TableSpec). t.length) (tables_on e)
 
--- how many cards hold so many entries
+-- how many cards this many entries need
 abbrev pub cards_for : ℕ → ℕ → ℕ
 cards_for n per_card = div_ceil n per_card
 
@@ -94,7 +94,7 @@ bad_deck e per_card cards =
 
 -- ---- the rule
 
--- no further rule applies where a table has no form
+-- no further rule applies if a table has no form
 abbrev pub has_forms : ExtensionSpec → Bool
 has_forms e = list_all (λ t. is_some (table_form e.entries t)) (tables_on e)
 

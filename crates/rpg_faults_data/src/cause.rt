@@ -13,7 +13,7 @@ use crate::wrong_entry::{EntryCause, first_wrong};
 use rpg_cards::{IndexedCards, SpecCard};
 use rpg_sheet_specs::{DataSpec, ExtensionSpec, Spec};
 
-/// The cards of data that so many entries need.
+/// The cards of data that this many entries need.
 #[derive(Clone, Copy)]
 pub struct Need {
     pub entries: u16,
@@ -24,7 +24,7 @@ pub struct Need {
 /// What is wrong with the data of a table.
 #[derive(Drop)]
 pub enum DataCause {
-    /// A table has data, and the E card has no entries per card.
+    /// There is data, but the E card has no entries per card.
     NoData,
     /// No `**` card is left for the E card, which has 0 entries per card.
     NoDeck,
@@ -32,13 +32,13 @@ pub enum DataCause {
     Missing(Need),
     /// The E card has 0 entries per card.
     NonePerCard,
-    /// The entries of a card, each of so many columns, are wider than a card.
+    /// The entries of a card, of this many columns each, don't fit on it.
     TooWide { per_card: u16, width: u32 },
-    /// There are other than so many cards.
+    /// The number of cards differs from what is needed.
     OtherCards { need: Need, there: usize },
     /// An entry is wrong.
     Entry(EntryCause),
-    /// The `**` card is that many, from 1, and so many E cards want data.
+    /// The number of this `**` card, from 1, and how many E cards want data.
     Spare { deck: usize, wanted: usize },
 }
 
@@ -133,7 +133,7 @@ fn of_deck(extension: &ExtensionSpec, per_card: u16, following: &[SpecCard]) -> 
     Some(DataCause::Entry(entry))
 }
 
-/// The first entry of the card's tables that is wrong.
+/// Returns the first wrong entry of the card's tables.
 fn of_tables(
     extension: &ExtensionSpec,
     per_card: usize,
@@ -170,7 +170,7 @@ fn of_tables(
     }
 }
 
-/// Data that no E card wants.
+/// Returns the cause for data that no E card wants.
 fn of_begin(source: &IndexedCards, before: &[SpecCard]) -> Option<DataCause>
     ensures { result ≡ causes.of_begin source.now before.now }
 {
@@ -186,7 +186,7 @@ fn of_begin(source: &IndexedCards, before: &[SpecCard]) -> Option<DataCause>
 
 // ---- decks
 
-/// How many of these cards want data.
+/// Counts the cards that want data.
 fn wanted(cards: &[SpecCard]) -> usize
     ensures { result ≡ rules.wanted cards.now }
 {
@@ -197,7 +197,7 @@ fn wanted(cards: &[SpecCard]) -> usize
     count
 }
 
-/// How many of these cards begin data.
+/// Counts the `**` cards.
 fn begun(cards: &[SpecCard]) -> usize
     ensures count { result ≡ count_by causes.begins_table_data cards.now }
     ensures few { result ≤ length cards.now }
@@ -218,7 +218,7 @@ fn begins(card: &SpecCard) -> bool
     }
 }
 
-/// The cards after the `**` card with this number, from 0.
+/// Returns the cards after the `**` card with this number, counted from 0.
 fn after_begin(number: usize, cards: &[SpecCard]) -> Option<&[SpecCard]>
     ensures { option_map (λ following. following.now) result ≡ causes.after_deck_begin number cards.now }
 {

@@ -12,7 +12,7 @@ use crate::entries::{Layout, bad_entries};
 use rpg_cards::{IndexedCards, SpecCard, is_table, table_form};
 use rpg_sheet_specs::{DataSpec, ExtensionSpec, Spec};
 
-/// Whether the data of a table are wrong, at its E card, or no table's, at their `**` card.
+/// Whether the data of a table is wrong, on its E card, or belongs to no table, on its `**` card.
 pub fn breaks_data(
     source: &IndexedCards,
     decks: &Decks,
@@ -105,7 +105,7 @@ fn bad_tables(extension: &ExtensionSpec, per_card: usize, width: usize, deck: &[
     }
 }
 
-/// The columns that an entry takes, with that of the alternating table.
+/// Returns how many columns an entry takes, including that of the alternating table.
 pub fn data_columns(extension: &ExtensionSpec) -> u32
     ensures { result ≡ rules.data_columns extension.now }
 {
@@ -116,7 +116,7 @@ pub fn data_columns(extension: &ExtensionSpec) -> u32
     extension.table.length as u32 + alternating
 }
 
-/// How many cards of data there are up to the next `**` card.
+/// Counts the cards of data up to the next `**` card.
 pub(crate) fn data_cards(deck: &[SpecCard]) -> usize
     ensures { result ≡ length (followers data_role deck.now) }
 {

@@ -1,4 +1,4 @@
-//! The data after the sheets: a `**` card with the data after it is a deck, and the E cards that want data take the decks in their order.
+//! The data after the sheets: a `**` card with the data after it is a deck, and the E cards that want data take the decks in order.
 
 ghost use Rattle.std.specs.Prelude.{◌≡◌, [], ◌∷◌, ◌++◌, List, MatchOption};
 ghost use Rattle.std.specs.Option.{option_map};
@@ -13,14 +13,14 @@ use rpg_sheet_specs::DataSpec;
 /// The decks that no E card has taken.
 #[derive(Clone, Copy)]
 pub struct Decks<'a> {
-    /// The cards from the first of them on.
+    /// The cards from the first such deck on.
     rest: &'a [SpecCard],
-    /// How many of the decks to come there are E cards for.
+    /// How many of the remaining decks E cards want.
     wanted: usize,
 }
 
 impl<'a> Decks<'a> {
-    /// Before all cards.
+    /// Returns the state before the first card.
     pub fn all(cards: &'a [SpecCard]) -> Self
         ensures { AreDecks cards.now [] result }
     {
@@ -30,7 +30,7 @@ impl<'a> Decks<'a> {
         }
     }
 
-    /// With one more card.
+    /// Returns the state after one more card.
     pub fn with(self, card: &SpecCard) -> Self
         ensures { (cards before : List SpecCard) → AreDecks cards before self.entry → AreDecks cards (before ++ card.now ∷ []) result }
     {
@@ -49,14 +49,14 @@ impl<'a> Decks<'a> {
         }
     }
 
-    /// The cards after the `**` card of the deck that the next E card takes.
+    /// Returns the cards after the `**` card of the deck that the next E card takes.
     pub(crate) fn next(self) -> Option<&'a [SpecCard]>
         ensures { (cards before : List SpecCard) → AreDecks cards before self.entry → option_map (λ following. followers data_role following.now) result ≡ rules.deck_at (rules.wanted before) cards }
     {
         after_next(self.rest)
     }
 
-    /// Whether the next `**` card begins data that no E card wants.
+    /// Whether no E card wants the data of the next `**` card.
     pub(crate) fn are_taken(self) -> bool
         ensures { (cards before : List SpecCard) → AreDecks cards before self.entry → result ≡ rules.are_taken cards before }
     {
@@ -64,7 +64,7 @@ impl<'a> Decks<'a> {
     }
 }
 
-/// Whether a card is of a table that has data in the source.
+/// Whether a card describes a table with data in the source.
 pub(crate) fn wants_data(card: &SpecCard) -> bool
     ensures { result ≡ rules.wants_data card.now }
 {
@@ -81,7 +81,7 @@ pub(crate) fn begins_deck(card: &SpecCard) -> bool
     matches!(card.data(), Some(DataSpec::Begin))
 }
 
-/// The cards after the next `**` card.
+/// Returns the cards after the next `**` card.
 pub fn after_next(cards: &[SpecCard]) -> Option<&[SpecCard]>
     ensures { MatchOption result (groups data_role cards.now ≡ []) (λ following. groups data_role cards.now ≡ deck following.now ∷ groups data_role following.now) }
 {

@@ -10,13 +10,13 @@ use rpg_cards::SpecCard;
 use rpg_decimal::{compare_text, read_zoned};
 use rpg_sheet_specs::{DataSpec, TableSpec};
 
-/// Where the entries of a table stand on each card of its deck.
+/// Where the entries of a table are on each card of its deck.
 #[derive(Clone, Copy)]
 pub(crate) struct Layout {
     pub per_card: usize,
-    /// How many columns each takes, with that of an alternating table.
+    /// How many columns each takes, including that of an alternating table.
     pub width: usize,
-    /// The first column of the first, from 0.
+    /// The first column of the first, counted from 0.
     pub from: usize,
     pub length: usize,
 
@@ -27,7 +27,7 @@ pub(crate) struct Layout {
 impl Layout {
     ghost use Rattle.rpg_faults_data.specs.Data.{entry_on};
 
-    /// The entry with this number on a card, from 0.
+    /// Returns an entry on a card, by its number from 0.
     pub(crate) fn entry(self, card: &[u8], number: usize) -> &[u8]
         requires card { length card.now ≡ 80 }
         requires number { number < self.per_card }
@@ -39,7 +39,7 @@ impl Layout {
     }
 }
 
-/// Whether one of so many entries of a table is bad or, in an ascending table, lower than the one before it.
+/// Whether one of `entries` entries of a table is bad or, in an ascending table, lower than the one before it.
 pub(crate) fn bad_entries(
     table: &TableSpec,
     entries: usize,
@@ -69,7 +69,7 @@ pub(crate) fn bad_entries(
     false
 }
 
-/// The last of so many entries of a card, else the one before them.
+/// Returns the last of `number` entries of a card, or the one before them if there are none.
 pub(crate) fn last_entry<'a>(
     before: Option<&'a [u8]>,
     number: usize,
@@ -88,7 +88,7 @@ pub(crate) fn last_entry<'a>(
     Some(layout.entry(card, number - 1))
 }
 
-/// Whether one of so many entries of a card is wrong after the one before it.
+/// Whether one of `number` entries of a card is wrong, given the one before them.
 fn any_wrong(
     table: &TableSpec,
     before: Option<&[u8]>,
@@ -128,7 +128,7 @@ fn is_wrong(table: &TableSpec, before: Option<&[u8]>, entry: &[u8]) -> bool
     }
 }
 
-/// Whether an entry should be a number, and is none.
+/// Whether an entry should be a number but isn't.
 pub(crate) fn is_bad(decimals: Option<u8>, entry: &[u8]) -> bool
     requires { HasNumberSize decimals (length entry.now) }
     ensures { result ≡ rules.is_bad decimals entry.now }

@@ -1,4 +1,4 @@
-//! F18: the data of tables, after the sheets of a source, and what is wrong with them.
+//! F18: the data of tables, after the sheets of a source, and its faults.
 #![tactic(auto)]
 
 mod cause;

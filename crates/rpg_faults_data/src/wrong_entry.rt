@@ -1,4 +1,4 @@
-//! F18: the first entry of a table that is wrong.
+//! F18: the first wrong entry of a table.
 
 ghost use Rattle.std.specs.Prelude.{◌≡◌, ◌≤◌, None, length, IfSome, option_copied};
 ghost use Rattle.rpg_faults_data.specs.Causes as causes;
@@ -24,7 +24,7 @@ pub struct EntryCause {
     pub name: Name,
     /// From 1.
     pub number: usize,
-    /// The card of data that it stands on.
+    /// The number of its data card.
     pub card: u16,
     /// Its first column there.
     pub column: usize,
@@ -32,7 +32,7 @@ pub struct EntryCause {
     pub fault: EntryFault,
 }
 
-/// The first of so many entries of a table that is wrong, on the cards of its deck.
+/// Returns the first wrong one of `entries` entries of a table, on the cards of its deck.
 pub(crate) fn first_wrong(
     table: &TableSpec,
     entries: usize,
@@ -66,7 +66,7 @@ pub(crate) fn first_wrong(
     None
 }
 
-/// The first of so many entries of a card that is wrong; `first` is the number in the table of the first of them.
+/// Returns the first wrong one of `count` entries of a card; `first` is the number in the table of the first.
 fn wrong_on(
     table: &TableSpec,
     first: usize,
@@ -97,7 +97,7 @@ fn wrong_on(
     None
 }
 
-/// An entry, if it is wrong.
+/// Returns an entry if it is wrong.
 fn wrong_entry(
     table: &TableSpec,
     number: usize,
@@ -121,7 +121,7 @@ fn wrong_entry(
     })
 }
 
-/// What is wrong with an entry, seen with the one before it.
+/// Returns what is wrong with an entry, given the one before it.
 fn fault_of(table: &TableSpec, before: Option<&[u8]>, entry: &[u8]) -> Option<EntryFault>
     requires entry { HasNumberSize table.now.decimals (length entry.now) }
     requires before { IfSome before (λ b. length b.now ≡ length entry.now) }

@@ -66,7 +66,7 @@ has_more k = is_some k.operation || is_some k.factor_1 || is_some k.factor_2 || 
 abbrev pub may_depend : CalculationSpec → Bool
 may_depend last = option_map_or (λ o. (card_columns o).may_depend) last.operation true
 
--- of several cards each has conditions, and none has any where the group's operation may have none
+-- of several cards each has conditions, and none has any if the group's operation may have none
 abbrev pub bad_conditions : Option CalculationGroup → CalculationSpec → List SpecCard → Bool
 bad_conditions group k after = ((goes_on after || (joins k.control_level && is_some group)) && not (depends k)) || (depends k && not (may_depend (group_end k after)))
 

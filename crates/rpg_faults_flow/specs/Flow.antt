@@ -15,7 +15,7 @@ use Rattle.rpg_cards.specs.Names.{definitions, definitions_on, given_names, is_o
 use Rattle.rpg_cards.specs.declared.names.Definition.{Definition}
 use Rattle.rpg_cards.specs.declared.spec_card.SpecCard.{SpecCard}
 
--- ---- F10: GOTO a label, EXSR a subroutine that isn't there; a name that is given twice is what it was first
+-- ---- F10: GOTO a label, EXSR a subroutine that isn't there; a name that is defined twice is what it was first
 
 -- both or neither
 abbrev pub alike : Bool → Bool → Bool

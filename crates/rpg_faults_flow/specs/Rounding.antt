@@ -1,4 +1,4 @@
--- F15: H where nothing is rounded, and MVR where no division has left a remainder.
+-- F15: H where nothing is rounded, and MVR if no division has left a remainder.
 use Rattle.std.specs.Prelude.{List, Bool, true, false, not, ◌&&◌, ◌||◌, Option}
 use Rattle.std.specs.Option.{option_map_or}
 use Rattle.rpg_cards.specs.Calculations.{card_ending, last_card, open_calculation_group}
@@ -36,7 +36,7 @@ leaves_remainder k = operation_passes is_division k && not k.half_adjust
 abbrev pub follows_division : List SpecCard → Bool
 follows_division before = option_map_or (λ g. leaves_remainder (last_card g)) (open_calculation_group before) false
 
--- H on a card before the last, or where the operation doesn't round
+-- H on a card before the last, or if the operation doesn't round
 abbrev pub rounds_nothing : CalculationSpec → Option CalculationSpec → Bool
 rounds_nothing k last = k.half_adjust && not (option_map_or (operation_passes may_half_adjust) last false)
 

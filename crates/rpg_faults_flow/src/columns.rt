@@ -12,7 +12,7 @@ use rpg_cards::{
 };
 use rpg_sheet_specs::{CalculationSpec, Entry, Factor, Indicator, Operation, Three};
 
-/// F9 of calculation cards, but for the sequence of what LOKUP searches.
+/// F9 of calculation cards, except for the sequence of what LOKUP searches.
 pub fn bad_columns(before: &[SpecCard], card: &SpecCard, after: &[SpecCard]) -> bool
     ensures { result ≡ spec.bad_calculation_columns before.now card.now after.now }
 {
@@ -22,7 +22,7 @@ pub fn bad_columns(before: &[SpecCard], card: &SpecCard, after: &[SpecCard]) -> 
     bad_card(is_in_group(before), calculation, after)
 }
 
-/// Whether the card right before is a calculation card.
+/// Whether the previous card is a calculation card.
 fn is_in_group(before: &[SpecCard]) -> bool
     ensures { result ≡ is_some (open_calculation_group before.now) }
 {
@@ -41,7 +41,8 @@ fn bad_card(is_in_group: bool, calculation: &CalculationSpec, after: &[SpecCard]
         || bad_by_end(goes_on, calculation)
 }
 
-/// Of several cards each has conditions, and none has any where the group's operation may have none.
+/// Whether a card of several has no conditions, or a card has some although the group's operation
+/// allows none.
 fn bad_conditions(
     is_in_group: bool,
     goes_on: bool,
@@ -57,7 +58,7 @@ fn bad_conditions(
     }
 }
 
-/// Whether the group of this last card may have conditions.
+/// Whether the group that ends in this card may have conditions.
 pub fn may_depend(last: &CalculationSpec) -> bool
     ensures { result ≡ spec.may_depend last.now }
 {
@@ -80,7 +81,7 @@ pub(crate) fn bad_by_end(goes_on: bool, calculation: &CalculationSpec) -> bool
     }
 }
 
-/// Whether a card has more than conditions.
+/// Whether a card has anything but conditions.
 pub fn has_more(calculation: &CalculationSpec) -> bool
     ensures { result ≡ spec.has_more calculation.now }
 {
@@ -130,7 +131,7 @@ pub(crate) fn misses_result(column: Column, entry: &Option<Entry>) -> bool
     }
 }
 
-/// Whether a column has a label or the name of a subroutine.
+/// Whether a column holds the name of a label or a subroutine.
 fn is_for_name(content: Content) -> bool
     ensures { result ≡ spec.is_for_name content }
 {

@@ -9,7 +9,7 @@ ghost use Rattle.rpg_faults_flow.specs.Flow as flow;
 ghost use Rattle.rpg_faults_flow.specs.Kept.{KeepsRule};
 ghost use Rattle.rpg_faults_flow.specs.Order.{breaks_order};
 
-/// The sections of a source without a fault are what the rules on targets, calls, returns and levels need.
+/// The sections of a source without faults are as the rules on targets, calls, returns and levels need them.
 pub fn faultless_sections_are_plain()
     ensures { (source : List SpecCard) → KeepsRule bad_calculation_columns source → KeepsRule breaks_order source → KeepsRule (flow.goes_nowhere source) source →
         KeepsRule (flow.goes_apart source) source → KeepsRule (flow.calls_itself source) source →

@@ -1,4 +1,4 @@
-//! Where control goes.
+//! Rules on transfers of control.
 #![tactic(auto)]
 
 mod columns;

@@ -1,4 +1,4 @@
-//! Which columns of a calculation card the faults of control point at.
+//! Which columns of a calculation card a fault of control flow points at.
 
 ghost use Rattle.std.specs.Prelude.{◌≡◌, false};
 ghost use Rattle.std.specs.Option.{option_map_or};
@@ -42,7 +42,7 @@ fn end_range(goes_on: bool, calculation: &CalculationSpec) -> ColumnRange
     }
 }
 
-/// What a card before the last has besides its conditions.
+/// What a card other than the last has besides its conditions.
 pub fn further_range(calculation: &CalculationSpec) -> ColumnRange
     ensures { result ≡ marks.further_range calculation.now }
 {
@@ -74,7 +74,7 @@ fn operation_range(calculation: &CalculationSpec, operation: Operation) -> Colum
     }
 }
 
-/// The first resulting indicator, or where they are missing.
+/// The first resulting indicator, or the columns of missing ones.
 fn shown_range(indicators: Three<Option<Indicator>>) -> ColumnRange
     ensures { result ≡ marks.shown_range indicators }
 {
@@ -89,7 +89,7 @@ fn shown_range(indicators: Three<Option<Indicator>>) -> ColumnRange
     }
 }
 
-/// The first condition, or where they are missing.
+/// The first condition, or the columns of missing ones.
 fn condition_range(conditions: Three<Option<ConditionSpec>>) -> ColumnRange
     ensures { result ≡ marks.condition_range conditions }
 {
@@ -104,14 +104,14 @@ fn condition_range(conditions: Three<Option<ConditionSpec>>) -> ColumnRange
     }
 }
 
-/// F10, F13, F14: the label or the subroutine that it goes to.
+/// F10, F13, F14: the label or subroutine that it refers to.
 pub fn target_range() -> ColumnRange
     ensures { result ≡ marks.target_range }
 {
     ColumnRange::SecondFactor
 }
 
-/// F12 of a calculation: BEGSR or ENDSR, else columns 7 and 8.
+/// F12 of a calculation: BEGSR or ENDSR, otherwise columns 7 and 8.
 pub fn order_columns(card: &SpecCard) -> Option<ColumnRange>
     ensures { result ≡ marks.calculation_order_columns card.now }
 {
@@ -128,7 +128,7 @@ fn order_range(calculation: &CalculationSpec) -> ColumnRange
     }
 }
 
-/// F15: H, or the operation that lacks a division before it.
+/// F15: H, or the operation that requires a division before it.
 pub fn rounding_columns(card: &SpecCard, after: &[SpecCard]) -> Option<ColumnRange>
     ensures { result ≡ marks.rounding_columns card.now after.now }
 {
@@ -139,7 +139,7 @@ pub fn rounding_columns(card: &SpecCard, after: &[SpecCard]) -> Option<ColumnRan
     }
 }
 
-/// Whether a card is the last of a calculation whose operation may round.
+/// Whether a card is the last of a calculation whose operation may half-adjust.
 fn is_rounded(card: &SpecCard, after: &[SpecCard]) -> bool
     ensures { result ≡ option_map_or (rounding.operation_passes rounding.may_half_adjust) (card_ending card.now after.now) false }
 {

@@ -20,7 +20,7 @@ measure_of what measure most before c = record { limit = what; most = most; befo
 abbrev pub passes_with_card : Measure → Bool
 passes_with_card k = nat_le k.before k.most && nat_lt k.most k.with
 
--- so many with the card, where that passes the limit
+-- the count with the card, if it is over the limit
 abbrev pub of_count : Measure → Option LimitCause
 of_count k = if passes_with_card k then Some (Passed k.limit k.with) else None
 

@@ -1,4 +1,4 @@
--- F7: files that are unknown, given twice or of the wrong use. F9 of lines: spaces and skips for the disk file.
+-- F7: files that are unknown, defined twice or of the wrong use. F9 of lines: spaces and skips for the disk file.
 use Rattle.std.specs.Prelude.{ℕ, List, Bool, not, ◌&&◌, ◌||◌, Option, None, Some, is_none, is_some, false, true}
 use Rattle.std.specs.Option.{option_and_then, option_map_or, option_or}
 use mathlib.Core.Bool.{beq}

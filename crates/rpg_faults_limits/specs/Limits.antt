@@ -25,7 +25,7 @@ use Rattle.rpg_text.specs.Texts.{is_between}
 abbrev pub crosses : (List SpecCard → ℕ) → ℕ → List SpecCard → SpecCard → Bool
 crosses measure limit before c = nat_le (measure before) limit && nat_lt limit (measure (before ++ c ∷ []))
 
--- a measure of the open group: 0 where there is none
+-- a measure of the open group: 0 if there is none
 abbrev pub in_open : {H F : Type 0} → (Group H F → ℕ) → Option (Group H F) → ℕ
 in_open measure g = option_map_or measure g 0
 
@@ -180,7 +180,7 @@ passes_storage cards before c =
 abbrev pub bad_entries_of : ExtensionSpec → Bool
 bad_entries_of e = not (is_between 1 9999 e.entries)
 
--- the same of a card, if it is an E card
+-- the same for a card, if it is an E card
 abbrev pub bad_entries : SpecCard → Bool
 bad_entries c = option_map_or bad_entries_of (extension_on c.spec) false
 

@@ -1,4 +1,4 @@
--- F2, F3: names that are defined again in another form, and sizes past their limit.
+-- F2, F3: names that are defined again in another form, and sizes over their limit.
 use Rattle.std.specs.Prelude.{ℕ, List, [], ◌∷◌, ◌++◌, Bool, false, not, ◌&&◌, ◌||◌, nat_le, Option, None, Some, is_none, is_some}
 use Rattle.std.specs.List.{list_any}
 use Rattle.std.specs.Option.{option_map_or}
@@ -37,7 +37,7 @@ bad_size_of_table t = is_none (sized_form t.length t.decimals)
 abbrev pub bad_size_of_tables : ExtensionSpec → Bool
 bad_size_of_tables e = list_any bad_size_of_table (tables_on e)
 
--- columns that are turned round have no size
+-- columns that are reversed have no size
 abbrev pub bad_size_of_field : InputFieldSpec → Bool
 bad_size_of_field f = nat_le f.from f.to && is_none (field_form f)
 

@@ -23,21 +23,21 @@ use Rattle.rpg_sheet_specs.specs.declared.output.OutputSpec.{OutputSpec}
 
 -- ---- the open record type, and the open line
 
--- the counts are those of the open record type, all 0 where none is open
+-- the counts are those of the open record type, all 0 if none is open
 pub record IsOpenType (g : Option (Group RecordType InputSpec)) (t : OpenType) : Type 0 where
   pub is_open : t.is_open ≡ is_some g
   pub codes : t.codes ≡ in_open code_count g
   pub levels : t.levels ≡ in_open level_count g
   pub fields : t.fields ≡ in_open field_count g
 
--- the counts are those of the open line, all 0 where none is open
+-- the counts are those of the open line, all 0 if none is open
 pub record IsOpenLine (g : Option (Group OutputRecord OutputSpec)) (l : OpenLine) : Type 0 where
   pub is_open : l.is_open ≡ is_some g
   pub alternatives : l.alternatives ≡ in_open alternative_count g
   pub conditions : l.conditions ≡ in_open condition_count g
   pub fields : l.fields ≡ in_open output_field_count g
 
--- of at most so many cards
+-- of at most this many cards
 pub record HasFewOnType (n : ℕ) (t : OpenType) : Type 0 where
   pub codes : t.codes ≤ 3 * n
   pub levels : t.levels ≤ n

@@ -1,4 +1,4 @@
-//! How many calculation cards and subroutines there are.
+//! The number of calculation cards and of subroutines.
 
 ghost use Rattle.std.specs.Prelude.{◌≡◌, [], ◌∷◌, ◌++◌, ◌≤◌, false, length, Option};
 ghost use Rattle.std.specs.Option.{option_map_or};
@@ -10,24 +10,24 @@ use crate::filled::one_if;
 use rpg_cards::{SpecCard, begins_subroutine, is_subroutine, joins, last_card};
 use rpg_sheet_specs::CalculationSpec;
 
-/// C cards, and the BEGSRs of SR cards.
+/// The number of C cards, and of BEGSRs on SR cards.
 #[derive(Clone, Copy)]
 pub struct Calculations {
     pub cards: u64,
     pub subroutines: u64,
-    /// Whether the group that the card right before belongs to is of an SR card.
+    /// Whether the group of the previous card begins with an SR card.
     pub is_subroutine: bool,
 }
 
 impl Calculations {
-    /// Before all cards.
+    /// The counts before the first card.
     pub(crate) const NONE: Calculations = Calculations {
         cards: 0,
         subroutines: 0,
         is_subroutine: false,
     };
 
-    /// The same with one more card.
+    /// Returns the counts after one more card.
     pub(crate) fn with(self, before: &[SpecCard], card: &SpecCard, after: &[SpecCard]) -> Self
         requires few { length before.now ≤ 2000 }
         requires calculations { AreCalculations before.now (card.now ∷ after.now) self }
@@ -40,7 +40,7 @@ impl Calculations {
         }
     }
 
-    /// Whether the calculation that ends on the card is the BEGSR of an SR card.
+    /// Whether the calculation that ends on the card is a BEGSR of an SR card.
     pub(crate) fn begins(self, before: &[SpecCard], card: &SpecCard, after: &[SpecCard]) -> bool
         requires { self.is_subroutine ≡ is_in_subroutine before.now }
         ensures { result ≡ option_map_or begins_subroutine (calculation_ending before.now card.now after.now) false }
@@ -53,7 +53,7 @@ impl Calculations {
         }
     }
 
-    /// Whether the card belongs to a group of an SR card.
+    /// Whether the card belongs to a group of SR cards.
     fn is_subroutine_after(self, before: &[SpecCard], card: &SpecCard) -> bool
         requires { self.is_subroutine ≡ is_in_subroutine before.now }
         ensures { result ≡ is_in_subroutine (before.now ++ card.now ∷ []) }
@@ -64,7 +64,7 @@ impl Calculations {
         }
     }
 
-    /// Whether the group that the card continues or begins is of an SR card.
+    /// Whether the group that the card continues or begins is one of SR cards.
     fn is_subroutine_with(self, calculation: &CalculationSpec) -> bool
         ensures { (g : Option CalculationGroup) → self.is_subroutine ≡ is_open_subroutine g → result ≡ is_of_subroutine (group_with g calculation.now) }
     {

@@ -1,4 +1,4 @@
-//! F7: files that are unknown, given twice or of the wrong use. F9 of lines: spaces and skips for the disk file.
+//! F7: files that are unknown, described twice or of the wrong use. F9 of lines: spaces and skips for the disk file.
 
 ghost use Rattle.std.specs.Prelude.{◌≡◌, false, option_map};
 ghost use Rattle.std.specs.Option.{option_map_or, option_or};
@@ -10,8 +10,8 @@ ghost use Rattle.rpg_faults_limits.specs.Files as files;
 use rpg_cards::{FileUse, IndexedCards, Sheets, SpecCard, file_for, file_named, use_of};
 use rpg_sheet_specs::{FileSpec, Movement, OutputRecord, Word};
 
-/// F7, on a card: an F card whose name or use was given before, whose column 17 isn't that of the other
-/// input file, or whose records are too long; a type or record card without a file of its use.
+/// F7, on a card: an F card whose name or use is taken, whose column 17 doesn't agree with the other input file's, or whose records are too
+/// long; a type or record card without a file of its use.
 pub fn breaks_files(
     source: &IndexedCards,
     sheets: &Sheets,
@@ -50,7 +50,7 @@ fn is_bad_file(before: &[SpecCard], file: &FileSpec) -> bool
         || !(1..=longest(serves_as)).contains(&file.record_length)
 }
 
-/// Whether the other input file is before, and only one of the two ends the job.
+/// Whether the other input file comes before, and just one of the two ends the job.
 pub(crate) fn ends_apart(before: &[SpecCard], file: &FileSpec) -> bool
     ensures { result ≡ files.ends_apart before.now file.now }
 {
@@ -73,7 +73,7 @@ const fn other_input(serves_as: FileUse) -> Option<FileUse>
     }
 }
 
-/// The longest record or line.
+/// Returns the greatest record length, or line length of the printer.
 const fn longest(serves_as: FileUse) -> u16
     ensures { result ≡ files.longest_in_file serves_as }
 {
@@ -113,7 +113,7 @@ fn serves_as(source: &IndexedCards, name: &Word<8>) -> Option<FileUse>
     Some(use_of(source.file_named(name)?))
 }
 
-/// F9 of a line: the disk file has neither spaces nor skips.
+/// F9 of a line: the disk file allows neither spaces nor skips.
 pub fn moves_disk(
     source: &IndexedCards,
     sheets: &Sheets,
@@ -138,7 +138,7 @@ fn moves(movement: &Movement) -> bool
         || movement.skip_after.is_some()
 }
 
-/// Whether the line goes to the disk file, which it names or which the line before it goes to.
+/// Whether the line goes to the disk file, which it names or which the previous line goes to.
 fn is_for_disk(
     source: &IndexedCards,
     sheets: &Sheets,

@@ -1,4 +1,4 @@
-//! How many of some are there.
+//! Counts of filled places.
 
 ghost use Rattle.std.specs.Prelude.{◌≡◌, if◌then◌else◌};
 

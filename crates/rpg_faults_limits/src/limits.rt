@@ -1,4 +1,4 @@
-//! F6: limits that are passed.
+//! F6: limits that are exceeded.
 
 ghost use Rattle.std.specs.Prelude.{◌≡◌, [], ◌∷◌, ◌++◌, ◌≤◌, is_some, length, option_and_then};
 ghost use Rattle.rpg_cards.specs.Cards.{extension_on};
@@ -15,7 +15,7 @@ use crate::state::Limits;
 use crate::types::OpenType;
 use rpg_cards::{IndexedCards, Sheets, SpecCard};
 
-/// F6: a limit that is passed with the card.
+/// F6: a limit that is exceeded with the card.
 pub fn passes_limit(
     source: &IndexedCards,
     sheets: &Sheets,
@@ -33,7 +33,7 @@ pub fn passes_limit(
     limit_cause(source, sheets, limits, before, card, after).is_some()
 }
 
-/// F6: which limit is passed with the card.
+/// F6: which limit is exceeded with the card.
 pub fn limit_cause(
     source: &IndexedCards,
     sheets: &Sheets,
@@ -86,7 +86,7 @@ fn passed(
     on_storage(source, limits, before, card)
 }
 
-/// Entries out of range.
+/// Checks the number of entries.
 fn of_entries(card: &SpecCard) -> Option<LimitCause>
     ensures { result ≡ option_and_then causes.of_entries (extension_on card.now.spec) }
 {
@@ -104,7 +104,7 @@ pub(crate) fn has_bad_entries(card: &SpecCard) -> bool
     of_entries(card).is_some()
 }
 
-/// Record types, and what is on the cards of one: nothing changes with a card that isn't an I card.
+/// Checks record types, and what is on the cards of one. Only an I card changes these.
 fn on_types(
     source: &IndexedCards,
     sheets: &Sheets,
@@ -132,7 +132,7 @@ fn on_types(
     ])
 }
 
-/// Lines, and what is on the cards of one: nothing changes with a card that isn't an O card.
+/// Checks lines, and what is on the cards of one. Only an O card changes these.
 fn on_lines(
     source: &IndexedCards,
     sheets: &Sheets,
@@ -165,7 +165,7 @@ fn on_lines(
     ])
 }
 
-/// Calculation cards and subroutines.
+/// Checks calculation cards and subroutines.
 fn on_calculations(
     calculations: Calculations,
     before: &[SpecCard],
@@ -188,7 +188,7 @@ fn on_calculations(
     None
 }
 
-/// Names and constants, and their bytes.
+/// Checks names and constants, and their bytes.
 fn on_storage(
     source: &IndexedCards,
     limits: &Limits,

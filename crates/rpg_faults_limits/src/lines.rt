@@ -1,4 +1,4 @@
-//! What is on the cards of the open line.
+//! The counts of the open line.
 
 ghost use Rattle.std.specs.Prelude.{◌≡◌, ℕ, ◌+◌, ◌≤◌, [], ◌∷◌, ◌++◌, Option, length};
 ghost use Rattle.rpg_cards.specs.Groups.{Group, open_group, output_card_role, output_role, with_card};
@@ -9,7 +9,7 @@ ghost use Rattle.rpg_sheet_specs.specs.declared.output.OutputSpec.{OutputSpec};
 use rpg_cards::SpecCard;
 use rpg_sheet_specs::OutputSpec;
 
-/// Alternatives, conditions of the last alternative and fields of a line with its AND, OR and field cards: nothing where none is open.
+/// The alternatives, conditions of the last alternative, and fields of a line with its AND, OR and field cards; all 0 if none is open.
 #[derive(Clone, Copy)]
 pub struct OpenLine {
     pub is_open: bool,
@@ -19,7 +19,7 @@ pub struct OpenLine {
 }
 
 impl OpenLine {
-    /// Before all cards.
+    /// The counts before the first card.
     pub(crate) const NONE: OpenLine = OpenLine {
         is_open: false,
         alternatives: 0,
@@ -27,7 +27,7 @@ impl OpenLine {
         fields: 0,
     };
 
-    /// The same with one more card.
+    /// Returns the counts after one more card.
     pub(crate) fn with(self, before: &[SpecCard], card: &SpecCard) -> Self
         requires few_cards { length before.now ≤ 2000 }
         requires open { IsOpenLine (open_group output_role before.now) self }

@@ -1,4 +1,4 @@
-//! Which columns of a card the faults of names, limits, files and order point at.
+//! Which columns of a card a fault of names, limits, files or order points at.
 
 ghost use Rattle.std.specs.Prelude.{◌≡◌, ◌∷◌, ◌++◌, ◌≤◌, length};
 ghost use Rattle.rpg_cards.specs.Names.{definitions};
@@ -37,7 +37,7 @@ pub fn redefined_columns(
     }
 }
 
-/// Whether the first name that a card defines has another form before.
+/// Whether the first name that a card defines had another form before.
 fn redefines_first(
     source: &IndexedCards,
     limits: &Limits,
@@ -56,7 +56,7 @@ fn redefines_first(
     }
 }
 
-/// Whether a definition has another form than its name by the cards before.
+/// Whether a definition's form differs from that of its name before the card.
 fn is_other_here(
     source: &IndexedCards,
     limits: &Limits,
@@ -73,7 +73,7 @@ fn is_other_here(
     is_other(source, limits.storage.names.items, definition)
 }
 
-/// Where a card defines its first name.
+/// Returns the columns of the first name that a card defines.
 fn name_columns(card: &SpecCard) -> Option<ColumnRange>
     ensures { result ≡ marks.name_columns card.now.spec }
 {
@@ -97,7 +97,7 @@ pub fn size_columns(card: &SpecCard) -> Option<ColumnRange>
     }
 }
 
-/// The decimals, where the length would do without them; else the length.
+/// The decimals, if the length would be valid without them; otherwise the length.
 fn size_range(
     length: ColumnRange,
     decimals: ColumnRange,
@@ -153,7 +153,7 @@ fn size_of_result(calculation: &CalculationSpec) -> ColumnRange
     }
 }
 
-/// F6: the entries of a table; else the card as a whole is one too many.
+/// F6: the entries of a table; None if the card as a whole is one too many.
 pub fn limit_columns(card: &SpecCard) -> Option<ColumnRange>
     ensures { result ≡ marks.limit_columns card.now }
 {
@@ -164,7 +164,8 @@ pub fn limit_columns(card: &SpecCard) -> Option<ColumnRange>
     }
 }
 
-/// F7: the name of a file, what makes it a second one of its use, whether it ends the job, or the record length.
+/// F7: the name of a file, what makes it the second one of its use, whether it ends the job, or the record
+/// length.
 pub fn file_columns(before: &[SpecCard], card: &SpecCard) -> Option<ColumnRange>
     ensures { result ≡ marks.file_columns before.now card.now.spec }
 {
@@ -220,7 +221,7 @@ fn first_movement(movement: &Movement) -> ColumnRange
     }
 }
 
-/// F12 of I and O cards: the name of a field that belongs to nothing.
+/// F12 of I and O cards: the name of a field that belongs to no type or line.
 pub fn stray_columns(card: &SpecCard) -> Option<ColumnRange>
     ensures { result ≡ marks.stray_columns card.now.spec }
 {

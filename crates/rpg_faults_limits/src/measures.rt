@@ -1,9 +1,9 @@
-//! What there may be only so many of, and what passes its limit.
+//! Counts with limits, and limits that are exceeded.
 
 ghost use Rattle.std.specs.Prelude.{◌≡◌};
 ghost use Rattle.rpg_faults_limits.specs.Causes as causes;
 
-/// What there may be only so many of.
+/// What a limit counts.
 #[derive(Clone, Copy)]
 pub enum Limit {
     RecordTypes,
@@ -31,16 +31,16 @@ pub enum Limit {
     Fields,
 }
 
-/// Which limit a card passes.
+/// Which limit a card exceeds.
 #[derive(Clone, Copy)]
 pub enum LimitCause {
-    /// A table or an array of so many entries.
+    /// A table or an array of this many entries.
     Entries(u16),
-    /// With the card there are so many.
+    /// The count including the card.
     Passed { limit: Limit, count: u64 },
 }
 
-/// What is counted, with its limit: before a card, and with it.
+/// A count and its limit: before a card, and with it.
 #[derive(Clone, Copy)]
 pub struct Measure {
     pub limit: Limit,
@@ -50,7 +50,8 @@ pub struct Measure {
 }
 
 impl Measure {
-    /// So many with the card, where the limit is kept before it and passed with it.
+    /// The cause, if the count is within its limit before the card and over it with the
+    /// card.
     pub(crate) const fn cause(self) -> Option<LimitCause>
         ensures { result ≡ causes.of_count self }
     {
@@ -74,7 +75,7 @@ pub(crate) const fn counted(limit: Limit, most: u64, before: u64, with: u64) -> 
     }
 }
 
-/// The first count that passes its limit.
+/// Returns the first count that exceeds its limit.
 pub(crate) fn first_past(counts: &[Measure]) -> Option<LimitCause>
     ensures { result ≡ causes.first_past counts.now }
 {

@@ -1,4 +1,4 @@
-//! F2 and F3: names that are defined again in another form, and sizes past their limit.
+//! F2 and F3: names that are defined again in another form, and sizes over their limit.
 
 ghost use Rattle.std.specs.Prelude.{◌≡◌, List, ◌∷◌, ◌++◌, ◌≤◌, length, take};
 ghost use Rattle.rpg_cards.specs.Names.{definitions};
@@ -31,7 +31,7 @@ pub fn redefines(
     )
 }
 
-/// Whether one of these, which come after so many definitions, has another form by those before it.
+/// Whether one of these, which follow the first `place` definitions, differs in form from those before it.
 fn are_other(source: &IndexedCards, place: usize, items: &[Definition]) -> bool
     requires few { place ≤ 4000 }
     requires stand { (front : List Definition) × (back : List Definition) × (place ≡ length front) × (definitions source.now ≡ front ++ (items.now ++ back)) }
@@ -57,7 +57,7 @@ pub(crate) fn is_other(source: &IndexedCards, place: usize, definition: &Definit
     }
 }
 
-/// F3: a length or decimals past their limit, or decimals without a length.
+/// F3: a length or decimals over their limit, or decimals without a length.
 pub fn bad_size(card: &SpecCard) -> bool
     ensures { result ≡ names.bad_size card.now }
 {

@@ -1,4 +1,4 @@
-//! What is known of the cards before a card.
+//! The state that is kept of the cards before a card.
 
 ghost use Rattle.std.specs.Prelude.{◌≡◌, [], ◌∷◌, ◌++◌, ◌≤◌, length};
 ghost use Rattle.rpg_faults_limits.specs.State.{AreLimits};
@@ -9,11 +9,11 @@ use crate::storage::Storage;
 use crate::types::OpenType;
 use rpg_cards::{IndexedCards, SpecCard};
 
-/// What is known of the cards before a card, as far as limits need it.
+/// What the limits need of the cards before a card.
 #[derive(Clone, Copy)]
 pub struct Limits {
     pub(crate) storage: Storage,
-    /// With the next card.
+    /// The storage including the next card.
     pub(crate) storage_with_next: Storage,
     pub(crate) calculations: Calculations,
     pub(crate) open_type: OpenType,
@@ -21,7 +21,7 @@ pub struct Limits {
 }
 
 impl Limits {
-    /// Before the first card.
+    /// Returns the state before the first card.
     pub fn nothing(source: &IndexedCards) -> Self
         requires { length source.now ≤ 2000 }
         ensures { AreLimits source.now [] source.now result }
@@ -36,7 +36,7 @@ impl Limits {
         }
     }
 
-    /// Before the next card.
+    /// Returns the state before the next card.
     pub fn with(
         &self,
         source: &IndexedCards,

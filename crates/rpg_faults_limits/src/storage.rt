@@ -1,4 +1,4 @@
-//! The names and constants of cards, which take storage.
+//! The names and constants of cards, which use storage.
 
 ghost use Rattle.std.specs.Prelude.{◌≡◌, List, [], ◌∷◌, ◌++◌, ◌≤◌, length};
 ghost use Rattle.rpg_cards.specs.declared.spec_card.SpecCard.{SpecCard};
@@ -17,7 +17,7 @@ pub struct Storage {
 }
 
 impl Storage {
-    /// Before all cards.
+    /// Returns the storage before the first card.
     pub(crate) fn nothing(source: &IndexedCards) -> Self
         requires { length source.now ≤ 2000 }
         ensures { IsStorage source.now [] result }
@@ -29,7 +29,7 @@ impl Storage {
         }
     }
 
-    /// The same with the first of the rest, if there is one.
+    /// Returns the storage with the first of the rest, if there is one.
     pub(crate) fn with_next(&self, source: &IndexedCards, rest: &[SpecCard]) -> Self
         requires few { length source.now ≤ 2000 }
         requires storage { (before : List SpecCard) × (source.now ≡ before ++ rest.now) × IsStorage source.now before self.now }
@@ -41,7 +41,7 @@ impl Storage {
         }
     }
 
-    /// The same with one more card.
+    /// Returns the storage with one more card.
     fn with(&self, source: &IndexedCards, card: &SpecCard) -> Self
         requires few { length source.now ≤ 2000 }
         requires storage { (before : List SpecCard) × BeginsWith source.now (before ++ card.now ∷ []) × IsStorage source.now before self.now }

@@ -11,7 +11,7 @@ ghost use Rattle.rpg_faults_limits.specs.Totals.{CountsCard, HasConstants, HasNa
 use rpg_cards::{Constant, Definition, IndexedCards, SpecCard};
 use rpg_program::form::FieldForm;
 
-/// Names or constants: how many items were seen, how many of these are new, and the bytes of the new ones.
+/// Of names or constants: how many were seen, how many of them were new, and the bytes of the new ones.
 #[derive(Clone, Copy)]
 pub struct Totals {
     pub items: usize,
@@ -66,7 +66,7 @@ pub(crate) fn names_of(source: &IndexedCards) -> Totals
     names
 }
 
-/// The names of the cards at the front and of the next card.
+/// Counts the names of one more card.
 pub(crate) fn names_with(names: Totals, source: &IndexedCards, card: &SpecCard) -> Totals
     requires few { length source.now ≤ 2000 }
     requires seen { (before : List SpecCard) × SeenBefore HasNames definitions source.now card.now names before }
@@ -99,7 +99,7 @@ fn form_bytes(form: Option<FieldForm>) -> u32
     }
 }
 
-/// The constants of the cards at the front and of the next card.
+/// Counts the constants of one more card.
 pub(crate) fn constants_with(constants: Totals, source: &IndexedCards, card: &SpecCard) -> Totals
     requires few { length source.now ≤ 2000 }
     requires seen { (before : List SpecCard) × SeenBefore HasConstants constants_in source.now card.now constants before }

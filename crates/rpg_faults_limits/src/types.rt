@@ -1,4 +1,4 @@
-//! What is on the cards of the open record type.
+//! The counts of the open record type.
 
 ghost use Rattle.std.specs.Prelude.{◌≡◌, ℕ, ◌+◌, ◌≤◌, [], ◌∷◌, ◌++◌, Option, length};
 ghost use Rattle.rpg_cards.specs.Groups.{Group, input_card_role, input_role, open_group, with_card};
@@ -10,7 +10,7 @@ use crate::filled::one_if;
 use rpg_cards::SpecCard;
 use rpg_sheet_specs::InputSpec;
 
-/// Codes, level fields and fields of a record type with its AND and field cards: nothing where none is open.
+/// The codes, control and match fields, and input fields of a record type with its AND and field cards; all 0 if none is open.
 #[derive(Clone, Copy)]
 pub struct OpenType {
     pub is_open: bool,
@@ -20,7 +20,7 @@ pub struct OpenType {
 }
 
 impl OpenType {
-    /// Before all cards.
+    /// The counts before the first card.
     pub(crate) const NONE: OpenType = OpenType {
         is_open: false,
         codes: 0,
@@ -28,7 +28,7 @@ impl OpenType {
         fields: 0,
     };
 
-    /// The same with one more card.
+    /// Returns the counts after one more card.
     pub(crate) fn with(self, before: &[SpecCard], card: &SpecCard) -> Self
         requires few_cards { length before.now ≤ 2000 }
         requires open { IsOpenType (open_group input_role before.now) self }

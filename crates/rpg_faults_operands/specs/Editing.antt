@@ -20,7 +20,7 @@ use Rattle.rpg_faults_operands.specs.Operands.{output_form}
 
 -- ---- the meaning of the columns
 
--- the fill of a code: blanks where there is no text, none for a text that is no fill
+-- the fill of a code: blanks if there is no text, none for a text that is no fill
 abbrev pub fill_in : Option (List ℕ) → Option Fill
 fill_in None = Some fill.Blank
 fill_in (Some text) = fill_by text
@@ -53,7 +53,7 @@ suits form (Word word) = same_kind form.kind kind.Number && fits_word form.lengt
 abbrev pub if_suited : FieldForm → How (List ℕ) → Option (How (List ℕ))
 if_suited form how = if suits form how then Some how else None
 
--- how a field of that form is edited, where its code or word fits
+-- how a field of that form is edited, if its code or word fits
 abbrev pub fitting_how : FieldForm → OutputField → Option (How (List ℕ))
 fitting_how form f = option_and_then (if_suited form) (output_how f)
 

@@ -50,7 +50,7 @@ is_searched_content Subroutine = false
 abbrev pub is_too_short : Content → FieldForm → FieldForm → Bool
 is_too_short content form field = is_searched_content content && is_array form.class && can_index field && not (nat_lt form.entries (10 ^ field.length))
 
--- an index of a field of that form, where the form of the field that it names is known
+-- an index of a field of that form, if the form of the field that it names is known
 abbrev pub bad_entry : Content → FieldForm → EntryIndex → Option FieldForm → Bool
 bad_entry content form (index.Literal n) field = not (is_between 1 form.entries n)
 bad_entry content form (index.Name x) field = option_map_or (is_too_short content form) field false

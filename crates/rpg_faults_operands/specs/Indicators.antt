@@ -40,11 +40,11 @@ is_barred_mr cards n = (n == 129) && not (may_name_mr cards)
 abbrev pub is_1p : ℕ → Bool
 is_1p n = n == 111
 
--- conditions of output may name any indicator, and MR only where it is allowed
+-- conditions of output may name any indicator, and MR only if it is allowed
 abbrev pub bad_in_output : List SpecCard → ConditionSpec → Bool
 bad_in_output cards c = is_barred_mr cards c.indicator
 
--- conditions of calculations may name any indicator but 1P, and MR only where it is allowed
+-- conditions of calculations may name any indicator but 1P, and MR only if it is allowed
 abbrev pub bad_in_calculation : List SpecCard → ConditionSpec → Bool
 bad_in_calculation cards c = is_1p c.indicator || is_barred_mr cards c.indicator
 

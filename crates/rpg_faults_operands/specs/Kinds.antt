@@ -49,7 +49,7 @@ kinds_differ None g = false
 kinds_differ (Some f) None = false
 kinds_differ (Some f) (Some g) = not (same_kind f.kind g.kind)
 
--- texts where the operation requires numbers, or a number and a text where it requires one kind
+-- texts if the operation requires numbers, or a number and a text if it requires one kind
 abbrev pub wrong_kinds : Kinds → Option FieldForm → Option FieldForm → Option FieldForm → Bool
 wrong_kinds Numbers f g r = has_text f || has_text g || has_text r
 wrong_kinds Alike f g r = kinds_differ f g

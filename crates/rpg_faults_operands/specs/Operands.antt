@@ -35,7 +35,7 @@ is_field_content Subroutine = false
 abbrev pub if_field : Content → Option Content
 if_field c = if is_field_content c then Some c else None
 
--- what a column takes, where it is for a field
+-- what a column takes, if it is for a field
 abbrev pub field_content : Column → Option Content
 field_content Blank = None
 field_content (May c) = if_field c
@@ -85,7 +85,7 @@ operands_ending c after = option_map_or operands_of (card_ending c after) no_ope
 abbrev pub output_operand : OutputField → Option Operand
 output_operand f = option_map (operand_with Value) f.operand
 
--- the same of a card, if it has an output field
+-- the same for a card, if it has an output field
 abbrev pub output_operand_on : SpecCard → Option Operand
 output_operand_on c = option_and_then output_operand (output_field_on c.spec)
 

@@ -1,4 +1,4 @@
-//! F9: high or low of a search without sequence, and output fields whose columns don't go together.
+//! F9: a search for high or low without sequence, and output fields whose columns don't go together.
 
 ghost use Rattle.std.specs.Prelude.{◌≡◌, false};
 ghost use Rattle.std.specs.Option.{option_map_or};
@@ -10,7 +10,7 @@ use rpg_cards::{IndexedCards, OperationColumns, Shown, SpecCard, columns, last_c
 use rpg_program::form::{FieldForm, is_array, is_table};
 use rpg_sheet_specs::{CalculationSpec, OutputField};
 
-/// F9, as far as it is of output fields, or of the sequence of what LOKUP searches.
+/// F9 for output fields and for the sequence of what LOKUP searches.
 pub fn bad_columns(source: &IndexedCards, card: &SpecCard, after: &[SpecCard]) -> bool
     ensures { result ≡ words.bad_operand_columns source.now card.now after.now }
 {
@@ -33,7 +33,7 @@ fn is_bad_search_ending(source: &IndexedCards, card: &SpecCard, after: &[SpecCar
     }
 }
 
-/// High or low need entries in ascending sequence.
+/// Whether a search for high or low has entries that aren't in ascending sequence.
 fn is_unordered(
     source: &IndexedCards,
     calculation: &CalculationSpec,
@@ -56,7 +56,7 @@ fn lacks_sequence(form: FieldForm) -> bool
     (is_array(form.class) || is_table(form.class)) && !form.is_ascending
 }
 
-/// Without a field there is a constant, and neither code nor blank after.
+/// Whether an output card without a field has no constant, or has a code or blank-after.
 fn is_bad_output_field(field: &OutputField) -> bool
     ensures { result ≡ words.bad_output_field field.now }
 {

@@ -1,4 +1,4 @@
-//! F17: edit codes and words that don't fit; and how wide an output field is.
+//! F17: edit codes and words that don't fit; and the width of an output field.
 
 ghost use Rattle.std.specs.Prelude.{◌≡◌, ◌≤◌, ◌&&◌, true, is_some, IfSome};
 ghost use Rattle.std.specs.Option.{is_none};
@@ -17,7 +17,7 @@ use rpg_sheet_specs::{OutputField, TextLiteral};
 
 // ---- the meaning of the columns
 
-/// The fill that a text with a code means: blanks where there is no text.
+/// Returns the fill that a text beside a code means: blanks if there is no text.
 pub fn fill_in(text: &Option<TextLiteral<24>>) -> Option<Fill>
     ensures { result ≡ editing.fill_in text.now }
 {
@@ -27,7 +27,7 @@ pub fn fill_in(text: &Option<TextLiteral<24>>) -> Option<Fill>
     }
 }
 
-// ---- whether it fits
+// ---- whether editing fits
 
 fn suits_code(form: FieldForm, code: EditCode, fill: Fill) -> bool
     ensures { result ≡ editing.suits form (how.Code code fill) }
@@ -35,7 +35,7 @@ fn suits_code(form: FieldForm, code: EditCode, fill: Fill) -> bool
     !is_text(form) && code.fits(fill, form.length, form.decimals)
 }
 
-/// The word, where it fits.
+/// Returns the word if it fits.
 fn fitting_word(form: FieldForm, word: &TextLiteral<24>) -> Option<EditWord>
     requires { IsSized form }
     ensures fits { is_some result ≡ editing.suits form (how.Word word.now) }
@@ -47,7 +47,7 @@ fn fitting_word(form: FieldForm, word: &TextLiteral<24>) -> Option<EditWord>
     }
 }
 
-/// How a field of this form is edited, where its code or word fits.
+/// Returns how a field of this form is edited, if its code or word fits.
 fn fitting_how(form: FieldForm, field: &OutputField) -> Option<How>
     requires { IsSized form }
     ensures how { result ≡ editing.fitting_how form field.now }
@@ -69,7 +69,7 @@ fn fitting_how(form: FieldForm, field: &OutputField) -> Option<How>
     }
 }
 
-/// Of a field without a form only the fill is known.
+/// Whether the fill is invalid, which is all that can be tested for a field without a form.
 pub(crate) fn lacks_fill(field: &OutputField) -> bool
     ensures { result ≡ editing.unedited None field.now }
 {
@@ -97,7 +97,7 @@ fn is_badly_edited(source: &IndexedCards, field: &OutputField) -> bool
     }
 }
 
-/// Whether a field has neither a code nor a word, so that its form doesn't matter: of most fields nothing is looked up.
+/// Whether a field has neither a code nor a word. Most fields have none, so their forms aren't looked up.
 fn is_unedited(field: &OutputField) -> bool
     ensures { result ≡ (is_none field.now.code && is_none field.now.text) }
 {
@@ -137,7 +137,7 @@ fn edited_width(form: FieldForm, field: &OutputField) -> Option<usize>
     }
 }
 
-/// How many columns an output field takes: none where its code or word doesn't fit, or where its name has no form.
+/// Returns the width of an output field in columns; None if its code or word doesn't fit, or its name has no form.
 pub fn width(source: &IndexedCards, field: &OutputField) -> Option<usize>
     ensures { result ≡ editing.width source.now field.now }
 {

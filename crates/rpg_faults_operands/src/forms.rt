@@ -1,4 +1,4 @@
-//! What is required of forms.
+//! Requirements on forms.
 
 ghost use Rattle.std.specs.Prelude.{◌≡◌};
 ghost use Rattle.rpg_faults_operands.specs.Indexes as indexes;
@@ -12,14 +12,14 @@ pub(crate) fn is_text(form: FieldForm) -> bool
     same_kind(form.kind, Kind::Text)
 }
 
-/// The date and constants are never written.
+/// Whether a field is never written: the date and constants.
 pub(crate) fn is_unwritable(form: FieldForm) -> bool
     ensures { result ≡ kinds.is_unwritable form }
 {
     !is_writable(form.class)
 }
 
-/// A plain number without decimals.
+/// Whether a field can be an index: a plain number without decimals.
 pub(crate) fn can_index(form: FieldForm) -> bool
     ensures { result ≡ indexes.can_index form }
 {

@@ -1,4 +1,4 @@
-//! Cards whose operands are surely good, so that F1, F4 and F5 need not be asked one by one: each name is looked up once.
+//! A quick test for cards with good operands, which break neither F1, F4 nor F5: it looks each name up once.
 
 ghost use Rattle.std.specs.Prelude.{◌≡◌, false, Some, IfSome};
 ghost use Rattle.std.specs.Bool.{OnTrue};
@@ -18,14 +18,14 @@ use rpg_cards::{Column, Content, Defined, IndexedCards, SpecCard, columns, last_
 use rpg_program::form::FieldForm;
 use rpg_sheet_specs::{CalculationSpec, Entry, Factor};
 
-/// Whether all names on a card are defined and its operands good, so that it breaks neither F1 nor F4 nor F5.
+/// Whether all names on a card are defined and its operands are good, so that it breaks neither F1, F4 nor F5.
 pub fn has_good_operands(source: &IndexedCards, card: &SpecCard, after: &[SpecCard]) -> bool
     ensures { OnTrue result (HasGoodOperands source.now card.now after.now) }
 {
     is_good_ending(source, card, after) && is_good_output(source, card)
 }
 
-/// Of the calculation that ends on the card.
+/// The test for the calculation that ends on the card.
 fn is_good_ending(source: &IndexedCards, card: &SpecCard, after: &[SpecCard]) -> bool
     ensures { OnTrue result (IfSome (card_ending card.now after.now) (IsGoodCalculation source.now)) }
 {
@@ -54,7 +54,7 @@ fn is_good_calculation(source: &IndexedCards, calculation: &CalculationSpec) -> 
     }
 }
 
-/// The form of a factor, which has none in a column that isn't for a field: nothing if it may be bad.
+/// Returns the form of a factor, if its column is for a field, or None if the factor may be bad.
 fn good_factor(
     source: &IndexedCards,
     column: Column,
@@ -74,7 +74,7 @@ fn good_factor(
     }
 }
 
-/// The same of a result field.
+/// Like `good_factor`, for a result field.
 fn good_result(
     source: &IndexedCards,
     column: Column,
@@ -91,7 +91,7 @@ fn good_result(
     }
 }
 
-/// The form of a field that is defined and well indexed.
+/// Returns the form of a field that is defined and validly indexed.
 fn good_form(source: &IndexedCards, content: Content, field: &Entry) -> Option<FieldForm>
     ensures good { IfSome result (λ form. IsGoodOperand source.now (Some (operands.operand_with content field.now))) }
     ensures form { IfSome result (λ form. operands.card_entry_form source.now field.now ≡ Some form) }
@@ -106,7 +106,7 @@ fn good_form(source: &IndexedCards, content: Content, field: &Entry) -> Option<F
     }
 }
 
-/// Whether an index, or none, is right for a field of this form.
+/// Whether an index, or its absence, is valid for a field of this form.
 fn has_good_index(source: &IndexedCards, content: Content, field: &Entry, form: FieldForm) -> bool
     requires { operands.card_entry_form source.now field.now ≡ Some form }
     ensures { OnTrue result (IsGoodOperand source.now (Some (operands.operand_with content field.now))) }
@@ -124,7 +124,7 @@ fn has_good_index(source: &IndexedCards, content: Content, field: &Entry, form: 
     }
 }
 
-/// Of an output field.
+/// The test for an output field.
 fn is_good_output(source: &IndexedCards, card: &SpecCard) -> bool
     ensures operand { OnTrue result (IsGoodOperand source.now (operands.output_operand_on card.now)) }
     ensures kind { OnTrue result (option_map_or (kinds.wrong_in_output source.now) (output_field_on card.now.spec) false ≡ false) }

@@ -37,14 +37,15 @@ pub(crate) fn is_badly_indexed(source: &IndexedCards, operand: &Option<Operand>)
         }
 }
 
-/// The form of the field that an index names.
+/// Returns the form of the field that an index names.
 fn index_form(source: &IndexedCards, entry: &Entry) -> Option<FieldForm>
     ensures { result ≡ indexes.index_form source.now entry.now }
 {
     form_in(source.form_of_name(index_name(entry)?))
 }
 
-/// Whether an index, or none, is wrong for a field of this form. `index_form` is the form of the index's own field, if it is known.
+/// Whether an index, or its absence, is wrong for a field of this form. `index_form` is the form of the index field, if it is
+/// known.
 pub(crate) fn is_misindexed(
     content: Content,
     index: &Option<EntryIndex>,
@@ -64,7 +65,7 @@ pub(crate) fn is_misindexed(
     }
 }
 
-/// An array is no value: one of its entries is.
+/// An array isn't a value; only its entries are.
 fn needs_index(content: Content, form: FieldForm) -> bool
     ensures { result ≡ indexes.needs_index content form }
 {
@@ -101,7 +102,7 @@ fn lacks_digits(content: Content, form: FieldForm, index_form: Option<FieldForm>
     }
 }
 
-/// An index field that LOKUP writes has room for the number of the last entry.
+/// Whether an index field that LOKUP writes is too short for the number of the last entry.
 fn is_too_short(content: Content, form: FieldForm, field: FieldForm) -> bool
     ensures { result ≡ indexes.is_too_short content form field }
 {

@@ -1,4 +1,4 @@
-//! F8: indicators that are not allowed.
+//! F8: indicators that aren't allowed.
 
 ghost use Rattle.std.specs.Prelude.{◌≡◌, false};
 ghost use Rattle.std.specs.Option.{option_map_or};
@@ -31,7 +31,8 @@ fn is_bad_on_input(input: &InputSpec) -> bool
     }
 }
 
-/// 01 to 99, L1 to L9, LR and H1 to H9 mark a record type.
+/// Whether a record type may not have the indicator: only 01 to 99, L1 to L9, LR and H1 to H9 are
+/// allowed.
 fn cannot_mark_type(indicator: Option<Indicator>) -> bool
     ensures { result ≡ option_map_or indicators.cannot_mark_type indicator false }
 {
@@ -75,7 +76,7 @@ fn is_bad_on_output(source: &IndexedCards, output: &OutputSpec) -> bool
         || is_bad_in_output(source, conditions.third)
 }
 
-/// Results and fields set all but L0, 1P and MR.
+/// Whether one may not be set: results and fields set any but L0, 1P and MR.
 fn cannot_be_set(shown: Three<Option<Indicator>>) -> bool
     ensures { result ≡ indicators.any_of indicators.cannot_be_set shown }
 {
@@ -91,7 +92,8 @@ pub(crate) fn is_never_set(indicator: Option<Indicator>) -> bool
     }
 }
 
-/// Conditions of calculations may name any indicator but 1P, and MR only where it is allowed.
+/// Whether a calculation may not test it: any but 1P is allowed, and MR only in a source with match
+/// fields.
 pub(crate) fn is_bad_in_calculation(source: &IndexedCards, condition: Option<ConditionSpec>) -> bool
     ensures { result ≡ option_map_or (indicators.bad_in_calculation source.now) condition false }
 {
@@ -103,7 +105,7 @@ pub(crate) fn is_bad_in_calculation(source: &IndexedCards, condition: Option<Con
     }
 }
 
-/// Conditions of output may name any indicator, and MR only where it is allowed.
+/// Whether output may not test it: any is allowed, but MR only in a source with match fields.
 pub(crate) fn is_bad_in_output(source: &IndexedCards, condition: Option<ConditionSpec>) -> bool
     ensures { result ≡ option_map_or (indicators.bad_in_output source.now) condition false }
 {
@@ -113,7 +115,7 @@ pub(crate) fn is_bad_in_output(source: &IndexedCards, condition: Option<Conditio
     }
 }
 
-/// Conditions may name MR only in sources that match the records of their files.
+/// Whether it is MR in a source without match fields.
 fn is_barred_mr(source: &IndexedCards, indicator: Indicator) -> bool
     ensures { result ≡ indicators.is_barred_mr source.now indicator }
 {

@@ -50,7 +50,7 @@ fn is_wrong_output(source: &IndexedCards, card: &SpecCard) -> bool
     }
 }
 
-/// Takes the forms of the contents of factor 1, factor 2 and the result field.
+/// Whether the operands are of the wrong kind, given the forms of factor 1, factor 2 and the result field.
 pub(crate) fn are_wrong(
     columns: OperationColumns,
     factor_1: Option<FieldForm>,
@@ -114,7 +114,7 @@ fn has_text(form: Option<FieldForm>) -> bool
     }
 }
 
-/// A number and a text.
+/// Whether one is a number and the other a text.
 fn differ(first: Option<FieldForm>, second: Option<FieldForm>) -> bool
     ensures { result ≡ words.kinds_differ first second }
 {
@@ -147,7 +147,7 @@ fn is_wrong_result(
     }
 }
 
-/// A table that is found in with fewer entries than what is searched.
+/// Whether the table of the result has fewer entries than the one that is searched.
 fn finds_too_few(searched: Option<FieldForm>, found: Option<FieldForm>) -> bool
     ensures { result ≡ words.finds_too_few searched found }
 {
@@ -164,7 +164,7 @@ fn finds_too_few(searched: Option<FieldForm>, found: Option<FieldForm>) -> bool
     }
 }
 
-/// A text that is edited, or the date that is blanked.
+/// Whether a text is edited, or the date is blanked.
 pub(crate) fn is_wrong_as_output(field: &OutputField, form: FieldForm) -> bool
     ensures { result ≡ words.wrong_as_output field.now form }
 {

@@ -1,5 +1,5 @@
-//! Fields, constants and indicators on cards: whether they are defined, of the right kind and well indexed, how they are edited, and which
-//! indicators are allowed.
+//! Fields, constants and indicators on cards: whether they are defined, of the right kind and validly indexed, how they are edited, and
+//! which indicators are allowed.
 #![tactic(auto)]
 
 mod columns;

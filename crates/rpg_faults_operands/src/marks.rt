@@ -111,7 +111,7 @@ fn wrong_beside(field: &OutputField, form: FieldForm) -> ColumnRange
     }
 }
 
-/// F9 of operands: high or low of a search, what an output card has without a field, or the missing field.
+/// F9 of operands: a search's high or low, what an output card without a field has, or the missing field.
 pub fn missing_columns(card: &SpecCard, after: &[SpecCard]) -> Option<ColumnRange>
     ensures { result ≡ marks.missing_operand_columns card.now after.now }
 {

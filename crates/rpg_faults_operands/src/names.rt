@@ -1,4 +1,4 @@
-//! F1: names that are used and that no card defines.
+//! F1: names that are used but never defined.
 
 ghost use Rattle.std.specs.Prelude.{◌≡◌, false, option_copied};
 ghost use Rattle.std.specs.Option.{option_map_or};
@@ -9,7 +9,7 @@ use rpg_cards::{Defined, IndexedCards, SpecCard};
 use rpg_sheet_specs::{Entry, EntryIndex};
 use rpg_symbols::Name;
 
-/// F1: a name that is used and that no card defines, before or after it.
+/// F1: a name that is used but that no card defines, before or after.
 #[tactic(auto, using(crate::proofs::Listed::any_listed))]
 pub fn lacks_name(source: &IndexedCards, card: &SpecCard, after: &[SpecCard]) -> bool
     ensures { result ≡ names.lacks_name source.now card.now after.now }
@@ -34,7 +34,7 @@ pub(crate) fn names_nothing(source: &IndexedCards, operand: &Option<Operand>) ->
         }
 }
 
-/// A literal index names no field.
+/// Returns the name of an index; a literal one has none.
 pub(crate) fn index_name(entry: &Entry) -> Option<&Name>
     ensures { option_copied result ≡ names.index_name entry.now }
 {

@@ -23,7 +23,7 @@ fn is_field(content: Content) -> bool
     }
 }
 
-/// What a column takes, where it is for a field.
+/// Returns what a column takes, if it is for a field.
 pub fn field_content(column: Column) -> Option<Content>
     ensures { result ≡ operands.field_content column }
 {
@@ -41,7 +41,7 @@ pub fn field_content(column: Column) -> Option<Content>
 
 // ---- operands
 
-/// A field that is named, and what its column takes.
+/// A named field, and what its column takes.
 #[derive(Drop)]
 pub struct Operand<'a> {
     /// What the column takes.
@@ -102,7 +102,7 @@ fn no_operands<'a>() -> Three<Option<Operand<'a>>>
     }
 }
 
-/// By the columns of the operation, which the last card of a group has.
+/// The operands of a calculation, by its operation's columns.
 pub(crate) fn operands_of(calculation: &CalculationSpec) -> Three<Option<Operand<'_>>>
     ensures { result ≡ operands.operands_of calculation.now }
 {
@@ -112,7 +112,7 @@ pub(crate) fn operands_of(calculation: &CalculationSpec) -> Three<Option<Operand
     }
 }
 
-/// The fields that the operation of a group names, which its last card has.
+/// The fields that a group's operation names, if this is the group's last card.
 pub fn operands_ending<'a>(card: &'a SpecCard, after: &[SpecCard]) -> Three<Option<Operand<'a>>>
     ensures { result ≡ operands.operands_ending card.now after.now }
 {
@@ -136,7 +136,7 @@ pub fn output_operand(card: &SpecCard) -> Option<Operand<'_>>
 
 // ---- forms
 
-/// None for a name without a form.
+/// Returns the form of a name, if it has one.
 pub fn form_in(defined: Defined) -> Option<FieldForm>
     ensures { result ≡ names.form_in defined }
 {
@@ -146,7 +146,7 @@ pub fn form_in(defined: Defined) -> Option<FieldForm>
     }
 }
 
-/// The form of the field that is named.
+/// Returns the form of the named field.
 #[tactic(auto, using(crate::proofs::SizeLemmas::sized_name))]
 pub fn entry_form(source: &IndexedCards, entry: &Entry) -> Option<FieldForm>
     ensures form { result ≡ operands.card_entry_form source.now entry.now }
@@ -155,7 +155,7 @@ pub fn entry_form(source: &IndexedCards, entry: &Entry) -> Option<FieldForm>
     form_in(source.form_of_name(&entry.name))
 }
 
-/// The form of the contents of a column for a field.
+/// Returns the form of a factor, if its column is for a field.
 pub fn factor_form(
     source: &IndexedCards,
     column: Column,
@@ -167,7 +167,7 @@ pub fn factor_form(
     form_in(source.form_of_factor(factor.as_ref()?))
 }
 
-/// The form of the result field, where the column is for a field.
+/// Returns the form of the result field, if its column is for a field.
 pub fn result_form(
     source: &IndexedCards,
     column: Column,

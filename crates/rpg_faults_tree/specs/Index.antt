@@ -64,7 +64,7 @@ pub record AreLabelsOf (ss : List Step) (l : Labels) : Type 0 where
 abbrev pub TellsTarget : Labels → Name → Option Target → Type 0
 TellsTarget l name answer = (ss : List Step) → AreLabelsOf ss l → answer ≡ option_map label_target (label_named name (labels_of_steps ss))
 
--- the answer is whether one of so many labels at the front has the name
+-- the answer is whether one of the first n labels has the name
 abbrev pub TellsFront : Labels → Name → ℕ → Bool → Type 0
 TellsFront l name count answer =
     (ss : List Step) → (front following : List Label) → AreLabelsOf ss l → labels_of_steps ss ≡ front ++ following → count ≡ length front → answer ≡ is_some (label_named name front)
@@ -87,7 +87,7 @@ has_word_bit word i = bit_at word i == 1
 abbrev pub is_in_word : ℕ → ℕ → Bool
 is_in_word first x = nat_le first x && nat_lt (x - first) 64
 
--- by at most so many calls
+-- by at most this many calls
 pub record IsReaching (steps : ℕ) (all : List Call) (first count : ℕ) (words : List ℕ) : Type 0 where
   pub each_has : length words ≡ count
   pub reaching : (x i : ℕ) → x < count → i < 64 → has_word_bit (get_or words x 0) i ≡ reaches_in steps all x (first + i)

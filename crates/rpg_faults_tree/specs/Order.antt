@@ -42,7 +42,7 @@ has_bracket s = is_bracket (group_deed s.group)
 abbrev pub is_misplaced : ℕ → Step → Bool
 is_misplaced highest s = joins (control_of s.group) || (nat_lt (step_rank s) highest || (is_loose s && not (has_bracket s)))
 
--- the first cards of misplaced steps, where the last of the sections above has this place
+-- the first cards of misplaced steps, if the last of the sections above has this place
 abbrev pub misplaced_from : ℕ → List Step → List ℕ
 misplaced_from highest [] = []
 misplaced_from highest (s ∷ ss) = one_if (is_misplaced highest s) s.group.first.number ++ misplaced_from (max highest (step_rank s)) ss
@@ -61,7 +61,7 @@ is_unpaired s after =
 -- ---- I and O cards
 
 module _ {X : Type 0} (goes_on takes : X → Bool) where
-  -- the cards that have to go on with the card right before them, where that takes none such
+  -- the cards that have to go on with the card right before them, if that takes none such
   abbrev pub cut_off : Bool → List (Card X) → List ℕ
   cut_off taken [] = []
   cut_off taken (c ∷ cs) = one_if (goes_on c.spec && not taken) c.number ++ cut_off (takes c.spec) cs

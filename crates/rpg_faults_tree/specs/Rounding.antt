@@ -1,4 +1,4 @@
--- F15 over a tree: H where nothing is rounded, and MVR where no division has left a remainder.
+-- F15 over a tree: H where nothing is rounded, and MVR if no division has left a remainder.
 use Rattle.std.specs.Prelude.{ℕ, List, [], ◌∷◌, ◌++◌, Bool, not, ◌&&◌, ◌||◌}
 use Rattle.rpg_cards.specs.Groups.{joins}
 use Rattle.rpg_deck.specs.Steps.{CalculationCards, operation_card}
@@ -7,7 +7,7 @@ use Rattle.rpg_faults_tree.specs.Numbers.{one_if}
 use Rattle.rpg_faults_flow.specs.Rounding.{is_remainder, leaves_remainder, may_half_adjust, operation_passes}
 use Rattle.rpg_sheet_specs.specs.declared.calculation.CalculationSpec.{CalculationSpec}
 
--- H where the operation doesn't round
+-- H if the operation doesn't round
 abbrev pub half_adjusts_nothing : CalculationSpec → Bool
 half_adjusts_nothing k = k.half_adjust && not (operation_passes may_half_adjust k)
 

@@ -1,4 +1,4 @@
-//! The cards of a source, with what the rules of their tree find.
+//! The cards of a source, with the faults that the rules on their tree find.
 
 ghost use Rattle.std.specs.Prelude.{◌≡◌, ◌≤◌, length, IfOk, IfSome};
 ghost use Rattle.rpg_cards.specs.Cards.{Numbered};
@@ -13,7 +13,7 @@ use crate::in_order::are_in_order;
 use rpg_cards::{IndexedCards, SpecCard};
 use std::alloc::{AllocError, Global};
 
-/// No source has more cards.
+/// The most cards of a source.
 const MOST_CARDS: usize = 2000;
 
 /// The cards of a source, which of them break F10 and F12 to F15, and an index of their labels.
@@ -26,7 +26,7 @@ pub struct AnalyzedCards<'a> {
 }
 
 impl<'a> AnalyzedCards<'a> {
-    /// Finds the cards that break the rules. An error is for want of memory.
+    /// Finds the cards that break the rules. Fails only if memory runs out.
     pub fn new(alloc: Global, cards: &'a IndexedCards<'a>) -> Result<Self, AllocError>
         requires numbered { Numbered 1 cards.now }
         requires ordered { IsInOrder 0 cards.now }
@@ -37,7 +37,7 @@ impl<'a> AnalyzedCards<'a> {
         Ok(AnalyzedCards { cards, found })
     }
 
-    /// The same for cards that may not be a source's: nothing if they are out of order, or more than 2,000. An error is for want of memory.
+    /// Like `new`, for any cards: None if they are out of order, or more than 2,000. Fails only if memory runs out.
     pub fn if_in_order(
         alloc: Global,
         cards: &'a IndexedCards<'a>,

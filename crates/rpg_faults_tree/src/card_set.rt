@@ -6,7 +6,7 @@ ghost use Rattle.rpg_faults_tree.specs.Marked.{AreMarked};
 
 use std::alloc::{AllocError, Global};
 
-/// A set of cards by their numbers: of each number, whether it is in the set.
+/// A set of cards: for each card number, whether it is in the set.
 #[derive(Drop)]
 pub struct CardSet {
     pub(crate) marks: Vec<bool>,
@@ -31,7 +31,7 @@ impl CardSet {
     }
 }
 
-/// A length for these numbers as indexes.
+/// Returns a length that makes these numbers valid indexes.
 fn room_for(numbers: &[u16]) -> usize
     ensures below { (k : ℕ) → k < length numbers.now → get_or numbers.now k 0 < result }
     ensures most { result ≤ 65536 }

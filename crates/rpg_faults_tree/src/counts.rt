@@ -1,4 +1,4 @@
-//! How many labels and names are given before a card.
+//! How many labels and names are defined before a card.
 
 ghost use Rattle.std.specs.Prelude.{◌≡◌, ◌≤◌, [], ◌∷◌, ◌++◌, List, length};
 ghost use Rattle.std.specs.Option.{option_to_list};
@@ -10,7 +10,7 @@ ghost use Rattle.rpg_faults_tree.specs.Counted.{AreCounts};
 use rpg_cards::{SpecCard, gives, last_card};
 use rpg_sheet_specs::{CalculationSpec, InputSpec, Spec};
 
-/// How many are given before a card.
+/// How many are defined before a card.
 #[derive(Clone, Copy)]
 pub struct Counts {
     /// Labels and names of subroutines.
@@ -20,7 +20,7 @@ pub struct Counts {
 }
 
 impl Counts {
-    /// Before all cards.
+    /// Returns the counts before the first card.
     pub fn nothing() -> Self
         ensures { (cards : List SpecCard) → AreCounts [] cards result }
     {
@@ -30,7 +30,7 @@ impl Counts {
         }
     }
 
-    /// The same with one more card, given the cards after it.
+    /// Returns the counts after one more card, given the cards after it.
     pub fn with(self, before: &[SpecCard], card: &SpecCard, after: &[SpecCard]) -> Self
         requires few { length before.now ≤ 2000 }
         requires counts { AreCounts before.now (card.now ∷ after.now) self }
@@ -43,7 +43,7 @@ impl Counts {
     }
 }
 
-/// Whether a card ends its group and gives a name.
+/// Whether a card ends its group and defines a label or a subroutine.
 fn is_label_at(card: &SpecCard, after: &[SpecCard]) -> bool
     ensures { result ≡ counted.is_label_at card.now after.now }
 {
@@ -53,7 +53,7 @@ fn is_label_at(card: &SpecCard, after: &[SpecCard]) -> bool
     }
 }
 
-/// How many names a card defines, without their forms.
+/// Counts the names that a card defines, without computing their forms.
 fn definition_count(card: &SpecCard) -> u16
     ensures { result ≡ length (names.definitions_on card.now.spec) }
 {

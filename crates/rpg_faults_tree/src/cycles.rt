@@ -1,4 +1,4 @@
-//! Calls between subroutines that come back to their caller.
+//! Recursive calls: calls between subroutines whose callee reaches the caller.
 
 ghost use Rattle.std.specs.Prelude.{◌≡◌, ℕ, ◌+◌, ◌-◌, ◌≤◌, ◌<◌, ◌==◌, ◌&&◌, length, slice_index, true, List, IfOk, OnOk};
 ghost use Rattle.std.specs.List.{list_any};
@@ -6,10 +6,10 @@ ghost use Rattle.rpg_faults_tree.specs.Index as index;
 
 use std::alloc::{AllocError, Global};
 
-/// For how many subroutines a word has a bit.
+/// How many subroutines a word has bits for.
 const WIDTH: usize = 64;
 
-/// The calls, by caller and callee, whose callee reaches their caller.
+/// Returns the calls, as caller and callee, whose callee reaches the caller.
 pub(crate) fn cycles(alloc: Global, calls: &[(u16, u16)]) -> Result<Vec<(u16, u16)>, AllocError>
     ensures { IfOk result (λ found. index.AreCycles found.items calls.now) }
 {
@@ -24,7 +24,7 @@ pub(crate) fn cycles(alloc: Global, calls: &[(u16, u16)]) -> Result<Vec<(u16, u1
     Ok(found)
 }
 
-/// A number above those of all subroutines that call or are called.
+/// Returns a number greater than those of all callers and callees.
 fn count(calls: &[(u16, u16)]) -> usize
     ensures below { index.AreBelow result calls.now }
     ensures most { result ≤ 65536 }
@@ -39,7 +39,7 @@ fn count(calls: &[(u16, u16)]) -> usize
     count
 }
 
-/// A word for each subroutine: its bits are the 64 subroutines from this one on, set for those that it reaches.
+/// Returns a word for each subroutine, with a bit set for each of the 64 subroutines from `first` on that it reaches.
 fn reaching(
     alloc: Global,
     first: usize,
@@ -55,7 +55,7 @@ fn reaching(
     Ok(words)
 }
 
-/// The same, by so many calls as there are: where one call more changes nothing, neither do further ones.
+/// Fills the words, one call further each time, up to the number of calls: once a pass changes nothing, none will.
 fn reach(first: usize, calls: &[(u16, u16)], words: &mut [u64], next: &mut [u64])
     requires below { index.AreBelow (length words.old) calls.now }
     requires same { length next.old ≡ length words.old }
@@ -77,7 +77,7 @@ fn are_same(words: &[u64], others: &[u64]) -> bool
     words == others
 }
 
-/// By one call more.
+/// Fills `next` with what one more call reaches.
 fn reach_further(first: usize, calls: &[(u16, u16)], words: &[u64], next: &mut [u64])
     requires below { index.AreBelow (length words.now) calls.now }
     requires same { length next.old ≡ length words.now }
@@ -96,7 +96,7 @@ fn reach_itself(first: usize, words: &mut [u64])
     }
 }
 
-/// The bit of a subroutine, if it is among the 64.
+/// Returns the bit of a subroutine, 0 if it isn't among the 64.
 fn own_bit(first: usize, number: usize) -> u64
     ensures { (i : ℕ) → i < 64 → index.has_word_bit result i ≡ (number == first + i) }
 {
@@ -121,7 +121,7 @@ fn spread(calls: &[(u16, u16)], words: &[u64], next: &mut [u64])
     }
 }
 
-/// Those of the calls by the 64 subroutines that come back.
+/// Appends the calls by the 64 subroutines whose callee reaches the caller.
 fn push_cycles(
     found: &mut Vec<(u16, u16)>,
     first: usize,

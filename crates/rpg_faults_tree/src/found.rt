@@ -1,4 +1,4 @@
-//! What the rules of a tree find.
+//! The faults that the rules on the tree find.
 
 ghost use Rattle.std.specs.Prelude.{◌≤◌, length, IfOk};
 ghost use Rattle.rpg_cards.specs.Cards.{Numbered};
@@ -15,7 +15,7 @@ use rpg_cards::SpecCard;
 use rpg_deck::{Deck, Tree, steps_of};
 use std::alloc::{AllocError, Global};
 
-/// The cards that break F10 and F12 to F15, and an index of the labels.
+/// The cards that break F10 and F12 to F15, and an index of labels.
 #[derive(Drop)]
 pub struct Found {
     pub(crate) labels: Labels,

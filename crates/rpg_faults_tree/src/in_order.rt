@@ -8,7 +8,8 @@ ghost use Rattle.rpg_deck.specs.Flat.{IsInOrder};
 use rpg_cards::SpecCard;
 use rpg_sheet_specs::Spec;
 
-/// Whether cards are numbered in order, and in the order of the sheets.
+/// Whether cards are numbered in ascending order, and are in the order of the
+/// sheets.
 pub(crate) fn are_in_order(cards: &[SpecCard]) -> bool
     ensures numbered { result ≡ true → Numbered 1 cards.now }
     ensures ordered { result ≡ true → IsInOrder 0 cards.now }
@@ -25,7 +26,7 @@ pub(crate) fn are_in_order(cards: &[SpecCard]) -> bool
     true
 }
 
-/// A sheet's place.
+/// Returns a sheet's place in the order of the sheets.
 fn place_of(spec: &Spec) -> u8
     ensures { result ≡ flat.place spec.now }
 {

@@ -16,14 +16,14 @@ use rpg_symbols::Name;
 use std::alloc::{AllocError, Global};
 use std::collections::HashMap;
 
-/// What a name means as a target of control.
+/// What a name means as the target of a GOTO or EXSR.
 #[derive(Clone, Copy)]
 pub(crate) struct Target {
     pub is_subroutine: bool,
     pub section: Section,
 }
 
-/// The first label or subroutine of a name, and its place among all that are given.
+/// The first label or subroutine with a name, and its place among all of them.
 #[derive(Clone, Copy)]
 pub(crate) struct FirstLabel {
     pub place: u16,
@@ -34,12 +34,12 @@ pub(crate) struct FirstLabel {
 #[derive(Drop)]
 pub struct Labels {
     pub(crate) names: HashMap<Name, FirstLabel>,
-    /// The calls, by caller and callee, whose callee reaches their caller.
+    /// The calls, as caller and callee, whose callee reaches the caller.
     pub(crate) cycles: Vec<(u16, u16)>,
 }
 
 impl Labels {
-    /// Finds the first label of each name, and the calls that come back.
+    /// Finds the first label of each name, and the recursive calls.
     pub(crate) fn new(alloc: Global, steps: &[Step]) -> Result<Self, AllocError>
         requires { length steps.now ≤ 2000 }
         ensures { IfOk result (index.AreLabelsOf (map step_in steps.now)) }
@@ -50,14 +50,14 @@ impl Labels {
         Ok(Labels { names, cycles })
     }
 
-    /// What the first label of a name is.
+    /// Returns the target that a name has first.
     pub(crate) fn target(&self, name: &Name) -> Option<Target>
         ensures { index.TellsTarget self.now name.now result }
     {
         target_in(&self.names, name)
     }
 
-    /// Whether a name is given by so many labels at the front.
+    /// Whether a name is among the first `count` labels.
     pub fn is_given(&self, name: &Name, count: u16) -> bool
         ensures { index.TellsFront self.now name.now count result }
     {
@@ -67,7 +67,7 @@ impl Labels {
         }
     }
 
-    /// Whether a step makes a call whose callee reaches its caller.
+    /// Whether a step calls a subroutine that reaches its caller.
     pub(crate) fn calls_back(&self, step: &Step) -> bool
         ensures { index.TellsRecursion self.now (step_in step.now) result }
     {
@@ -99,7 +99,7 @@ fn names_of(alloc: Global, steps: &[Step]) -> Result<HashMap<Name, FirstLabel>, 
     Ok(names)
 }
 
-/// Puts a label at a name that has none.
+/// Stores a label under a name that has none.
 fn note(
     names: &mut HashMap<Name, FirstLabel>,
     name: Name,
@@ -120,7 +120,7 @@ fn target_in(names: &HashMap<Name, FirstLabel>, name: &Name) -> Option<Target>
     Some(names.get(name)?.target)
 }
 
-/// All calls in subroutines, by caller and callee.
+/// Returns all calls in subroutines, as caller and callee.
 fn calls_of(
     alloc: Global,
     names: &HashMap<Name, FirstLabel>,
@@ -136,7 +136,7 @@ fn calls_of(
     Ok(calls)
 }
 
-/// One more call, if there is one.
+/// Appends a call, if there is one.
 fn add_call(calls: &mut Vec<(u16, u16)>, call: Option<(u16, u16)>) -> Result<(), AllocError>
     ensures { OnOk result (calls.new.items ≡ calls.old.items ++ option_to_list call) }
 {
@@ -146,7 +146,7 @@ fn add_call(calls: &mut Vec<(u16, u16)>, call: Option<(u16, u16)>) -> Result<(),
     Ok(())
 }
 
-/// The call of a step in a subroutine.
+/// Returns the call of a step in a subroutine.
 fn call_in(names: &HashMap<Name, FirstLabel>, step: &Step) -> Option<(u16, u16)>
     ensures { (ls : List Label) → index.IsLabelIndex names.now.entries ls → result ≡ steps_of.call_of ls (step_in step.now) }
 {
@@ -164,7 +164,7 @@ fn subroutine_in(section: Section) -> Option<u16>
     }
 }
 
-/// The number of the subroutine that is called.
+/// Returns the number of the called subroutine.
 fn called(names: &HashMap<Name, FirstLabel>, wanted: &Named) -> Option<u16>
     ensures { (ls : List Label) → index.IsLabelIndex names.now.entries ls → result ≡ calls_of.called_subroutine ls wanted.now }
 {

@@ -1,4 +1,4 @@
-//! Rules of faults over the tree of the cards: which cards break them.
+//! Rules on the tree of the cards, and the cards that break them.
 #![tactic(auto)]
 
 mod analyzed;

@@ -1,4 +1,4 @@
-//! F11: a name that is given twice, to labels, subroutines or fields.
+//! F11: a name that is defined twice, by labels, subroutines or fields.
 
 ghost use Rattle.std.specs.Prelude.{◌≡◌, ◌∷◌, ◌++◌, false};
 ghost use Rattle.std.specs.Option.{option_and_then, option_map_or};
@@ -15,7 +15,7 @@ use rpg_cards::{Named, SpecCard, gives, last_card};
 use rpg_sheet_specs::ColumnRange;
 use rpg_symbols::Name;
 
-/// F11, at the later of the two cards.
+/// F11, on the later of the two cards.
 pub fn names_twice(
     source: &AnalyzedCards,
     counts: &Counts,
@@ -31,7 +31,7 @@ pub fn names_twice(
         || defines_label(source, counts, before, card, after)
 }
 
-/// F11: the name of the label or the subroutine, or of the field.
+/// F11: the columns of the name of the label, subroutine or field.
 pub fn twice_range(
     source: &AnalyzedCards,
     counts: &Counts,
@@ -50,7 +50,7 @@ pub fn twice_range(
     }
 }
 
-/// Whether a label or a subroutine has a name that is given before, or that is a field's by then.
+/// Whether a label or a subroutine repeats a name that is defined before, or that a field has by then.
 fn gives_again(
     source: &AnalyzedCards,
     counts: &Counts,
@@ -72,21 +72,21 @@ fn gives_again(
     }
 }
 
-/// Whether a name is given to a label or a subroutine before a card.
+/// Whether a label or a subroutine before a card has the name.
 fn is_given(source: &AnalyzedCards, counts: &Counts, name: &Name) -> bool
     ensures { TellsGiven source.now.cards.now counts.now name.now result }
 {
     source.found.labels.is_given(name, counts.labels)
 }
 
-/// The name of the label or the subroutine that is given on a card.
+/// Returns the name of the label or subroutine that a card defines.
 fn name_given(card: &SpecCard, after: &[SpecCard]) -> Option<Named>
     ensures { result ≡ option_and_then (λ k. labels_of.gives (deeds.deed_of k)) (calculations.card_ending card.now after.now) }
 {
     gives(last_card(card, after)?)
 }
 
-/// Whether a card defines a field whose name is given before.
+/// Whether a card defines a field whose name a label or a subroutine has.
 fn defines_label(
     source: &AnalyzedCards,
     counts: &Counts,

@@ -5,7 +5,7 @@ ghost use Rattle.rpg_faults_tree.specs.Numbers as numbers;
 
 use std::alloc::AllocError;
 
-/// One more number, if its card breaks the rule.
+/// Appends a card's number if the card breaks the rule.
 pub(crate) fn add(found: &mut Vec<u16>, breaks: bool, number: u16) -> Result<(), AllocError>
     ensures { OnOk result (found.new.items ≡ found.old.items ++ numbers.one_if breaks number) }
 {

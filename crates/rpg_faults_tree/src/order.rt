@@ -1,4 +1,4 @@
-//! F12 of calculations: sections out of order, BEGSR and ENDSR that aren't paired, AN and OR cards that need one before them.
+//! F12 of calculations: sections out of order, unpaired BEGSR and ENDSR, and AN and OR cards without a card to continue.
 
 ghost use Rattle.std.specs.Prelude.{◌≡◌, ◌++◌, map, IfOk, OnOk};
 ghost use Rattle.rpg_deck.specs.Seen.{sheet_in, step_in};
@@ -13,7 +13,7 @@ use rpg_deck::{Sheet, Step, last_card};
 use rpg_sheet_specs::{ControlLevel, InputSpec, OutputSpec};
 use std::alloc::{AllocError, Global};
 
-/// F12: the cards that stand out of order.
+/// F12: the cards that are out of order.
 pub(crate) fn misplaced_cards(
     alloc: Global,
     steps: &[Step],
@@ -30,7 +30,7 @@ pub(crate) fn misplaced_cards(
     Ok(found)
 }
 
-/// The first cards of misplaced calculations.
+/// Appends the first cards of misplaced calculations.
 fn push_misplaced(found: &mut Vec<u16>, steps: &[Step]) -> Result<(), AllocError>
     ensures { OnOk result (found.new.items ≡ found.old.items ++ order.misplaced_from 0 (map step_in steps.now)) }
 {
@@ -43,7 +43,7 @@ fn push_misplaced(found: &mut Vec<u16>, steps: &[Step]) -> Result<(), AllocError
     Ok(())
 }
 
-/// The cards with an unpaired BEGSR or ENDSR.
+/// Appends the cards with an unpaired BEGSR or ENDSR.
 fn push_unpaired(found: &mut Vec<u16>, steps: &[Step]) -> Result<(), AllocError>
     ensures { OnOk result (found.new.items ≡ found.old.items ++ at_operations order.is_unpaired (map step_in steps.now)) }
 {
@@ -54,7 +54,7 @@ fn push_unpaired(found: &mut Vec<u16>, steps: &[Step]) -> Result<(), AllocError>
     Ok(())
 }
 
-/// The place of a calculation's section in the order of the sections.
+/// Returns the rank of a calculation's section in the order of sections.
 fn rank(step: &Step) -> u8
     ensures { result ≡ order.step_rank (step_in step.now) }
 {
@@ -119,7 +119,7 @@ fn is_closed(after: &[Step]) -> bool
     false
 }
 
-/// Whether its BEGSR or ENDSR isn't paired.
+/// Whether a calculation is an unpaired BEGSR or ENDSR.
 fn is_unpaired(step: &Step, after: &[Step]) -> bool
     ensures { result ≡ order.is_unpaired (step_in step.now) (map step_in after.now) }
 {

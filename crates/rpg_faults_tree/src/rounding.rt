@@ -1,4 +1,4 @@
-//! F15: H where nothing is rounded, and MVR where no division has left a remainder.
+//! F15: H on an operation that can't half-adjust, and MVR without a remainder from a division.
 
 ghost use Rattle.std.specs.Prelude.{◌≡◌, ◌++◌, false, map, IfOk, OnOk};
 ghost use Rattle.rpg_deck.specs.Seen.{group_in};
@@ -11,7 +11,7 @@ use rpg_deck::{Group, last_card};
 use rpg_sheet_specs::{CalculationSpec, Operation};
 use std::alloc::{AllocError, Global};
 
-/// F15: the cards that round wrongly.
+/// F15: the cards with a wrong H or MVR.
 pub(crate) fn wrongly_rounding_cards(
     alloc: Global,
     groups: &[Group<CalculationSpec>],
@@ -27,7 +27,7 @@ pub(crate) fn wrongly_rounding_cards(
     Ok(found)
 }
 
-/// Those of a group.
+/// Appends those of a group.
 fn push_wrong(
     found: &mut Vec<u16>,
     is_after_division: bool,
@@ -47,7 +47,7 @@ fn push_wrong(
     )
 }
 
-/// Whether a card with an operation has H that isn't allowed, or MVR without a division right before.
+/// Whether a card with an operation has an H that isn't allowed, or an MVR without a division right before it.
 fn rounds_wrongly(is_after_division: bool, calculation: &CalculationSpec) -> bool
     ensures { result ≡ rounding.breaks_rounding_rule is_after_division calculation.now }
 {

@@ -1,4 +1,4 @@
-//! F12 of I and O cards: cards that need one before them.
+//! F12 of I and O cards: cards without the card that they continue or belong to.
 
 ghost use Rattle.std.specs.Prelude.{◌≡◌, ◌++◌, Bool, map, OnOk};
 ghost use Rattle.rpg_deck.specs.Seen.{card_in_memory, sheet_in};
@@ -10,7 +10,7 @@ use rpg_deck::{Card, Sheet};
 use rpg_sheet_specs::{InputSpec, OutputSpec};
 use std::alloc::AllocError;
 
-/// A card of a sheet with groups.
+/// A card of a sheet that has groups.
 pub(crate) trait Joined: Drop {
     ghost joins: { Self → Bool };
 
@@ -18,11 +18,11 @@ pub(crate) trait Joined: Drop {
 
     ghost is_field: { Self → Bool };
 
-    /// Whether it goes on with the card right before it.
+    /// Whether it continues the card right before it.
     fn joins(&self) -> bool
         ensures { result ≡ joins self.now };
 
-    /// Whether such a card may come right after it.
+    /// Whether such a card may follow it.
     fn takes(&self) -> bool
         ensures { result ≡ takes self.now };
 
@@ -30,7 +30,7 @@ pub(crate) trait Joined: Drop {
         ensures { result ≡ is_field self.now };
 }
 
-/// AND cards go on with the codes of a record type.
+/// AND cards continue the codes of a record type.
 impl Joined for InputSpec {
     ghost joins = { order.is_and };
 
@@ -51,7 +51,7 @@ impl Joined for InputSpec {
     }
 }
 
-/// AND and OR cards go on with the conditions of a line.
+/// AND and OR cards continue the conditions of a line.
 impl Joined for OutputSpec {
     ghost joins = { order.is_and_or };
 
@@ -75,7 +75,7 @@ impl Joined for OutputSpec {
     }
 }
 
-/// The cards of a sheet that need one before them.
+/// Appends the cards of a sheet that lack the card before them.
 pub(crate) fn push_strays<X: Joined>(
     found: &mut Vec<u16>,
     sheet: &Sheet<X>,
@@ -87,7 +87,7 @@ pub(crate) fn push_strays<X: Joined>(
     push_fields(found, sheet.strays)
 }
 
-/// Those that go on with the card right before them, where it takes none such. Whether one may come first is given.
+/// Appends the cards that continue one that can't be continued. `is_first_taken` says whether the first card may do so.
 fn push_cut_off<X: Joined>(
     found: &mut Vec<u16>,
     is_first_taken: bool,
@@ -103,7 +103,7 @@ fn push_cut_off<X: Joined>(
     Ok(())
 }
 
-/// Those among the followers of the groups.
+/// Appends those among the followers of the groups.
 fn push_cut_off_followers<X: Joined>(
     found: &mut Vec<u16>,
     sheet: &Sheet<X>,
@@ -116,7 +116,7 @@ fn push_cut_off_followers<X: Joined>(
     Ok(())
 }
 
-/// Fields.
+/// Appends fields.
 fn push_fields<X: Joined>(found: &mut Vec<u16>, cards: &[Card<&X>]) -> Result<(), AllocError>
     ensures { OnOk result (found.new.items ≡ found.old.items ++ order.passing_numbers X.is_field (map card_in_memory cards.now)) }
 {

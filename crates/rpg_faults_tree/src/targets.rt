@@ -1,4 +1,4 @@
-//! F10, F13, F14: where GOTO and EXSR go.
+//! F10, F13, F14: the targets of GOTO and EXSR.
 
 ghost use Rattle.std.specs.Prelude.{◌≡◌, List, map, IfOk};
 ghost use Rattle.rpg_deck.specs.Seen.{step_in};
@@ -13,7 +13,7 @@ use rpg_cards::{Named, Section, wants};
 use rpg_deck::{Step, last_card};
 use std::alloc::{AllocError, Global};
 
-/// F10: the cards with a GOTO or an EXSR to what isn't given.
+/// F10: the cards with a GOTO or an EXSR to an undefined name.
 pub(crate) fn lost_cards(
     alloc: Global,
     labels: &Labels,
@@ -73,7 +73,7 @@ fn goes_nowhere(labels: &Labels, step: &Step) -> bool
     }
 }
 
-/// Whether the first definition of a name is a label, or a subroutine, as required.
+/// Whether the first definition of a name is a label or a subroutine, as required.
 fn is_given_as(labels: &Labels, wanted: &Named) -> bool
     ensures { (ss : List steps_of.Step) → AreLabelsOf ss labels.now → result ≡ flow.is_given_as (steps_of.labels_of_steps ss) wanted.now }
 {
@@ -92,7 +92,7 @@ fn leaves_section(labels: &Labels, step: &Step) -> bool
     }
 }
 
-/// Whether a label that is referred to is in another section.
+/// Whether the label that is referred to is in another section.
 fn leaves_by(labels: &Labels, own: Section, wanted: &Named) -> bool
     ensures { (ss : List steps_of.Step) → AreLabelsOf ss labels.now → result ≡ rules.name_leaves (steps_of.labels_of_steps ss) own wanted.now }
 {

@@ -21,7 +21,7 @@ last_answer limit rs =
 abbrev pub input_with : List ℕ → Input
 input_with bytes = record { buffered = []; ended = false; remaining = Some bytes }
 
--- With so many records before, calls in a row gave these records, and came from one input to another.
+-- After this many records, calls in a row gave these records, and came from one input to another.
 abbrev pub GivesAll : ℕ → ℕ → List (List ℕ) → Input → Input → Type 0
 GivesAll limit count [] old new = new ≡ old
 GivesAll limit count (r ∷ rs) old new =

@@ -10,11 +10,11 @@ device_of c = c.device
 abbrev pub faults_of : {T : Type 0} → Counted T → ℕ
 faults_of c = c.faults
 
--- one more where the call failed
+-- one more if the call failed
 abbrev pub faults_after : {X E : Type 0} → ℕ → Result X E → ℕ
 faults_after n (Ok x) = n
 faults_after n (Err e) = n + 1
 
--- how often one read or one write is tried: once, and again where it was interrupted, 999 more times in a row
+-- how often one read or one write is tried: once, and again if it was interrupted, 999 more times in a row
 abbrev pub max_tries : ℕ
 max_tries = 1000

@@ -6,7 +6,7 @@ use Rattle.rpg_files.specs.Records.{records, is_good, BeginsBad}
 use Rattle.rpg_files.specs.declared.line.FirstLine.{FirstLine}
 use Rattle.rpg_files.specs.declared.line.FirstLine.TheVariants as line
 
--- Whatever follows these bytes, this is their first record, and so many bytes of them are its line.
+-- Whatever follows these bytes, this is their first record, and this many bytes of them are its line.
 pub record IsFirstRecord (limit : ℕ) (bytes : List ℕ) (len line_len : ℕ) : Type 0 where
   pub ordered : len ≤ line_len
   pub within : line_len ≤ length bytes

@@ -4,7 +4,7 @@ use Rattle.rpg_files.specs.Records.{records, is_good, BeginsBad}
 use Rattle.rpg_files.specs.declared.input.NextLine.{NextLine}
 use Rattle.rpg_files.specs.declared.input.NextLine.TheVariants as next
 
--- what may follow the bytes that were read: nothing where the end of the input was seen
+-- what may follow the bytes that were read: nothing if the end of the input was seen
 abbrev pub CanFollow : Bool → List ℕ → Type 0
 CanFollow ended more = ended ≡ true → more ≡ []
 

@@ -49,7 +49,7 @@ abbrev pub has_ended : {R : Type 0} → RecordReader R → Bool
 has_ended r = r.is_ended
 
 -- what is still to come of an input: the bytes that were read and not yet given, whether the end was seen, and what the
--- device has left, where its bytes are known
+-- device has left, if its bytes are known
 pub record Input : Type 0 where
   pub buffered : List ℕ
   pub ended : Bool
@@ -73,7 +73,7 @@ is_record (Ok next.Bad) = false
 is_record (Ok next.End) = false
 is_record (Err e) = false
 
--- With so many records before, a call gave this record and this result: these bytes were still to come before the
+-- After this many records, a call gave this record and this result: these bytes were still to come before the
 -- call, and these after it.
 abbrev pub GivesNext : ℕ → ℕ → List ℕ → Result Next ReadFault → List ℕ → List ℕ → Type 0
 GivesNext limit count record_bytes (Ok next.Record) old new = (count < max_records) × (is_good limit record_bytes ≡ true) × (records old ≡ record_bytes ∷ records new)
@@ -91,20 +91,20 @@ pub record Advances (old new : Input) (Fact : List ℕ → List ℕ → Type 0) 
   pub at_end : new.ended ≡ true → (old.ended ≡ true → IsAtEnd old.remaining) → IsAtEnd new.remaining
   pub fact : (more : List ℕ) → CanFollow new.ended more → Fact (old.buffered ++ (read ++ more)) (new.buffered ++ more)
 
--- one more where a record was given
+-- one more if a record was given
 abbrev pub count_after : ℕ → Result Next ReadFault → ℕ
 count_after n (Ok next.Record) = n + 1
 count_after n (Ok next.Bad) = n
 count_after n (Ok next.End) = n
 count_after n (Err e) = n
 
--- one more where the device failed
+-- one more if the device failed
 abbrev pub device_faults_after : ℕ → Result Next ReadFault → ℕ
 device_faults_after n (Ok x) = n
 device_faults_after n (Err fault.Device) = n + 1
 device_faults_after n (Err fault.TooMany) = n
 
--- a call of `next` after a record; where the device failed no whole line waits
+-- a call of `next` after a record; if the device failed no whole line waits
 pub record ReadsNext {R : Type 0} (remaining : R → Option (List ℕ)) (old : RecordReader R) (answer : Result Next ReadFault) (new : RecordReader R) : Type 0 where
   pub limit : limit_of new ≡ limit_of old
   pub count : count_of new ≡ count_after (count_of old) answer
@@ -112,7 +112,7 @@ pub record ReadsNext {R : Type 0} (remaining : R → Option (List ℕ)) (old : R
   pub input : Advances (input_of remaining old) (input_of remaining new) (GivesNext (limit_of old) (count_of old) (record_of new) answer)
   pub waits : answer ≡ Err fault.Device → is_line (buffered_of new) ≡ true
 
--- a reader that has read nothing, for records of so many bytes at most
+-- a reader that has read nothing, for records of at most this many bytes
 pub record IsFresh {R : Type 0} (bytes : ℕ) (r : RecordReader R) : Type 0 where
   pub limit : limit_of r ≡ bytes
   pub count : count_of r ≡ 0

@@ -6,7 +6,7 @@ use Rattle.rpg_files.specs.Counting.{device_of}
 use Rattle.rpg_files.specs.declared.buffer.Buffer.{Buffer}
 use Rattle.rpg_files.specs.declared.counting.Counted.{Counted}
 
--- One read: so many bytes came after those that were there, none only at the end of the input.
+-- One read: this many bytes came after those that were there, none only at the end of the input.
 pub record Fills {E : Type 0} (before after : Option (List ℕ)) (old new : List ℕ) (result : Result ℕ E) : Type 0 where
   pub read : List ℕ
   pub consumed : Consumes before after read

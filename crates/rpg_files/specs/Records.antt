@@ -15,7 +15,7 @@ onto_first b [] = (b ∷ []) ∷ []
 onto_first b (record_bytes ∷ rest) = (b ∷ record_bytes) ∷ rest
 
 -- A line feed ends a record, and one carriage return before it is dropped. What follows the last line feed is a
--- record where it isn't empty.
+-- record if it isn't empty.
 abbrev pub records : List ℕ → List (List ℕ)
 records [] = []
 records (b ∷ bytes) =
@@ -47,7 +47,7 @@ without_return (b ∷ c ∷ bytes) = b ∷ without_return (c ∷ bytes)
 -- ---- the same, by lines
 
 -- Lines, each with its line feed, and then a part without one: the records are the lines without the carriage return at
--- their end, and that part as it is, where it isn't empty. All bytes are such lines and such a part.
+-- their end, and that part as it is, if it isn't empty. All bytes are such lines and such a part.
 abbrev pub RecordsAreLines : Type 0
 RecordsAreLines = (lines : List (List ℕ)) (rest : List ℕ) → list_all is_line lines ≡ true → is_line rest ≡ true
     → records (flat_map with_line_feed lines ++ rest) ≡ map without_return lines ++ unless_empty rest

@@ -1,4 +1,4 @@
-//! The bytes that were read and not yet given.
+//! The bytes that were read but not yet consumed.
 
 ghost use Rattle.std.specs.Prelude.{◌≡◌, ◌+◌, ◌-◌, ◌^◌, ◌<◌, ◌≤◌, drop, length, take, vec_len, IfErr, IfOk};
 ghost use Rattle.std.specs.Io.KnownBytes.{ReadConsumes};
@@ -23,7 +23,7 @@ impl Buffer {
     ghost use Rattle.rpg_files.specs.Reads.{Fills};
     ghost use Rattle.rpg_files.specs.Buffers.{capacity_of, left_in};
 
-    /// No bytes yet, and room for so many.
+    /// An empty buffer with this capacity.
     pub fn with_capacity(alloc: Global, capacity: usize) -> Result<Buffer, AllocError>
         ensures bytes { IfOk result (λ w. left_in w ≡ []) }
         ensures capacity { IfOk result (λ w. capacity_of w ≡ capacity) }
@@ -42,7 +42,7 @@ impl Buffer {
         &all[self.start..self.end]
     }
 
-    /// How many bytes there are.
+    /// Returns the number of unconsumed bytes.
     pub fn len(&self) -> usize
         ensures { result ≡ length (left_in self.now) }
     {
@@ -57,7 +57,7 @@ impl Buffer {
         self.start += n;
     }
 
-    /// Moves the bytes to the front of the room, and reads some after them: none where the input ends.
+    /// Moves the bytes to the start of the buffer, and reads more after them. Returns how many, 0 at the end of the input.
     pub fn fill<R: Read>(&mut self, reader: &mut Counted<R>) -> Result<usize, DeviceFault>
         requires faults { faults_of reader.old < 2 ^ 64 - 1 }
         requires room { length (left_in self.old) < capacity_of self.old }
@@ -75,7 +75,7 @@ impl Buffer {
     }
 }
 
-/// Moves `len` bytes from `start` on to the front, and reads some after them.
+/// Moves `len` bytes from `start` to the front, and reads more after them.
 fn refill<R: Read>(
     reader: &mut Counted<R>,
     buf: &mut [u8],
@@ -94,7 +94,7 @@ fn refill<R: Read>(
     read_after(reader, buf, len)
 }
 
-/// Moves `len` bytes from `start` on to the front.
+/// Moves `len` bytes from `start` to the front.
 fn move_to_front(buf: &mut [u8], start: usize, len: usize)
     requires { start + len ≤ length buf.old }
     ensures { take len buf.new ≡ take len (drop start buf.old) }
@@ -107,7 +107,7 @@ fn move_to_front(buf: &mut [u8], start: usize, len: usize)
     }
 }
 
-/// Reads some bytes after the first `len`.
+/// Reads bytes after the first `len`.
 fn read_after<R: Read>(
     reader: &mut Counted<R>,
     buf: &mut [u8],

@@ -1,4 +1,4 @@
-//! Readers and writers, and how many of their calls failed.
+//! Readers and writers that count their failed calls.
 
 ghost use Rattle.std.specs.Prelude.{◌≡◌, ◌+◌, ◌-◌, ◌^◌, ◌<◌, ◌≤◌, length, IfOk};
 ghost use Rattle.std.specs.Io.KnownBytes.{Keeps, ReadConsumes, WriteAppends};
@@ -7,7 +7,7 @@ ghost use Rattle.rpg_files.specs.Counting.{faults_after, device_of, faults_of, m
 use std::io;
 use std::io::{ErrorKind, Read, Write};
 
-/// How often one read or one write is tried. If it was interrupted each time, it has failed.
+/// Returns how often a read or a write is tried: it fails if every try is interrupted.
 pub fn most_tries() -> u32
     ensures { result ≡ max_tries }
 {
@@ -18,7 +18,7 @@ pub fn most_tries() -> u32
 #[derive(Clone, Copy)]
 pub struct DeviceFault;
 
-/// A reader or a writer, and how many of its calls failed.
+/// A reader or a writer, with the number of its failed calls.
 #[derive(Drop)]
 pub struct Counted<T> {
     device: T,
@@ -33,14 +33,14 @@ impl<T> Counted<T> {
         Counted { device, faults: 0 }
     }
 
-    /// How many calls failed.
+    /// Returns how many calls failed.
     pub fn faults(&self) -> u64
         ensures { result ≡ faults_of self.now }
     {
         self.faults
     }
 
-    /// The reader or the writer itself.
+    /// Returns the reader or the writer itself.
     pub fn into_device(self) -> T
         ensures { result ≡ device_of self }
     {
@@ -49,7 +49,7 @@ impl<T> Counted<T> {
 }
 
 impl<R: Read> Counted<R> {
-    /// Reads some bytes; 0 where the input ends, or where `buf` is empty.
+    /// Reads into `buf`. Returns how many bytes, 0 at the end of the input or if `buf` is empty.
     pub fn read(&mut self, buf: &mut [u8]) -> Result<usize, DeviceFault>
         requires { faults_of self.old < 2 ^ 64 - 1 }
         ensures within { IfOk result (λ n. n ≤ length buf.new) }
@@ -72,7 +72,7 @@ impl<R: Read> Counted<R> {
 }
 
 impl<W: Write> Counted<W> {
-    /// Writes some bytes of `buf`, at least one where there is one: a write of 0 bytes is a fault.
+    /// Writes bytes of `buf`. Returns how many, at least one unless `buf` is empty: a write of 0 bytes is a fault.
     pub fn write(&mut self, buf: &[u8]) -> Result<usize, DeviceFault>
         requires { faults_of self.old < 2 ^ 64 - 1 }
         ensures within { IfOk result (λ n. n ≤ length buf.now) }
@@ -95,7 +95,7 @@ impl<W: Write> Counted<W> {
         Err(DeviceFault)
     }
 
-    /// Writes out what the writer still holds. The error is the writer's own.
+    /// Flushes the writer. The error is the writer's own.
     pub fn flush(&mut self) -> io::Result<()>
         requires { faults_of self.old < 2 ^ 64 - 1 }
         ensures bytes { Keeps (W.contents (device_of self.old)) (W.contents (device_of self.new)) }

@@ -1,11 +1,11 @@
-//! Readers and writers for tests: they cut, interrupt and fail.
+//! Readers and writers for tests, with short, interrupted and failing calls.
 
 ghost use Rattle.std.specs.Prelude.{◌≡◌, ◌<◌, ◌↔◌, IsTrue, Some, replicate, []};
 
 use std::io::{self, ErrorKind, Read, Write};
 
-/// Gives at most `most` bytes a read, and fails once `until_fault` bytes were given; where these are all, it fails in place
-/// of telling the end.
+/// Returns at most `most` bytes a read, and fails after `until_fault` bytes; if these are all, it fails instead of
+/// reporting the end of the input.
 #[derive(Drop)]
 pub struct ShortReader<'a> {
     pub left: &'a [u8],
@@ -33,7 +33,7 @@ impl Read for ShortReader<'_> {
     }
 }
 
-/// Gives so many line feeds.
+/// Reads `left` line feeds.
 #[derive(Drop)]
 pub struct LineFeeds {
     pub left: usize,
@@ -50,7 +50,7 @@ impl Read for LineFeeds {
     }
 }
 
-/// Takes at most `most` bytes a write, and fails once `until_fault` bytes were taken.
+/// Accepts at most `most` bytes a write, and fails after `until_fault` bytes.
 #[derive(Drop)]
 pub struct ShortWriter {
     pub written: Vec<u8>,
@@ -76,7 +76,7 @@ impl Write for ShortWriter {
     }
 }
 
-/// Takes no byte, and doesn't fail.
+/// Accepts no bytes, without failing.
 #[derive(Drop)]
 pub struct FullWriter;
 
@@ -92,12 +92,12 @@ impl Write for FullWriter {
     }
 }
 
-/// Interrupts so many times before each call of the device.
+/// Interrupts `times` times before each call of the device.
 #[derive(Drop)]
 pub struct Interrupting<T> {
     pub device: T,
     pub times: u32,
-    /// How many times since the last call of the device.
+    /// The interruptions since the last call of the device.
     pub interrupted: u32,
 }
 

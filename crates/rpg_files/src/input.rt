@@ -1,4 +1,4 @@
-//! Reads until it is certain what comes next.
+//! Reads until the next record is certain.
 
 ghost use Rattle.std.specs.Prelude.{◌≡◌, ◌+◌, ◌-◌, ◌^◌, ◌<◌, ◌≤◌, ◌⊎◌, false, length, IsOk, OnOk, IfErr, IfOk, true};
 ghost use Rattle.rpg_text.specs.Lines.{is_line};
@@ -13,17 +13,17 @@ use crate::counting::{Counted, DeviceFault};
 use crate::line::{FirstLine, first_line};
 use std::io::Read;
 
-/// What comes next.
+/// The next record of the input, if any.
 #[derive(Clone, Copy)]
 pub(crate) enum NextLine {
-    /// A record of `len` bytes, `line_len` with the end of its line.
+    /// A record of `len` bytes, `line_len` with its line end.
     Record { len: usize, line_len: usize },
-    /// A record that no program can take.
+    /// A record that no program accepts.
     Bad,
     End,
 }
 
-/// Reads some bytes, or sees the end of the input.
+/// Reads more bytes, or detects the end of the input.
 fn read_more<R: Read>(
     reader: &mut Counted<R>,
     buffer: &mut Buffer,
@@ -45,7 +45,7 @@ fn read_more<R: Read>(
     Ok(())
 }
 
-/// Whether there are bytes, or some come.
+/// Whether there are unconsumed bytes, reading more if there are none.
 pub(crate) fn has_more<R: Read>(
     reader: &mut Counted<R>,
     buffer: &mut Buffer,
@@ -65,7 +65,7 @@ pub(crate) fn has_more<R: Read>(
     Ok(buffer.len() != 0)
 }
 
-/// What the bytes are that have no end of a line, and end the input.
+/// Returns the last record: the bytes before the end of the input that have no line end.
 fn last_line(bytes: &[u8], scanned: usize, limit: usize) -> NextLine
     requires { IsIncomplete limit bytes.now scanned }
     ensures { IsNextLine limit bytes.now true result }
@@ -80,7 +80,7 @@ fn last_line(bytes: &[u8], scanned: usize, limit: usize) -> NextLine
     }
 }
 
-/// Reads until it is certain what comes next.
+/// Reads until the next record is certain.
 pub(crate) fn read_line<R: Read>(
     reader: &mut Counted<R>,
     buffer: &mut Buffer,

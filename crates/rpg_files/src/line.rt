@@ -1,4 +1,4 @@
-//! The front of some bytes: a record, a bad one, or neither yet.
+//! The start of the input: a record, a bad one, or neither yet.
 
 ghost use Rattle.std.specs.Prelude.{◌≡◌, ◌+◌, ◌<◌, ◌≤◌, false, length, slice_index, take, true};
 ghost use Rattle.std.specs.List.{list_all};
@@ -7,19 +7,18 @@ ghost use Rattle.rpg_files.specs.FirstLine.{IsFirstLine};
 
 use rpg_text::{has_only_characters, is_character};
 
-/// The front of some bytes.
+/// The start of the input.
 #[derive(Clone, Copy)]
 pub(crate) enum FirstLine {
-    /// A record of `len` bytes, `line_len` with the end of its line.
+    /// A record of `len` bytes, `line_len` with its line end.
     Record { len: usize, line_len: usize },
-    /// A record that no program can take.
+    /// A record that no program accepts.
     Bad,
-    /// The line has no end yet: its first `scanned` bytes are characters, and only a carriage return may follow
-    /// them.
+    /// The line has no end yet: its first `scanned` bytes are characters, and only a carriage return may follow them.
     Incomplete { scanned: usize },
 }
 
-/// How many bytes are characters before the first that isn't one. After `limit` bytes, which no record exceeds, they are tested one by one.
+/// Counts the characters before the first byte that isn't one. After `limit` bytes, the most of a record, it tests them one by one.
 fn characters(bytes: &[u8], limit: usize) -> usize
     ensures within { result ≤ length bytes.now }
     ensures all { list_all is_character (take result bytes.now) ≡ true }
@@ -33,7 +32,7 @@ fn characters(bytes: &[u8], limit: usize) -> usize
     at
 }
 
-/// The number of characters before the first sixteen bytes that aren't all characters.
+/// Counts the characters before the first sixteen bytes that aren't all characters.
 fn characters_by_sixteen(bytes: &[u8]) -> usize
     ensures within { result ≤ length bytes.now }
     ensures all { list_all is_character (take result bytes.now) ≡ true }
@@ -45,7 +44,7 @@ fn characters_by_sixteen(bytes: &[u8]) -> usize
     at
 }
 
-/// What the byte that is no character makes of the characters before it.
+/// Returns what the characters and the byte after them, which isn't one, are.
 fn line_ended_at(bytes: &[u8], len: usize, limit: usize) -> FirstLine
     requires inside { len < length bytes.now }
     requires short { len ≤ limit }
@@ -70,7 +69,7 @@ fn line_ended_at(bytes: &[u8], len: usize, limit: usize) -> FirstLine
     }
 }
 
-/// The front of the bytes, the first `scanned` of which are known to be characters.
+/// Returns what the bytes begin with. The first `scanned` are known to be characters.
 #[inline(always)]
 pub(crate) fn first_line(bytes: &[u8], scanned: usize, limit: usize) -> FirstLine
     requires inside { scanned ≤ length bytes.now }

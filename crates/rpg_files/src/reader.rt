@@ -10,23 +10,23 @@ use crate::input::{NextLine, has_more, read_line};
 use std::alloc::{AllocError, Global};
 use std::io::Read;
 
-/// Each read has room for this many bytes at least.
+/// The least room for each read, in bytes.
 const READ_ROOM: usize = 65_536;
 
 /// The most records of an input.
 const MAX_RECORDS: u32 = 10_000_000;
 
-/// What comes next in an input.
+/// The next record of an input, if any.
 #[derive(Clone, Copy)]
 pub enum Next {
-    /// A record, which `record` lends until the next call.
+    /// A record, which `record` returns until the next call.
     Record,
-    /// A record that is longer than the limit, or has a byte that is no character.
+    /// A record that is longer than the limit, or has a byte that isn't a character.
     Bad,
     End,
 }
 
-/// Why nothing more is read of an input.
+/// Why reading an input stopped.
 #[derive(Clone, Copy)]
 pub enum ReadFault {
     /// The reader failed.
@@ -45,7 +45,7 @@ impl From<DeviceFault> for ReadFault {
     }
 }
 
-/// The memory that the records of an input take, however many they are.
+/// The memory for an input's records, however many there are.
 #[derive(Drop)]
 pub struct RecordRoom {
     buffer: Buffer,
@@ -59,7 +59,7 @@ impl RecordRoom {
     ghost use Rattle.std.specs.Prelude.{IfOk};
     ghost use Rattle.rpg_files.specs.Reading.{room_limit};
 
-    /// Room for records of at most `limit` bytes. One that is never read from, since its records have no bytes, takes next to none.
+    /// Room for records of at most `limit` bytes. If records have no bytes, nothing is read, and it takes almost none.
     pub fn new(alloc: Global, limit: u16) -> Result<RecordRoom, AllocError>
         ensures { IfOk result (λ room. room_limit room ≡ limit) }
     {
@@ -74,14 +74,14 @@ impl RecordRoom {
 pub struct RecordReader<'a, R> {
     reader: &'a mut Counted<R>,
     buffer: Buffer,
-    /// The last record's bytes at the front of the buffer.
+    /// The length of the last record, at the start of the buffer.
     len: usize,
-    /// The same with the end of its line.
+    /// Its length with its line end.
     line_len: usize,
     /// The most bytes of a record.
     limit: u16,
     is_ended: bool,
-    /// How many records were given.
+    /// How many records were returned.
     count: u32,
     answer: Result<Next, ReadFault>,
     ghost ordered: { len ≤ line_len },
@@ -93,7 +93,7 @@ pub struct RecordReader<'a, R> {
 impl<'a, R> RecordReader<'a, R> {
     ghost use Rattle.rpg_files.specs.Reading.{IsFresh, reader_of, record_of, room_limit};
 
-    /// A reader of records in room that was made for them.
+    /// A reader of records into the given room.
     pub fn new(reader: &'a mut Counted<R>, room: RecordRoom) -> RecordReader<'a, R>
         ensures same_reader { result.reader.ghost_name ≡ reader.entry.ghost_name }
         ensures untouched { reader_of result ≡ reader.old }
@@ -111,7 +111,7 @@ impl<'a, R> RecordReader<'a, R> {
         }
     }
 
-    /// The reader itself, after all that was read from it.
+    /// Returns the reader itself, after all that was read from it.
     pub fn into_reader(self) -> &'a mut Counted<R>
         ensures same_reader { result.ghost_name ≡ self.entry.reader.ghost_name }
         ensures now { result.now ≡ reader_of self.entry }
@@ -119,7 +119,7 @@ impl<'a, R> RecordReader<'a, R> {
         self.reader
     }
 
-    /// The record that was given last.
+    /// Returns the last record.
     pub fn record(&self) -> &[u8]
         ensures { result.now ≡ record_of self.now }
     {
@@ -132,7 +132,7 @@ impl<'a, R: Read> RecordReader<'a, R> {
     ghost use Rattle.rpg_files.specs.Counting.{faults_of};
     ghost use Rattle.rpg_files.specs.Reading.{ReadsNext, answer_of, is_record, is_sure, reader_of};
 
-    /// Whether it is certain that no fault comes next, since the reader needn't be called.
+    /// Whether the next call can't fail, since it needn't read.
     #[inline(always)]
     pub fn is_sure(&self) -> bool
         ensures { result ≡ is_sure self.now }
@@ -141,7 +141,7 @@ impl<'a, R: Read> RecordReader<'a, R> {
             && (self.is_ended || self.buffer.len() - self.line_len >= self.limit as usize + 2)
     }
 
-    /// What comes next in the input. Any other result than a record is repeated from then on.
+    /// Reads the next record. Any result other than a record is repeated from then on.
     pub fn next(&mut self) -> Result<Next, ReadFault>
         requires { faults_of (reader_of self.old) < 2 ^ 64 - 1 }
         ensures same_reader { self.new.reader.ghost_name ≡ self.old.reader.ghost_name }
@@ -156,7 +156,7 @@ impl<'a, R: Read> RecordReader<'a, R> {
         self.answer
     }
 
-    /// Reads what follows the last record.
+    /// Reads the record after the last one.
     fn read_next(&mut self) -> Result<Next, ReadFault>
         requires { faults_of (reader_of self.old) < 2 ^ 64 - 1 }
         ensures same_reader { self.new.reader.ghost_name ≡ self.old.reader.ghost_name }

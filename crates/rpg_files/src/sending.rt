@@ -1,4 +1,4 @@
-//! All bytes of an output to a writer.
+//! Sends all bytes of an output to a writer.
 
 ghost use Rattle.std.specs.Prelude.{◌≡◌, ◌-◌, ◌^◌, ◌<◌, length, OnOk, IfErr};
 ghost use Rattle.std.specs.Io.KnownBytes.{Appends};
@@ -8,13 +8,13 @@ ghost use Rattle.rpg_files.specs.Sending.{AppendsFirst};
 use crate::counting::Counted;
 use std::io::Write;
 
-/// A writer failed when this many bytes had gone out.
+/// A writer failed after it wrote this many bytes.
 #[derive(Clone, Copy)]
 pub struct WriteFault {
     pub sent: usize,
 }
 
-/// Writes all the bytes, or as many as the writer takes.
+/// Writes all bytes, or as many as the writer accepts.
 pub fn send<W: Write>(writer: &mut Counted<W>, bytes: &[u8]) -> Result<(), WriteFault>
     requires { faults_of writer.old < 2 ^ 64 - 1 }
     ensures ok { OnOk result (Appends (W.contents (device_of writer.old)) (W.contents (device_of writer.new)) bytes.now) }

@@ -1,4 +1,4 @@
-//! Arrays that are read: each entry through a field of its own.
+//! Arrays in input: each entry is read through a field of its own.
 
 use crate::array_entry::{Filling, Reading, Span};
 use rpg_fit_deck::{Card, Editor, Seen, Sentence, View, Word};
@@ -6,11 +6,12 @@ use rpg_fit_terms::{Array, Indicator, Operand, RuleStop, array_of, entry, with_r
 use rpg_fit_words::{List, Place, RecordType, check_only_type, insert_at, record_types};
 use std::alloc::Global;
 
-/// A field for each entry of an array that is read, and calculations that fill the entries at the front of detail.
+/// Replaces each array that is read by a field for each entry, with calculations that fill the entries at the start
+/// of detail.
 ///
 /// # Errors
 ///
-/// The deck is rejected, or memory is refused.
+/// The deck is rejected, or memory runs out.
 pub fn input_arrays(alloc: Global, editor: &mut Editor) -> Result<(), RuleStop> {
     let view = editor.view(alloc)?;
     let types = record_types(alloc, &view)?;
@@ -21,12 +22,12 @@ pub fn input_arrays(alloc: Global, editor: &mut Editor) -> Result<(), RuleStop> 
     deck.fill_types(alloc, editor)
 }
 
-/// The name and index of an input field.
+/// Returns the name and index of an input field.
 fn field_of(card: &Card) -> Operand<'_> {
     Operand::of(card.value(53, 58))
 }
 
-/// A record type that reads arrays, the fields that are arrays or entries, and the indicator that it has now.
+/// A record type that reads arrays, its fields that are arrays or entries, and its present indicator.
 #[derive(Clone, Copy)]
 struct Reader<'a> {
     kind: &'a RecordType,
@@ -35,7 +36,7 @@ struct Reader<'a> {
 }
 
 impl Reader<'_> {
-    /// The deck is rejected for its type.
+    /// Rejects the deck for its type.
     fn refused(&self, why: &'static str) -> RuleStop {
         RuleStop::about(self.kind.head.number, why, self.indicator.word())
     }
@@ -57,7 +58,7 @@ impl Deck<'_> {
         insert_moves(alloc, editor, &filling)
     }
 
-    /// Reads the arrays of a type.
+    /// Rewrites the arrays of a type.
     fn fill_type(
         &self,
         alloc: Global,
@@ -78,7 +79,7 @@ impl Deck<'_> {
         self.fill_fields(alloc, editor, filling, reader)
     }
 
-    /// The fields of a type that are arrays or entries.
+    /// Returns the fields of a type that are arrays or entries.
     fn array_fields(&self, alloc: Global, kind: &RecordType) -> List<Seen> {
         let mut found = List::new(alloc);
         for field in kind.fields.iter() {
@@ -89,7 +90,7 @@ impl Deck<'_> {
         found
     }
 
-    /// Reads the fields of a type that are arrays or entries.
+    /// Rewrites the fields of a type that are arrays or entries.
     fn fill_fields(
         &self,
         alloc: Global,
@@ -106,7 +107,7 @@ impl Deck<'_> {
         Ok(())
     }
 
-    /// Refuses a type's indicator that a type which fills other entries has too.
+    /// Rejects a type's indicator if another type with it fills other entries.
     fn check_types(&self, alloc: Global, reader: Reader) -> Result<(), RuleStop> {
         for other in self.types {
             if Indicator::at(&other.head.card, 19) == reader.indicator {
@@ -116,7 +117,7 @@ impl Deck<'_> {
         Ok(())
     }
 
-    /// Refuses a type beside which another one with its indicator fills other entries, or in another order.
+    /// Rejects a type if another one with its indicator fills other entries, or fills them in another order.
     fn check_same(
         &self,
         alloc: Global,
@@ -131,7 +132,7 @@ impl Deck<'_> {
     }
 }
 
-/// Puts the calculations of all types at the front of detail.
+/// Inserts the calculations of all types at the start of detail.
 fn insert_moves(alloc: Global, editor: &mut Editor, filling: &Filling) -> Result<(), RuleStop> {
     let moves = filling.calculations()?;
     match moves.first() {
@@ -140,7 +141,7 @@ fn insert_moves(alloc: Global, editor: &mut Editor, filling: &Filling) -> Result
     }
 }
 
-/// The indicator of a type: its own, or a free one.
+/// Returns the indicator of a type: its own, or a free one.
 fn indicator_of(
     alloc: Global,
     editor: &mut Editor,
@@ -163,7 +164,7 @@ fn indicator_of(
     Ok(free)
 }
 
-/// Refuses a type's indicator that anything but its types may have turned on or off.
+/// Rejects a type's indicator that anything but its types may have turned on or off.
 fn check_indicator(alloc: Global, editor: &Editor, reader: Reader) -> Result<(), RuleStop> {
     let view = editor.view(alloc)?;
     check_only_type(alloc, &view, reader.indicator, reader.kind.head.number)
@@ -186,14 +187,14 @@ fn fills_same(one: &Card, other: &Card) -> bool {
         && (field_of(one).has_index() || width(one) == width(other))
 }
 
-/// How many columns a field takes; none where it can't be read.
+/// Returns how many columns a field takes, or None if it can't be read.
 fn width(card: &Card) -> Option<usize> {
     let first = card.number(44, 47)?;
     let last = card.number(48, 51)?;
     last.saturating_add(1).checked_sub(first)
 }
 
-/// Whether a field of a type from a card on has a name.
+/// Whether a field of a type has a name, from a card on.
 fn is_filled_from(kind: &RecordType, field: &Seen, name: &[u8]) -> bool {
     let mut is_following = false;
     for one in kind.fields.iter() {
@@ -219,7 +220,7 @@ fn check_field(kind: &RecordType, field: &Seen) -> Result<(), RuleStop> {
     Ok(())
 }
 
-/// What stands in 53 to 58 of a card as it is now.
+/// Returns the name that a card has in columns 53 to 58 now.
 fn name_now(view: &View, field: &Seen) -> Word {
     for seen in view.cards.iter() {
         if seen.at == field.at {
@@ -229,7 +230,7 @@ fn name_now(view: &View, field: &Seen) -> Word {
     Word::empty()
 }
 
-/// Reads an array or an entry.
+/// Rewrites an array or an entry.
 fn fill_field(
     alloc: Global,
     editor: &mut Editor,
@@ -255,7 +256,7 @@ fn fill_field(
     }
 }
 
-/// Adds the sentence that says how many calculations fill an array or an entry.
+/// Reports how many calculations fill an array or an entry.
 fn tell_filled(editor: &mut Editor, reading: &Reading, name: Word, count: usize) {
     editor.tell(
         reading.seen.number,
@@ -268,7 +269,7 @@ fn tell_filled(editor: &mut Editor, reading: &Reading, name: Word, count: usize)
     );
 }
 
-/// Reads an entry.
+/// Rewrites an entry.
 fn fill_entry(
     editor: &mut Editor,
     filling: &mut Filling,
@@ -288,7 +289,8 @@ fn fill_entry(
     Ok(())
 }
 
-/// How many entries of an array a field has, if it ends with one, hasn't too many, and has no levels or indicators.
+/// Returns how many entries of an array a field has, if it ends with a whole one, hasn't too many, and has no
+/// levels or indicators.
 fn entries_of(reading: &Reading, most: usize) -> Option<usize> {
     let card = &reading.seen.card;
     let length = reading.form.length;
@@ -299,7 +301,7 @@ fn entries_of(reading: &Reading, most: usize) -> Option<usize> {
     (card.is_blank(59, 62) && card.is_blank(65, 70)).then_some(width / length)
 }
 
-/// Reads a whole array.
+/// Rewrites a whole array.
 fn fill_array(
     alloc: Global,
     editor: &mut Editor,
@@ -323,7 +325,7 @@ fn fill_array(
 const NO_ENTRIES: &str =
     "a whole array that doesn't end with an entry, has too many, or has levels or indicators";
 
-/// Reads the first entries of an array, so many.
+/// Rewrites the first entries of an array.
 fn read_entries(
     alloc: Global,
     editor: &mut Editor,
@@ -341,7 +343,7 @@ fn read_entries(
     Ok(())
 }
 
-/// The columns of an entry, by its place from 0.
+/// Returns the columns of an entry, by its place from 0.
 fn span_of(reading: &Reading, place: usize) -> Span {
     let length = reading.form.length;
     let begin = reading.seen.card.number(44, 47).unwrap_or(0);

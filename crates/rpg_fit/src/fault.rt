@@ -1,4 +1,4 @@
-//! Why a deck isn't rewritten.
+//! Why a deck can't be rewritten.
 
 ghost use Rattle.std.specs.Prelude.{◌≡◌};
 ghost use Rattle.rpg_fit.specs.declared.fault.FitFault.TheVariants.{NoMemory};
@@ -8,10 +8,10 @@ use rpg_faults::SourceFault;
 use rpg_fit_deck::{Refusal, Stopped};
 use std::alloc::AllocError;
 
-/// Why a deck isn't rewritten.
+/// Why a deck can't be rewritten.
 #[derive(Clone, Copy)]
 pub enum FitFault {
-    /// A rule rejects a card of it.
+    /// A rule rejects one of its cards.
     Refused(Refusal),
     /// It has more than 2,000 cards, or would have.
     TooMany,

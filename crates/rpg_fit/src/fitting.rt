@@ -1,4 +1,4 @@
-//! A deck that is rewritten, with the faults of what it has become.
+//! A rewritten deck, with the faults of the result.
 
 ghost use Rattle.std.specs.Prelude.{IfErr, IfOk};
 ghost use Rattle.rpg_faults.specs.EverySource.{AreSourceFaults};
@@ -14,26 +14,26 @@ use rpg_fit_cards::Settings;
 use rpg_fit_deck::{Editor, Fitted};
 use std::alloc::Global;
 
-/// A deck that is rewritten.
+/// A rewritten deck.
 #[derive(Drop)]
 pub struct FittedDeck {
     pub fitted: Fitted,
-    /// What is noted of cards that mean something else than before.
+    /// Notes on cards that no longer mean the same.
     pub notes: Vec<Note>,
-    /// The faults of the new deck, by its own cards.
+    /// The faults of the new deck, on its own cards.
     pub faults: Vec<CardFault>,
 }
 
-/// How many cards a deck has at most.
+/// The most cards of a deck.
 const MOST_CARDS: usize = 2000;
 
-/// An old deck as cards that are read, as far as the rules go.
+/// Rewrites an old deck, as far as the rules go.
 ///
 /// The faults are those of the new deck: it has none exactly if it can be compiled.
 ///
 /// # Errors
 ///
-/// A rule rejects the deck, it has too many cards, or memory is refused.
+/// A rule rejects the deck, it has too many cards, or memory runs out.
 pub fn fit(alloc: Global, source: &[u8], settings: &Settings) -> Result<FittedDeck, FitFault>
     ensures laws { IfOk result (λ fit. IsFitted source.now fit.fitted) }
     ensures faults { IfOk result (λ fit. AreSourceFaults fit.fitted.new.items fit.faults.items) }
@@ -41,12 +41,12 @@ pub fn fit(alloc: Global, source: &[u8], settings: &Settings) -> Result<FittedDe
     fit_by(alloc, source, &OldDeckRules { settings })
 }
 
-/// An old deck as rules make it, whatever each of them does: each rule is applied in its turn, to what the ones before it left. No deck
-/// that one of them rejects is returned.
+/// Rewrites an old deck by any rules: each one is applied in turn, to what the ones before it left. A deck that one of them rejects
+/// isn't returned.
 ///
 /// # Errors
 ///
-/// A rule rejects the deck, it has too many cards, or memory is refused.
+/// A rule rejects the deck, it has too many cards, or memory runs out.
 pub fn fit_by<R: Rules>(alloc: Global, source: &[u8], rules: &R) -> Result<FittedDeck, FitFault>
     ensures laws { IfOk result (λ fit. IsFitted source.now fit.fitted) }
     ensures faults { IfOk result (λ fit. AreSourceFaults fit.fitted.new.items fit.faults.items) }
@@ -68,7 +68,7 @@ pub fn fit_by<R: Rules>(alloc: Global, source: &[u8], rules: &R) -> Result<Fitte
     })
 }
 
-/// How many line feeds a text has. A deck of too many cards takes no memory for each of them.
+/// Counts the line feeds of a text, so that a deck of too many cards is rejected before it is read.
 fn line_feeds(text: &[u8]) -> usize {
     text.iter().filter(|byte| **byte == b'\n').count()
 }

@@ -1,4 +1,4 @@
-//! An old deck as cards that are read: the rules one after the other, and the faults of the new deck.
+//! Rewrites an old deck: the rules one after another, and the faults of the new deck.
 #![tactic(auto)]
 
 mod array_entry;

@@ -1,4 +1,4 @@
-//! What a deck means in another way than before, though it is read as it is.
+//! Notes on cards that are accepted but mean something else than before.
 
 use rpg_fit_deck::{Card, Seen, View};
 use rpg_fit_words::{is_card, printer_of};
@@ -12,7 +12,8 @@ pub struct Note {
     pub text: &'static str,
 }
 
-/// The notes on the cards of a source: halt indicators that calculations turn on, and the printer if it has no overflow indicator.
+/// Returns the notes on the cards of a source: halt indicators that calculations turn on, and a printer without an overflow
+/// indicator.
 pub(crate) fn notes(alloc: Global, view: &View) -> Result<Vec<Note>, AllocError> {
     let mut notes = Vec::new(alloc);
     for seen in &view.cards {
@@ -42,7 +43,7 @@ fn turns_halt_on(seen: &Seen) -> bool {
         && (is_halt(card, 54) || is_halt(card, 56) || is_halt(card, 58))
 }
 
-/// Whether one of H1 to H9 stands in a column and the next one.
+/// Whether a column and the next one hold one of H1 to H9.
 fn is_halt(card: &Card, column: usize) -> bool {
     let digit = card.column(column.saturating_add(1));
     card.column(column) == b'H' && digit.is_ascii_digit() && digit != b'0'

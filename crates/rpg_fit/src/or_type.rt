@@ -1,16 +1,16 @@
-//! A type in place of each OR, and fields without a field record relation.
+//! Replaces each OR by a type, and removes field record relations.
 
 use rpg_fit_deck::{Address, Card, Editor, Seen, Sentence, Word};
 use rpg_fit_terms::{Indicator, NewCard, RuleStop, address_after, put_cards};
 use rpg_fit_words::{List, RecordType, record_types};
 use std::alloc::Global;
 
-/// A type of its own for each OR card, with the fields that belong to it. A field record relation that names the type's own indicator
-/// goes.
+/// Replaces each OR card by a type of its own, with the fields that belong to it, and blanks a field record relation that names the
+/// type's own indicator.
 ///
 /// # Errors
 ///
-/// The deck is rejected, or memory is refused.
+/// The deck is rejected, or memory runs out.
 pub fn or_types(alloc: Global, editor: &mut Editor) -> Result<(), RuleStop> {
     let view = editor.view(alloc)?;
     let types = record_types(alloc, &view)?;
@@ -31,7 +31,7 @@ fn is_or(seen: &Seen) -> bool {
     matches!(seen.card.columns(14, 15), b"OR")
 }
 
-/// How many alternatives a type has.
+/// Counts the alternatives of a type.
 fn alternatives(kind: &RecordType) -> usize {
     let mut count: usize = 1;
     for seen in kind.more.iter() {
@@ -42,7 +42,7 @@ fn alternatives(kind: &RecordType) -> usize {
     count
 }
 
-/// The last card of a type.
+/// Returns the last card of a type.
 fn last_of(kind: &RecordType) -> &Seen {
     match kind.fields.last() {
         Some(last) => last,
@@ -50,7 +50,7 @@ fn last_of(kind: &RecordType) -> &Seen {
     }
 }
 
-/// The field record relation of a field, perhaps blank.
+/// Returns the field record relation of a field, which may be blank.
 fn relation(field: &Seen) -> Indicator {
     Indicator::at(&field.card, 63)
 }
@@ -76,7 +76,7 @@ fn is_level_unrelated(kind: &RecordType, column: usize, level: &[u8]) -> bool {
     false
 }
 
-/// Refuses a field whose level in two columns stands on a field without a relation too.
+/// Rejects a field whose level in two columns is also on a field without a relation.
 fn check_level(kind: &RecordType, field: &Seen, column: usize) -> Result<(), RuleStop> {
     let level = field.card.value(column, column.saturating_add(1));
     if !level.is_empty() && is_level_unrelated(kind, column, level) {
@@ -86,7 +86,7 @@ fn check_level(kind: &RecordType, field: &Seen, column: usize) -> Result<(), Rul
     Ok(())
 }
 
-/// Refuses relations that no alternative of the type has, and levels that stand with and without one.
+/// Rejects relations that no alternative of the type has, and levels on fields with and without one.
 fn check_relations(kind: &RecordType) -> Result<(), RuleStop> {
     for field in kind.fields.iter() {
         if !relation(field).is_blank() {
@@ -96,7 +96,7 @@ fn check_relations(kind: &RecordType) -> Result<(), RuleStop> {
     Ok(())
 }
 
-/// Refuses a field's relation that no alternative of its type has, and levels that stand without one too.
+/// Rejects a field's relation that no alternative of its type has, and levels that are also on a field without one.
 fn check_relation(kind: &RecordType, field: &Seen) -> Result<(), RuleStop> {
     let relation = relation(field);
     if !has_indicator(kind, relation) {
@@ -107,7 +107,7 @@ fn check_relation(kind: &RecordType, field: &Seen) -> Result<(), RuleStop> {
     check_level(kind, field, 61)
 }
 
-/// A field without its relation.
+/// Returns a field without its relation.
 fn unrelated(card: Card) -> Card {
     card.with(63, 64, &[])
 }
@@ -125,7 +125,7 @@ fn blank_relations(editor: &mut Editor, kind: &RecordType) {
     }
 }
 
-/// Puts a type for each further alternative after the first one.
+/// Inserts a type for each alternative after the first one.
 fn separate(
     alloc: Global,
     editor: &mut Editor,
@@ -147,7 +147,7 @@ fn separate(
     Ok(())
 }
 
-/// Takes the OR cards out, and the AND cards after them.
+/// Removes the OR cards, and the AND cards after them.
 fn remove_others(editor: &mut Editor, kind: &RecordType) {
     let mut is_other = false;
     for seen in kind.more.iter() {
@@ -158,7 +158,7 @@ fn remove_others(editor: &mut Editor, kind: &RecordType) {
     }
 }
 
-/// Leaves the first alternative the fields that belong to it.
+/// Keeps only the fields of the first alternative.
 fn keep_own_fields(editor: &mut Editor, kind: &RecordType) {
     let own = Indicator::at(&kind.head.card, 19);
     for field in kind.fields.iter() {
@@ -174,7 +174,7 @@ fn keep_own_fields(editor: &mut Editor, kind: &RecordType) {
     }
 }
 
-/// The card of a type in place of an OR card. The sequence is that of the first alternative.
+/// Returns the type card that replaces an OR card. Its sequence is that of the first alternative.
 fn head_of(kind: &RecordType, or: &Seen, indicator: Indicator) -> NewCard {
     NewCard::copy(or)
         .with(7, 14, &[])
@@ -192,13 +192,13 @@ fn push_fields(cards: &mut List<NewCard>, kind: &RecordType, own: Indicator) {
     }
 }
 
-/// The indicator of an alternative: its own, or that of the one above.
+/// Returns the indicator of an alternative: its own, or that of the one above.
 fn indicator_of(or: &Seen, above: Indicator) -> Indicator {
     let own = Indicator::at(&or.card, 19);
     if own.is_blank() { above } else { own }
 }
 
-/// The types in place of the OR cards of a type.
+/// Returns the types that replace the OR cards of a type.
 fn other_types(alloc: Global, kind: &RecordType) -> List<NewCard> {
     let mut cards = List::new(alloc);
     let mut own = Indicator::at(&kind.head.card, 19);

@@ -13,7 +13,7 @@ use rpg_fit_overflow::{fetch, pages};
 use rpg_fit_terms::settle;
 use std::alloc::Global;
 
-/// The rules in their order, since rules stand on one another.
+/// The rules in order, since they depend on one another.
 pub const RULES: [Rule; 21] = [
     Rule::Comments,
     Rule::Columns,
@@ -83,12 +83,12 @@ fn apply_to_cycle(alloc: Global, editor: &mut Editor, rule: Rule) {
     settle(editor, outcome);
 }
 
-/// What applies rules to a deck.
+/// Applies rules to a deck.
 pub trait Rules {
     ghost use Rattle.rpg_fit_deck.specs.declared.editor.Editor.{Editor};
     ghost use Rattle.rpg_fit_deck.specs.declared.sentence.Rule.{Rule};
 
-    /// How a rule may leave a deck.
+    /// How a rule may change a deck.
     ghost leaves: { Self → Rule → Editor → Editor → Type 0 };
 
     /// Applies a rule to a deck.
@@ -96,7 +96,7 @@ pub trait Rules {
         ensures { leaves self.now rule editor.old editor.new };
 }
 
-/// The rules A1 to A21 with the settings of the command.
+/// The rules A1 to A21, with the settings of the command.
 #[derive(Clone, Copy)]
 pub(crate) struct OldDeckRules<'a> {
     pub settings: &'a Settings<'a>,
@@ -113,7 +113,7 @@ impl Rules for OldDeckRules<'_> {
     }
 }
 
-/// Applies a rule if none before it rejected the deck and memory sufficed.
+/// Applies a rule, unless an earlier one rejected the deck or memory ran out.
 fn apply_in_turn<R: Rules>(alloc: Global, editor: &mut Editor, rules: &R, rule: Rule)
     ensures { AppliedInTurn (R.leaves rules.now) rule editor.old editor.new }
 {

@@ -1,4 +1,4 @@
-//! Sequence by number: calculations test it.
+//! Numeric sequences: replaced by calculations that test them.
 
 use crate::order::{Numbered, letters};
 use crate::order_test::{Marks, order_cards};
@@ -7,16 +7,16 @@ use rpg_fit_terms::{FreeIndicators, Indicator, RuleStop, free_halt, fresh_name};
 use rpg_fit_words::{List, Place, RecordType, check_only_type, insert_at, record_types};
 use std::alloc::Global;
 
-/// What was given to types so far.
+/// What types were given so far.
 #[derive(Clone, Copy)]
 struct Given {
     free: FreeIndicators,
-    /// How many types have letters now.
+    /// How many types have got letters.
     letters: usize,
 }
 
 impl Given {
-    /// What the calculations of an order use, made for a card.
+    /// Returns what the calculations of an order use, created for a card.
     fn marks(&mut self, view: &View, card: usize) -> Result<Marks, RuleStop> {
         Ok(Marks {
             halt: free_halt(view, card)?,
@@ -27,11 +27,11 @@ impl Given {
     }
 }
 
-/// Puts letters in place of numbers in 15 to 16, and calculations that test the order of the records.
+/// Replaces the numbers in columns 15 to 16 by letters, with calculations that test the order of the records.
 ///
 /// # Errors
 ///
-/// The deck is rejected, or memory is refused.
+/// The deck is rejected, or memory runs out.
 pub fn sequence(alloc: Global, editor: &mut Editor) -> Result<(), RuleStop> {
     let view = editor.view(alloc)?;
     let types = record_types(alloc, &view)?;
@@ -82,7 +82,7 @@ fn order_file(
     }
 }
 
-/// Gives numbered types letters, and tests their order.
+/// Gives numbered types their letters, and tests their order.
 fn order_types(
     alloc: Global,
     editor: &mut Editor,
@@ -112,7 +112,7 @@ fn tell_order(editor: &mut Editor, file: &Word, marks: &Marks) {
     );
 }
 
-/// Refuses columns 17 and 18 that say nothing of an order.
+/// Rejects columns 17 and 18 that don't describe an order.
 fn check_columns(kind: &RecordType) -> Result<(), RuleStop> {
     let many = kind.head.card.column(17);
     let optional = kind.head.card.column(18);
@@ -128,7 +128,7 @@ fn is_of(kind: &RecordType, file: &Word) -> bool {
     is_numbered(&kind.head.card) && kind.file.text() == file.text()
 }
 
-/// Refuses columns 17 and 18 of a file's types.
+/// Rejects columns 17 and 18 of a file's types.
 fn check_all_columns(types: &[RecordType], file: &Word) -> Result<(), RuleStop> {
     for kind in types {
         if is_of(kind, file) {
@@ -138,7 +138,7 @@ fn check_all_columns(types: &[RecordType], file: &Word) -> Result<(), RuleStop> 
     Ok(())
 }
 
-/// The numbered types of a file, each with an indicator that no other number has.
+/// Returns the numbered types of a file, each with an indicator that no other number has.
 fn numbered_types(
     alloc: Global,
     given: &mut Given,
@@ -161,7 +161,7 @@ fn numbered_types(
     Ok(numbered)
 }
 
-/// Whether another type has an indicator, and another number or none, or another file.
+/// Whether another type has the indicator, but another number, none, or another file.
 fn is_of_another(types: &[RecordType], kind: &RecordType, indicator: Indicator) -> bool {
     for other in types {
         if Indicator::at(&other.head.card, 19) == indicator
@@ -174,7 +174,7 @@ fn is_of_another(types: &[RecordType], kind: &RecordType, indicator: Indicator) 
     false
 }
 
-/// The indicator of a numbered type: its own, or a free one.
+/// Returns the indicator of a numbered type: its own, or a free one.
 fn indicator_of(
     alloc: Global,
     given: &mut Given,
@@ -194,7 +194,7 @@ fn indicator_of(
     Ok(own)
 }
 
-/// Gives each numbered type its indicator, and letters in place of its number.
+/// Gives each numbered type its indicator, and letters instead of its number.
 fn change_types(
     editor: &mut Editor,
     given: &mut Given,

@@ -8,7 +8,7 @@ use rpg_fit_words::{
 };
 use std::alloc::Global;
 
-/// A part of the date that the old system had as a field.
+/// A part of the date that the old system provided as a field.
 #[derive(Clone, Copy)]
 enum DatePart {
     Day,
@@ -17,7 +17,7 @@ enum DatePart {
 }
 
 impl DatePart {
-    /// All parts, in the order in which they are reported.
+    /// All parts, in the order of reports.
     const ALL: [DatePart; 3] = [DatePart::Day, DatePart::Month, DatePart::Year];
 
     fn name(self) -> &'static [u8] {
@@ -33,7 +33,7 @@ impl DatePart {
 ///
 /// # Errors
 ///
-/// A line with a part of the date may be put out before any calculation, no name is free, or memory is refused.
+/// A line with a part of the date may be written before any calculation, no name is free, or memory runs out.
 pub fn dates(alloc: Global, editor: &mut Editor) -> Result<(), RuleStop> {
     let view = editor.view(alloc)?;
     let parts = undefined_parts(alloc, &view);
@@ -43,7 +43,7 @@ pub fn dates(alloc: Global, editor: &mut Editor) -> Result<(), RuleStop> {
     }
 }
 
-/// The parts of the date that a deck uses and no card defines.
+/// Returns the parts of the date that a deck uses and no card defines.
 fn undefined_parts(alloc: Global, view: &View) -> List<DatePart> {
     let mut found = List::new(alloc);
     for part in &DatePart::ALL {
@@ -55,7 +55,7 @@ fn undefined_parts(alloc: Global, view: &View) -> List<DatePart> {
     found
 }
 
-/// Puts the calculations that fill parts of the date.
+/// Inserts the calculations that fill parts of the date.
 fn fill(
     alloc: Global,
     editor: &mut Editor,
@@ -92,7 +92,7 @@ fn defines(seen: &Seen, name: &[u8]) -> bool {
         || is_card(seen, b'I') && seen.card.value(53, 58) == name
 }
 
-/// Whether a name is one of some parts of the date.
+/// Whether a name is one of these parts of the date.
 fn is_part(parts: &[DatePart], name: &[u8]) -> bool {
     for part in parts {
         if part.name() == name {
@@ -102,7 +102,7 @@ fn is_part(parts: &[DatePart], name: &[u8]) -> bool {
     false
 }
 
-/// Whether a card has one of some parts of the date, as an operand or as its index.
+/// Whether a card has one of these parts of the date, as an operand or as its index.
 fn has_part(parts: &[DatePart], card: &Card, as_index: bool) -> bool {
     match card.form() {
         b'C' => {
@@ -115,7 +115,7 @@ fn has_part(parts: &[DatePart], card: &Card, as_index: bool) -> bool {
     }
 }
 
-/// Whether an operand, or its index, is one of some parts of the date.
+/// Whether an operand, or its index, is one of these parts of the date.
 fn is_operand(parts: &[DatePart], text: &[u8], as_index: bool) -> bool {
     is_part(
         parts,
@@ -127,7 +127,7 @@ fn is_operand(parts: &[DatePart], text: &[u8], as_index: bool) -> bool {
     )
 }
 
-/// The number of the first card that has one of some parts of the date; if all have them as indexes, of the first of those.
+/// Returns the first card that has one of these parts of the date; if all are indexes, the first with one of those.
 fn first_card(view: &View, parts: &[DatePart]) -> usize {
     let mut indexed = 0;
     for seen in view.cards.iter() {
@@ -142,7 +142,7 @@ fn first_card(view: &View, parts: &[DatePart]) -> usize {
     indexed
 }
 
-/// Rejects parts of the date on lines that may be put out before any calculation.
+/// Rejects parts of the date on lines that may be written before any calculation.
 fn check_lines(alloc: Global, view: &View, parts: &[DatePart]) -> Result<(), RuleStop> {
     let printer = printer_of(view);
     let lines = lines(alloc, view)?;
@@ -153,7 +153,7 @@ fn check_lines(alloc: Global, view: &View, parts: &[DatePart]) -> Result<(), Rul
     Ok(())
 }
 
-/// Rejects parts of the date on a line. `is_early`: overflow may put it out before any total calculation.
+/// Rejects parts of the date on a line. `is_early`: overflow may write it before any total calculation.
 fn check_line(
     printer: Option<Printer>,
     line: &Line,
@@ -194,16 +194,16 @@ fn has_total_group(groups: &[Group]) -> bool {
     false
 }
 
-/// The calculations that fill parts of the date.
+/// Creates the calculations that fill parts of the date.
 #[derive(Clone, Copy)]
 struct Filling {
-    /// A field of the month and the day.
+    /// A field for the month and the day.
     half: Word,
     number: usize,
 }
 
 impl Filling {
-    /// Puts the calculations of some parts of the date in a place, at a level.
+    /// Inserts the calculations of these parts of the date at a place, at a level.
     fn put(
         &self,
         alloc: Global,
@@ -233,7 +233,7 @@ impl Filling {
         }
     }
 
-    /// A move to a number without decimals.
+    /// Returns a move to a number without decimals.
     fn card(
         &self,
         level: Indicator,
@@ -251,7 +251,7 @@ impl Filling {
     }
 }
 
-/// The sentence about the parts of the date that are fields now.
+/// Returns the sentence about the parts of the date that are fields now.
 fn sentence(parts: &[DatePart]) -> Sentence {
     match parts {
         [first, second, third] => Sentence::of_three(

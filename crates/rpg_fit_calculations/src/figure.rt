@@ -1,4 +1,4 @@
-//! Figurative constants, and what stands for one beside another operand.
+//! Figurative constants, and what replaces one, given the other operand.
 
 use rpg_fit_deck::{Sentence, Word};
 
@@ -8,12 +8,12 @@ const LITERAL: usize = 8;
 /// The most digits of a number.
 const DIGITS: usize = 15;
 
-/// Whether a text is a word.
+/// Whether a text is this word.
 fn is(text: &[u8], word: &[u8]) -> bool {
     text == word
 }
 
-/// Whether an operand is a literal of characters.
+/// Whether an operand is a character literal.
 pub(crate) fn is_literal(operand: &[u8]) -> bool {
     operand.first() == Some(&b'\'')
 }
@@ -26,7 +26,7 @@ pub(crate) enum Figure {
 }
 
 impl Figure {
-    /// The figurative constant that an operand is.
+    /// Returns the figurative constant in an operand.
     pub(crate) fn of(operand: &[u8]) -> Option<Figure> {
         if is(operand, b"*BLANK") || is(operand, b"*BLANKS") {
             Some(Figure::Blanks)
@@ -44,7 +44,7 @@ impl Figure {
         }
     }
 
-    /// A literal of so many of its characters.
+    /// Returns a literal of `length` of its characters.
     fn literal(self, length: usize) -> Word {
         let mut word = Word::of(b"'");
         for _ in 0..length.min(LITERAL) {
@@ -54,16 +54,17 @@ impl Figure {
     }
 }
 
-/// What a figurative constant stands beside.
+/// The other operand of a figurative constant.
 #[derive(Clone, Copy)]
 pub(crate) enum Beside {
     Number,
-    /// A text of so many characters.
+    /// A text of this many characters.
     Text(usize),
 }
 
 impl Beside {
-    /// The operand, if it shows by itself what it is: a number, a literal or nothing, which counts as a number.
+    /// Returns the other operand if it describes itself: a number, a literal or a blank, which counts as a
+    /// number.
     pub(crate) fn of_constant(operand: &[u8]) -> Option<Beside> {
         match operand.first() {
             None => Some(Beside::Number),
@@ -74,7 +75,7 @@ impl Beside {
     }
 }
 
-/// The operation that a figurative constant is an operand of.
+/// The operation with a figurative constant.
 #[derive(Clone, Copy)]
 pub(crate) enum Use {
     /// MOVE and MOVEL.
@@ -96,7 +97,7 @@ impl Use {
     }
 }
 
-/// What stands for a figurative constant.
+/// What replaces a figurative constant.
 #[derive(Clone, Copy)]
 pub(crate) enum Instead {
     /// The number 0. A move becomes Z-ADD.
@@ -106,7 +107,7 @@ pub(crate) enum Instead {
     Field,
 }
 
-/// What stands for a figurative constant.
+/// Returns what replaces a figurative constant.
 ///
 /// # Errors
 ///

@@ -14,7 +14,7 @@ const BLANKS: usize = 256;
 /// The length of a field of zeros: the most digits of a number.
 const ZEROS: usize = 15;
 
-/// Fields that nothing writes, in place of constants that are longer than a literal.
+/// Fields that nothing writes, for constants that are longer than a literal.
 #[derive(Clone, Copy)]
 struct Fields {
     blanks: Option<Word>,
@@ -48,7 +48,7 @@ impl Fields {
 ///
 /// # Errors
 ///
-/// A constant has no such meaning beside the other operand, a name is needed and none is free, or memory is refused.
+/// A constant has no such meaning with the other operand, a name is needed and none is free, or memory runs out.
 pub fn figures(alloc: Global, editor: &mut Editor) -> Result<(), RuleStop> {
     let view = editor.view(alloc)?;
     let mut fields = Fields::none();
@@ -60,7 +60,7 @@ pub fn figures(alloc: Global, editor: &mut Editor) -> Result<(), RuleStop> {
     Ok(())
 }
 
-/// Rewrites the figurative constants of a calculation. The first may change the operation of the second.
+/// Rewrites the figurative constants of a calculation. The first one may change the operation for the second.
 fn rewrite_card(
     alloc: Global,
     editor: &mut Editor,
@@ -74,7 +74,7 @@ fn rewrite_card(
     Ok(())
 }
 
-/// A card with the figurative constant in columns rewritten, in the deck too.
+/// Rewrites the figurative constant in columns of a card, also in the deck.
 fn rewritten(
     alloc: Global,
     editor: &mut Editor,
@@ -99,7 +99,7 @@ fn rewritten(
     Ok(card)
 }
 
-/// What stands for the figurative constant in columns.
+/// Returns what replaces the figurative constant in columns.
 fn meaning(
     view: &View,
     seen: &Seen,
@@ -117,7 +117,7 @@ fn meaning(
     }
 }
 
-/// The operand that decides what a figurative constant in columns stands for.
+/// Returns the operand that decides what replaces a figurative constant.
 fn other_operand(card: &Card, columns: Columns) -> &[u8] {
     if matches!(columns, Columns::Factor1) {
         return Columns::Factor2.value(card);
@@ -130,7 +130,7 @@ fn other_operand(card: &Card, columns: Columns) -> &[u8] {
     }
 }
 
-/// What an operand is; none if nothing defines it.
+/// Returns what an operand is, or None if nothing defines it.
 fn beside(view: &View, other: &[u8]) -> Option<Beside> {
     if let Some(constant) = Beside::of_constant(other) {
         return Some(constant);
@@ -143,7 +143,7 @@ fn beside(view: &View, other: &[u8]) -> Option<Beside> {
     }
 }
 
-/// A card with the operation that fits what stands for a figurative constant.
+/// Returns a card with the operation for what replaces a figurative constant.
 fn with_operation(card: Card, instead: Instead) -> Card {
     match instead {
         Instead::Number if matches!(Use::of(card.value(28, 32)), Use::Move) => {
@@ -153,7 +153,7 @@ fn with_operation(card: Card, instead: Instead) -> Card {
     }
 }
 
-/// The field that stands for a figurative constant. The first card that needs it makes it.
+/// Returns the field that replaces a figurative constant, created for the first card that needs it.
 fn field(
     alloc: Global,
     editor: &mut Editor,
@@ -181,7 +181,7 @@ fn field(
     Ok(name)
 }
 
-/// The calculation that defines the field of a figurative constant.
+/// Returns the calculation that defines the field of a figurative constant.
 fn definition(figure: Figure, name: Word) -> Calculation {
     match figure {
         Figure::Blanks => Calculation::of(b"MOVE")

@@ -1,22 +1,22 @@
-//! What MOVEA moves, as moves of single entries.
+//! A MOVEA as moves of single entries.
 
 use rpg_fit_deck::Sentence;
 
-/// What one side of a MOVEA has.
+/// One side of a MOVEA.
 #[derive(Clone, Copy)]
 pub(crate) enum Side {
-    /// A field or a literal of so many characters.
+    /// A field or a literal of this many characters.
     Field(usize),
     /// An array from one of its entries on.
     Array(Entries),
 }
 
-/// The entries of an array from one of them on.
+/// The entries of an array from a given one on.
 #[derive(Clone, Copy)]
 pub(crate) struct Entries {
     /// The number of the first entry, from 1.
     pub first: usize,
-    /// How many entries there are from there on.
+    /// How many entries there are.
     pub count: usize,
     /// The length of an entry.
     pub length: usize,
@@ -33,19 +33,19 @@ impl Entries {
 pub(crate) enum Moves {
     /// A MOVEL.
     Left,
-    /// A MOVE for each of so many entries.
+    /// A MOVE for each entry.
     EntryToEntry {
         from: usize,
         to: usize,
         count: usize,
     },
-    /// Into so many entries, through work fields.
+    /// Into entries, through work fields.
     Into {
         to: usize,
         count: usize,
         length: usize,
     },
-    /// Out of so many entries, through work fields.
+    /// Out of entries, through work fields.
     OutOf {
         from: usize,
         count: usize,
@@ -53,7 +53,7 @@ pub(crate) enum Moves {
     },
 }
 
-/// What a MOVEA becomes. `is_same`: both sides are of one array.
+/// Returns what a MOVEA becomes. `is_same`: both sides are the same array.
 ///
 /// # Errors
 ///
@@ -89,7 +89,8 @@ fn entry_to_entry(from: Entries, to: Entries, is_same: bool) -> Result<Moves, Se
     }
 }
 
-/// How many entries a field's characters are, if the field is the shorter side; else all of them.
+/// Returns how many entries the field's characters fill, or all entries if the array is the
+/// shorter side.
 fn whole_entries(characters: usize, array: Entries) -> Result<usize, Sentence> {
     let moved = characters.min(array.characters());
     if array.length == 0 || moved % array.length != 0 {

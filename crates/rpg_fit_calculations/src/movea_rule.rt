@@ -14,7 +14,7 @@ use std::alloc::Global;
 ///
 /// # Errors
 ///
-/// A MOVEA can't be done entry by entry, a name or an indicator is needed and none is free, or memory is refused.
+/// A MOVEA can't be done entry by entry, a name or an indicator is needed and none is free, or memory runs out.
 pub fn moves(alloc: Global, editor: &mut Editor) -> Result<(), RuleStop> {
     let found = groups_now(alloc, editor)?;
     let mut free = FreeIndicators::new();
@@ -26,7 +26,7 @@ pub fn moves(alloc: Global, editor: &mut Editor) -> Result<(), RuleStop> {
     Ok(())
 }
 
-/// Rewrites a MOVEA. One whose operands can't be read stays: the compiler reports it.
+/// Rewrites a MOVEA. One whose operands can't be read stays, for the compiler to report.
 fn rewrite_group(
     alloc: Global,
     editor: &mut Editor,
@@ -44,7 +44,7 @@ fn rewrite_group(
     }
 }
 
-/// What a MOVEA becomes; none if its operands can't be read.
+/// Returns what a MOVEA becomes, or None if its operands can't be read.
 fn meaning(now: &Now) -> Result<Option<Moves>, RuleStop> {
     let factor = Columns::Factor2.value(&now.seen.card);
     let result = Columns::Result.value(&now.seen.card);
@@ -61,7 +61,7 @@ fn meaning(now: &Now) -> Result<Option<Moves>, RuleStop> {
     }
 }
 
-/// What an operand of MOVEA has; none if nothing defines it, or if its array has no such entry.
+/// Returns a side of a MOVEA; None if nothing defines the operand, or its array has no such entry.
 fn side(now: &Now, text: &[u8]) -> Result<Option<Side>, RuleStop> {
     if is_literal(text) {
         let characters = Constant::of(text).text().len();
@@ -84,7 +84,7 @@ fn side(now: &Now, text: &[u8]) -> Result<Option<Side>, RuleStop> {
     }
 }
 
-/// The entries of an array from an index on, or all where there is no index; none if it has no such entry.
+/// Returns the entries of an array from an index on, or all without one; None if it has no such entry.
 fn entries_side(array: Array, index: &[u8]) -> Option<Side> {
     let first = Card::of(index).number(1, 10).unwrap_or(1);
     if first == 0 || first > array.entries {
@@ -119,14 +119,14 @@ fn move_entries(
     plan.put(editor, group, under.before, moves)
 }
 
-/// Gives the arrays of a MOVEA names with room for an index, in the order of their names.
+/// Gives the arrays of a MOVEA names with room for an index, in alphabetical order.
 fn make_rooms(alloc: Global, editor: &mut Editor, group: &Group) -> Result<(), RuleStop> {
     let [first, second] = by_name(alloc, editor, group)?;
     make_room(alloc, editor, group, first)?;
     make_room(alloc, editor, group, second)
 }
 
-/// The columns of a MOVEA's arrays, in the order of their names.
+/// Returns the columns of a MOVEA's arrays, in alphabetical order of the names.
 fn by_name(alloc: Global, editor: &Editor, group: &Group) -> Result<[Columns; 2], RuleStop> {
     let now = Now::of(alloc, editor, group)?;
     let from = Operand::of(Columns::Factor2.value(&now.seen.card)).name;
@@ -152,7 +152,7 @@ fn make_room(
     Ok(())
 }
 
-/// The first characters of work fields, with which no name begins.
+/// Returns a prefix for work fields that no name has.
 fn work_prefix(view: &View, number: usize) -> Result<Word, RuleStop> {
     let prefix = unused_prefix(view, b"MV", LAST)
         .or(unused_prefix(view, b"MW", LAST))
@@ -164,17 +164,17 @@ fn work_prefix(view: &View, number: usize) -> Result<Word, RuleStop> {
     }
 }
 
-/// The last of the first characters of work fields.
+/// The last characters of prefixes for work fields.
 const LAST: &[u8] = b"#$@VWXYZ";
 
-/// What the calculations in place of a MOVEA share.
+/// What the calculations that replace a MOVEA share.
 #[derive(Clone, Copy)]
 struct Plan {
-    /// The MOVEA under their conditions.
+    /// The MOVEA's conditions.
     base: NewCard,
     from: Word,
     to: Word,
-    /// The first characters of work fields.
+    /// The prefix of work fields.
     work: Word,
 }
 
@@ -190,7 +190,7 @@ impl Plan {
         }
     }
 
-    /// Puts the moves of all entries in the place of a MOVEA, after some cards.
+    /// Replaces a MOVEA by the moves of all entries, after these cards.
     fn put(
         &self,
         editor: &mut Editor,
@@ -236,7 +236,7 @@ impl Plan {
         }
     }
 
-    /// Appends, for each entry, a MOVEL of all up to its end to a work field, and a MOVE of that to the entry.
+    /// Appends, for each entry, a MOVEL of everything up to its end to a work field, and a MOVE of that to the entry.
     fn push_into(&self, cards: &mut List<NewCard>, to: usize, count: usize, length: usize) {
         for place in 0..count {
             let number = place.saturating_add(1);
@@ -276,7 +276,7 @@ impl Plan {
         self.work.and(Word::of_number(number).text())
     }
 
-    /// An operation with a work field of a length as its result.
+    /// Returns an operation whose result is a work field of a length.
     fn to_work(&self, operation: &[u8], work: Word, length: usize) -> NewCard {
         self.base
             .with(28, 32, operation)
@@ -286,7 +286,7 @@ impl Plan {
     }
 }
 
-/// An entry of an array, by its number.
+/// Returns an entry of an array, by its number.
 fn numbered(array: Word, number: usize) -> Word {
     entry(array, Word::of_number(number))
 }

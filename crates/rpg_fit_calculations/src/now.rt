@@ -1,10 +1,10 @@
-//! A calculation as it is now, and cards in its place.
+//! A calculation in its present form, and cards that replace it.
 
 use rpg_fit_deck::{Editor, Seen, Sentence, View, Word};
 use rpg_fit_words::{Group, List, NewCard, RuleStop, put_cards, remove_cards};
 use std::alloc::Global;
 
-/// A deck as it is now, and the last card of one of its calculations, which other changes may have given another name.
+/// A deck in its present form, and the last card of one of its calculations, which other changes may have renamed.
 #[derive(Drop)]
 pub(crate) struct Now {
     pub view: View,
@@ -12,7 +12,7 @@ pub(crate) struct Now {
 }
 
 impl Now {
-    /// A calculation that was found before, as it is now.
+    /// Returns the present form of a calculation that was found earlier.
     pub(crate) fn of(alloc: Global, editor: &Editor, group: &Group) -> Result<Now, RuleStop> {
         let view = editor.view(alloc)?;
         let mut seen = group.last;
@@ -25,7 +25,7 @@ impl Now {
     }
 }
 
-/// Puts cards in the place of a calculation, with a sentence about that.
+/// Replaces a calculation by cards, and reports it.
 pub(crate) fn replace(
     editor: &mut Editor,
     group: &Group,
@@ -40,7 +40,7 @@ pub(crate) fn replace(
     Ok(())
 }
 
-/// The sentence about calculations that stand in the place of one.
+/// Returns the sentence about calculations that replace one.
 pub(crate) fn told(text: &'static str, cards: &List<NewCard>) -> Sentence {
     Sentence::about(text, Word::of_number(cards.as_slice().len()))
 }

@@ -8,14 +8,14 @@ use rpg_fit_words::{
 };
 use std::alloc::Global;
 
-/// From how many entries on the calculations are a loop.
+/// The least number of entries for which the calculations are a loop.
 const LOOP_FROM: usize = 31;
 
 /// Rewrites calculations with whole arrays as calculations with their entries.
 ///
 /// # Errors
 ///
-/// A calculation can't be done entry by entry, a name or an indicator is needed and none is free, or memory is refused.
+/// A calculation can't be done entry by entry, a name or an indicator is needed and none is free, or memory runs out.
 pub fn whole_calculations(alloc: Global, editor: &mut Editor) -> Result<(), RuleStop> {
     let view = editor.view(alloc)?;
     let found = groups(alloc, &view)?;
@@ -29,12 +29,12 @@ pub fn whole_calculations(alloc: Global, editor: &mut Editor) -> Result<(), Rule
     Ok(())
 }
 
-/// Operations that take whole arrays as they are, or name labels and subroutines.
+/// Operations that accept whole arrays, or name labels and subroutines.
 const LEFT: [&[u8]; 7] = [
     b"LOKUP", b"XFOOT", b"GOTO", b"EXSR", b"TAG", b"BEGSR", b"ENDSR",
 ];
 
-/// Operations that a whole array and each of its entries have alike.
+/// Operations that do the same to a whole array as to each of its entries.
 const BY_ENTRY: [&[u8]; 8] = [
     b"ADD", b"SUB", b"MULT", b"DIV", b"Z-ADD", b"Z-SUB", b"MOVE", b"MOVEL",
 ];
@@ -53,7 +53,7 @@ fn is_whole(view: &View, text: &[u8]) -> bool {
     array_of(view, text).is_some()
 }
 
-/// Whether a calculation has a whole array that has to be rewritten.
+/// Whether a calculation has a whole array that must be rewritten.
 fn has_whole_array(view: &View, group: &Group) -> bool {
     !is_one_of(group.operation(), &LEFT) && least_entries(view, &group.last.card).is_some()
 }
@@ -70,7 +70,7 @@ fn check(now: &Now, next: Option<&Group>) -> Result<(), RuleStop> {
     check_own_entry(now)
 }
 
-/// Rejects an operation that isn't done entry by entry, a result that is no whole array, and resulting indicators.
+/// Rejects an operation that can't be done entry by entry, a result that isn't a whole array, and resulting indicators.
 fn check_calculation(now: &Now) -> Result<(), RuleStop> {
     let number = now.seen.number;
     let card = &now.seen.card;
@@ -113,14 +113,14 @@ fn check_own_entry(now: &Now) -> Result<(), RuleStop> {
     Ok(())
 }
 
-/// The least number of entries of the whole arrays of a calculation; none if it has no whole array.
+/// Returns the least number of entries of a calculation's whole arrays, or None if it has none.
 fn least_entries(view: &View, card: &Card) -> Option<usize> {
     let least = least_with(view, Columns::Factor1.value(card), None);
     let least = least_with(view, Columns::Factor2.value(card), least);
     least_with(view, Columns::Result.value(card), least)
 }
 
-/// The least number of entries, with an operand that may be a whole array.
+/// Returns the least number of entries, including an operand that may be a whole array.
 fn least_with(view: &View, operand: &[u8], least: Option<usize>) -> Option<usize> {
     match array_of(view, operand) {
         Some(array) => Some(array.entries.min(least.unwrap_or(array.entries))),
@@ -173,7 +173,7 @@ fn make_room(
     Ok(())
 }
 
-/// A card with an index for the whole array in columns, if there is one.
+/// Returns a card with an index for the whole array in columns, if there is one.
 fn indexed(view: &View, card: Card, columns: Columns, index: Word) -> Card {
     let name = columns.value(&card);
     if is_whole(view, name) {
@@ -183,7 +183,7 @@ fn indexed(view: &View, card: Card, columns: Columns, index: Word) -> Card {
     }
 }
 
-/// The calculation of an entry: an index for each whole array.
+/// Returns the calculation of an entry, with an index for each whole array.
 fn entry_card(now: &Now, base: NewCard, index: Word) -> NewCard {
     let card = indexed(&now.view, base.card, Columns::Factor1, index);
     let card = indexed(&now.view, card, Columns::Factor2, index);
@@ -207,7 +207,7 @@ fn by_entry(
     put_entries(editor, group, &now, under, entries)
 }
 
-/// Puts a calculation for each entry in the place of one.
+/// Replaces a calculation by one for each entry.
 fn put_entries(
     editor: &mut Editor,
     group: &Group,
@@ -225,7 +225,7 @@ fn put_entries(
     replace(editor, group, &cards, told)
 }
 
-/// What the calculations of all entries have, without conditions.
+/// Returns what the calculations of all entries share, without conditions.
 fn base_of(now: &Now, level: Indicator) -> NewCard {
     NewCard::copy(&now.seen)
         .with(7, 8, level.word().text())
@@ -253,13 +253,13 @@ fn by_loop(
     put_loop(editor, group, &frame, calculation, under.before, entries)
 }
 
-/// The name of a loop's index.
+/// Returns a name for a loop's index.
 fn fresh_index(alloc: Global, editor: &Editor, group: &Group) -> Result<Word, RuleStop> {
     let view = editor.view(alloc)?;
     FreshNames::of(b"X#", 2).take(&view, group.last.number)
 }
 
-/// Puts a loop in the place of a calculation, after some cards.
+/// Replaces a calculation by a loop, after these cards.
 fn put_loop(
     editor: &mut Editor,
     group: &Group,
@@ -277,19 +277,19 @@ fn put_loop(
     replace(editor, group, &cards, told)
 }
 
-/// What surrounds the calculation of an entry in a loop.
+/// The parts of a loop around the calculation of an entry.
 #[derive(Clone, Copy)]
 struct Loop {
     /// Columns 7 to 8 of each calculation.
     level: Indicator,
-    /// On if the loop is done at all, and then as long as it goes on.
+    /// On if the loop is done at all, then while it continues.
     flag: Indicator,
     index: Word,
-    /// The label at its begin.
+    /// The label at its start.
     again: Word,
     /// The label after it.
     done: Word,
-    /// The calculation of an entry, but for its operands.
+    /// The calculation of an entry, without its operands.
     base: NewCard,
     number: usize,
 }
@@ -312,7 +312,7 @@ impl Loop {
         calculation.at(self.level).made_of(self.number)
     }
 
-    /// The cards before the calculation: the index is 1.
+    /// Returns the cards before the calculation, which set the index to 1.
     fn begin(&self) -> [NewCard; 3] {
         [
             self.card(
@@ -330,7 +330,7 @@ impl Loop {
         ]
     }
 
-    /// The cards after the calculation: the next index, and back as long as there is an entry of it.
+    /// Returns the cards after the calculation: the next index, and back while it has an entry.
     fn end(&self, entries: usize) -> [NewCard; 4] {
         [
             self.card(

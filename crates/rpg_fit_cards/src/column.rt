@@ -1,4 +1,4 @@
-//! Columns that stand for nothing are blanked.
+//! Blanks columns that have no meaning.
 
 use crate::cards::{is_device, is_printer};
 use crate::draft::Draft;
@@ -6,14 +6,14 @@ use rpg_fit_deck::{Card, Editor, Seen, Sentence, Word};
 use rpg_fit_words::RuleStop;
 use std::alloc::Global;
 
-/// The columns of a card, of which all that follow are cut.
+/// The columns of a card. Any after them are cut off.
 const COLUMNS: usize = 80;
 
-/// Blanks columns that stand for nothing, and gives a card file the record length of its block.
+/// Blanks columns that have no meaning, and gives a card file the record length of its block.
 ///
 /// # Errors
 ///
-/// Memory is refused.
+/// Memory runs out.
 pub fn columns(alloc: Global, editor: &mut Editor) -> Result<(), RuleStop> {
     let view = editor.view(alloc)?;
     for seen in &view.cards {
@@ -28,7 +28,7 @@ pub fn columns(alloc: Global, editor: &mut Editor) -> Result<(), RuleStop> {
     Ok(())
 }
 
-/// Cuts what follows the columns of a card.
+/// Cuts off what follows the columns of a card.
 fn cut(editor: &mut Editor, seen: &Seen, draft: &mut Draft) {
     if seen.width > COLUMNS {
         let last = Word::of_number(seen.width);
@@ -52,7 +52,7 @@ fn blank_spares(editor: &mut Editor, draft: &mut Draft) {
     }
 }
 
-/// Whether a file's record is its block, by its device.
+/// Whether a file has one record per block, by its device.
 fn has_one_record(card: &Card) -> bool {
     is_printer(card)
         || is_device(card, b"MFCU1")

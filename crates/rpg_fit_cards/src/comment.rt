@@ -1,4 +1,4 @@
-//! Directives for the listing, and DEBUG, become comments.
+//! Turns directives for the listing, and DEBUG, into comments.
 
 use rpg_fit_deck::{Card, Editor, Seen, Sentence};
 use rpg_fit_words::{Group, RuleStop, groups_now};
@@ -6,11 +6,11 @@ use std::alloc::Global;
 
 const DIRECTIVES: [&[u8]; 3] = [b"/TITLE", b"/EJECT", b"/SPACE"];
 
-/// Makes comments of directives for the listing, and of DEBUG with the cards of its conditions.
+/// Turns directives for the listing into comments, and DEBUG with the cards of its conditions.
 ///
 /// # Errors
 ///
-/// Memory is refused.
+/// Memory runs out.
 pub fn comments(alloc: Global, editor: &mut Editor) -> Result<(), RuleStop> {
     put_directives(alloc, editor)?;
     put_debugs(alloc, editor)

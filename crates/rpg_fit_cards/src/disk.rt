@@ -1,4 +1,4 @@
-//! Several disk files become one.
+//! Merges several disk files into one.
 
 use crate::cards::is_printer;
 use crate::draft::Draft;
@@ -12,7 +12,7 @@ use std::alloc::Global;
 #[derive(Clone, Copy)]
 struct Disk {
     seen: Seen,
-    /// How many columns a record has.
+    /// The length of a record.
     length: usize,
     letter: u8,
 }
@@ -23,18 +23,18 @@ impl Disk {
     }
 }
 
-/// Makes one disk file of several: column 1 of its records has a letter for the file.
+/// Merges several disk files into one: column 1 of its records has a letter for the file.
 ///
 /// # Errors
 ///
-/// Memory is refused.
+/// Memory runs out.
 pub fn disks(alloc: Global, editor: &mut Editor) -> Result<(), RuleStop> {
     let view = editor.view(alloc)?;
     let disks = written_disks(alloc, &view);
     join_disks(alloc, editor, &view, disks.checked()?)
 }
 
-/// Makes one disk file of these, if there are several.
+/// Merges these disk files, if there are several.
 fn join_disks(
     alloc: Global,
     editor: &mut Editor,
@@ -52,7 +52,8 @@ fn join_disks(
     Ok(())
 }
 
-/// Moves the fields of all disk files' lines one to the right, and puts the letter of its file in column 1 of each line.
+/// Moves the fields of all disk files' lines one to the right, and inserts the letter of its file in column 1 of each
+/// line.
 fn move_outputs(
     editor: &mut Editor,
     view: &View,
@@ -68,7 +69,7 @@ fn move_outputs(
     }
 }
 
-/// The disk files that are written; none where one has no length, or they are too many.
+/// Returns the disk files that are written; empty if one has no length, or there are too many.
 fn written_disks(alloc: Global, view: &View) -> List<Disk> {
     let mut disks = List::new(alloc);
     let mut letter = b'A';
@@ -88,7 +89,7 @@ fn written_disks(alloc: Global, view: &View) -> List<Disk> {
     disks
 }
 
-/// Whether a card is that of a file that is written, and no printer.
+/// Whether a card describes a file that is written, but not the printer.
 fn is_disk(seen: &Seen) -> bool {
     is_card(seen, b'F') && seen.card.column(15) == b'O' && !is_printer(&seen.card)
 }
@@ -109,7 +110,7 @@ fn tell_disks(editor: &mut Editor, disks: &[Disk]) {
     }
 }
 
-/// The disk file of a line.
+/// Returns the disk file of a line.
 fn disk_of<'a>(disks: &'a [Disk], file: &[u8]) -> Option<&'a Disk> {
     for disk in disks {
         if disk.name() == file {
@@ -119,7 +120,7 @@ fn disk_of<'a>(disks: &'a [Disk], file: &[u8]) -> Option<&'a Disk> {
     None
 }
 
-/// Gives the card of a line the name of its file, and moves a field of a disk file one to the right.
+/// Puts the file's name on the card of a line, and moves a field of a disk file one to the right.
 fn move_output(editor: &mut Editor, disks: &[Disk], first: &Disk, output: &OutputCard) {
     let disk = disk_of(disks, output.file.text());
     let with = match disk {
@@ -142,7 +143,7 @@ fn move_output(editor: &mut Editor, disks: &[Disk], first: &Disk, output: &Outpu
     }
 }
 
-/// Moves the end of a field by one.
+/// Moves the end position of a field by one.
 fn move_field(editor: &mut Editor, draft: &mut Draft, with: usize) {
     if let Some(end) = draft.card.number(40, 43) {
         let end = Word::of_number(end.saturating_add(1));
@@ -160,7 +161,7 @@ fn ends_conditions(output: &OutputCard, next: Option<&OutputCard>) -> bool {
     output.role != OutputRole::Field && !goes_on
 }
 
-/// Puts the letter of its file into a line.
+/// Inserts the letter of its file into a line.
 fn put_letter(editor: &mut Editor, view: &View, disks: &[Disk], output: &OutputCard) {
     if let Some(disk) = disk_of(disks, output.file.text()) {
         let card = Card::of_form(b'O')
@@ -171,7 +172,7 @@ fn put_letter(editor: &mut Editor, view: &View, disks: &[Disk], output: &OutputC
     }
 }
 
-/// The length of the longest record.
+/// Returns the length of the longest record.
 fn longest(first: &Disk, others: &[Disk]) -> usize {
     let mut most = first.length;
     for disk in others {
@@ -180,7 +181,7 @@ fn longest(first: &Disk, others: &[Disk]) -> usize {
     most
 }
 
-/// Leaves the first file alone, with records of the longest length and one.
+/// Keeps only the first file, with records one longer than the longest.
 fn join_files(editor: &mut Editor, first: &Disk, others: &[Disk]) {
     let length = Word::of_number(longest(first, others).saturating_add(1));
     let mut draft = Draft::of(&first.seen);

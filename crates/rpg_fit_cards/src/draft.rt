@@ -2,7 +2,7 @@
 
 use rpg_fit_deck::{Address, Card, Editor, Seen, Sentence};
 
-/// A card that a rule changes. Each change is reported for the card itself.
+/// A card that a rule is changing. Each change is reported for the card itself.
 #[derive(Clone, Copy)]
 pub(crate) struct Draft {
     at: Address,
@@ -19,7 +19,7 @@ impl Draft {
         }
     }
 
-    /// Puts a text in columns, and reports it.
+    /// Replaces the text in columns, and reports it.
     pub fn change(
         &mut self,
         editor: &mut Editor,
@@ -32,7 +32,7 @@ impl Draft {
         self.follow(editor, first, last, text, self.number);
     }
 
-    /// Blanks columns, and reports it; columns that are blank stay.
+    /// Blanks columns, and reports it unless they are blank.
     pub fn blank(
         &mut self,
         editor: &mut Editor,
@@ -45,7 +45,8 @@ impl Draft {
         }
     }
 
-    /// Puts a text in columns, along with the change that is reported for the card `with`.
+    /// Replaces the text in columns, along with the change that is reported for the card
+    /// `with`.
     pub fn follow(
         &mut self,
         editor: &mut Editor,

@@ -1,4 +1,4 @@
-//! L cards are taken out.
+//! Removes L cards.
 
 use crate::cards::is_printer;
 use crate::draft::Draft;
@@ -8,25 +8,25 @@ use rpg_fit_deck::{Card, Editor, Seen, Sentence, View, Word};
 use rpg_fit_words::{RuleStop, is_card};
 use std::alloc::Global;
 
-/// The lines of a page, and the one at which a page overflows.
+/// The lines of a page, and the line at which it overflows.
 const LINES: usize = 66;
 
 const OVERFLOW: usize = 60;
 
-/// What a deck does on its form.
+/// How a deck uses its form.
 #[derive(Clone, Copy)]
 struct FormUse {
-    /// The overflow indicator, where some condition asks for it.
+    /// The overflow indicator, if a condition tests it.
     overflow: Option<Word>,
     /// Whether some line skips.
     skips: bool,
 }
 
-/// Takes out L cards of the form that each page has, and others where no form gets more.
+/// Removes L cards for the standard form, and others if no form must keep its length.
 ///
 /// # Errors
 ///
-/// Memory is refused.
+/// Memory runs out.
 pub fn forms(alloc: Global, editor: &mut Editor, settings: &Settings) -> Result<(), RuleStop> {
     let view = editor.view(alloc)?;
     let form_use = FormUse {
@@ -41,7 +41,7 @@ pub fn forms(alloc: Global, editor: &mut Editor, settings: &Settings) -> Result<
     Ok(())
 }
 
-/// The overflow indicator of the printer, where some condition asks for it.
+/// Returns the overflow indicator of the printer, if a condition tests it.
 fn asked_overflow(view: &View) -> Option<Word> {
     let indicator = overflow_of(view)?;
     for seen in &view.cards {
@@ -52,7 +52,7 @@ fn asked_overflow(view: &View) -> Option<Word> {
     None
 }
 
-/// The overflow indicator of the first printer, if it has one.
+/// Returns the overflow indicator of the first printer, if it has one.
 fn overflow_of(view: &View) -> Option<Word> {
     for seen in &view.cards {
         if is_card(seen, b'F') && is_printer(&seen.card) {
@@ -63,12 +63,12 @@ fn overflow_of(view: &View) -> Option<Word> {
     None
 }
 
-/// Whether an indicator stands in a column and the next one.
+/// Whether a column and the next one hold an indicator.
 fn has_at(card: &Card, column: usize, indicator: &[u8]) -> bool {
     card.columns(column, column.saturating_add(1)) == indicator
 }
 
-/// Whether a condition of a card asks for an indicator.
+/// Whether a condition of a card tests an indicator.
 fn asks(card: &Card, indicator: &[u8]) -> bool {
     !card.is_comment()
         && match card.form() {
@@ -104,7 +104,7 @@ struct Form {
     overflow: usize,
 }
 
-/// A number in columns, or another one where these are blank.
+/// Returns the number in columns, or `blank` if they are blank.
 fn number_or(card: &Card, first: usize, last: usize, blank: usize) -> Option<usize> {
     if card.is_blank(first, last) {
         Some(blank)
@@ -120,7 +120,7 @@ fn form_of(card: &Card) -> Option<Form> {
     })
 }
 
-/// Why an L card can't be taken out.
+/// Returns why an L card can't be removed.
 fn reason(form_use: &FormUse, form: Form, keeps_forms: bool) -> Option<Sentence> {
     let lines = Word::of_number(form.lines);
     if form.overflow != OVERFLOW {
@@ -143,7 +143,7 @@ fn reason(form_use: &FormUse, form: Form, keeps_forms: bool) -> Option<Sentence>
     }
 }
 
-/// The same for a form of fewer lines than a page.
+/// Like `reason`, for a form with fewer lines than a page.
 fn reason_of_short(form_use: &FormUse, lines: Word, keeps_forms: bool) -> Option<Sentence> {
     if !form_use.skips {
         let text = "a form of % lines, and no line skips to a line of it";
@@ -161,7 +161,7 @@ fn reason_of_short(form_use: &FormUse, lines: Word, keeps_forms: bool) -> Option
     }
 }
 
-/// Takes out an L card. One whose columns can't be read stays: the compiler reports it.
+/// Removes an L card. One whose columns can't be read stays, for the compiler to report.
 fn take_out(editor: &mut Editor, view: &View, form_use: &FormUse, keeps_forms: bool, seen: &Seen) {
     let Some(form) = form_of(&seen.card) else {
         return;
@@ -187,7 +187,7 @@ fn removal(form: Form) -> Sentence {
     }
 }
 
-/// Blanks the letter on F cards that asks for an L card.
+/// Blanks the letter on F cards that refers to an L card.
 fn blank_references(editor: &mut Editor, view: &View, with: usize) {
     for seen in &view.cards {
         if is_card(seen, b'F') && seen.card.column(39) == b'L' {

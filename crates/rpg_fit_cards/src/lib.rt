@@ -1,4 +1,4 @@
-//! Rules of an old deck's rewriting that look at single cards: comments, columns, switches, forms, table files, page counters and disk files.
+//! Rules for old decks that rewrite single cards: comments, columns, switches, forms, table files, page counters and disk files.
 #![tactic(auto)]
 
 mod cards;

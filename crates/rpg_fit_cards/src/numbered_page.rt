@@ -1,4 +1,4 @@
-//! PAGE1 to PAGE7 become PAGE.
+//! Turns PAGE1 to PAGE7 into PAGE.
 
 use rpg_fit_deck::{Card, Editor, Sentence, View, Word};
 use rpg_fit_terms::rename;
@@ -10,11 +10,11 @@ const COUNTERS: [&[u8]; 8] = [
     b"PAGE", b"PAGE1", b"PAGE2", b"PAGE3", b"PAGE4", b"PAGE5", b"PAGE6", b"PAGE7",
 ];
 
-/// Makes PAGE of the one page counter of a deck.
+/// Turns the one page counter of a deck into PAGE.
 ///
 /// # Errors
 ///
-/// Memory is refused.
+/// Memory runs out.
 pub fn numbered_pages(alloc: Global, editor: &mut Editor) -> Result<(), RuleStop> {
     let view = editor.view(alloc)?;
     let mut used = List::new(alloc);
@@ -37,12 +37,12 @@ fn is_page(counter: &[u8]) -> bool {
     counter == b"PAGE".as_slice()
 }
 
-/// Whether a counter is used, and no calculation gives it a length of its own.
+/// Whether a counter is used, and no calculation defines its length.
 fn counts(view: &View, counter: &[u8]) -> bool {
     (is_page(counter) || !is_defined(view, counter)) && first_with(view, counter).is_some()
 }
 
-/// Whether a calculation gives a name its length.
+/// Whether a calculation defines the length of a name.
 fn is_defined(view: &View, name: &[u8]) -> bool {
     for seen in &view.cards {
         let card = &seen.card;
@@ -74,7 +74,7 @@ fn has_name(card: &Card, name: &[u8]) -> bool {
         }
 }
 
-/// The first card that prints a name, or else the first that has it.
+/// Returns the first card that prints a name, or else the first that has it.
 fn first_with(view: &View, name: &[u8]) -> Option<usize> {
     let mut first = None;
     for seen in &view.cards {
@@ -97,7 +97,7 @@ fn reject_second(editor: &mut Editor, view: &View, counter: &[u8], other: &[u8])
     editor.refuse(first_with(view, counter).unwrap_or(1), sentence);
 }
 
-/// Makes PAGE of a counter wherever it stands, other than as a label or a subroutine.
+/// Turns a counter into PAGE wherever it is used, except as a label or a subroutine.
 fn become_page(editor: &mut Editor, view: &View, counter: &[u8]) {
     if let Some(first) = first_with(view, counter) {
         editor.tell(first, Sentence::about("% is PAGE now", Word::of(counter)));

@@ -4,7 +4,7 @@ use rpg_fit_deck::{Card, Seen, View, Word};
 use rpg_fit_words::{List, is_card};
 use std::alloc::Global;
 
-/// What an output card is.
+/// The role of an output card.
 #[derive(Clone, Copy, PartialEq, Eq)]
 pub(crate) enum OutputRole {
     /// The card that begins a line.
@@ -19,13 +19,13 @@ pub(crate) enum OutputRole {
 pub(crate) struct OutputCard {
     pub seen: Seen,
     pub role: OutputRole,
-    /// The number of the card that begins its line.
+    /// The number of its line's first card.
     pub line: usize,
     /// The file of its line.
     pub file: Word,
 }
 
-/// What an output card is, by its columns.
+/// Returns the role of an output card, by its columns.
 pub(crate) fn output_role(card: &Card) -> OutputRole {
     let is_condition = card.is_blank(7, 13);
     if is_condition && matches!(card.columns(14, 16), b"AND") {
@@ -39,7 +39,7 @@ pub(crate) fn output_role(card: &Card) -> OutputRole {
     }
 }
 
-/// The output cards of a deck, without comments.
+/// Returns the output cards of a deck, without comments.
 pub(crate) fn output_cards(alloc: Global, view: &View) -> List<OutputCard> {
     let mut cards = List::new(alloc);
     let mut line = 0;

@@ -1,11 +1,11 @@
-//! What the words of the command say about a deck.
+//! The arguments of the command that concern a deck.
 
 use rpg_fit_deck::Word;
 
-/// The external indicators U1 to U8, as the job was run with them.
+/// The external indicators U1 to U8, as they were set when the job ran.
 #[derive(Clone, Copy)]
 pub struct Switches {
-    /// For each a 1 where it is on, and a 0 where it is off.
+    /// For each a 1 if it is on, a 0 if it is off.
     digits: [u8; 8],
 }
 
@@ -13,7 +13,7 @@ impl Switches {
     /// All of them off.
     pub const OFF: Switches = Switches { digits: [b'0'; 8] };
 
-    /// The switches of eight digits 0 and 1.
+    /// Returns the switches of eight digits 0 and 1.
     pub fn of(text: &[u8]) -> Option<Switches> {
         let mut switches = Switches::OFF;
         for (place, digit) in text.iter().enumerate() {
@@ -25,7 +25,7 @@ impl Switches {
         (text.len() == switches.digits.len()).then_some(switches)
     }
 
-    /// Whether a switch, which is counted from 1, is on.
+    /// Whether a switch, counted from 1, is on.
     pub fn is_on(&self, number: usize) -> bool {
         match self.digits.get(number.saturating_sub(1)) {
             Some(digit) => *digit == b'1',
@@ -33,7 +33,7 @@ impl Switches {
         }
     }
 
-    /// The eight digits.
+    /// Returns the eight digits.
     pub fn word(&self) -> Word {
         Word::of(&self.digits)
     }
@@ -47,17 +47,17 @@ pub struct TableFile<'a> {
     pub records: &'a [u8],
 }
 
-/// What the words of the command say about a deck.
+/// The arguments of the command that concern a deck.
 #[derive(Clone, Copy)]
 pub struct Settings<'a> {
     pub switches: Switches,
-    /// Whether no form gets more lines than its L card has.
+    /// Whether each form keeps at most the lines of its L card.
     pub keeps_forms: bool,
     pub tables: &'a [TableFile<'a>],
 }
 
 impl<'a> Settings<'a> {
-    /// The records of a table file, if the words have them.
+    /// Returns the records of a table file, if the arguments have them.
     pub(crate) fn records_of(&self, name: &[u8]) -> Option<&'a [u8]> {
         for table in self.tables {
             if table.name == name {

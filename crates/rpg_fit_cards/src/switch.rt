@@ -1,4 +1,4 @@
-//! Conditions on external indicators are decided.
+//! Evaluates conditions on external indicators.
 
 use crate::cards::first_condition;
 use crate::draft::Draft;
@@ -9,11 +9,11 @@ use rpg_fit_words::{RuleStop, is_card};
 use rpg_text::is_blank;
 use std::alloc::Global;
 
-/// Decides conditions on U1 to U8: L0 stands for a condition that holds, NL0 for one that doesn't.
+/// Evaluates conditions on U1 to U8: L0 replaces a condition that holds, NL0 one that doesn't.
 ///
 /// # Errors
 ///
-/// Memory is refused.
+/// Memory runs out.
 pub fn switches(alloc: Global, editor: &mut Editor, switches: &Switches) -> Result<(), RuleStop> {
     let view = editor.view(alloc)?;
     reject_results(editor, &view);
@@ -26,7 +26,7 @@ pub fn switches(alloc: Global, editor: &mut Editor, switches: &Switches) -> Resu
     Ok(())
 }
 
-/// Decides the conditions of files.
+/// Evaluates the conditions of files.
 fn decide_files(editor: &mut Editor, view: &View, outputs: &[OutputCard], switches: &Switches) {
     for seen in &view.cards {
         if is_card(seen, b'F') {
@@ -35,7 +35,7 @@ fn decide_files(editor: &mut Editor, view: &View, outputs: &[OutputCard], switch
     }
 }
 
-/// The number of the switch that an indicator is.
+/// Returns the number of a switch, given its indicator.
 fn switch_number(indicator: &[u8]) -> Option<usize> {
     match indicator {
         [b'U', digit] if matches!(*digit, b'1'..=b'8') => Some(usize::from(*digit - b'0')),
@@ -43,7 +43,7 @@ fn switch_number(indicator: &[u8]) -> Option<usize> {
     }
 }
 
-/// The columns of the indicators that a card turns on or off.
+/// Returns the columns of the indicators that a card turns on or off.
 fn result_columns(card: &Card) -> &'static [usize] {
     match card.form() {
         b'F' => &[33],
@@ -89,7 +89,7 @@ fn decide_conditions(editor: &mut Editor, view: &View, switches: &Switches) {
     }
 }
 
-/// The three conditions from a column on, where a switch is among them.
+/// Returns the three conditions from a column on, if a switch is among them.
 fn decided(card: &Card, first: usize, switches: &Switches) -> Option<Word> {
     let mut conditions = Word::empty();
     let mut is_decided = false;
@@ -108,7 +108,7 @@ fn decided(card: &Card, first: usize, switches: &Switches) -> Option<Word> {
     is_decided.then_some(conditions)
 }
 
-/// What stands for a condition that always holds, and for one that never does.
+/// Returns what replaces a condition that always holds, or one that never does.
 fn decision(holds: bool) -> &'static [u8] {
     if holds { b" L0" } else { b"NL0" }
 }
@@ -117,11 +117,11 @@ fn decision(holds: bool) -> &'static [u8] {
 #[derive(Clone, Copy)]
 struct SwitchCondition {
     number: usize,
-    /// Whether it asks that the switch is off.
+    /// Whether it requires the switch to be off.
     is_off: bool,
 }
 
-/// The switch that a condition asks for.
+/// Returns the switch that a condition tests.
 fn switch_of(condition: &[u8]) -> Option<SwitchCondition> {
     let [not, indicator @ ..] = condition else {
         return None;
@@ -132,7 +132,7 @@ fn switch_of(condition: &[u8]) -> Option<SwitchCondition> {
     })
 }
 
-/// Decides the condition of a file.
+/// Evaluates the condition of a file.
 fn decide_file(editor: &mut Editor, outputs: &[OutputCard], file: &Seen, switches: &Switches) {
     let condition = file.card.value(71, 72);
     let Some(number) = switch_number(condition) else {
@@ -166,14 +166,14 @@ fn reject_input(editor: &mut Editor, number: usize, condition: &[u8]) {
     editor.refuse(number, sentence);
 }
 
-/// Whether a card is a field that changes what other lines print.
+/// Whether a card is a field that affects other lines.
 fn has_effect(output: &OutputCard) -> bool {
     let card = &output.seen.card;
     let counts = matches!(card.value(32, 37), [b'P', b'A', b'G', b'E', ..]);
     output.role == OutputRole::Field && (card.column(39) == b'B' || counts)
 }
 
-/// Rejects lines that can't be left out.
+/// Rejects lines that can't be dropped.
 fn reject_lines(editor: &mut Editor, outputs: &[OutputCard], file: &Seen) {
     let name = file.card.value(7, 14);
     for output in outputs {

@@ -1,4 +1,4 @@
-//! Table files become data after `**` cards.
+//! Turns table files into data after `**` cards.
 
 use crate::draft::Draft;
 use crate::settings::Settings;
@@ -8,11 +8,12 @@ use rpg_fit_words::{List, RuleStop, is_card};
 use rpg_text::has_only_characters;
 use std::alloc::Global;
 
-/// Puts the records of table files after `**` cards, in the order of the E cards, and takes out the files.
+/// Inserts the records of table files after `**` cards, in the order of the E cards, and removes the
+/// files.
 ///
 /// # Errors
 ///
-/// Memory is refused.
+/// Memory runs out.
 pub fn tables(alloc: Global, editor: &mut Editor, settings: &Settings) -> Result<(), RuleStop> {
     let view = editor.view(alloc)?;
     if let Some(first) = first_with_file(&view) {
@@ -22,7 +23,7 @@ pub fn tables(alloc: Global, editor: &mut Editor, settings: &Settings) -> Result
     Ok(())
 }
 
-/// The number of the first E card whose table is read from a file.
+/// Returns the number of the first E card whose table is read from a file.
 fn first_with_file(view: &View) -> Option<usize> {
     for seen in &view.cards {
         if is_card(seen, b'E') && has_file(&seen.card) {
@@ -42,12 +43,12 @@ fn begins_data(seen: &Seen) -> bool {
     matches!(seen.card.columns(1, 3), b"** ")
 }
 
-/// The first lines of a deck's data, and where the card after them is.
+/// The first lines of a deck's data, and the address of the card after them.
 #[derive(Drop)]
 struct Parts {
     starts: List<Address>,
     end: Address,
-    /// How many of them the E cards before have.
+    /// How many of them belong to the E cards so far.
     used: usize,
 }
 
@@ -66,7 +67,7 @@ impl Parts {
         }
     }
 
-    /// Where the data of the next E card begin, or would.
+    /// Returns where the data of the next E card begin, or would begin.
     fn next(&self) -> Address {
         match self.starts.as_slice().get(self.used) {
             Some(at) => *at,
@@ -74,7 +75,7 @@ impl Parts {
         }
     }
 
-    /// Takes the data of the next E card, if there are some.
+    /// Takes the data of the next E card, if there are any.
     fn take(&mut self) -> bool {
         let are_there = self.used < self.starts.as_slice().len();
         self.used = self.used.saturating_add(1);
@@ -82,7 +83,7 @@ impl Parts {
     }
 }
 
-/// Puts the records of all E cards' files, up to the first card that is rejected.
+/// Inserts the records of all E cards' files, up to the first card that is rejected.
 fn put_data(
     alloc: Global,
     editor: &mut Editor,
@@ -99,7 +100,7 @@ fn put_data(
     Ok(())
 }
 
-/// Puts the records of an E card's file.
+/// Inserts the records of an E card's file.
 fn put_table(
     alloc: Global,
     editor: &mut Editor,
@@ -118,7 +119,7 @@ fn put_table(
     Ok(())
 }
 
-/// Puts the records of an E card's file before the data of a later one.
+/// Inserts the records of an E card's file before the data of a later one.
 fn put_records(
     alloc: Global,
     editor: &mut Editor,
@@ -140,7 +141,7 @@ fn put_records(
     put_shaped(alloc, editor, &shape, before, records.checked()?, seen)
 }
 
-/// Puts records as the data of a table, if they can be.
+/// Inserts records as the data of a table, if possible.
 fn put_shaped(
     alloc: Global,
     editor: &mut Editor,
@@ -165,7 +166,7 @@ fn put_shaped(
     Ok(())
 }
 
-/// Puts a `**` card and the entries after it.
+/// Inserts a `**` card and the entries after it.
 fn put_entries(
     editor: &mut Editor,
     shape: &TableShape,
@@ -186,7 +187,7 @@ fn put_entries(
     }
 }
 
-/// Takes the file from an E card, and gives it as many entries as a data card has.
+/// Removes the file from an E card, and sets its entries per record to those of a data card.
 fn take_over(editor: &mut Editor, shape: &TableShape, records: usize, seen: &Seen) {
     let sentence = Sentence::of_two(
         "% records of % stand after ** now; compile again when they change",
@@ -204,7 +205,7 @@ fn take_over(editor: &mut Editor, shape: &TableShape, records: usize, seen: &See
     }
 }
 
-/// Takes out table files, unless a card was rejected.
+/// Removes table files, unless a card was rejected.
 fn drop_files(editor: &mut Editor, view: &View, with: usize) {
     for seen in &view.cards {
         if is_card(seen, b'F') && editor.goes_on() {
@@ -213,7 +214,7 @@ fn drop_files(editor: &mut Editor, view: &View, with: usize) {
     }
 }
 
-/// Takes out the F card of a table file, and blanks the letter on others that asks for E cards.
+/// Removes the F card of a table file, and blanks the letter on others that refers to E cards.
 fn drop_file(editor: &mut Editor, file: &Seen, with: usize) {
     if matches!(file.card.columns(15, 16), b"IT") {
         editor.tell(file.number, Sentence::of("a table file, taken out"));

@@ -8,20 +8,20 @@ use std::alloc::Global;
 /// The columns of a data card.
 const COLUMNS: usize = 80;
 
-/// What an E card says of its table, and of the one that alternates with it.
+/// What an E card says about its table, and about the one that alternates with it.
 #[derive(Clone, Copy)]
 pub(crate) struct TableShape {
     /// How many entries a record has.
     pub per_record: usize,
     pub entries: usize,
-    /// The columns of an entry, or of two that alternate.
+    /// The columns of an entry, or of two alternating ones.
     pub width: usize,
-    /// Whether some table is in ascending sequence.
+    /// Whether a table is in ascending sequence.
     pub is_ascending: bool,
 }
 
 impl TableShape {
-    /// The shape of a card's table, where its columns can be read.
+    /// Returns the shape of a card's table, if its columns can be read.
     pub fn of(card: &Card) -> Option<TableShape> {
         let alternates = !card.is_blank(46, 51);
         let other = if alternates { card.number(52, 54)? } else { 0 };
@@ -34,7 +34,7 @@ impl TableShape {
         (shape.per_record > 0 && shape.width > 0).then_some(shape)
     }
 
-    /// How many records have all entries.
+    /// Returns how many records have all entries.
     fn records(&self) -> usize {
         let mut records: usize = 0;
         let mut held: usize = 0;
@@ -48,7 +48,7 @@ impl TableShape {
         records
     }
 
-    /// How many entries a data card gets.
+    /// Returns how many entries a data card gets.
     pub fn per_card(&self) -> usize {
         let mut fit: usize = 0;
         let mut columns = self.width;
@@ -62,7 +62,7 @@ impl TableShape {
         fit
     }
 
-    /// Why records can't be its data, by the name of their file.
+    /// Returns why records can't be its data, with the name of their file.
     pub fn reason(&self, name: Word, records: usize) -> Option<Sentence> {
         let wanted = self.records();
         let (given, entries) = (Word::of_number(records), Word::of_number(self.entries));
@@ -84,7 +84,7 @@ impl TableShape {
     }
 }
 
-/// The lines of a file.
+/// Returns the lines of a file.
 pub(crate) fn records_of(alloc: Global, text: &[u8]) -> List<&[u8]> {
     let mut records = List::new(alloc);
     let mut rest = text;
@@ -99,7 +99,7 @@ pub(crate) fn records_of(alloc: Global, text: &[u8]) -> List<&[u8]> {
     records
 }
 
-/// Appends blanks until a text has so many characters.
+/// Pads a text with blanks to a length.
 fn pad(text: &mut Vec<u8>, length: usize) -> Result<(), RuleStop> {
     for _ in text.len()..length {
         text.push(b' ')?;
@@ -107,7 +107,7 @@ fn pad(text: &mut Vec<u8>, length: usize) -> Result<(), RuleStop> {
     Ok(())
 }
 
-/// All entries of a table one after another, by its records. Entries that are missing are blanks.
+/// Returns all entries of a table in sequence, given its records. Missing entries are blanks.
 pub(crate) fn entries_of(
     alloc: Global,
     shape: &TableShape,

@@ -6,7 +6,7 @@ use Rattle.rpg_text.specs.Lines.{with_line_feed}
 use Rattle.rpg_fit_deck.specs.declared.fitted.Fitted.{Fitted}
 use Rattle.rpg_fit_deck.specs.New.{made_lines, new_cards, nothing_told, untold, IsPart}
 
--- NEW's cards where there is a sentence
+-- NEW's cards if there is a sentence
 abbrev pub cards_of_new : List ℕ → Fitted → List (List ℕ)
 cards_of_new source f = new_cards (lines source) f.slots.items ++ made_lines f.end.items
 

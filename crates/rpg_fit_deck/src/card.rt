@@ -6,7 +6,7 @@ ghost use Rattle.rpg_fit_deck.specs.Columns.{column_of, characters_in_columns, f
 
 use rpg_text::{is_blank, trimmed};
 
-/// How many columns a card has.
+/// The columns of a card.
 const COLUMNS: usize = 80;
 
 /// A card's 80 columns.
@@ -16,7 +16,7 @@ pub struct Card {
 }
 
 impl Card {
-    /// The first 80 characters of a line, and blanks after it.
+    /// Returns the card of a line's first 80 characters, padded with blanks.
     pub fn of(line: &[u8]) -> Card {
         let mut card = Card {
             columns: [b' '; COLUMNS],
@@ -25,14 +25,14 @@ impl Card {
         card
     }
 
-    /// A card of a form, blank but for its column 6.
+    /// Returns a card that is blank except for its form in column 6.
     pub fn of_form(form: u8) -> Card {
         let mut card = Card::of(&[]);
         card.put_column(6, form);
         card
     }
 
-    /// The character in a column; a blank if there is no such column.
+    /// Returns the character in a column, or a blank if there is no such column.
     #[tactic(auto, unfolding(crate::specs::Columns::column_of))]
     pub fn column(&self, column: usize) -> u8
         ensures { result ≡ column_of self.now column }
@@ -43,7 +43,7 @@ impl Card {
         }
     }
 
-    /// The columns from the first to the last.
+    /// Returns the text in a range of columns.
     #[tactic(auto, unfolding(crate::specs::Columns::characters_in_columns))]
     pub fn columns(&self, first: usize, last: usize) -> &[u8]
         ensures { result.now ≡ characters_in_columns self.now first last }
@@ -56,7 +56,7 @@ impl Card {
         }
     }
 
-    /// What stands in columns, without the blanks on both sides.
+    /// Returns the text in a range of columns, trimmed of blanks.
     #[tactic(auto, unfolding(crate::specs::Columns::value_in_columns))]
     pub fn value(&self, first: usize, last: usize) -> &[u8]
         ensures { result.now ≡ value_in_columns self.now first last }
@@ -71,12 +71,12 @@ impl Card {
         is_blank(self.columns(first, last))
     }
 
-    /// The number in columns; none if they aren't digits after blanks.
+    /// Returns the number in columns, or None if they aren't digits after blanks.
     pub fn number(&self, first: usize, last: usize) -> Option<usize> {
         number(self.value(first, last))
     }
 
-    /// Its form: column 6.
+    /// Returns its form: column 6.
     #[tactic(auto, unfolding(crate::specs::Columns::form_letter))]
     pub fn form(&self) -> u8
         ensures { result ≡ form_letter self.now }
@@ -84,7 +84,7 @@ impl Card {
         self.column(6)
     }
 
-    /// Whether it is a comment, or has nothing at all.
+    /// Whether it is a comment, or entirely blank.
     #[tactic(auto, unfolding(crate::specs::Columns::is_comment))]
     pub fn is_comment(&self) -> bool
         ensures { result ≡ is_comment self.now }
@@ -92,14 +92,14 @@ impl Card {
         self.column(7) == b'*' || is_blank(&self.columns)
     }
 
-    /// Puts a character in a column.
+    /// Sets the character in a column.
     pub fn put_column(&mut self, column: usize, character: u8) {
         if let Some(there) = self.columns.get_mut(column.saturating_sub(1)) {
             *there = character;
         }
     }
 
-    /// Puts a text in columns, from the first on, and blanks after it.
+    /// Writes a text into columns, padded with blanks.
     pub fn put(&mut self, first: usize, last: usize, text: &[u8]) {
         for place in 0..last.saturating_add(1).saturating_sub(first) {
             let character = match text.get(place) {
@@ -110,13 +110,13 @@ impl Card {
         }
     }
 
-    /// This card with a text in columns, from the first on, and blanks after it.
+    /// Returns this card with a text in columns, padded with blanks.
     pub fn with(mut self, first: usize, last: usize, text: &[u8]) -> Card {
         self.put(first, last, text);
         self
     }
 
-    /// This card with a text at the end of columns, and blanks before it.
+    /// Returns this card with a text at the end of columns, after blanks.
     pub fn with_right(mut self, first: usize, last: usize, text: &[u8]) -> Card {
         self.put(first, last, &[]);
         self.put(
@@ -127,12 +127,12 @@ impl Card {
         self
     }
 
-    /// This card as the rules make it: without the number of a page and line in columns 1 to 5.
+    /// Returns this card as rules create it: without a page and line number in columns 1 to 5.
     pub fn made(self) -> Card {
         self.with(1, 5, &[])
     }
 
-    /// Its text, without the blanks at its end.
+    /// Returns its text, without trailing blanks.
     pub fn text(&self) -> &[u8]
         ensures { result.now ≡ trimmed self.now.columns }
     {
@@ -140,7 +140,7 @@ impl Card {
     }
 }
 
-/// A text without the blanks in front of it.
+/// Returns a text without leading blanks.
 fn without_blanks(text: &[u8]) -> &[u8]
     ensures { result.now ≡ without_blanks text.now }
 {
@@ -151,7 +151,7 @@ fn without_blanks(text: &[u8]) -> &[u8]
     rest
 }
 
-/// The number that a text of digits is.
+/// Returns the value of a text of digits.
 fn number(text: &[u8]) -> Option<usize> {
     let mut total: usize = 0;
     for character in text {

@@ -1,4 +1,4 @@
-//! The one way to change a deck.
+//! The only way to change a deck.
 
 ghost use Rattle.std.specs.Prelude.{◌≡◌, true, Some, None, IfErr, IfOk, OnOk, unwrap_or};
 ghost use Rattle.rpg_fit_deck.specs.New.{nothing_told};
@@ -16,14 +16,14 @@ use crate::stopped::Stopped;
 use crate::view::{Address, View};
 use std::alloc::{AllocError, Global};
 
-/// A deck while it is rewritten. It stops if memory runs out or a rule rejects the deck, and there is no new deck then.
+/// A deck that is being rewritten. If memory runs out or a rule rejects the deck, it stops, and there is no new deck.
 #[derive(Drop)]
 pub struct Editor<'a> {
     lines: Vec<&'a [u8]>,
     slots: Vec<Slot>,
-    /// Cards made after all others.
+    /// Cards inserted after all others.
     end: Vec<Made>,
-    /// How many cards were made.
+    /// How many cards were inserted.
     made: usize,
     rule: Rule,
     refusal: Option<Refusal>,
@@ -31,11 +31,11 @@ pub struct Editor<'a> {
 }
 
 impl<'a> Editor<'a> {
-    /// A source as it is.
+    /// Returns a source that is unchanged.
     ///
     /// # Errors
     ///
-    /// Memory is refused.
+    /// Memory runs out.
     pub fn new(alloc: Global, source: &'a [u8]) -> Result<Editor<'a>, AllocError>
         ensures { IfOk result (λ editor. IsSource source.now editor) }
     {
@@ -52,21 +52,21 @@ impl<'a> Editor<'a> {
         })
     }
 
-    /// Begins a rule: what follows has its code.
+    /// Begins a rule: what follows carries its code.
     pub fn begin(&mut self, rule: Rule)
         ensures { StaysStopped self.old self.new }
     {
         self.rule = rule;
     }
 
-    /// Whether to go on: memory sufficed so far, and no rule rejected the deck.
+    /// Whether to continue: memory hasn't run out, and no rule rejected the deck.
     pub fn goes_on(&self) -> bool
         ensures { result ≡ may_continue self.now }
     {
         self.refusal.is_none() && !self.ran_out
     }
 
-    /// How many cards the source has.
+    /// Returns how many cards the source has.
     pub fn len(&self) -> usize {
         self.lines.len()
     }
@@ -79,7 +79,7 @@ impl<'a> Editor<'a> {
         }
     }
 
-    /// Rejects the deck for a card. The first refusal stays.
+    /// Rejects the deck for a card. Only the first rejection counts.
     pub fn refuse(&mut self, card: usize, why: Sentence)
         ensures first { refusal_of self.new ≡ Some (unwrap_or (refusal_of self.old) (refusal_for self.old card why)) }
         ensures memory { has_run_out self.new ≡ has_run_out self.old }
@@ -93,7 +93,7 @@ impl<'a> Editor<'a> {
         }
     }
 
-    /// Adds the sentence about a change of a card of the source.
+    /// Reports a change of a card of the source by a sentence.
     pub fn tell(&mut self, card: usize, sentence: Sentence)
         ensures { StaysStopped self.old self.new }
     {
@@ -120,28 +120,28 @@ impl<'a> Editor<'a> {
         self.keep(outcome);
     }
 
-    /// Puts another card in a card's place, as part of the change of the card `with`.
+    /// Replaces a card, as part of the change of the card `with`.
     pub fn change(&mut self, at: Address, card: Card, with: usize)
         ensures { StaysStopped self.old self.new }
     {
         self.put(at, Here::Changed(card), with);
     }
 
-    /// Takes a card out, as part of the change of the card `with`.
+    /// Removes a card, as part of the change of the card `with`.
     pub fn remove(&mut self, at: Address, with: usize)
         ensures { StaysStopped self.old self.new }
     {
         self.put(at, Here::Gone, with);
     }
 
-    /// Puts a card before another one, as part of the change of the card `with`, and returns where it is.
+    /// Inserts a card before another one, as part of the change of the card `with`, and returns its address.
     pub fn insert(&mut self, before: Address, card: Card, with: usize) -> Address
         ensures { StaysStopped self.old self.new }
     {
         self.insert_copy(before, card, with, with)
     }
 
-    /// Puts a card that is made of the card `from` before another one, and returns where it is.
+    /// Inserts a card derived from the card `from` before another one, and returns its address.
     pub fn insert_copy(&mut self, before: Address, card: Card, from: usize, with: usize) -> Address
         ensures { StaysStopped self.old self.new }
     {
@@ -163,18 +163,18 @@ impl<'a> Editor<'a> {
         }
     }
 
-    /// The cards as they are now.
+    /// Returns the cards in their present form.
     ///
     /// # Errors
     ///
-    /// Memory is refused.
+    /// Memory runs out.
     pub fn view(&self, alloc: Global) -> Result<View, AllocError> {
         let mut view = View::new(alloc, self.lines.len());
         self.show(&mut view)?;
         Ok(view)
     }
 
-    /// Appends the cards as they are now, up to the one that ends the source.
+    /// Appends the cards in their present form, up to the one that ends the source.
     fn show(&self, view: &mut View) -> Result<(), AllocError> {
         for (place, line) in self.lines.iter().enumerate() {
             if let Some(slot) = self.slots.get(place) {
@@ -188,8 +188,9 @@ impl<'a> Editor<'a> {
         view.push_made(self.lines.len(), self.end.as_slice())
     }
 
-    /// The deck as it was rewritten, and the new deck: `source`, from which the editor was made, as it is if no sentence names a card. Otherwise
-    /// each card of the new deck with a line feed: for each card of the source, in their order, those made before it, and what replaces it.
+    /// Returns the rewritten deck, and the new deck's text: `source`, which the editor was created from, unchanged if no sentence names a
+    /// card. Otherwise each card of the new deck with a line feed: for each card of the source, in order, those inserted before it, and
+    /// what replaces it.
     ///
     /// # Errors
     ///
@@ -218,7 +219,7 @@ impl<'a> Editor<'a> {
         finished(alloc, source, slots, end)
     }
 
-    /// Stops: memory was refused to a rule.
+    /// Stops because memory ran out in a rule.
     pub fn run_out(&mut self)
         ensures stops { has_run_out self.new ≡ true }
         ensures refusal { refusal_of self.new ≡ refusal_of self.old }
@@ -227,7 +228,7 @@ impl<'a> Editor<'a> {
     }
 }
 
-/// The new deck of what became of a source's cards.
+/// Returns the new deck, given what happened to the source's cards.
 fn finished(
     alloc: Global,
     source: &[u8],
@@ -251,7 +252,7 @@ fn finished(
     }
 }
 
-/// The places of so many cards, each as it is.
+/// Returns slots for `count` cards, all unchanged.
 fn slots_as_they_are(alloc: Global, count: usize) -> Result<Vec<Slot>, AllocError>
     ensures { IfOk result (λ slots. nothing_told slots.items ≡ true) }
 {

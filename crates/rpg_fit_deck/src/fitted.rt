@@ -1,4 +1,4 @@
-//! A deck that is rewritten.
+//! A rewritten deck.
 
 ghost use Rattle.std.specs.Prelude.{◌<◌, ◌≤◌, length};
 
@@ -7,20 +7,20 @@ use crate::here::Here;
 use crate::sentence::Told;
 use crate::slot::{Made, Slot};
 
-/// A deck that is rewritten: the new deck, and the sentences about the source's cards.
+/// A rewritten deck: the new deck, and the sentences about the source's cards.
 #[derive(Drop)]
 pub struct Fitted {
     pub(crate) slots: Vec<Slot>,
-    /// Cards made after all others.
+    /// Cards inserted after all others.
     pub(crate) end: Vec<Made>,
     /// How many cards the source has.
     pub cards: usize,
-    /// NEW, as it is written.
+    /// The text of the new deck.
     pub new: Vec<u8>,
 }
 
 impl Fitted {
-    /// The sentences about a card of the source, which is counted from 1.
+    /// Returns the sentences about a card of the source, counted from 1.
     pub fn told(&self, card: usize) -> &[Told]
         ensures { 0 < length result.now → (0 < card) × (card ≤ self.now.cards) }
     {
@@ -33,7 +33,7 @@ impl Fitted {
         }
     }
 
-    /// How many changes of cards have a sentence.
+    /// Returns how many changes of cards have a sentence.
     pub fn changes(&self) -> usize {
         let mut count: usize = 0;
         for slot in &self.slots {
@@ -42,7 +42,7 @@ impl Fitted {
         count
     }
 
-    /// What stands in the place of a card of the source, where that is another card.
+    /// Returns the card that replaces a card of the source, if there is one.
     pub fn replacement(&self, card: usize) -> Option<Card> {
         match self.slots.get(card.checked_sub(1)?)?.here {
             Here::Changed(card) => Some(card),
@@ -50,7 +50,8 @@ impl Fitted {
         }
     }
 
-    /// The card of the source that a card of NEW comes from. Both are counted from 1.
+    /// Returns the card of the source that a card of the new deck comes from. Both are
+    /// counted from 1.
     pub fn source_card(&self, card: usize) -> Option<usize> {
         let mut before = card.checked_sub(1)?;
         for (place, slot) in self.slots.iter().enumerate() {

@@ -1,11 +1,11 @@
-//! What becomes of a card.
+//! What happened to a card.
 
 use crate::card::Card;
 
-/// What stands at the place of a card.
+/// What is at the place of a card.
 #[derive(Clone, Copy)]
 pub(crate) enum Here {
-    /// The card as it was.
+    /// The original card.
     Kept,
     /// Another card.
     Changed(Card),

@@ -1,4 +1,5 @@
-//! A deck while it is rewritten: its cards, the sentences about them, and the only calls that change them.
+//! A deck that is being rewritten: its cards, the sentences about them, and the only calls that change
+//! them.
 #![tactic(auto)]
 
 mod card;

@@ -1,6 +1,6 @@
 //! The lines that begin data and end a source.
 
-/// A character of a line, or another one past its end.
+/// Returns a character of a line, or `following` past its end.
 fn character_at(line: &[u8], place: usize, following: u8) -> u8 {
     match line.get(place) {
         Some(character) => *character,

@@ -1,4 +1,4 @@
-//! NEW, by the source and what becomes of its cards.
+//! Renders the new deck, from the source and the changes of its cards.
 
 ghost use Rattle.std.specs.Prelude.{◌≡◌, ◌++◌, ◌≤◌, length, map, true, false, IfOk, OnOk};
 ghost use Rattle.std.specs.List.{flat_map};
@@ -11,13 +11,13 @@ use crate::slot::{Made, Slot};
 use rpg_text::first_line;
 use std::alloc::{AllocError, Global};
 
-/// How many cards a deck has at most.
+/// The most cards of a deck.
 pub(crate) const MOST_CARDS: usize = 2000;
 
-/// Why there is no NEW.
+/// Why there is no new deck.
 #[derive(Clone, Copy)]
 pub(crate) enum RenderError {
-    /// The source has more than 2,000 cards, or NEW would have.
+    /// The source has more than 2,000 cards, or the new deck would have.
     TooMany,
     NoMemory,
 }
@@ -28,7 +28,7 @@ impl From<AllocError> for RenderError {
     }
 }
 
-/// The lines of a source.
+/// Returns the lines of a source.
 pub(crate) fn lines_of<'a>(alloc: Global, source: &'a [u8]) -> Result<Vec<&'a [u8]>, AllocError>
     ensures { IfOk result (λ found. map (λ line. line.now) found.items ≡ lines source.now) }
 {
@@ -73,7 +73,7 @@ fn push_here<'b>(
     Ok(())
 }
 
-/// NEW's cards.
+/// Returns the new deck's cards.
 fn cards_of<'b>(
     alloc: Global,
     lines: &[&'b [u8]],
@@ -96,7 +96,7 @@ fn cards_of<'b>(
     Ok(cards)
 }
 
-/// Cards as a text.
+/// Returns the text of cards.
 fn text(alloc: Global, cards: &[&[u8]]) -> Result<Vec<u8>, AllocError>
     ensures { IfOk result (λ out. out.items ≡ flat_map with_line_feed (map (λ line. line.now) cards.now)) }
 {
@@ -108,14 +108,14 @@ fn text(alloc: Global, cards: &[&[u8]]) -> Result<Vec<u8>, AllocError>
     Ok(out)
 }
 
-/// NEW, and how many cards its source has.
+/// The new deck, and how many cards its source has.
 #[derive(Drop)]
 pub(crate) struct Rendered {
     pub new: Vec<u8>,
     pub cards: usize,
 }
 
-/// NEW: the source as it is if no sentence names a card.
+/// Renders the new deck: the source itself if no sentence names a card.
 pub(crate) fn render<'b>(
     alloc: Global,
     source: &'b [u8],
@@ -141,7 +141,7 @@ pub(crate) fn render<'b>(
     Ok(Rendered { new, cards })
 }
 
-/// NEW's cards as a text.
+/// Returns the text of the new deck's cards.
 fn new_text<'b>(
     alloc: Global,
     lines: &[&'b [u8]],
@@ -159,7 +159,7 @@ fn new_text<'b>(
     Ok(text(alloc, cards.as_slice())?)
 }
 
-/// A law of the definition: cards that no sentence names keep their bytes and their order. It does nothing.
+/// A law of the definition: cards that no sentence names keep their bytes and their order. Does nothing.
 pub(crate) fn cards_that_are_not_told_are_kept()
     ensures { KeepsUntold }
 {}

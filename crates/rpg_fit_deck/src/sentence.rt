@@ -29,7 +29,7 @@ pub enum Rule {
 }
 
 impl Rule {
-    /// The number in its code, from 1.
+    /// Returns the number in its code, from 1.
     pub fn number(self) -> u8 {
         self as u8 + 1
     }
@@ -43,7 +43,7 @@ pub struct Sentence {
 }
 
 impl Sentence {
-    /// A sentence without words of its own.
+    /// Returns a sentence without words to fill in.
     pub fn of(text: &'static str) -> Sentence {
         Sentence {
             text,
@@ -51,7 +51,7 @@ impl Sentence {
         }
     }
 
-    /// A sentence about a word.
+    /// Returns a sentence with one word to fill in.
     pub fn about(text: &'static str, word: Word) -> Sentence {
         Sentence {
             text,
@@ -59,7 +59,7 @@ impl Sentence {
         }
     }
 
-    /// A sentence about three words.
+    /// Returns a sentence with three words to fill in.
     pub fn of_three(text: &'static str, first: Word, second: Word, third: Word) -> Sentence {
         Sentence {
             text,
@@ -67,7 +67,7 @@ impl Sentence {
         }
     }
 
-    /// A sentence about two words.
+    /// Returns a sentence with two words to fill in.
     pub fn of_two(text: &'static str, first: Word, second: Word) -> Sentence {
         Sentence {
             text,
@@ -76,18 +76,18 @@ impl Sentence {
     }
 }
 
-/// A sentence about a card: its change, or that it is part of another one's.
+/// A sentence about a card: its change, or that it is part of another's.
 #[derive(Clone, Copy)]
 pub struct Told {
     pub rule: Rule,
     pub what: What,
 }
 
-/// A change, or that a card is part of one.
+/// A change, or part of another card's change.
 #[derive(Clone, Copy)]
 pub enum What {
     Change(Sentence),
-    /// It is part of the change of the card of this number.
+    /// Part of the change of the card with this number.
     With(usize),
 }
 

@@ -1,4 +1,4 @@
-//! The place of a card: the cards made before it, what becomes of it, and the sentences about it.
+//! The slot of a card: the cards inserted before it, what happened to it, and the sentences about it.
 
 ghost use Rattle.std.specs.Prelude.{◌≡◌, ◌<◌, true, vec_len, length, IfSome};
 ghost use Rattle.rpg_fit_deck.specs.Kept.{is_kept};
@@ -8,17 +8,17 @@ use crate::here::Here;
 use crate::sentence::{Rule, Told, What};
 use std::alloc::{AllocError, Global};
 
-/// A card that a rule made.
+/// A card that a rule inserted.
 #[derive(Clone, Copy)]
 pub(crate) struct Made {
-    /// Its own number among the made cards, from 1.
+    /// Its own number among the inserted cards, from 1.
     pub id: usize,
-    /// The number of the card that it was made for.
+    /// The number of the card that it was derived from.
     pub from: usize,
     pub card: Card,
 }
 
-/// The place of a card of the source.
+/// The slot of a card of the source.
 #[derive(Drop)]
 pub(crate) struct Slot {
     pub before: Vec<Made>,
@@ -28,7 +28,7 @@ pub(crate) struct Slot {
 }
 
 impl Slot {
-    /// A card as it is.
+    /// Returns the slot of an unchanged card.
     pub fn new(alloc: Global) -> Slot
         ensures { vec_len result.told ≡ 0 }
     {
@@ -45,7 +45,7 @@ impl Slot {
         Ok(())
     }
 
-    /// How many changes of the card have a sentence.
+    /// Returns how many changes of the card have a sentence.
     pub fn changes(&self) -> usize {
         let mut changes: usize = 0;
         for told in &self.told {
@@ -56,13 +56,14 @@ impl Slot {
         changes
     }
 
-    /// How many cards the new deck has here.
+    /// Returns how many cards the new deck has here.
     pub fn cards(&self) -> usize {
         let here = usize::from(!matches!(self.here, Here::Gone));
         self.before.len().saturating_add(here)
     }
 
-    /// The card of the source that the card at a place here comes from. `own`: that whose place this is.
+    /// Returns the card of the source that a card in this slot comes from. `own`: that of the slot
+    /// itself.
     pub fn source_card(&self, place: usize, own: usize) -> usize {
         match self.before.get(place) {
             Some(made) => made.from,
@@ -91,7 +92,7 @@ impl Slot {
         Ok(())
     }
 
-    /// Puts something else in the card's place.
+    /// Replaces the card.
     pub fn set(&mut self, here: Here, rule: Rule, with: usize) -> Result<(), AllocError> {
         self.tell_with(rule, with)?;
         if !self.told.is_empty() {
@@ -100,12 +101,12 @@ impl Slot {
         Ok(())
     }
 
-    /// Puts something else in the place of a made card.
+    /// Replaces an inserted card.
     pub fn set_made(&mut self, id: usize, here: Here) -> Result<(), AllocError> {
         set_made(&mut self.before, id, here)
     }
 
-    /// Puts a made card before another made one, or before the card (0).
+    /// Inserts a card before another inserted one, or before the card itself (0).
     pub fn insert(
         &mut self,
         id: usize,
@@ -118,7 +119,7 @@ impl Slot {
     }
 }
 
-/// The place of a made card.
+/// Returns the place of an inserted card.
 fn place_of(cards: &[Made], id: usize) -> Option<usize>
     ensures { IfSome result (λ place. place < length cards.now) }
 {
@@ -130,7 +131,7 @@ fn place_of(cards: &[Made], id: usize) -> Option<usize>
     None
 }
 
-/// Puts something else in the place of a made card.
+/// Replaces an inserted card.
 pub(crate) fn set_made(cards: &mut Vec<Made>, id: usize, here: Here) -> Result<(), AllocError> {
     if let Some(place) = place_of(cards.as_slice(), id) {
         match here {
@@ -144,7 +145,7 @@ pub(crate) fn set_made(cards: &mut Vec<Made>, id: usize, here: Here) -> Result<(
     Ok(())
 }
 
-/// Puts a made card before another one, or after all others.
+/// Inserts a card before another one, or after all others.
 pub(crate) fn insert_made(cards: &mut Vec<Made>, id: usize, made: Made) -> Result<(), AllocError> {
     match place_of(cards.as_slice(), id) {
         Some(place) => cards.insert(place, made)?,

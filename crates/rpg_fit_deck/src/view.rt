@@ -1,4 +1,4 @@
-//! The cards as they are now, as rules look at them.
+//! The cards in their present form, as rules see them.
 
 use crate::card::Card;
 use crate::here::Here;
@@ -6,14 +6,15 @@ use crate::marks::begins_data;
 use crate::slot::{Made, Slot};
 use std::alloc::{AllocError, Global};
 
-/// Where a card is: the place of a card of the source, and the number of a card made before it, or 0.
+/// The address of a card: the slot of a card of the source, and the number of a card inserted before
+/// it, or 0.
 #[derive(Clone, Copy, PartialEq, Eq)]
 pub struct Address {
     pub(crate) slot: usize,
     pub(crate) made: usize,
 }
 
-/// A card, where it is, and the number of its card of the source.
+/// A card, its address, and the number of its card of the source.
 #[derive(Clone, Copy)]
 pub struct Seen {
     pub at: Address,
@@ -23,16 +24,16 @@ pub struct Seen {
     pub width: usize,
 }
 
-/// The cards of a deck and the lines of its data, in their order.
+/// The cards of a deck and the lines of its data, in order.
 #[derive(Drop)]
 pub struct View {
-    /// The cards before the first card `**`.
+    /// The cards before the first `**` card.
     pub cards: Vec<Seen>,
-    /// The data, cards `**` among them.
+    /// The data, including the `**` cards.
     pub data: Vec<Seen>,
-    /// The place after the cards.
+    /// The address after the cards.
     pub cards_end: Address,
-    /// The place after all cards and data.
+    /// The address after all cards and data.
     pub end: Address,
     in_data: bool,
 }
@@ -52,7 +53,7 @@ impl View {
         }
     }
 
-    /// From here on lines are data.
+    /// Begins data, of which all following lines are part.
     fn begin_data(&mut self, at: Address) {
         if !self.in_data {
             self.in_data = true;
@@ -60,7 +61,7 @@ impl View {
         }
     }
 
-    /// The source ends here.
+    /// Ends the source.
     pub(crate) fn end_at(&mut self, slot: usize) {
         self.end = Address { slot, made: 0 };
         if !self.in_data {
@@ -96,7 +97,7 @@ impl View {
         Ok(())
     }
 
-    /// A card's place: the cards made before it, and what stands there.
+    /// Appends the cards of a slot: those inserted before the card, and what is in its place.
     pub(crate) fn push_slot(
         &mut self,
         place: usize,

@@ -14,7 +14,7 @@ pub struct Word {
 }
 
 impl Word {
-    /// The first 10 characters of a text.
+    /// Returns the first 10 characters of a text.
     pub fn of(text: &[u8]) -> Word
         ensures text { word_text result ≡ cut text.now }
         ensures room { room_of result ≡ 10 - length text.now }
@@ -24,7 +24,7 @@ impl Word {
         word
     }
 
-    /// No character.
+    /// Returns an empty word.
     #[tactic(auto, unfolding(crate::specs::Words::word_text))]
     pub fn empty() -> Word
         ensures text { word_text result ≡ [] }
@@ -36,7 +36,7 @@ impl Word {
         }
     }
 
-    /// A number's digits.
+    /// Returns the digits of a number.
     pub fn of_number(number: usize) -> Word {
         let mut word = Word::empty();
         let mut divisor: usize = 1_000_000_000;
@@ -61,7 +61,7 @@ impl Word {
         }
     }
 
-    /// Appends as much of a text as there is room for.
+    /// Appends as much of a text as fits.
     pub fn push_all(&mut self, text: &[u8])
         ensures text { word_text self.new ≡ word_with_text self.old text.now }
         ensures room { room_of self.new ≡ room_of self.old - length text.now }
@@ -71,7 +71,7 @@ impl Word {
         }
     }
 
-    /// This word and then a text.
+    /// Returns this word, followed by a text.
     pub fn and(mut self, text: &[u8]) -> Word
         ensures { word_text result ≡ word_with_text self text.now }
     {
@@ -79,7 +79,7 @@ impl Word {
         self
     }
 
-    /// Its characters.
+    /// Returns its characters.
     #[tactic(auto, unfolding(crate::specs::Words::word_text))]
     pub fn text(&self) -> &[u8]
         ensures { result.now ≡ word_text self.now }
@@ -87,13 +87,13 @@ impl Word {
         &self.characters[..self.length.min(LONGEST)]
     }
 
-    /// How many characters it has.
+    /// Returns how many characters it has.
     pub fn len(&self) -> usize {
         self.length
     }
 }
 
-/// The digit of a number at a power of ten.
+/// Returns a digit of a number, by its power of ten.
 fn digit(number: usize, divisor: usize) -> u8
     ensures { result ≤ 9 }
 {

@@ -1,4 +1,4 @@
-//! A dollar sign that floats in an edit word: the edit code that shows the same.
+//! Floating dollar signs in edit words: replaced by an edit code with the same effect.
 
 use crate::dollar_code::dollar_code;
 use crate::field::{constant_on, name_on};
@@ -7,11 +7,11 @@ use rpg_fit_deck::{Editor, Seen, Sentence, View, Word};
 use rpg_fit_words::{DeckLines, Line, Operand, RuleStop, form_of};
 use std::alloc::Global;
 
-/// Puts an edit code in place of each word in which a dollar sign floats.
+/// Replaces each edit word with a floating dollar sign by an edit code.
 ///
 /// # Errors
 ///
-/// The deck is rejected, or memory is refused.
+/// The deck is rejected, or memory runs out.
 pub fn dollars(alloc: Global, editor: &mut Editor) -> Result<(), RuleStop> {
     let deck = DeckLines::of(alloc, editor)?;
     for line in deck.lines.iter() {
@@ -29,7 +29,7 @@ fn code_fields(editor: &mut Editor, view: &View, line: &Line) -> Result<(), Rule
     Ok(())
 }
 
-/// Whether a field is a name that is edited by a word.
+/// Whether a field is a name with an edit word.
 pub(crate) fn has_word(field: &Seen) -> bool {
     !field.card.is_blank(32, 37) && field.card.is_blank(38, 38) && !field.card.is_blank(45, 70)
 }
@@ -50,7 +50,7 @@ fn code_field(editor: &mut Editor, view: &View, field: &Seen) -> Result<(), Rule
     Ok(())
 }
 
-/// Edits a field by a code that fills with a dollar sign.
+/// Edits a field by a code with a dollar sign as its fill.
 fn put_code(editor: &mut Editor, field: &Seen, code: u8) {
     let card = field.card.with(38, 38, &[code]).with(45, 70, b"'$'");
     editor.change(field.at, card, field.number);

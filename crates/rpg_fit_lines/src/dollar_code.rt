@@ -1,4 +1,4 @@
-//! The edit code that shows a number as a word with a floating dollar sign does.
+//! The edit code with the same effect as a word with a floating dollar sign.
 
 use crate::word_form::{Around, count_blanks};
 use rpg_edit_marks::Ending;
@@ -11,13 +11,14 @@ struct Tail {
     ending: Ending,
 }
 
-/// Why a word whose places are those of no code has none.
+/// Why a word has no code, if its places are those of none.
 const NO_PLACES: &str = "a $ that floats in a word which no edit code has";
 
-/// Why a word whose commas are those of no code has none.
+/// Why a word has no code, if its commas are those of none.
 const NO_COMMAS: &str = "a $ that floats in a word with other commas than an edit code's";
 
-/// The code of a number of so many digits and decimals, edited by a word with a floating dollar sign; or why there is none.
+/// Returns the code for a number of this length and decimals, edited by a word with a floating dollar sign; or why there is
+/// none.
 pub(crate) fn dollar_code(
     word: Around,
     digits: usize,
@@ -40,11 +41,11 @@ pub(crate) fn dollar_code(
     }
 }
 
-/// What follows the whole places: the stop `0`, a point, blanks, and an ending.
+/// Parses what follows the whole places: the stop `0`, a point, blanks, and an ending.
 fn parse_tail(stop: &[u8]) -> Option<Tail> {
     match stop {
         [b'0', b'.', b' ', rest @ ..] => {
-            // all of them stand in front, since no ending has one
+            // all of them come first, since no ending has one
             let blanks = count_blanks(rest);
             Some(Tail {
                 decimals: blanks.saturating_add(1),
@@ -73,7 +74,7 @@ fn has_blanks_and_commas(text: &[u8]) -> bool {
     true
 }
 
-/// The places of so many whole digits before the last one, with the commas of an edit code.
+/// Returns the places of the whole digits before the last one, with the commas of an edit code.
 fn whole_places(digits: usize) -> Constant {
     let mut places = Constant::empty();
     for place in 1..digits {
@@ -85,7 +86,7 @@ fn whole_places(digits: usize) -> Constant {
     places
 }
 
-/// The code that shows zero, with commas or without.
+/// Returns the code that shows zero, with or without commas.
 fn code_of(ending: Ending, has_commas: bool) -> u8 {
     match (ending, has_commas) {
         (Ending::Unsigned, true) => b'1',

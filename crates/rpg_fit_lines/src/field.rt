@@ -4,17 +4,17 @@ use rpg_fit_deck::Card;
 use rpg_fit_words::Constant;
 use rpg_text::trimmed;
 
-/// The name that a field's card puts out, perhaps with an index.
+/// Returns the name that a field's card prints, which may have an index.
 pub(crate) fn name_on(field: &Card) -> &[u8] {
     field.value(32, 37)
 }
 
-/// The constant or edit word in columns 45 to 70.
+/// Returns the constant or edit word in columns 45 to 70.
 pub(crate) fn constant_on(field: &Card) -> Constant {
     Constant::of(trimmed(field.columns(45, 70)))
 }
 
-/// Where a field ends: columns 40 to 43; 0 where that is no number.
+/// Returns where a field ends, by columns 40 to 43; 0 if they aren't a number.
 pub(crate) fn end_on(field: &Card) -> usize {
     field.number(40, 43).unwrap_or(0)
 }

@@ -1,4 +1,4 @@
-//! OR cards with spaces or skips of their own: a line for each.
+//! OR cards with spaces or skips of their own: replaced by a line for each.
 
 use rpg_fit_deck::{Editor, Seen, Sentence, Word};
 use rpg_fit_words::{
@@ -7,14 +7,14 @@ use rpg_fit_words::{
 };
 use std::alloc::Global;
 
-/// How many alternatives a line has at most: no deck has more cards.
+/// The most alternatives of a line, since no deck has more cards.
 const MOST_ALTERNATIVES: usize = 2000;
 
-/// Puts several lines in place of each line whose alternatives have different spaces or skips. No two of them are put out together.
+/// Replaces each line whose alternatives have different spaces or skips by several lines. No two of these are printed together.
 ///
 /// # Errors
 ///
-/// The deck is rejected, or memory is refused.
+/// The deck is rejected, or memory runs out.
 pub fn or_spaces(alloc: Global, editor: &mut Editor) -> Result<(), RuleStop> {
     let deck = DeckLines::of(alloc, editor)?;
     let overflow = match printer_of(&deck.view) {
@@ -48,7 +48,7 @@ fn has_spaces(seen: &Seen) -> bool {
     matches!(seen.card.columns(14, 15), b"OR") && !seen.card.is_blank(17, 22)
 }
 
-/// The number of a line's first OR card with spaces or skips of its own.
+/// Returns the number of a line's first OR card with spaces or skips of its own.
 fn own_spaces(line: &Line) -> Option<usize> {
     for seen in line.more.iter() {
         if has_spaces(seen) {
@@ -58,7 +58,7 @@ fn own_spaces(line: &Line) -> Option<usize> {
     None
 }
 
-/// The spaces and skips of an alternative: those of its line where it has none of its own.
+/// Returns the spaces and skips of an alternative: those of its line if it has none of its own.
 fn spaces_of(line: &Line, alternative: &Alternative) -> Word {
     if alternative.card.card.is_blank(17, 22) {
         Word::of(line.head.card.columns(17, 22))
@@ -67,7 +67,7 @@ fn spaces_of(line: &Line, alternative: &Alternative) -> Word {
     }
 }
 
-/// The spaces and skips of the alternative at a place.
+/// Returns the spaces and skips of the alternative at a place.
 fn spaces_at(line: &Line, place: usize) -> Word {
     match line.alternatives.get(place) {
         Some(alternative) => spaces_of(line, alternative),
@@ -75,14 +75,14 @@ fn spaces_at(line: &Line, place: usize) -> Word {
     }
 }
 
-/// Alternatives next to one another with the same spaces and skips: from a place on, up to another one.
+/// Adjacent alternatives with the same spaces and skips, from one place up to another.
 #[derive(Clone, Copy)]
 struct Part {
     first: usize,
     end: usize,
 }
 
-/// The parts of a line, in their order.
+/// Returns the parts of a line, in order.
 fn parts_of(alloc: Global, line: &Line) -> List<Part> {
     let mut parts = List::new(alloc);
     let mut first = 0;
@@ -101,7 +101,7 @@ fn parts_of(alloc: Global, line: &Line) -> List<Part> {
 #[derive(Clone, Copy)]
 struct Split<'a> {
     line: &'a Line,
-    /// The deck's overflow indicator, perhaps blank.
+    /// The deck's overflow indicator, which may be blank.
     overflow: Indicator,
     /// The card that the change is reported for.
     card: usize,
@@ -118,7 +118,7 @@ impl Split<'_> {
         self.put_lines(alloc, editor, parts)
     }
 
-    /// Puts a line for each part in the line's place.
+    /// Replaces the line by a line for each part.
     fn put_lines(
         &self,
         alloc: Global,
@@ -137,7 +137,7 @@ impl Split<'_> {
         Ok(())
     }
 
-    /// Puts the name of its file on each line, since this one goes.
+    /// Puts the name of its file on each line, since the line that has it may go.
     fn name_all(&self, alloc: Global, editor: &mut Editor) -> Result<(), RuleStop> {
         let deck = DeckLines::of(alloc, editor)?;
         name_files(editor, deck.lines.as_slice(), self.card);
@@ -157,7 +157,7 @@ impl Split<'_> {
         Ok(())
     }
 
-    /// Appends the cards of a part's line, unless it is never put out.
+    /// Appends the cards of a part's line, unless it is never printed.
     fn push_line(
         &self,
         alloc: Global,
@@ -175,7 +175,7 @@ impl Split<'_> {
         self.line.push_copy(cards, head, alternatives)
     }
 
-    /// Appends the alternatives of a part, so that they hold where none of an earlier part does.
+    /// Appends the alternatives of a part, so that they hold only if none of an earlier part does.
     fn push_alternatives(
         &self,
         alloc: Global,
@@ -208,14 +208,14 @@ impl Split<'_> {
         Ok(())
     }
 
-    /// Whether a condition is one of overflow output.
+    /// Whether a condition is for overflow output.
     fn is_overflow(&self, condition: &Conjunction) -> bool {
         self.line.time != Time::Exception
             && !self.overflow.is_blank()
             && condition.has(Term::on(self.overflow))
     }
 
-    /// Conditions that hold where one of some does and another one doesn't.
+    /// Returns conditions that hold if one of some does and another one doesn't.
     fn without(
         &self,
         alloc: Global,
@@ -234,7 +234,7 @@ impl Split<'_> {
         Ok(left)
     }
 
-    /// Appends conditions that hold where a condition does and another one doesn't: for each term of that one, the terms before it and its
+    /// Appends conditions that hold if a condition does and another one doesn't: for each term of that one, the terms before it and its
     /// opposite.
     fn push_without(
         &self,
@@ -253,7 +253,7 @@ impl Split<'_> {
         Ok(())
     }
 
-    /// Rejects a further alternative: an earlier line may turn overflow on, and no deck has so many.
+    /// Rejects an alternative that would test overflow, or is one too many: an earlier line may turn overflow on.
     fn check(&self, asked: Indicator, alternatives: usize) -> Result<(), RuleStop> {
         if !self.overflow.is_blank() && asked == self.overflow {
             let why = "an earlier alternative asks for overflow";
@@ -266,7 +266,7 @@ impl Split<'_> {
     }
 }
 
-/// Blanks the spaces and skips of a line's OR cards, which are the line's own.
+/// Blanks the spaces and skips of a line's OR cards, which are the same as the line's.
 fn blank_spaces(editor: &mut Editor, line: &Line) {
     for seen in line.more.iter() {
         if has_spaces(seen) {

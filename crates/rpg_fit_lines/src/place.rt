@@ -1,21 +1,21 @@
-//! *PLACE: the fields before it in its line, once more.
+//! *PLACE: repeats the fields before it in its line.
 
 use crate::field::{end_on, name_on};
 use rpg_fit_deck::{Editor, Seen, Sentence, Word};
 use rpg_fit_words::{Conjunction, DeckLines, Line, List, NewCard, RuleStop};
 use std::alloc::Global;
 
-/// How many cards a deck has at most.
+/// The most cards of a deck.
 const MOST_CARDS: usize = 2000;
 
-/// How many conditions a field has at most.
+/// The most conditions of a field.
 const MOST_TERMS: usize = 3;
 
-/// In place of each *PLACE, puts copies of the fields before it, so far to the right that they end where it ends.
+/// Replaces each *PLACE by copies of the fields before it, moved to the right so that they end where it ends.
 ///
 /// # Errors
 ///
-/// The deck is rejected, or memory is refused.
+/// The deck is rejected, or memory runs out.
 pub fn places(alloc: Global, editor: &mut Editor) -> Result<(), RuleStop> {
     let deck = DeckLines::of(alloc, editor)?;
     for line in deck.lines.iter() {
@@ -39,11 +39,11 @@ fn place_fields(alloc: Global, editor: &mut Editor, line: &Line) -> Result<(), R
     before.fields.check()
 }
 
-/// The fields of a line before a card, copies among them.
+/// The fields of a line before a card, including copies.
 #[derive(Drop)]
 struct Before {
     fields: List<NewCard>,
-    /// The greatest end of a field, or where the last *PLACE ends.
+    /// The greatest end position of a field, or of the last *PLACE.
     highest: usize,
 }
 
@@ -53,8 +53,8 @@ impl Before {
         self.fields.push(NewCard::copy(field));
     }
 
-    /// Replaces *PLACE by copies of the fields before it. Where these alone are more than a deck may have, they stay as they are: the
-    /// deck is too long.
+    /// Replaces *PLACE by copies of the fields before it. If these alone are more than a deck may have, it stays as it is: the deck
+    /// is too long.
     fn place(&mut self, editor: &mut Editor, place: &Seen) -> Result<(), RuleStop> {
         self.check(place)?;
         let copies = self.fields.as_slice().len();
@@ -71,7 +71,7 @@ impl Before {
         Ok(())
     }
 
-    /// Rejects *PLACE after PAGE, which would be counted twice, and where copies would come before the fields' ends.
+    /// Rejects *PLACE after PAGE, which would be counted twice, and where copies would overlap the fields.
     fn check(&self, place: &Seen) -> Result<(), RuleStop> {
         if has_page(self.fields.as_slice()) {
             return Err(RuleStop::because(place.number, "PAGE stands before *PLACE"));
@@ -83,7 +83,7 @@ impl Before {
         Ok(())
     }
 
-    /// Puts a copy of each of so many fields before *PLACE.
+    /// Inserts a copy of each field before *PLACE.
     fn copy_all(
         &mut self,
         editor: &mut Editor,
@@ -112,7 +112,7 @@ fn has_page(fields: &[NewCard]) -> bool {
     false
 }
 
-/// A copy of a field so much further to the right, under the conditions of *PLACE and its own, without blank after.
+/// Returns a copy of a field, moved to the right, under the conditions of *PLACE and its own, without blank after.
 fn moved(field: NewCard, place: &Seen, further: usize) -> Result<NewCard, RuleStop> {
     let own = Conjunction::at(&field.card, 23);
     let together = Conjunction::at(&place.card, 23).and_missing(&own);

@@ -1,13 +1,13 @@
 //! The entries of a whole array in a line.
 
-/// Columns of a line that a field fills: so many, up to its end.
+/// Columns of a line that a field fills, up to its end position.
 #[derive(Clone, Copy)]
 pub(crate) struct Span {
     pub end: usize,
     pub width: usize,
 }
 
-/// The entries of an array, one after another, with so many blanks between two.
+/// The entries of an array, one after another, with a number of blanks between two.
 #[derive(Clone, Copy)]
 pub(crate) struct Row {
     pub entries: usize,
@@ -18,19 +18,19 @@ pub(crate) struct Row {
 }
 
 impl Row {
-    /// How many columns there are from the end of an entry to that of the next one.
+    /// Returns the distance between the ends of two adjacent entries.
     fn step(&self) -> usize {
         self.width.saturating_add(self.gap)
     }
 
-    /// How many columns all of them fill.
+    /// Returns how many columns all entries fill.
     fn columns(&self) -> usize {
         self.step()
             .saturating_mul(self.entries.saturating_sub(1))
             .saturating_add(self.width)
     }
 
-    /// The columns of all of them, and of what is between them.
+    /// Returns the columns of all entries, and of what is between them.
     pub fn span(&self) -> Span {
         Span {
             end: self.end,
@@ -43,7 +43,7 @@ impl Row {
         self.end < self.columns()
     }
 
-    /// Where an entry ends; they are counted from 1.
+    /// Returns where an entry ends; entries are counted from 1.
     pub fn end_of(&self, entry: usize) -> usize {
         self.end.saturating_sub(
             self.step()
@@ -51,7 +51,7 @@ impl Row {
         )
     }
 
-    /// Whether a field stands between two entries.
+    /// Whether a field is between two entries.
     pub fn has_between(&self, field: Span) -> bool {
         for entry in 1..self.entries {
             let next = self.end_of(entry).saturating_add(1);

@@ -1,4 +1,4 @@
-//! Whole arrays in output lines: a field for each entry.
+//! Whole arrays in output lines: replaced by a field for each entry.
 
 use crate::field::{end_on, name_on};
 use crate::row::{Row, Span};
@@ -9,17 +9,17 @@ use rpg_fit_words::{
 };
 use std::alloc::Global;
 
-/// How many fields a line has at most.
+/// The most fields of a line.
 const MOST_FIELDS: usize = 200;
 
-/// How many blanks there are between two entries that are edited by a code.
+/// The blanks between two entries that are edited by a code.
 const GAP: usize = 2;
 
-/// Puts a field for each entry in place of each whole array.
+/// Replaces each whole array by a field for each entry.
 ///
 /// # Errors
 ///
-/// The deck is rejected, or memory is refused.
+/// The deck is rejected, or memory runs out.
 pub fn whole_outputs(alloc: Global, editor: &mut Editor) -> Result<(), RuleStop> {
     let deck = DeckLines::of(alloc, editor)?;
     spread_lines(alloc, editor, &deck.view, deck.lines.as_slice())
@@ -58,7 +58,7 @@ fn spread_fields(
     before.check()
 }
 
-/// Puts a field for each entry in place of a whole array, after other fields of its line.
+/// Replaces a whole array by a field for each entry, after other fields of its line.
 fn spread_array(
     alloc: Global,
     editor: &mut Editor,
@@ -75,7 +75,7 @@ fn spread_array(
     Ok(())
 }
 
-/// Rejects entries without room in their line.
+/// Rejects entries that don't fit in their line.
 fn check(row: Row, before: &[Span], card: usize) -> Result<(), RuleStop> {
     if row.begins_early() {
         return Err(RuleStop::because(card, "its first entry begins before column 1"));
@@ -93,7 +93,7 @@ fn check(row: Row, before: &[Span], card: usize) -> Result<(), RuleStop> {
     Ok(())
 }
 
-/// Puts a field for each entry of a row in a field's place. The last one takes its card's place.
+/// Replaces a field by a field for each entry of a row. The last one replaces its card.
 fn spread(editor: &mut Editor, field: &Seen, name: Word, row: Row) {
     for number in 1..row.entries {
         let card = entry_card(field, name, row, number);
@@ -103,7 +103,7 @@ fn spread(editor: &mut Editor, field: &Seen, name: Word, row: Row) {
     editor.change(field.at, last.card, field.number);
 }
 
-/// The field of an entry.
+/// Returns the field of an entry.
 fn entry_card(field: &Seen, name: Word, row: Row, number: usize) -> NewCard {
     let put_out = entry(name, Word::of_number(number));
     NewCard::copy(field)
@@ -111,14 +111,14 @@ fn entry_card(field: &Seen, name: Word, row: Row, number: usize) -> NewCard {
         .with_number(40, 43, row.end_of(number))
 }
 
-/// A name that an array had, and has now.
+/// The old and the present name of an array.
 #[derive(Clone, Copy)]
 struct Renamed {
     old: Word,
     new: Word,
 }
 
-/// The arrays of a deck as it was, and those that have got another name since.
+/// The arrays of the original deck, and those that were renamed since.
 #[derive(Drop)]
 struct Arrays<'a> {
     view: &'a View,
@@ -126,7 +126,7 @@ struct Arrays<'a> {
 }
 
 impl Arrays<'_> {
-    /// The array that a field puts out as a whole.
+    /// Returns the array that a field prints as a whole.
     fn array(&self, field: &Seen) -> Option<Array> {
         match array_of(self.view, name_on(&field.card)) {
             Some(array) if array.entries > 0 => Some(array),
@@ -134,7 +134,7 @@ impl Arrays<'_> {
         }
     }
 
-    /// The columns that a field fills.
+    /// Returns the columns that a field fills.
     fn span(&self, field: &Seen) -> Span {
         let name = Operand::of(name_on(&field.card)).name;
         Span {
@@ -143,7 +143,7 @@ impl Arrays<'_> {
         }
     }
 
-    /// The entries of an array that a field puts out as a whole.
+    /// Returns the entries of an array that a field prints as a whole.
     fn row(&self, field: &Seen, array: Array) -> Row {
         let has_code = !field.card.is_blank(38, 38);
         Row {
@@ -158,7 +158,7 @@ impl Arrays<'_> {
         }
     }
 
-    /// The name that an array has now.
+    /// Returns the present name of an array.
     fn name_now(&self, name: Word) -> Word {
         for renamed in self.renamed.as_slice() {
             if renamed.old.text() == name.text() {
@@ -168,8 +168,7 @@ impl Arrays<'_> {
         name
     }
 
-    /// The name of an array with room for the index of its last entry. The field's change is reported here, by the name that the array has
-    /// before.
+    /// Returns a name for an array with room for the index of its last entry. Reports the field's change, by the array's old name.
     fn name_for(
         &mut self,
         alloc: Global,

@@ -1,4 +1,4 @@
-//! Fields that have more digits than the numbers that are copied to them.
+//! Fields with more digits than the numbers that are copied to them.
 
 use crate::wide_word::ShortNumber;
 use rpg_fit_deck::{Editor, Word};
@@ -7,7 +7,7 @@ use rpg_fit_words::{
 };
 use std::alloc::Global;
 
-/// A field that has a number's value, with more digits.
+/// A field for a number's value, with more digits.
 #[derive(Clone, Copy)]
 struct WideField {
     number: Word,
@@ -15,7 +15,7 @@ struct WideField {
     name: Word,
 }
 
-/// A moment of the cycle at which numbers are copied.
+/// A point in the cycle at which numbers are copied.
 #[derive(Clone, Copy, PartialEq, Eq)]
 enum Moment {
     /// Before each EXCPT.
@@ -24,7 +24,7 @@ enum Moment {
     TotalEnd,
 }
 
-/// The moments, in the order in which calculations for them are made.
+/// The points, in the order in which their calculations are created.
 const MOMENTS: [Moment; 3] = [
     Moment::BeforeExceptions,
     Moment::DetailEnd,
@@ -32,7 +32,7 @@ const MOMENTS: [Moment; 3] = [
 ];
 
 impl Moment {
-    /// Whether a number is copied then for a line of a time, which may have an alternative of overflow.
+    /// Whether a number is copied then for a line of a time, which may have an alternative for overflow.
     fn is_before(self, time: Time, has_overflow: bool) -> bool {
         match self {
             Moment::BeforeExceptions => time == Time::Exception,
@@ -42,22 +42,22 @@ impl Moment {
     }
 }
 
-/// A copy of a number to a field at a moment.
+/// A copy of a number to a field at a point in the cycle.
 #[derive(Clone, Copy)]
 struct CopyAt {
     name: Word,
     moment: Moment,
 }
 
-/// When a line is put out.
+/// When a line is printed.
 #[derive(Clone, Copy)]
 pub(crate) struct PutOut {
     pub time: Time,
-    /// Whether the line has an alternative of overflow.
+    /// Whether the line has an alternative for overflow.
     pub has_overflow: bool,
 }
 
-/// The fields with more digits that a deck has got so far.
+/// The wider fields that a deck got so far.
 #[derive(Drop)]
 pub(crate) struct WideFields {
     fields: List<WideField>,
@@ -72,13 +72,13 @@ impl WideFields {
         }
     }
 
-    /// Whether memory sufficed.
+    /// Fails if memory ran out.
     pub fn check(&self) -> Result<(), RuleStop> {
         self.fields.check()?;
         self.copies.check()
     }
 
-    /// The field for a number in a line, to which it is copied before the line is put out.
+    /// Returns the field for a number in a line, to which it is copied before the line is printed.
     pub fn field_for(
         &mut self,
         alloc: Global,
@@ -102,7 +102,7 @@ impl WideFields {
         Ok(name)
     }
 
-    /// The field that there is for a number.
+    /// Returns the existing field for a number.
     fn find(&self, number: ShortNumber) -> Option<Word> {
         for field in self.fields.as_slice() {
             if field.number.text() == number.name.text() && field.places == number.places {
@@ -112,7 +112,7 @@ impl WideFields {
         None
     }
 
-    /// Makes a field for a number. In a line that no EXCPT puts out it gets its length by a calculation that is never done.
+    /// Creates a field for a number. If EXCPT doesn't print its line, a calculation that is never done defines its length.
     fn make(
         &mut self,
         alloc: Global,
@@ -133,7 +133,7 @@ impl WideFields {
         Ok(name)
     }
 
-    /// Whether a field gets its copy at a moment already.
+    /// Whether a field is already copied at a point in the cycle.
     fn has_copy(&self, copy: CopyAt) -> bool {
         for done in self.copies.as_slice() {
             if done.moment == copy.moment && done.name.text() == copy.name.text() {
@@ -143,7 +143,7 @@ impl WideFields {
         false
     }
 
-    /// Copies a number at a moment, unless it is copied then.
+    /// Copies a number at a point in the cycle, unless it is copied then.
     fn copy(
         &mut self,
         alloc: Global,
@@ -185,7 +185,7 @@ fn is_exception(group: &Group) -> bool {
     group.operation() == b"EXCPT".as_slice()
 }
 
-/// The calculation that copies a number, or 0, to a field.
+/// Returns the calculation that copies a number, or 0, to a field.
 fn copied(from: &[u8], name: Word, number: ShortNumber) -> Calculation {
     Calculation::of(b"Z-ADD")
         .factor2(from)
@@ -193,7 +193,7 @@ fn copied(from: &[u8], name: Word, number: ShortNumber) -> Calculation {
         .of_length(number.places, number.decimals)
 }
 
-/// Puts a calculation in a place, made for a number's card.
+/// Inserts a calculation at a place, derived from a number's card.
 fn put(
     alloc: Global,
     editor: &mut Editor,
@@ -205,7 +205,7 @@ fn put(
     insert_at(alloc, editor, place, &[calculation.made_of(card)], card)
 }
 
-/// Puts a calculation before each EXCPT, made for a number's card.
+/// Inserts a calculation before each EXCPT, derived from a number's card.
 fn put_before_exceptions(
     alloc: Global,
     editor: &mut Editor,

@@ -1,4 +1,4 @@
-//! Edit words with more places than their number has digits: a field with as many digits.
+//! Edit words with more places than their number has digits: the number is copied to a wider field.
 
 use crate::dollar::has_word;
 use crate::field::{constant_on, name_on};
@@ -11,15 +11,15 @@ use rpg_fit_words::{
 };
 use std::alloc::Global;
 
-/// How many digits a number has at most.
+/// The most digits of a number.
 const MOST_DIGITS: usize = 15;
 
-/// Puts a field with enough digits in place of each number that has fewer than its word has places. The number is copied there before
-/// the line comes.
+/// Replaces each number with fewer digits than its word has places by a field with enough digits, to which it is copied before the line
+/// is printed.
 ///
 /// # Errors
 ///
-/// The deck is rejected, or memory is refused.
+/// The deck is rejected, or memory runs out.
 pub fn words(alloc: Global, editor: &mut Editor) -> Result<(), RuleStop> {
     let deck = DeckLines::of(alloc, editor)?;
     widen_all(alloc, editor, &deck.view, deck.lines.as_slice())
@@ -84,7 +84,7 @@ impl Deck<'_> {
         Ok(())
     }
 
-    /// The number of a field, where it has fewer digits than its word has places.
+    /// Returns the number of a field, if it has fewer digits than its word has places.
     fn short_number(&self, field: &Seen) -> Option<ShortNumber> {
         if !has_word(field) {
             return None;
@@ -104,7 +104,7 @@ impl Deck<'_> {
         }
     }
 
-    /// Rejects a number whose copy might not have its value where the line is put out.
+    /// Rejects a number whose copy may differ from it when the line is printed.
     fn check(&self, at: LineAt, field: &Seen, number: ShortNumber) -> Result<(), RuleStop> {
         if number.places > MOST_DIGITS {
             let places = Word::of_number(number.places);
@@ -122,7 +122,7 @@ impl Deck<'_> {
         self.check_value(at, field, name.name)
     }
 
-    /// Rejects a number that has a value before any calculation or that a line before it blanks.
+    /// Rejects a number that has a value before any calculation, or that an earlier line blanks.
     fn check_value(&self, at: LineAt, field: &Seen, name: &[u8]) -> Result<(), RuleStop> {
         if self.begins_with_value(name) && self.may_come_early(at.line, field) {
             return Err(RuleStop::because(field.number, EARLY));
@@ -134,7 +134,7 @@ impl Deck<'_> {
         Ok(())
     }
 
-    /// Whether a name has a value before any calculation: part of the date, or data of the deck.
+    /// Whether a name has a value before any calculation: part of the date, or data in the deck.
     fn begins_with_value(&self, name: &[u8]) -> bool {
         for seen in self.view.cards.iter() {
             if has_data(seen, name) {
@@ -144,14 +144,14 @@ impl Deck<'_> {
         is_date(name)
     }
 
-    /// Whether a field may be put out before any calculation.
+    /// Whether a field may be printed before any calculation.
     fn may_come_early(&self, line: &Line, field: &Seen) -> bool {
         is_field_put_first(self.printer, line, field)
             || self.is_total_skipped && has_overflow(self.printer, line)
     }
 
-    /// Whether a field may be blanked between its copy and its line: by an earlier line of the same time, or by any where the line has an
-    /// alternative of overflow.
+    /// Whether a field may be blanked between its copy and its line: by an earlier line of the same time, or by any line if its own has
+    /// an alternative for overflow.
     fn may_be_blanked(&self, at: LineAt, name: &[u8]) -> bool {
         let at_overflow = has_overflow(self.printer, at.line);
         for (place, line) in self.lines.iter().enumerate() {
@@ -163,7 +163,7 @@ impl Deck<'_> {
         false
     }
 
-    /// Puts a field with enough digits in a number's place. The field itself is still blanked by its card, where it was.
+    /// Replaces a number by a field with enough digits. The number is still blanked by its own card, where it was.
     fn widen(
         &self,
         alloc: Global,
@@ -198,7 +198,7 @@ impl Deck<'_> {
 #[derive(Clone, Copy)]
 pub(crate) struct ShortNumber {
     pub field: Seen,
-    /// Its name, perhaps with an index.
+    /// Its name, which may have an index.
     pub name: Word,
     pub decimals: u8,
     pub places: usize,
@@ -213,14 +213,14 @@ fn is_date(name: &[u8]) -> bool {
     name == b"UDATE".as_slice() || is_date_part(name)
 }
 
-/// Whether a card defines a table or an array of a name, with data in the deck.
+/// Whether a card defines a table or an array with this name, and the deck has data for it.
 fn has_data(seen: &Seen, name: &[u8]) -> bool {
     is_card(seen, b'E')
         && !seen.card.is_blank(33, 35)
         && (seen.card.value(27, 32) == name || seen.card.value(46, 51) == name)
 }
 
-/// Whether a line blanks a field, or an entry of an array, once it is put out.
+/// Whether a line blanks a field, or an entry of an array, after printing it.
 fn blanks(line: &Line, name: &[u8]) -> bool {
     for field in line.fields.iter() {
         if field.card.column(39) == b'B' && Operand::of(name_on(&field.card)).name == name {
@@ -230,7 +230,7 @@ fn blanks(line: &Line, name: &[u8]) -> bool {
     false
 }
 
-/// Whether lines of two times are put out one after another without calculations between them.
+/// Whether lines of two times are printed without calculations between them.
 fn is_same_time(one: Time, other: Time) -> bool {
     one == other || one.is_detail() && other.is_detail()
 }

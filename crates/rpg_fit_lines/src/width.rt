@@ -1,4 +1,4 @@
-//! How many columns an output field fills.
+//! The widths of output fields.
 
 use crate::field::constant_on;
 use rpg_edit_marks::{EditCode, Fill};
@@ -6,7 +6,8 @@ use rpg_edit_widths::{How, width};
 use rpg_fit_deck::Card;
 use rpg_fit_words::Form;
 
-/// How many columns a field fills, edited as its card asks. A name without a form fills one.
+/// Returns how many columns a field fills, edited as its card says. A name without a form fills
+/// one.
 pub(crate) fn field_width(field: &Card, form: Option<Form>) -> usize {
     let constant = constant_on(field);
     if field.is_blank(32, 37) {
@@ -25,7 +26,7 @@ pub(crate) fn field_width(field: &Card, form: Option<Form>) -> usize {
     }
 }
 
-/// How many columns a number fills that is edited by a code.
+/// Returns how many columns a number fills that is edited by a code.
 fn coded_width(form: Form, code: EditCode, fill: Fill) -> usize {
     let decimals = form.places();
     if form.length == 0 || form.length > 15 || decimals > form.length {

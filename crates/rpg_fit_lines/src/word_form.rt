@@ -1,15 +1,15 @@
-//! The form of an edit word: its places for digits, their stop, and a dollar sign that floats.
+//! The form of an edit word: its places for digits, their stop, and a floating dollar sign.
 
-/// An edit word, and where its stop is.
+/// An edit word, with the place of its stop.
 #[derive(Clone, Copy)]
 pub(crate) struct WordForm<'a> {
     text: &'a [u8],
-    /// Where its first `0` or `*` is; its length if it has none.
+    /// The place of its first `0` or `*`, or its length if it has none.
     stop: usize,
 }
 
 impl<'a> WordForm<'a> {
-    /// An edit word, without its quotes.
+    /// Parses an edit word, without its quotes.
     pub fn of(text: &'a [u8]) -> WordForm<'a> {
         WordForm {
             text,
@@ -17,12 +17,12 @@ impl<'a> WordForm<'a> {
         }
     }
 
-    /// How many digits it has places for: its blanks and its stop.
+    /// Returns how many digits it has places for: its blanks and its stop.
     pub fn places(&self) -> usize {
         count_blanks(self.text).saturating_add(usize::from(self.stop < self.text.len()))
     }
 
-    /// What is in front of a dollar sign that floats, and what stands from the stop on; nothing if no dollar sign
+    /// Returns what precedes a floating dollar sign, and the text from the stop on; None if no dollar sign
     /// floats.
     pub fn around_dollar(&self) -> Option<Around<'a>> {
         match (self.text.get(..self.stop), self.text.get(self.stop..)) {
@@ -34,15 +34,15 @@ impl<'a> WordForm<'a> {
     }
 }
 
-/// The parts of an edit word before and after a dollar sign that floats.
+/// The parts of an edit word before and after a floating dollar sign.
 #[derive(Clone, Copy)]
 pub(crate) struct Around<'a> {
     pub front: &'a [u8],
-    /// The stop, and what comes after it.
+    /// The stop, and what follows it.
     pub stop: &'a [u8],
 }
 
-/// Where a text's first `0` or `*` is; its length if it has none.
+/// Returns the place of a text's first `0` or `*`, or its length if it has none.
 fn stop_in(text: &[u8]) -> usize {
     for (place, character) in text.iter().enumerate() {
         if *character == b'0' || *character == b'*' {

@@ -1,4 +1,4 @@
-//! How lines become lines that EXCPT puts out, and overflow output where they fetch it.
+//! Moves lines to EXCPT, and overflow output to where they fetch it.
 
 use crate::overflow::{Overflow, Part, fetches};
 use rpg_fit_deck::{Address, Editor, Sentence, View, Word};
@@ -8,7 +8,7 @@ use rpg_fit_words::{
 };
 use std::alloc::Global;
 
-/// Lines that are to be put out by EXCPT.
+/// Lines that EXCPT is to print.
 #[derive(Clone, Copy)]
 pub(crate) struct Moves<'a> {
     pub view: &'a View,
@@ -20,15 +20,15 @@ pub(crate) struct Moves<'a> {
     pub card: usize,
 }
 
-/// What has been made so far.
+/// What was created so far.
 #[derive(Drop)]
 struct Made {
     free: FreeIndicators,
-    /// The indicator under which overflow lines are put out.
+    /// The indicator under which overflow lines are printed.
     at_overflow: Indicator,
-    /// The lines that EXCPT puts out.
+    /// The lines that EXCPT prints.
     tail: List<NewCard>,
-    /// How many of them are no overflow lines.
+    /// How many of them aren't overflow lines.
     moved: usize,
 }
 
@@ -37,12 +37,12 @@ struct Made {
 struct Steps {
     part: Part,
     cards: List<NewCard>,
-    /// The indicator under which the lines since the last fetch are put out.
+    /// The indicator under which the lines since the last fetch are printed.
     flag: Option<Indicator>,
 }
 
 impl Moves<'_> {
-    /// Makes the lines and the calculations.
+    /// Creates the lines and the calculations.
     pub fn make(&self, alloc: Global, editor: &mut Editor) -> Result<(), RuleStop> {
         name_files(editor, self.lines, self.card);
         let mut made = self.begin(alloc)?;
@@ -63,7 +63,7 @@ impl Moves<'_> {
         })
     }
 
-    /// Makes the lines of both times, and returns how many of them are copies of overflow lines.
+    /// Creates the lines of both times. Returns how many of them are copies of overflow lines.
     fn make_all(
         &self,
         alloc: Global,
@@ -77,7 +77,7 @@ impl Moves<'_> {
         Ok(totals.saturating_add(details))
     }
 
-    /// Appends copies of the overflow lines of a time, and returns how many there are.
+    /// Appends copies of the overflow lines of a time. Returns how many there are.
     fn copy_overflow(&self, alloc: Global, made: &mut Made, part: Part) -> Result<usize, RuleStop> {
         let mut lines: usize = 0;
         for line in self.lines {
@@ -131,7 +131,7 @@ impl Moves<'_> {
         insert_at(alloc, editor, part.end(), steps.cards.checked()?, self.card)
     }
 
-    /// Turns the overflow indicator off: at the end of detail it is on only if overflow output has been done.
+    /// Turns the overflow indicator off: at the end of detail it is on only if overflow output was done.
     fn push_done(&self, steps: &mut Steps) {
         steps.push(Calculation::of(b"SETOF").high(self.indicator), self.card);
     }
@@ -152,7 +152,7 @@ impl Moves<'_> {
         Ok(())
     }
 
-    /// Moves a line, other than at the first output and at overflow.
+    /// Moves a line, except at the first output and at overflow.
     fn move_line(
         &self,
         alloc: Global,
@@ -164,7 +164,8 @@ impl Moves<'_> {
         self.move_later(alloc, made, steps, line, later.checked()?)
     }
 
-    /// The conditions under which a line may be put out after the first output, at which alone 1P is on, and other than at overflow.
+    /// Returns the conditions under which a line may be printed after the first output, at which alone 1P is on, and not at
+    /// overflow.
     fn later(&self, alloc: Global, line: &Line) -> List<Conjunction> {
         let mut found = List::new(alloc);
         for alternative in line.alternatives.iter() {
@@ -177,7 +178,7 @@ impl Moves<'_> {
         found
     }
 
-    /// Moves a line that may be put out under these conditions.
+    /// Moves a line that may be printed under these conditions.
     fn move_later(
         &self,
         alloc: Global,
@@ -199,7 +200,7 @@ impl Moves<'_> {
         Ok(())
     }
 
-    /// The indicator under which a line is put out.
+    /// Returns the indicator under which a line is printed.
     fn flag(&self, made: &mut Made, steps: &mut Steps, line: &Line) -> Result<Indicator, RuleStop> {
         match steps.flag {
             Some(flag) => Ok(flag),
@@ -211,7 +212,7 @@ impl Moves<'_> {
         }
     }
 
-    /// Before a line that fetches: puts out the overflow lines where it comes and overflow is on, and turns that off.
+    /// Before a line that fetches, if it is printed and overflow is on: prints the overflow lines, and turns overflow off.
     fn push_fetch(
         &self,
         alloc: Global,
@@ -235,7 +236,7 @@ impl Moves<'_> {
         Ok(())
     }
 
-    /// The alternatives with which a line stays: those that hold at the first output, there alone, and those of overflow.
+    /// Returns the alternatives that a line keeps: those that hold at the first output, limited to it, and those for overflow.
     fn kept(&self, alloc: Global, line: &Line, part: Part) -> List<Conjunction> {
         let mut kept = List::new(alloc);
         if matches!(part, Part::Detail) {
@@ -245,7 +246,7 @@ impl Moves<'_> {
         kept
     }
 
-    /// Appends the conditions of a line that hold at the first output, each with 1P, so that they hold there alone.
+    /// Appends the conditions of a line that hold at the first output, each with 1P, so that they hold only then.
     fn push_first(&self, kept: &mut List<Conjunction>, line: &Line) {
         let first = Conjunction::on(Indicator::FIRST_PAGE);
         for alternative in line.alternatives.iter() {
@@ -256,7 +257,7 @@ impl Moves<'_> {
         }
     }
 
-    /// Leaves a line with the alternatives with which it stays; without any it goes.
+    /// Keeps these alternatives of a line; without any the line goes.
     fn keep(
         &self,
         alloc: Global,
@@ -273,7 +274,7 @@ impl Moves<'_> {
         Ok(())
     }
 
-    /// Puts a copy of a line, which fetches nothing, with some alternatives in its place.
+    /// Replaces a line by a copy with some alternatives, which fetches nothing.
     fn put_copy(
         &self,
         alloc: Global,
@@ -287,7 +288,7 @@ impl Moves<'_> {
         Ok(())
     }
 
-    /// Puts the lines that EXCPT puts out after all others.
+    /// Inserts the lines that EXCPT prints after all others.
     fn put_tail(&self, alloc: Global, editor: &mut Editor, made: &Made) -> Result<(), RuleStop> {
         let tail = made.tail.checked()?;
         let following = following_output(&editor.view(alloc)?);
@@ -296,7 +297,7 @@ impl Moves<'_> {
     }
 }
 
-/// The sentence about lines that were moved and copied.
+/// Returns the sentence about lines that were moved and copied.
 fn told(moved: usize, copied: usize) -> Sentence {
     Sentence::of_two(
         "fetch: % lines are put out by EXCPT, and % lines of overflow before those that fetch",
@@ -305,7 +306,7 @@ fn told(moved: usize, copied: usize) -> Sentence {
     )
 }
 
-/// Where the card after the last output card is; the end of the cards if there is none.
+/// Returns the address after the last output card, or the end of the cards if there is none.
 fn following_output(view: &View) -> Address {
     let mut following = view.cards_end;
     let mut is_output = false;
@@ -319,13 +320,13 @@ fn following_output(view: &View) -> Address {
 }
 
 impl Steps {
-    /// Appends a calculation that is done at the lines' time.
+    /// Appends a calculation, done at the lines' time.
     fn push(&mut self, calculation: Calculation, card: usize) {
         let at = calculation.at(self.part.level());
         self.cards.push(at.made_of(card));
     }
 
-    /// Puts out the lines since the last fetch.
+    /// Prints the lines since the last fetch.
     fn put_out(&mut self, card: usize) {
         if let Some(flag) = self.flag {
             self.push(Calculation::of(b"SETON").high(flag), card);
@@ -336,7 +337,7 @@ impl Steps {
     }
 }
 
-/// Appends a copy of a line that EXCPT puts out where a flag is on and one of the conditions holds.
+/// Appends a copy of a line that EXCPT prints if a flag is on and one of the conditions holds.
 fn push_exception(
     alloc: Global,
     cards: &mut List<NewCard>,
@@ -355,7 +356,7 @@ fn push_exception(
     )
 }
 
-/// Conditions with one more term.
+/// Returns conditions with one more term.
 fn with_term(alloc: Global, conditions: &[Conjunction], term: Term) -> List<Conjunction> {
     let mut found = List::new(alloc);
     for condition in conditions {

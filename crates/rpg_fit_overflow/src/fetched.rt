@@ -1,4 +1,4 @@
-//! Lines that fetch overflow output: they and all lines of their time are put out by EXCPT.
+//! Lines that fetch overflow output: EXCPT prints them and all lines of their time.
 
 use crate::fetch_moves::Moves;
 use crate::overflow::{Overflow, fetches, first_fetching};
@@ -9,11 +9,11 @@ use rpg_fit_words::{
 };
 use std::alloc::Global;
 
-/// Puts lines out by EXCPT where some of their time fetch overflow output.
+/// Lets EXCPT print the lines of a time, if some of them fetch overflow output.
 ///
 /// # Errors
 ///
-/// The deck is rejected, or memory is refused.
+/// The deck is rejected, or memory runs out.
 pub fn fetch(alloc: Global, editor: &mut Editor) -> Result<(), RuleStop> {
     let deck = DeckLines::of(alloc, editor)?;
     let lines = deck.lines.as_slice();
@@ -23,7 +23,7 @@ pub fn fetch(alloc: Global, editor: &mut Editor) -> Result<(), RuleStop> {
     }
 }
 
-/// Puts lines out by EXCPT. `card`: the first that fetches, for which the change is reported.
+/// Lets EXCPT print lines. `card`: the first that fetches, for which the change is reported.
 fn rewrite(
     alloc: Global,
     editor: &mut Editor,
@@ -46,14 +46,14 @@ fn rewrite(
     moves.make(alloc, editor)
 }
 
-/// Refuses a deck whose lines can't be put out by EXCPT.
+/// Rejects a deck whose lines EXCPT can't print.
 fn check(alloc: Global, moves: &Moves) -> Result<(), RuleStop> {
     check_times(moves.lines)?;
     check_first(moves)?;
     check_uses(alloc, moves)
 }
 
-/// Refuses lines that EXCPT puts out already.
+/// Rejects lines that EXCPT already prints.
 fn check_times(lines: &[Line]) -> Result<(), RuleStop> {
     for line in lines {
         if line.time == Time::Exception {
@@ -64,7 +64,7 @@ fn check_times(lines: &[Line]) -> Result<(), RuleStop> {
     Ok(())
 }
 
-/// Refuses heading and detail lines that fetch overflow where the first output may reach it.
+/// Rejects heading and detail lines that fetch overflow if the first output may reach it.
 fn check_first(moves: &Moves) -> Result<(), RuleStop> {
     if fetches_detail(moves.lines) && reaches_overflow(moves.overflow.printer, moves.lines) {
         let why = "fetch on a detail line, and the first output may reach overflow";
@@ -73,7 +73,7 @@ fn check_first(moves: &Moves) -> Result<(), RuleStop> {
     Ok(())
 }
 
-/// Refuses a deck that asks for the overflow indicator, or turns it on or off, anywhere but in alternatives of lines.
+/// Rejects a deck that tests the overflow indicator, or turns it on or off, anywhere but in alternatives of lines.
 fn check_uses(alloc: Global, moves: &Moves) -> Result<(), RuleStop> {
     let uses = indicator_uses(alloc, moves.view);
     for one in uses.checked()? {
@@ -86,7 +86,7 @@ fn check_uses(alloc: Global, moves: &Moves) -> Result<(), RuleStop> {
     Ok(())
 }
 
-/// Whether an indicator stands on a card of a line's alternatives, where it has to be on.
+/// Whether an indicator is on a card of a line's alternatives, and must be on.
 fn is_alternative(lines: &[Line], one: IndicatorUse) -> bool {
     match card_at(lines, one.at) {
         Some(seen) => !Conjunction::at(&seen.card, 23).has(Term::off(one.indicator)),
@@ -104,7 +104,7 @@ fn fetches_detail(lines: &[Line]) -> bool {
     false
 }
 
-/// The card of a line's alternatives that is at an address.
+/// Returns the card of a line's alternatives at an address.
 fn card_at(lines: &[Line], at: Address) -> Option<Seen> {
     for line in lines {
         if line.head.at == at {

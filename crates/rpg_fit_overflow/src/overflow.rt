@@ -6,7 +6,7 @@ use rpg_fit_words::{
     printer_of,
 };
 
-/// A time of the cycle at which lines are put out.
+/// A time of the cycle at which lines are printed.
 #[derive(Clone, Copy)]
 pub(crate) enum Part {
     Total,
@@ -15,7 +15,7 @@ pub(crate) enum Part {
 }
 
 impl Part {
-    /// That of a line's time, which is no exception.
+    /// Returns that of a line's time, which isn't an exception.
     pub fn of(time: Time) -> Part {
         if time == Time::Total {
             Part::Total
@@ -31,7 +31,7 @@ impl Part {
         }
     }
 
-    /// What stands in 7 to 8 of its calculations.
+    /// Returns columns 7 to 8 of its calculations.
     pub fn level(self) -> Indicator {
         match self {
             Part::Total => Indicator::ALWAYS,
@@ -39,7 +39,7 @@ impl Part {
         }
     }
 
-    /// The place for calculations before its lines.
+    /// Returns the place for calculations before its lines.
     pub fn end(self) -> Place {
         match self {
             Part::Total => Place::TotalEnd,
@@ -53,7 +53,7 @@ pub(crate) fn fetches(line: &Line) -> bool {
     line.head.card.column(16) == b'F'
 }
 
-/// The number of the card of the first line that fetches overflow output.
+/// Returns the number of the first line's card that fetches overflow output.
 pub(crate) fn first_fetching(lines: &[Line]) -> Option<usize> {
     for line in lines {
         if fetches(line) {
@@ -70,10 +70,10 @@ pub(crate) struct Overflow {
     pub printer: Option<Printer>,
 }
 
-/// Which alternatives of a line.
+/// A kind of a line's alternatives.
 #[derive(Clone, Copy)]
 pub(crate) enum Kind {
-    /// Those of overflow output.
+    /// Those for overflow output.
     AtOverflow,
     /// All others.
     Normal,
@@ -86,7 +86,7 @@ impl Overflow {
         }
     }
 
-    /// The overflow indicator, if there is one.
+    /// Returns the overflow indicator, if there is one.
     pub fn indicator(&self) -> Option<Indicator> {
         match self.printer {
             Some(printer) if !printer.overflow.is_blank() => Some(printer.overflow),
@@ -94,22 +94,22 @@ impl Overflow {
         }
     }
 
-    /// Whether a line is put out at overflow under a condition.
+    /// Whether a line is printed at overflow under a condition.
     pub fn is_output(&self, line: &Line, condition: &Conjunction) -> bool {
         is_overflow(self.printer, line, condition)
     }
 
-    /// Whether a line's condition is one of a kind of its alternatives.
+    /// Whether a line's condition is of a kind.
     pub fn is_of(&self, kind: Kind, line: &Line, condition: &Conjunction) -> bool {
         self.is_output(line, condition) == matches!(kind, Kind::AtOverflow)
     }
 
-    /// Whether a line has an alternative of overflow.
+    /// Whether a line has an alternative for overflow.
     pub fn has(&self, line: &Line) -> bool {
         has_overflow(self.printer, line)
     }
 
-    /// Appends the conditions under which a line is put out at overflow, in their order.
+    /// Appends the conditions under which a line is printed at overflow, in order.
     pub fn push_conditions(&self, found: &mut List<Conjunction>, line: &Line) {
         for alternative in line.alternatives.iter() {
             if self.is_output(line, &alternative.condition) {
@@ -118,7 +118,7 @@ impl Overflow {
         }
     }
 
-    /// Whether a line may be put out at another time than at overflow and at the first output.
+    /// Whether a line may be printed other than at overflow and at the first output.
     pub fn is_put_later(&self, line: &Line) -> bool {
         for alternative in line.alternatives.iter() {
             let condition = &alternative.condition;
@@ -129,7 +129,7 @@ impl Overflow {
         false
     }
 
-    /// Whether a condition asks for the overflow indicator.
+    /// Whether a condition tests the overflow indicator.
     pub fn is_asked(&self, condition: &Conjunction) -> bool {
         match self.indicator() {
             Some(indicator) => condition.asks(indicator),

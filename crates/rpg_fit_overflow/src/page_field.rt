@@ -17,7 +17,7 @@ pub(crate) fn is_page(field: &Seen) -> bool {
     field.card.value(32, 37) == b"PAGE".as_slice()
 }
 
-/// The number of the first card of a line that prints PAGE.
+/// Returns the number of a line's first card that prints PAGE.
 pub(crate) fn page_card(line: &Line) -> Option<usize> {
     for field in line.fields.iter() {
         if is_page(field) {
@@ -27,20 +27,20 @@ pub(crate) fn page_card(line: &Line) -> Option<usize> {
     None
 }
 
-/// Whether PAGE is set back by calculations for an alternative: it isn't the first output, when none has been done, and it may hold.
+/// Whether calculations reset PAGE for an alternative: it may hold, and not only at the first output, before which there are none.
 fn is_live(alternative: &Conjunction, own: &Conjunction) -> bool {
     let first = Term::on(Indicator::FIRST_PAGE);
     !alternative.has(first) && !own.has(first) && !alternative.clashes_with(own)
 }
 
 impl PageField<'_> {
-    /// Its own conditions.
+    /// Returns its own conditions.
     pub fn own(&self) -> Conjunction {
         Conjunction::at(&self.field.card, 23)
     }
 
-    /// When PAGE is set back for the alternatives of a kind: where one of them and its own conditions hold. The overflow indicator isn't
-    /// asked for.
+    /// Returns when PAGE is reset for the alternatives of a kind: if one of them and its own conditions hold, without the overflow
+    /// indicator.
     pub fn resets(&self, alloc: Global, overflow: Overflow, kind: Kind) -> List<Conjunction> {
         let own = self.own();
         let mut found = List::new(alloc);
@@ -54,13 +54,13 @@ impl PageField<'_> {
         found
     }
 
-    /// The time of the cycle at which its line is put out.
+    /// Returns the time of the cycle at which its line is printed.
     pub fn part(&self) -> Part {
         Part::of(self.line.time)
     }
 }
 
-/// A condition without the overflow indicator, where it is one of overflow output.
+/// Returns a condition without the overflow indicator, if it is for overflow output.
 fn without_overflow(overflow: Overflow, kind: Kind, condition: &Conjunction) -> Conjunction {
     match overflow.indicator() {
         Some(indicator) if matches!(kind, Kind::AtOverflow) => {
@@ -80,7 +80,7 @@ fn is_among(conditions: &[Conjunction], condition: &Conjunction) -> bool {
     false
 }
 
-/// Appends a condition unless it is there.
+/// Appends a condition, unless it is there.
 fn push_new(found: &mut List<Conjunction>, condition: Conjunction) {
     if !is_among(found.as_slice(), &condition) {
         found.push(condition);

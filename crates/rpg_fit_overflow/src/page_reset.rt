@@ -1,4 +1,4 @@
-//! PAGE under conditions: it is printed in any case, and set back to 0 before that where they hold.
+//! PAGE under conditions: it is always printed, and reset to 0 first if they hold.
 
 use crate::overflow::{Kind, Overflow, first_fetching};
 use crate::page_field::{PageField, is_page, page_card};
@@ -10,11 +10,11 @@ use rpg_fit_words::{
 };
 use std::alloc::Global;
 
-/// Sets PAGE back by calculations where it is printed under conditions.
+/// Lets calculations reset PAGE where it is printed under conditions.
 ///
 /// # Errors
 ///
-/// The deck is rejected, or memory is refused.
+/// The deck is rejected, or memory runs out.
 pub fn pages(alloc: Global, editor: &mut Editor) -> Result<(), RuleStop> {
     let deck = DeckLines::of(alloc, editor)?;
     reset_lines(alloc, editor, &deck.view, deck.lines.as_slice())
@@ -37,7 +37,7 @@ fn reset_lines(
     deck.reset_lines(alloc, editor)
 }
 
-/// A deck before any PAGE is set back.
+/// A deck before any PAGE is reset.
 #[derive(Clone, Copy)]
 struct Deck<'a> {
     view: &'a View,
@@ -49,7 +49,7 @@ struct Deck<'a> {
     is_total_skipped: bool,
 }
 
-/// When PAGE is set back for a field.
+/// When PAGE is reset for a field.
 #[derive(Drop)]
 struct Resets {
     /// Before the lines of the field's time.
@@ -101,7 +101,7 @@ impl Deck<'_> {
         self.rewrite(alloc, editor, marks, page, &resets)
     }
 
-    /// Refuses a field for which PAGE can't be set back.
+    /// Rejects a field for which PAGE can't be reset.
     fn check(&self, page: PageField, earlier: &[Line], resets: &Resets) -> Result<(), RuleStop> {
         self.check_field(page)?;
         self.check_overflow(page)?;
@@ -112,7 +112,7 @@ impl Deck<'_> {
         self.check_at_overflow(page)
     }
 
-    /// Refuses PAGE that can't be set back before the lines of its time.
+    /// Rejects PAGE if it can't be reset before the lines of its time.
     fn check_normal(
         &self,
         page: PageField,
@@ -126,7 +126,7 @@ impl Deck<'_> {
         Ok(())
     }
 
-    /// Refuses PAGE in a line that EXCPT puts out, twice in a line, and on an I card.
+    /// Rejects PAGE in a line that EXCPT prints, twice in a line, and on an I card.
     fn check_field(&self, page: PageField) -> Result<(), RuleStop> {
         if page.line.time == Time::Exception {
             return refused(page, "PAGE under conditions on a line of time E");
@@ -140,7 +140,7 @@ impl Deck<'_> {
         Ok(())
     }
 
-    /// Refuses PAGE where its line, other than at overflow, or its own conditions ask for overflow.
+    /// Rejects PAGE if its line, other than at overflow, or its own conditions test overflow.
     fn check_overflow(&self, page: PageField) -> Result<(), RuleStop> {
         if self.asks_normally(page.line) || self.overflow.is_asked(&page.own()) {
             return refused(page, "overflow is asked for beside PAGE under conditions");
@@ -148,7 +148,7 @@ impl Deck<'_> {
         Ok(())
     }
 
-    /// Whether an alternative of a line, other than of overflow, asks for overflow.
+    /// Whether an alternative of a line, other than for overflow, tests overflow.
     fn asks_normally(&self, line: &Line) -> bool {
         for alternative in line.alternatives.iter() {
             let condition = &alternative.condition;
@@ -159,7 +159,7 @@ impl Deck<'_> {
         false
     }
 
-    /// Refuses PAGE where an earlier line prints it at the same time: it would be set back before that line.
+    /// Rejects PAGE if an earlier line prints it at the same time: it would be reset before that line.
     fn check_earlier(
         &self,
         page: PageField,
@@ -184,7 +184,7 @@ impl Deck<'_> {
         Ok(())
     }
 
-    /// Refuses PAGE where a line of its time that prints it too may be put out after the first output.
+    /// Rejects PAGE if a line of its time that also prints it may be printed after the first output.
     fn check_earlier_line(
         &self,
         page: PageField,
@@ -202,7 +202,7 @@ impl Deck<'_> {
         Ok(())
     }
 
-    /// Refuses PAGE where overflow lines are fetched that print it too.
+    /// Rejects PAGE if overflow lines that also print it are fetched.
     fn check_fetched(&self, page: PageField) -> Result<(), RuleStop> {
         for line in self.lines {
             let is_other = line.head.at != page.line.head.at && page_card(line).is_some();
@@ -216,7 +216,7 @@ impl Deck<'_> {
         Ok(())
     }
 
-    /// Refuses PAGE at overflow where it may be printed between the end of total calculations and its line, or before there are any.
+    /// Rejects PAGE at overflow if it may be printed between the end of total calculations and its line, or before there are any.
     fn check_at_overflow(&self, page: PageField) -> Result<(), RuleStop> {
         if self.is_total_skipped {
             return refused(
@@ -245,7 +245,7 @@ impl Deck<'_> {
         Ok(())
     }
 
-    /// Sets PAGE back by calculations, and blanks the conditions of its field.
+    /// Inserts calculations that reset PAGE, and blanks the conditions of its field.
     fn rewrite(
         &self,
         alloc: Global,
@@ -275,7 +275,7 @@ impl Deck<'_> {
     }
 }
 
-/// How many fields of a line print PAGE.
+/// Counts the fields of a line that print PAGE.
 fn pages_in(line: &Line) -> usize {
     let mut count: usize = 0;
     for field in line.fields.iter() {
@@ -296,18 +296,18 @@ fn is_page_read(view: &View) -> bool {
     false
 }
 
-/// The conditions of a field, without the blanks around them.
+/// Returns the conditions of a field, trimmed of blanks.
 fn spelled(field: &Card) -> Word {
     let conditions = Conjunction::at(field, 23).columns(0);
     Word::of(field.with(23, 31, conditions.text()).value(23, 31))
 }
 
-/// The deck is refused for a field.
+/// Rejects the deck for a field.
 fn refused(page: PageField, why: &'static str) -> Result<(), RuleStop> {
     Err(RuleStop::because(page.field.number, why))
 }
 
-/// The deck is refused for a field, because of another card.
+/// Rejects the deck for a field, because of another card.
 fn refused_by(page: PageField, why: &'static str, card: usize) -> Result<(), RuleStop> {
     Err(RuleStop::about(page.field.number, why, Word::of_number(card)))
 }

@@ -1,4 +1,4 @@
-//! The calculations that set PAGE back.
+//! The calculations that reset PAGE.
 
 use crate::overflow::Part;
 use rpg_fit_deck::{Editor, View, Word};
@@ -16,7 +16,7 @@ pub(crate) struct Marks {
 }
 
 impl Marks {
-    /// Those that no card has.
+    /// None has been taken yet.
     pub fn new() -> Marks {
         Marks {
             indicators: FreeIndicators::new(),
@@ -25,12 +25,12 @@ impl Marks {
     }
 }
 
-/// 0 to PAGE.
+/// Moves 0 to PAGE.
 fn to_zero() -> Calculation {
     Calculation::of(b"Z-ADD").factor2(b"0").result(b"PAGE")
 }
 
-/// Sets PAGE back before the lines of a time are put out, where one of the conditions holds.
+/// Resets PAGE before the lines of a time are printed, if one of the conditions holds.
 pub(crate) fn reset(
     alloc: Global,
     editor: &mut Editor,
@@ -48,16 +48,16 @@ pub(crate) fn reset(
     insert_at(alloc, editor, part.end(), cards.checked()?, card)
 }
 
-/// How PAGE is set back before overflow output.
+/// How PAGE is reset before overflow output.
 #[derive(Clone, Copy)]
 struct Saving {
-    /// On where it is set back.
+    /// On if it is reset.
     flag: Indicator,
-    /// On where it is still 0 after overflow output.
+    /// On if it is still 0 after overflow output.
     at_zero: Indicator,
-    /// The field that keeps its value.
+    /// The field that saves its value.
     saved: Word,
-    /// The card that the calculations are made for.
+    /// The card that the calculations are derived from.
     card: usize,
 }
 
@@ -75,7 +75,7 @@ impl Marks {
     }
 }
 
-/// Sets PAGE back before overflow output, where one of the conditions holds, and gives it its value again if nothing has printed it.
+/// Resets PAGE before overflow output, if one of the conditions holds, and restores it if nothing has printed it.
 pub(crate) fn reset_at_overflow(
     alloc: Global,
     editor: &mut Editor,
@@ -90,7 +90,7 @@ pub(crate) fn reset_at_overflow(
 }
 
 impl Saving {
-    /// Puts the calculations before overflow output.
+    /// Inserts the calculations before overflow output.
     fn put_before(
         &self,
         alloc: Global,
@@ -102,7 +102,7 @@ impl Saving {
         insert_at(alloc, editor, Place::TotalEnd, cards.checked()?, self.card)
     }
 
-    /// Turns the flag on where one of the conditions holds, and then saves PAGE and sets it back.
+    /// Turns the flag on if one of the conditions holds, then saves PAGE and resets it.
     fn push_before(
         &self,
         cards: &mut List<NewCard>,
@@ -121,12 +121,12 @@ impl Saving {
         Ok(())
     }
 
-    /// A total calculation.
+    /// Returns a total calculation.
     fn total(&self, calculation: Calculation) -> NewCard {
         calculation.at(Indicator::ALWAYS).made_of(self.card)
     }
 
-    /// Gives PAGE its value again where the flag is on and PAGE is still 0. Both indicators go off.
+    /// Restores PAGE if the flag is on and PAGE is still 0. Both indicators go off.
     fn after(&self) -> [NewCard; 3] {
         let both = Conjunction::on(self.flag).and(Term::on(self.at_zero));
         [

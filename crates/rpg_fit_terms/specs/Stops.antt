@@ -5,7 +5,7 @@ use Rattle.rpg_fit_deck.specs.Stopping.{has_run_out, refusal_for, refusal_of}
 use Rattle.rpg_fit_terms.specs.declared.stop.RuleStop.{RuleStop}
 use Rattle.rpg_fit_terms.specs.declared.stop.RuleStop.TheVariants.{NoMemory, Refused}
 
--- a rule that stopped for want of memory stops the editor, and one that rejects the deck rejects it, unless one before it did
+-- a rule that stopped since memory ran out stops the editor, and one that rejects the deck rejects it, unless one before it did
 abbrev pub IsStoppedBy : RuleStop → Editor → Editor → Type 0
 IsStoppedBy NoMemory old new = (has_run_out new ≡ true) × (refusal_of new ≡ refusal_of old)
 IsStoppedBy (Refused reason) old new =

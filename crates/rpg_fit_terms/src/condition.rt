@@ -1,25 +1,25 @@
-//! Conditions: indicators that have to be on, or off, together.
+//! Conditions: indicators that must be on or off together.
 
 use crate::indicator::Indicator;
 use crate::stop::RuleStop;
 use rpg_fit_deck::{Card, Sentence, Word};
 
-/// How many conditions stand together at most: the limit of an alternative.
+/// The most conditions of an alternative.
 const MOST_TERMS: usize = 60;
 
-/// How many conditions a card has at most.
+/// The most conditions of a card.
 const TERMS_OF_CARD: usize = 3;
 
-/// An indicator that has to be on, or off.
+/// An indicator that must be on, or off.
 #[derive(Clone, Copy, PartialEq, Eq)]
 pub struct Term {
-    /// Whether it has to be off: N.
+    /// Whether it must be off: N.
     pub is_off: bool,
     pub indicator: Indicator,
 }
 
 impl Term {
-    /// An indicator that has to be on.
+    /// Returns the term of an indicator that must be on.
     pub fn on(indicator: Indicator) -> Term {
         Term {
             is_off: false,
@@ -27,7 +27,7 @@ impl Term {
         }
     }
 
-    /// An indicator that has to be off.
+    /// Returns the term of an indicator that must be off.
     pub fn off(indicator: Indicator) -> Term {
         Term {
             is_off: true,
@@ -35,7 +35,7 @@ impl Term {
         }
     }
 
-    /// The same indicator the other way.
+    /// Returns the opposite term.
     pub fn opposite(self) -> Term {
         Term {
             is_off: !self.is_off,
@@ -43,14 +43,14 @@ impl Term {
         }
     }
 
-    /// Whether it holds at the first output, when L0 and 1P alone are on.
+    /// Whether it holds at the first output, when only L0 and 1P are on.
     pub fn holds_first(self) -> bool {
         let is_on = self.indicator == Indicator::ALWAYS || self.indicator == Indicator::FIRST_PAGE;
         is_on != self.is_off
     }
 }
 
-/// Conditions that have to hold together, in their order. It keeps 60 and remembers that there were more.
+/// Conditions that must hold together, in order. It keeps 60 and remembers if there were more.
 #[derive(Clone, Copy)]
 pub struct Conjunction {
     terms: [Term; 60],
@@ -59,7 +59,7 @@ pub struct Conjunction {
 }
 
 impl Conjunction {
-    /// Always.
+    /// Returns the condition that always holds.
     pub fn none() -> Conjunction {
         Conjunction {
             terms: [Term::on(Indicator::BLANK); MOST_TERMS],
@@ -68,12 +68,12 @@ impl Conjunction {
         }
     }
 
-    /// One indicator that has to be on.
+    /// Returns the condition of one indicator that must be on.
     pub fn on(indicator: Indicator) -> Conjunction {
         Conjunction::none().and(Term::on(indicator))
     }
 
-    /// The conditions in nine columns of a card, from a column on.
+    /// Returns the conditions in nine columns of a card, from `column` on.
     pub fn at(card: &Card, column: usize) -> Conjunction {
         let mut condition = Conjunction::none();
         for place in 0..TERMS_OF_CARD {
@@ -88,17 +88,17 @@ impl Conjunction {
         condition
     }
 
-    /// Its terms.
+    /// Returns its terms.
     pub fn terms(&self) -> &[Term] {
         self.terms.get(..self.length).unwrap_or(&[])
     }
 
-    /// How many terms it has.
+    /// Returns how many terms it has.
     pub fn len(&self) -> usize {
         self.length
     }
 
-    /// Whether it has no terms, and always holds.
+    /// Whether it has no terms, and so always holds.
     pub fn is_empty(&self) -> bool {
         self.length == 0
     }
@@ -125,13 +125,13 @@ impl Conjunction {
         }
     }
 
-    /// This condition and then a term.
+    /// Returns this condition with one more term.
     pub fn and(mut self, term: Term) -> Conjunction {
         self.push(term);
         self
     }
 
-    /// This condition and then another one.
+    /// Returns this condition with all terms of another one.
     pub fn and_all(mut self, other: &Conjunction) -> Conjunction {
         for term in other.terms() {
             self.push(*term);
@@ -140,7 +140,7 @@ impl Conjunction {
         self
     }
 
-    /// This condition and those terms of another one that it lacks.
+    /// Returns this condition with those terms of another one that it lacks.
     pub fn and_missing(mut self, other: &Conjunction) -> Conjunction {
         for term in other.terms() {
             if !self.has(*term) {
@@ -151,7 +151,7 @@ impl Conjunction {
         self
     }
 
-    /// This condition without a term.
+    /// Returns this condition without a term.
     pub fn without(&self, term: Term) -> Conjunction {
         let mut rest = Conjunction::none();
         for one in self.terms() {
@@ -173,7 +173,7 @@ impl Conjunction {
         false
     }
 
-    /// Whether it asks for an indicator, on or off.
+    /// Whether it tests an indicator, on or off.
     pub fn asks(&self, indicator: Indicator) -> bool {
         for one in self.terms() {
             if one.indicator == indicator {
@@ -183,7 +183,7 @@ impl Conjunction {
         false
     }
 
-    /// Whether it has a term of another condition the other way.
+    /// Whether it has the opposite of a term of another condition.
     fn is_against(&self, other: &Conjunction) -> bool {
         for one in self.terms() {
             if other.has(one.opposite()) {
@@ -193,7 +193,7 @@ impl Conjunction {
         false
     }
 
-    /// Whether it never holds together with another one: some indicator has to be on and off.
+    /// Whether it never holds together with another one: an indicator would have to be on and off.
     pub fn clashes_with(&self, other: &Conjunction) -> bool {
         self.is_against(self) || other.is_against(other) || self.is_against(other)
     }
@@ -203,7 +203,7 @@ impl Conjunction {
         self.terms() == other.terms()
     }
 
-    /// Whether it holds at the first output, when L0 and 1P alone are on.
+    /// Whether it holds at the first output, when only L0 and 1P are on.
     pub fn holds_first(&self) -> bool {
         for one in self.terms() {
             if !one.holds_first() {
@@ -213,12 +213,12 @@ impl Conjunction {
         true
     }
 
-    /// How many cards its terms need: one at least.
+    /// Returns how many cards its terms need, at least one.
     pub fn cards(&self) -> usize {
         self.length.div_ceil(TERMS_OF_CARD).max(1)
     }
 
-    /// The terms of one of its cards, counted from 0, as nine columns have them.
+    /// Returns the terms of one of its cards, counted from 0, as nine columns have them.
     pub fn columns(&self, card: usize) -> Word {
         let first = card.saturating_mul(TERMS_OF_CARD);
         let last = first.saturating_add(TERMS_OF_CARD).min(self.length);

@@ -13,7 +13,7 @@ pub struct Form {
 }
 
 impl Form {
-    /// A number of so many digits, without decimals.
+    /// Returns the form of a number with this many digits and no decimals.
     fn of_digits(length: usize) -> Form {
         Form {
             length,
@@ -26,7 +26,7 @@ impl Form {
         self.decimals != b' '
     }
 
-    /// How many decimals it has.
+    /// Returns how many decimals it has.
     pub fn places(self) -> usize {
         if self.decimals.is_ascii_digit() {
             usize::from(self.decimals.saturating_sub(b'0'))
@@ -44,8 +44,8 @@ pub struct Array {
     pub form: Form,
 }
 
-/// The table or array of a name that an E card has in columns, from the first of the name on, and of its length. What can't be read is
-/// left out.
+/// Returns the table or array with this name on an E card, given the first column of the name and of the length. None if the columns
+/// can't be read.
 fn table_at(card: &Card, name: &[u8], first: usize, length: usize) -> Option<Array> {
     if name.is_empty() || card.value(first, first.saturating_add(5)) != name {
         return None;
@@ -60,7 +60,7 @@ fn table_at(card: &Card, name: &[u8], first: usize, length: usize) -> Option<Arr
     })
 }
 
-/// The table or array of a name: the last that a deck has.
+/// Returns the table or array with this name, the last one in the deck.
 fn table_of(view: &View, name: &[u8]) -> Option<Array> {
     let mut found = None;
     for seen in view.cards.iter() {
@@ -72,7 +72,7 @@ fn table_of(view: &View, name: &[u8]) -> Option<Array> {
     found
 }
 
-/// The array of a name.
+/// Returns the array with this name.
 pub fn array_of(view: &View, name: &[u8]) -> Option<Array> {
     match name {
         [b'T', b'A', b'B', ..] => None,
@@ -80,7 +80,7 @@ pub fn array_of(view: &View, name: &[u8]) -> Option<Array> {
     }
 }
 
-/// The form that an input field gives a name.
+/// Returns the form that an input field gives a name.
 fn input_form(seen: &Seen, name: &[u8]) -> Option<Form> {
     let card = &seen.card;
     if !is_card(seen, b'I') || !card.is_blank(7, 16) || card.value(53, 58) != name {
@@ -94,7 +94,7 @@ fn input_form(seen: &Seen, name: &[u8]) -> Option<Form> {
     })
 }
 
-/// The form that a calculation gives its result.
+/// Returns the form that a calculation gives its result.
 fn result_form(seen: &Seen, name: &[u8]) -> Option<Form> {
     if !is_card(seen, b'C') || seen.card.value(43, 48) != name {
         return None;
@@ -105,7 +105,7 @@ fn result_form(seen: &Seen, name: &[u8]) -> Option<Form> {
     })
 }
 
-/// The form of a field: that which it has first as an input field, or else as a result.
+/// Returns the form of a field: its first one as an input field, or else as a result.
 fn field_form(view: &View, name: &[u8]) -> Option<Form> {
     let mut found = None;
     for seen in view.cards.iter() {
@@ -117,7 +117,7 @@ fn field_form(view: &View, name: &[u8]) -> Option<Form> {
     found
 }
 
-/// The length of UDATE and PAGE, whatever cards say.
+/// Returns the length of UDATE and PAGE, whatever the cards say.
 fn fixed_length(name: &[u8]) -> Option<usize> {
     if name == b"UDATE".as_slice() {
         Some(6)
@@ -128,7 +128,7 @@ fn fixed_length(name: &[u8]) -> Option<usize> {
     }
 }
 
-/// The form of a name, without its index; none where nothing defines it.
+/// Returns the form of a name, without its index, or None if nothing defines it.
 pub fn form_of(view: &View, name: &[u8]) -> Option<Form> {
     if let Some(table) = table_of(view, name) {
         return Some(table.form);

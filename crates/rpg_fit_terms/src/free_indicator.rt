@@ -1,4 +1,4 @@
-//! Indicators that no card has.
+//! Unused indicators.
 
 ghost use Rattle.std.specs.Prelude.{◌≡◌, ◌+◌, ◌<◌, ◌≤◌, ℕ, true, false, IfNone, IfOk, IfSome, OnErr};
 ghost use Rattle.rpg_fit_terms.specs.Indicators.{AreUsed, halt, indicator_starts, is_indicator_on, is_indicator_used, greatest_untried, numbered, stands_in};
@@ -10,13 +10,13 @@ use rpg_fit_deck::{Card, Sentence, View};
 /// The greatest number of an indicator.
 const GREATEST: u8 = 99;
 
-/// How many halt indicators there are.
+/// The number of halt indicators.
 const HALTS: u8 = 9;
 
-/// Indicators that no card has, one after the other, from 99 down.
+/// Hands out indicators that no card has, from 99 down.
 #[derive(Clone, Copy)]
 pub struct FreeIndicators {
-    /// How many are left to be tried: the number of the next one.
+    /// The number of the next one to try.
     left: u8,
 }
 
@@ -32,7 +32,7 @@ const OUTPUT: &[u8] = &[24, 27, 30];
 /// The first column of the indicator on an F card.
 const FILE: &[u8] = &[33];
 
-/// The first column of each indicator on cards of a form.
+/// Returns the first column of each indicator on cards of a form.
 fn indicator_columns(form: u8) -> &'static [u8]
     ensures { result.now ≡ indicator_starts form }
 {
@@ -45,7 +45,7 @@ fn indicator_columns(form: u8) -> &'static [u8]
     }
 }
 
-/// Whether some of a card's columns have an indicator.
+/// Whether one of these columns has an indicator.
 fn stands_in(card: &Card, columns: &[u8], indicator: Indicator) -> bool
     ensures { result ≡ stands_in indicator card.now columns.now }
 {
@@ -62,7 +62,7 @@ fn is_on(card: &Card, indicator: Indicator) -> bool
     !card.is_comment() && stands_in(card, indicator_columns(card.form()), indicator)
 }
 
-/// Whether some card has an indicator.
+/// Whether any card has an indicator.
 #[tactic(auto, unfolding(crate::specs::Indicators::is_indicator_used))]
 fn is_indicator_used(view: &View, indicator: Indicator) -> bool
     ensures { result ≡ is_indicator_used view.now indicator }
@@ -70,7 +70,7 @@ fn is_indicator_used(view: &View, indicator: Indicator) -> bool
     view.cards.iter().any(|seen| is_on(&seen.card, indicator))
 }
 
-/// An indicator, if no card has it.
+/// Returns an indicator, if no card has it.
 fn if_free(view: &View, indicator: Indicator) -> Option<Indicator>
     ensures same { IfSome result (λ found. found ≡ indicator) }
     ensures free { IfSome result (λ found. is_indicator_used view.now found ≡ false) }
@@ -84,14 +84,14 @@ fn if_free(view: &View, indicator: Indicator) -> Option<Indicator>
 }
 
 impl FreeIndicators {
-    /// All that no card has.
+    /// Starts with all that no card has.
     pub fn new() -> FreeIndicators
         ensures { greatest_untried result ≡ 99 }
     {
         FreeIndicators { left: GREATEST }
     }
 
-    /// The greatest indicator that no card has, below those that were taken before.
+    /// Returns the greatest indicator that no card has, below those already taken.
     ///
     /// # Errors
     ///
@@ -117,7 +117,7 @@ impl FreeIndicators {
     }
 }
 
-/// The highest of H9 to H1 that no card has.
+/// Returns the highest of H9 to H1 that no card has.
 ///
 /// # Errors
 ///

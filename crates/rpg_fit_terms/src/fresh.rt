@@ -1,4 +1,4 @@
-//! Names that no card has.
+//! Unused names.
 
 ghost use Rattle.std.specs.Prelude.{◌≡◌, ◌<◌, false, [], ◌∷◌, ◌++◌, true, All, IfNone, IfOk, IfSome, OnErr, is_some, nat_lt, length, take};
 ghost use Rattle.rpg_fit_deck.specs.Words.{cut, word_text};
@@ -9,37 +9,37 @@ use crate::name::{is_name_used, is_prefix_used, is_reserved};
 use crate::stop::RuleStop;
 use rpg_fit_deck::{Sentence, View, Word};
 
-/// How many names are tried at most: the stem, and the stem with 1 to 9,999.
+/// The most names that are tried: the stem, and the stem with 1 to 9,999.
 const MOST_NAMES: usize = 10_000;
 
-/// How many characters a field's name has at most.
+/// The most characters of a field's name.
 const ROOM: usize = 6;
 
-/// Names that no card has, one after the other: a stem, and then the stem before 1, 2 and so on.
+/// Hands out names that no card has: a stem, then the stem with 1, 2 and so on.
 #[derive(Clone, Copy)]
 pub struct FreshNames {
     stem: Word,
-    /// How many characters a name has at most.
+    /// The most characters of a name.
     room: usize,
-    /// The number of the next one, 0 if it is the stem alone.
+    /// The number of the next one, 0 for the stem alone.
     next: usize,
 }
 
-/// A name that no card has, and the number of the next one to be tried.
+/// An unused name, and the number of the next one to try.
 #[derive(Clone, Copy)]
 struct FreeName {
     name: Word,
     next: usize,
 }
 
-/// The last digit of a number.
+/// Returns the last digit of a number.
 fn digit(number: usize) -> u8
     ensures { result ≡ digit number }
 {
     b'0' + (number % 10) as u8
 }
 
-/// The digits of a number below 10,000, without zeros in front; none for 0.
+/// Returns the digits of a number below 10,000, without leading zeros; empty for 0.
 fn digits_of(number: usize) -> Word
     ensures { word_text result ≡ digits_of number }
 {
@@ -59,7 +59,7 @@ fn digits_of(number: usize) -> Word
     }
 }
 
-/// The first characters of a text, so many.
+/// Returns the first characters of a text.
 fn front(text: &[u8], count: usize) -> &[u8]
     ensures { result.now ≡ take count text.now }
 {
@@ -70,7 +70,7 @@ fn front(text: &[u8], count: usize) -> &[u8]
     }
 }
 
-/// Whether a card has a name, or it stands for something in every deck.
+/// Whether a card has a name, or it is predefined.
 fn is_taken(view: &View, name: &[u8]) -> bool
     ensures { result ≡ is_taken view.now name.now }
 {
@@ -78,7 +78,7 @@ fn is_taken(view: &View, name: &[u8]) -> bool
 }
 
 impl FreshNames {
-    /// Names of a stem, of at most so many characters.
+    /// Starts with a stem, for names of at most `room` characters.
     pub fn of(stem: &[u8], room: usize) -> FreshNames
         ensures { AreNew stem.now room result }
     {
@@ -89,7 +89,7 @@ impl FreshNames {
         }
     }
 
-    /// The name of a number; none if no character of the stem has room before its digits.
+    /// Returns the name with a number, or None if no character of the stem fits before its digits.
     #[tactic(auto, using(rpg_fit_deck::proofs::Texts::cut_two))]
     fn name(&self, number: usize) -> Option<Word>
         ensures room { is_some result ≡ nat_lt (length (digits_of number)) self.now.room }
@@ -104,7 +104,7 @@ impl FreshNames {
         Some(Word::of(front).and(digits.text()))
     }
 
-    /// The name of a number, if it has room and isn't taken.
+    /// Returns the name with a number, if it fits and isn't taken.
     fn free_name(&self, view: &View, number: usize) -> Option<Word>
         ensures free { IfSome result (λ name. is_taken view.now (word_text name) ≡ false) }
         ensures taken { IfNone result (IsTaken view.now self.now number) }
@@ -116,7 +116,7 @@ impl FreshNames {
         Some(name)
     }
 
-    /// The next name that no card of the deck has; none if all are in use.
+    /// Returns the next name that no card of the deck has, or None if all are in use.
     fn next_free(&self, view: &View) -> Option<FreeName>
         ensures free { IfSome result (λ found. is_taken view.now (word_text found.name) ≡ false) }
         ensures none_free { IfNone result (AreTaken view.now self.now) }
@@ -135,7 +135,7 @@ impl FreshNames {
         None
     }
 
-    /// The next name that no card of the deck has, which is not given again; none if all are in use.
+    /// Returns the next name that no card of the deck has, and doesn't return it again; None if all are in use.
     pub fn find(&mut self, view: &View) -> Option<Word>
         ensures free { IfSome result (λ name. is_taken view.now (word_text name) ≡ false) }
         ensures none_free { IfNone result (AreTaken view.now self.old) }
@@ -145,7 +145,7 @@ impl FreshNames {
         Some(found.name)
     }
 
-    /// The next name that no card of the deck has, which is not given again.
+    /// Returns the next name that no card of the deck has, and doesn't return it again.
     ///
     /// # Errors
     ///
@@ -161,7 +161,7 @@ impl FreshNames {
     }
 }
 
-/// A name of at most 6 characters that no card of the deck has.
+/// Returns a name of at most 6 characters that no card of the deck has.
 ///
 /// # Errors
 ///
@@ -173,7 +173,7 @@ pub fn fresh_name(view: &View, stem: &[u8], card: usize) -> Result<Word, RuleSto
     FreshNames::of(stem, ROOM).take(view, card)
 }
 
-/// A stem with a character after it, if no name of a card begins with that.
+/// Returns a stem with a character after it, if no name on a card begins with that.
 #[tactic(auto, using(rpg_fit_deck::proofs::Texts::cut_two))]
 fn prefix_if_unused(view: &View, stem: &[u8], character: u8) -> Option<Word>
     ensures unused { IfSome result (λ prefix. is_prefix_used view.now (word_text prefix) ≡ false) }
@@ -186,7 +186,7 @@ fn prefix_if_unused(view: &View, stem: &[u8], character: u8) -> Option<Word>
     Some(prefix)
 }
 
-/// The first text of a stem and one of some characters with which no name of a card begins.
+/// Returns the first prefix, a stem and one of these characters, with which no name on a card begins.
 pub fn unused_prefix(view: &View, stem: &[u8], characters: &[u8]) -> Option<Word>
     ensures unused { IfSome result (λ prefix. is_prefix_used view.now (word_text prefix) ≡ false) }
     ensures all_used { IfNone result (All (λ c. is_prefix_used view.now (cut (stem.now ++ c ∷ [])) ≡ true) characters.now) }

@@ -5,7 +5,7 @@ ghost use Rattle.rpg_fit_terms.specs.Indicators.{halt, numbered, stands_at};
 
 use rpg_fit_deck::{Card, Word};
 
-/// An indicator: two characters of a card, perhaps blank.
+/// An indicator: two characters of a card, which may be blank.
 #[derive(Clone, Copy, PartialEq, Eq)]
 pub struct Indicator {
     first: u8,
@@ -25,19 +25,19 @@ impl Indicator {
         second: b'0',
     };
 
-    /// 1P, which is on at the first output alone.
+    /// 1P, which is on only at the first output.
     pub const FIRST_PAGE: Indicator = Indicator {
         first: b'1',
         second: b'P',
     };
 
-    /// SR, which stands in columns 7 to 8 of the calculations of a subroutine.
+    /// SR, in columns 7 to 8 of a subroutine's calculations.
     pub const SUBROUTINE: Indicator = Indicator {
         first: b'S',
         second: b'R',
     };
 
-    /// What stands in a column and the next one.
+    /// Returns the characters in a column and the next one.
     pub fn at(card: &Card, column: usize) -> Indicator {
         Indicator {
             first: card.column(column),
@@ -53,7 +53,7 @@ impl Indicator {
         card.column(first) == self.first && card.column(first + 1) == self.second
     }
 
-    /// The indicator of a number below 100.
+    /// Returns the indicator with a number below 100.
     pub fn of_number(number: u8) -> Indicator
         ensures { result ≡ numbered number }
     {
@@ -63,7 +63,7 @@ impl Indicator {
         }
     }
 
-    /// The halt indicator of a number below 10.
+    /// Returns the halt indicator with a number below 10.
     pub fn halt(number: u8) -> Indicator
         ensures { result ≡ halt number }
     {
@@ -73,7 +73,7 @@ impl Indicator {
         }
     }
 
-    /// Whether there is none.
+    /// Whether it is blank.
     pub fn is_blank(self) -> bool {
         self == Indicator::BLANK
     }
@@ -83,7 +83,7 @@ impl Indicator {
         self.first.is_ascii_digit() && self.second.is_ascii_digit()
     }
 
-    /// Its characters.
+    /// Returns its characters.
     pub fn word(self) -> Word {
         Word::of(&[self.first, self.second])
     }

@@ -1,4 +1,5 @@
-//! Conditions, names, indicators and forms of a deck that is rewritten, and why a rule stops.
+//! Conditions, names, indicators and forms of a deck that is being rewritten, and why a rule
+//! stops.
 #![tactic(auto)]
 
 mod cards;

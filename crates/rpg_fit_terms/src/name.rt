@@ -1,4 +1,4 @@
-//! The names that cards have.
+//! The names on cards.
 
 ghost use Rattle.std.specs.Prelude.{◌≡◌, nat_eq};
 ghost use Rattle.std.specs.List.{starts_with};
@@ -14,7 +14,7 @@ pub(crate) struct Columns {
     pub last: usize,
 }
 
-/// Where an E card has names.
+/// The columns of an E card's names.
 const TABLE_NAMES: &[Columns] = &[
     Columns {
         first: 27,
@@ -26,13 +26,13 @@ const TABLE_NAMES: &[Columns] = &[
     },
 ];
 
-/// Where an I card has a name.
+/// The columns of an I card's name.
 const INPUT_NAMES: &[Columns] = &[Columns {
     first: 53,
     last: 58,
 }];
 
-/// Where a C card has names.
+/// The columns of a C card's names.
 const CALCULATION_NAMES: &[Columns] = &[
     Columns {
         first: 18,
@@ -48,13 +48,13 @@ const CALCULATION_NAMES: &[Columns] = &[
     },
 ];
 
-/// Where an O card has a name.
+/// The columns of an O card's name.
 const OUTPUT_NAMES: &[Columns] = &[Columns {
     first: 32,
     last: 37,
 }];
 
-/// Where cards of a form have names.
+/// Returns the columns of names on cards of a form.
 pub(crate) fn name_columns(form: u8) -> &'static [Columns]
     ensures { result.now ≡ operand_columns form }
 {
@@ -75,7 +75,7 @@ fn is_name_in(operand: &[u8], name: &[u8]) -> bool
     found.name == name || found.index == name
 }
 
-/// Whether some of a card's columns have a name.
+/// Whether one of these columns has a name.
 fn has_name_in(card: &Card, places: &[Columns], name: &[u8]) -> bool
     ensures { result ≡ has_operand_in (is_name_in name.now) card.now places.now }
 {
@@ -89,7 +89,7 @@ fn is_name_on(card: &Card, name: &[u8]) -> bool
     !card.is_comment() && has_name_in(card, name_columns(card.form()), name)
 }
 
-/// Whether some card has a name.
+/// Whether any card has a name.
 #[tactic(auto, unfolding(crate::specs::Names::is_name_used))]
 pub fn is_name_used(view: &View, name: &[u8]) -> bool
     ensures { result ≡ is_name_used view.now name.now }
@@ -104,7 +104,7 @@ fn begins_with(text: &[u8], prefix: &[u8]) -> bool
     text.starts_with(prefix)
 }
 
-/// Whether the name or the index of an operand begins with a text.
+/// Whether the name or the index of an operand begins with a prefix.
 fn is_prefix_in(operand: &[u8], prefix: &[u8]) -> bool
     ensures { result ≡ is_prefix_in prefix.now operand.now }
 {
@@ -112,21 +112,21 @@ fn is_prefix_in(operand: &[u8], prefix: &[u8]) -> bool
     begins_with(found.name, prefix) || begins_with(found.index, prefix)
 }
 
-/// Whether some of a card's columns have a name that begins with a text.
+/// Whether one of these columns has a name that begins with a prefix.
 fn has_prefix_in(card: &Card, places: &[Columns], prefix: &[u8]) -> bool
     ensures { result ≡ has_operand_in (is_prefix_in prefix.now) card.now places.now }
 {
     places.iter().any(|columns| is_prefix_in(card.value(columns.first, columns.last), prefix))
 }
 
-/// Whether a card has a name that begins with a text.
+/// Whether a card has a name that begins with a prefix.
 fn is_prefix_on(card: &Card, prefix: &[u8]) -> bool
     ensures { result ≡ card_has_operand (is_prefix_in prefix.now) card.now }
 {
     !card.is_comment() && has_prefix_in(card, name_columns(card.form()), prefix)
 }
 
-/// Whether some card has a name that begins with a text.
+/// Whether any card has a name that begins with a prefix.
 #[tactic(auto, unfolding(crate::specs::Names::is_prefix_used))]
 pub(crate) fn is_prefix_used(view: &View, prefix: &[u8]) -> bool
     ensures { result ≡ is_prefix_used view.now prefix.now }
@@ -136,14 +136,14 @@ pub(crate) fn is_prefix_used(view: &View, prefix: &[u8]) -> bool
         .any(|seen| is_prefix_on(&seen.card, prefix))
 }
 
-/// Whether a name is that of a part of the date.
+/// Whether a name is a part of the date.
 pub fn is_date_part(name: &[u8]) -> bool
     ensures { result ≡ is_date_part name.now }
 {
     name == b"UDAY".as_slice() || name == b"UMONTH".as_slice() || name == b"UYEAR".as_slice()
 }
 
-/// Whether a name stands for something in every deck.
+/// Whether a name is predefined.
 #[tactic(auto, unfolding(crate::specs::Names::is_reserved))]
 pub(crate) fn is_reserved(name: &[u8]) -> bool
     ensures { result ≡ is_reserved name.now }

@@ -13,7 +13,7 @@ pub struct Operand<'a> {
 }
 
 impl<'a> Operand<'a> {
-    /// The parts of an operand.
+    /// Splits an operand into its parts.
     pub fn of(text: &'a [u8]) -> Operand<'a>
         ensures name { result.name.now ≡ name_in text.now }
         ensures index { result.index.now ≡ index_in text.now }
@@ -46,12 +46,12 @@ impl<'a> Operand<'a> {
     }
 }
 
-/// An entry of an array: a name with an index.
+/// Returns an entry of an array: a name with an index.
 pub fn entry(name: Word, index: Word) -> Word {
     name.and(b",").and(index.text())
 }
 
-/// The place of the first comma.
+/// Returns the place of the first comma.
 fn comma(text: &[u8]) -> Option<usize>
     ensures place { result ≡ position ends_name text.now }
     ensures within { IfSome result (λ comma. comma < length text.now) }

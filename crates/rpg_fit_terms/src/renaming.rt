@@ -1,4 +1,4 @@
-//! Other names for what a deck has.
+//! Renames fields and arrays of a deck.
 
 use crate::cards::is_card;
 use crate::fresh::FreshNames;
@@ -8,13 +8,13 @@ use crate::stop::RuleStop;
 use rpg_fit_deck::{Card, Editor, Sentence, View, Word};
 use std::alloc::Global;
 
-/// How many characters a result has.
+/// The most characters of a result.
 const RESULT: usize = 6;
 
-/// Operations that name labels or subroutines, which are no fields.
+/// Operations that name labels or subroutines, which aren't fields.
 const LABELLED: [&[u8]; 5] = [b"GOTO", b"EXSR", b"TAG", b"BEGSR", b"ENDSR"];
 
-/// Whether a calculation names labels or subroutines, which are no fields.
+/// Whether a calculation names labels or subroutines, which aren't fields.
 fn names_labels(card: &Card) -> bool {
     let operation = card.value(28, 32);
     for word in &LABELLED {
@@ -25,7 +25,7 @@ fn names_labels(card: &Card) -> bool {
     false
 }
 
-/// A card with another name in columns that have the old one; none if they have another one.
+/// Returns a card with the new name in columns that have the old one, or None if they don't.
 fn renamed_in(card: Card, columns: &Columns, old: &[u8], new: &[u8]) -> Option<Card> {
     let text = card.value(columns.first, columns.last);
     if Operand::of(text).name != old {
@@ -36,7 +36,7 @@ fn renamed_in(card: Card, columns: &Columns, old: &[u8], new: &[u8]) -> Option<C
     Some(card.with(columns.first, columns.last, renamed.text()))
 }
 
-/// A card with another name wherever it has the old one; none if it doesn't have it.
+/// Returns a card with the new name wherever it has the old one, or None if it doesn't have it.
 fn renamed(card: &Card, old: &[u8], new: &[u8]) -> Option<Card> {
     if card.is_comment() || card.form() == b'C' && names_labels(card) {
         return None;
@@ -52,7 +52,7 @@ fn renamed(card: &Card, old: &[u8], new: &[u8]) -> Option<Card> {
     found
 }
 
-/// Gives a field or an array another name on all cards, as part of the change of the card `with`. Labels and subroutines keep theirs.
+/// Renames a field or an array on all cards, as part of the change of the card `with`. Labels and subroutines keep their names.
 pub fn rename(editor: &mut Editor, view: &View, old: &[u8], new: &[u8], with: usize) {
     for seen in view.cards.iter() {
         if let Some(card) = renamed(&seen.card, old, new) {
@@ -61,7 +61,7 @@ pub fn rename(editor: &mut Editor, view: &View, old: &[u8], new: &[u8], with: us
     }
 }
 
-/// The number of the card that defines an array, or 0.
+/// Returns the number of the card that defines an array, or 0.
 fn card_of(view: &View, name: &[u8]) -> usize {
     for seen in view.cards.iter() {
         if is_card(seen, b'E')
@@ -73,7 +73,7 @@ fn card_of(view: &View, name: &[u8]) -> usize {
     0
 }
 
-/// A name that no card has, of at most so many characters: one that begins as this one does, if there is one.
+/// Returns a name that no card has, of at most `room` characters, with the same beginning if possible.
 fn shorter_name(view: &View, name: &[u8], room: usize, card: usize) -> Result<Word, RuleStop> {
     let stem = name.get(..room).unwrap_or(name);
     match FreshNames::of(stem, room).find(view) {
@@ -82,12 +82,12 @@ fn shorter_name(view: &View, name: &[u8], room: usize, card: usize) -> Result<Wo
     }
 }
 
-/// An array's name with room for a comma and an index in a result. If its own has none, all cards have a shorter one from now on, and its
+/// Returns an array's name with room for a comma and an index in a result. If its own is too long, it is renamed on all cards, and its
 /// card gets a sentence about that.
 ///
 /// # Errors
 ///
-/// No name is free, or memory is refused.
+/// No name is free, or memory runs out.
 pub fn with_room(
     alloc: Global,
     editor: &mut Editor,

@@ -13,7 +13,7 @@ pub struct Reason {
     pub why: Sentence,
 }
 
-/// Why a rule stops before it has rewritten the deck.
+/// Why a rule stops before it is done.
 #[derive(Clone, Copy)]
 pub enum RuleStop {
     NoMemory,
@@ -21,17 +21,17 @@ pub enum RuleStop {
 }
 
 impl RuleStop {
-    /// The deck is rejected for a card.
+    /// Rejects the deck for a card.
     pub fn refused(card: usize, why: Sentence) -> RuleStop {
         RuleStop::Refused(Reason { card, why })
     }
 
-    /// The deck is rejected for a card, by a sentence without words of its own.
+    /// Rejects the deck for a card, with a sentence without words to fill in.
     pub fn because(card: usize, why: &'static str) -> RuleStop {
         RuleStop::refused(card, Sentence::of(why))
     }
 
-    /// The deck is rejected for a card, by a sentence about a word.
+    /// Rejects the deck for a card, with a sentence about a word.
     pub fn about(card: usize, why: &'static str, word: Word) -> RuleStop {
         RuleStop::refused(card, Sentence::about(why, word))
     }
@@ -49,7 +49,7 @@ impl<T: Drop> From<AllocFailed<T>> for RuleStop {
     }
 }
 
-/// Passes on to the editor how a rule ended.
+/// Passes the outcome of a rule to the editor.
 pub fn settle(editor: &mut Editor, outcome: Result<(), RuleStop>)
     ensures { MatchResult outcome (λ _. editor.new ≡ editor.old) (λ stop. IsStoppedBy stop editor.old editor.new) }
 {

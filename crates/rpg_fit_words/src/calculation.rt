@@ -1,16 +1,16 @@
-//! Calculations that rules make.
+//! Calculations that rules create.
 
 use rpg_fit_deck::{Card, Word};
 use rpg_fit_terms::{Conjunction, Indicator, NewCard, Term};
 
-/// A calculation card under way.
+/// A calculation card under construction.
 #[derive(Clone, Copy)]
 pub struct Calculation {
     card: Card,
 }
 
 impl Calculation {
-    /// An operation, without anything else.
+    /// Begins a calculation with only its operation.
     pub fn of(operation: &[u8]) -> Calculation {
         Calculation {
             card: Card::of_form(b'C').with(28, 32, operation),
@@ -23,22 +23,22 @@ impl Calculation {
         }
     }
 
-    /// At a control level, or in a subroutine: columns 7 to 8.
+    /// Sets the control level, or SR: columns 7 to 8.
     pub fn at(self, level: Indicator) -> Calculation {
         self.with(7, 8, level.word().text())
     }
 
-    /// Under a condition of at most three terms.
+    /// Sets a condition of at most three terms.
     pub fn under(self, condition: &Conjunction) -> Calculation {
         self.with(9, 17, condition.columns(0).text())
     }
 
-    /// Where an indicator is on.
+    /// Requires an indicator to be on.
     pub fn when(self, indicator: Indicator) -> Calculation {
         self.under(&Conjunction::on(indicator))
     }
 
-    /// Where an indicator is off.
+    /// Requires an indicator to be off.
     pub fn unless(self, indicator: Indicator) -> Calculation {
         self.under(&Conjunction::none().and(Term::off(indicator)))
     }
@@ -55,7 +55,7 @@ impl Calculation {
         self.with(43, 48, field)
     }
 
-    /// The length and decimals of the result; a text's decimals are blank.
+    /// Sets the length and decimals of the result; a text's decimals are blank.
     pub fn of_length(self, length: usize, decimals: u8) -> Calculation {
         Calculation {
             card: self
@@ -65,27 +65,30 @@ impl Calculation {
         }
     }
 
-    /// The indicator in 54 to 55: a high result, or the first to be turned on or off.
+    /// Sets the indicator in 54 to 55: a high result, or the first to be turned on or
+    /// off.
     pub fn high(self, indicator: Indicator) -> Calculation {
         self.with(54, 55, indicator.word().text())
     }
 
-    /// The indicator in 56 to 57: a low result, or the second to be turned on or off.
+    /// Sets the indicator in 56 to 57: a low result, or the second to be turned on or
+    /// off.
     pub fn low(self, indicator: Indicator) -> Calculation {
         self.with(56, 57, indicator.word().text())
     }
 
-    /// The indicator in 58 to 59: an equal result, or the third to be turned on or off.
+    /// Sets the indicator in 58 to 59: an equal result, or the third to be turned on or
+    /// off.
     pub fn equal(self, indicator: Indicator) -> Calculation {
         self.with(58, 59, indicator.word().text())
     }
 
-    /// Its card.
+    /// Returns its card.
     pub fn card(self) -> Card {
         self.card
     }
 
-    /// Its card, made of the card of a number.
+    /// Returns its card, derived from the card with a number.
     pub fn made_of(self, number: usize) -> NewCard {
         NewCard {
             card: self.card,

@@ -11,10 +11,10 @@ pub enum Columns {
 }
 
 impl Columns {
-    /// Those of all three operands, in their order.
+    /// The columns of all three operands, in order.
     pub const ALL: [Columns; 3] = [Columns::Factor1, Columns::Factor2, Columns::Result];
 
-    /// The first column.
+    /// Returns the first column.
     fn first(self) -> usize {
         match self {
             Columns::Factor1 => 18,
@@ -23,7 +23,7 @@ impl Columns {
         }
     }
 
-    /// The last column.
+    /// Returns the last column.
     fn last(self) -> usize {
         match self {
             Columns::Factor1 => 27,
@@ -32,12 +32,12 @@ impl Columns {
         }
     }
 
-    /// What stands in them, without blanks.
+    /// Returns the text in them, trimmed of blanks.
     pub fn value(self, card: &Card) -> &[u8] {
         card.value(self.first(), self.last())
     }
 
-    /// A card with a text in them.
+    /// Returns a card with a text in them.
     pub fn put(self, card: Card, text: &[u8]) -> Card {
         card.with(self.first(), self.last(), text)
     }

@@ -1,4 +1,4 @@
-//! Constants, literals and edit words: what stands between quotes.
+//! Constants, literals and edit words: texts in quotes.
 
 /// The most characters between the quotes of columns 45 to 70 of an output field.
 const MOST: usize = 24;
@@ -11,7 +11,7 @@ pub struct Constant {
 }
 
 impl Constant {
-    /// No character.
+    /// Returns an empty constant.
     pub fn empty() -> Constant {
         Constant {
             characters: [b' '; MOST],
@@ -19,7 +19,7 @@ impl Constant {
         }
     }
 
-    /// The constant of a text with quotes around it. Two quotes in it are one.
+    /// Parses a text in quotes. Two quotes in it stand for one.
     pub fn of(quoted: &[u8]) -> Constant {
         let mut constant = Constant::empty();
         let mut is_second = false;
@@ -34,7 +34,7 @@ impl Constant {
         constant
     }
 
-    /// Appends a character where there is room.
+    /// Appends a character, if there is room.
     pub fn push(&mut self, character: u8) {
         if let Some(there) = self.characters.get_mut(self.length) {
             *there = character;
@@ -42,13 +42,13 @@ impl Constant {
         }
     }
 
-    /// Its characters.
+    /// Returns its characters.
     pub fn text(&self) -> &[u8] {
         self.characters.get(..self.length).unwrap_or(&[])
     }
 }
 
-/// A text without its first and its last character.
+/// Returns a text without its first and last character.
 fn between_quotes(text: &[u8]) -> &[u8] {
     text.get(1..text.len().saturating_sub(1)).unwrap_or(&[])
 }

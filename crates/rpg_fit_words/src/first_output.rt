@@ -7,10 +7,10 @@ use rpg_fit_deck::{Card, Seen, View};
 use rpg_fit_terms::{Conjunction, RuleStop};
 use std::alloc::Global;
 
-/// The line of a page from which on there is overflow.
+/// The first line of a page that counts as overflow.
 const OVERFLOW_LINE: usize = 60;
 
-/// Whether a line is put out at overflow under a condition.
+/// Whether a line is printed at overflow under a condition.
 pub fn is_overflow(printer: Option<Printer>, line: &Line, condition: &Conjunction) -> bool {
     match printer {
         Some(printer) => printer.is_overflow(line, condition),
@@ -18,7 +18,7 @@ pub fn is_overflow(printer: Option<Printer>, line: &Line, condition: &Conjunctio
     }
 }
 
-/// Whether a line has an alternative of overflow.
+/// Whether a line has an alternative for overflow.
 pub fn has_overflow(printer: Option<Printer>, line: &Line) -> bool {
     for alternative in line.alternatives.iter() {
         if is_overflow(printer, line, &alternative.condition) {
@@ -28,7 +28,7 @@ pub fn has_overflow(printer: Option<Printer>, line: &Line) -> bool {
     false
 }
 
-/// Whether a line is put out at the first output.
+/// Whether a line is printed at the first output.
 pub fn is_put_first(printer: Option<Printer>, line: &Line) -> bool {
     if line.time.is_detail() {
         for alternative in line.alternatives.iter() {
@@ -41,19 +41,19 @@ pub fn is_put_first(printer: Option<Printer>, line: &Line) -> bool {
     false
 }
 
-/// Whether a field is put out at the first output.
+/// Whether a field is printed at the first output.
 pub fn is_field_put_first(printer: Option<Printer>, line: &Line, field: &Seen) -> bool {
     is_put_first(printer, line) && Conjunction::at(&field.card, 23).holds_first()
 }
 
-/// How many lines a card spaces: columns 17 and 18.
+/// Returns how many lines a card spaces: columns 17 and 18.
 fn spaces(card: &Card) -> usize {
     card.number(17, 17)
         .unwrap_or(0)
         .saturating_add(card.number(18, 18).unwrap_or(0))
 }
 
-/// The line of the page that printing is at after a line's card, at most: `at` before it.
+/// Returns the last line of the page that printing a line's card may reach, from line `at`.
 fn line_following(at: usize, card: &Card) -> usize {
     let spaces = spaces(card);
     let moved = if card.is_blank(17, 22) { 1 } else { spaces };
@@ -101,12 +101,12 @@ fn have_levels_or_not(types: &[RecordType]) -> bool {
     some && others
 }
 
-/// Whether an overflow output may come before any total calculation: the first output reaches the overflow line, or only some types have
+/// Whether overflow output may come before any total calculation: the first output reaches the overflow line, or only some types have
 /// control fields.
 ///
 /// # Errors
 ///
-/// Memory is refused.
+/// Memory runs out.
 pub fn is_total_skipped_late(
     alloc: Global,
     view: &View,

@@ -1,4 +1,4 @@
-//! Calculations that are done where one of several conditions holds.
+//! Calculations that are done if one of several conditions holds.
 
 use crate::calculation::Calculation;
 use crate::group::{Group, Section};
@@ -8,20 +8,20 @@ use rpg_fit_deck::{View, Word};
 use rpg_fit_terms::{Conjunction, FreeIndicators, Indicator, NewCard, RuleStop};
 use std::alloc::Global;
 
-/// What calculations in place of another one stand under.
+/// The conditions of calculations that replace another one.
 #[derive(Drop)]
 pub struct Flagged {
-    /// Calculations that turn the flag on where the conditions hold; they come first.
+    /// Calculations that turn the flag on if the conditions hold; they come first.
     pub before: List<NewCard>,
     /// Columns 7 to 8 of each calculation.
     pub level: Indicator,
     /// Columns 9 to 17 of each calculation.
     pub conditions: Word,
-    /// The indicator that is on where the conditions hold; none where a single card has them.
+    /// The indicator that is on if the conditions hold; None if they fit on a single card.
     pub flag: Option<Indicator>,
 }
 
-/// The cards that turn a flag on where a calculation is done.
+/// Returns the cards that turn a flag on if a calculation is done.
 fn flag_cards(alloc: Global, group: &Group, level: Indicator, flag: Indicator) -> List<NewCard> {
     let number = group.last.number;
     let mut cards = List::new(alloc);
@@ -41,8 +41,8 @@ fn flag_cards(alloc: Global, group: &Group, level: Indicator, flag: Indicator) -
     cards
 }
 
-/// What calculations in place of a calculation stand under: its own conditions where one card has them, else, or `always`, a free
-/// indicator.
+/// Returns the conditions of calculations that replace a calculation: its own if one card has them, otherwise, or if `always`, a
+/// free indicator.
 ///
 /// # Errors
 ///
@@ -75,7 +75,8 @@ pub fn under_flag(
     })
 }
 
-/// Appends the cards of an alternative: AN from its second card on. The last of them is `end`, and the others have nothing else.
+/// Appends the cards of an alternative: AN from its second card on. The last of them is `end`, and the others have only
+/// conditions.
 fn push_alternative(
     cards: &mut List<NewCard>,
     lead: Word,
@@ -95,12 +96,12 @@ fn push_alternative(
     Ok(())
 }
 
-/// A calculation's card with nothing on it.
+/// Returns a calculation's card with nothing on it.
 fn blank(number: usize) -> NewCard {
     Calculation::of(b"").made_of(number)
 }
 
-/// Appends the cards of a calculation that is done where one of the alternatives holds. Columns 7 to 17 of `last` are blank.
+/// Appends the cards of a calculation that is done if one of the alternatives holds. Columns 7 to 17 of `last` are blank.
 ///
 /// # Errors
 ///

@@ -13,7 +13,7 @@ pub enum Section {
 }
 
 impl Section {
-    /// That of a calculation's first card.
+    /// Returns the section of a calculation's first card.
     fn of(card: &Card) -> Section {
         let level = Indicator::at(card, 7);
         if level == Indicator::SUBROUTINE {
@@ -25,7 +25,7 @@ impl Section {
         }
     }
 
-    /// What stands in 7 to 8 of a calculation that is always done there.
+    /// Returns columns 7 to 8 of a calculation that is always done there.
     pub fn level(self) -> Indicator {
         match self {
             Section::Detail => Indicator::BLANK,
@@ -35,7 +35,7 @@ impl Section {
     }
 }
 
-/// A calculation: its last card, which has the operation, and the cards before it.
+/// A calculation: its last card, with the operation, and the cards before it.
 #[derive(Drop)]
 pub struct Group {
     pub leading: Vec<Seen>,
@@ -43,7 +43,7 @@ pub struct Group {
 }
 
 impl Group {
-    /// Its first card.
+    /// Returns its first card.
     pub fn first(&self) -> &Seen {
         match self.leading.first() {
             Some(first) => first,
@@ -51,17 +51,17 @@ impl Group {
         }
     }
 
-    /// The section of its first card.
+    /// Returns the section of its first card.
     pub fn section(&self) -> Section {
         Section::of(&self.first().card)
     }
 
-    /// Its operation, without blanks.
+    /// Returns its operation, trimmed of blanks.
     pub fn operation(&self) -> &[u8] {
         self.last.card.value(28, 32)
     }
 
-    /// One more card, which is its last one now.
+    /// Appends a card, which becomes the last one.
     fn push(&mut self, seen: Seen) -> Result<(), RuleStop> {
         self.leading.push(self.last)?;
         self.last = seen;
@@ -103,21 +103,21 @@ pub(crate) fn is_in_detail(view: &View, at: Address) -> bool {
     false
 }
 
-/// The calculations of a deck as it is now, in their order.
+/// Returns the calculations of a deck in its present form, in order.
 ///
 /// # Errors
 ///
-/// Memory is refused.
+/// Memory runs out.
 pub fn groups_now(alloc: Global, editor: &Editor) -> Result<Vec<Group>, RuleStop> {
     let view = editor.view(alloc)?;
     groups(alloc, &view)
 }
 
-/// The calculations of a deck, in their order.
+/// Returns the calculations of a deck, in order.
 ///
 /// # Errors
 ///
-/// Memory is refused.
+/// Memory runs out.
 pub fn groups(alloc: Global, view: &View) -> Result<Vec<Group>, RuleStop> {
     let mut found = Vec::new(alloc);
     for seen in view.cards.iter() {

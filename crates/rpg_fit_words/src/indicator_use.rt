@@ -1,4 +1,4 @@
-//! Where a deck has indicators.
+//! The uses of indicators in a deck.
 
 use crate::group::is_in_detail;
 use crate::list::List;
@@ -6,16 +6,16 @@ use rpg_fit_deck::{Address, Seen, Sentence, View, Word};
 use rpg_fit_terms::{Conjunction, Indicator, RuleStop};
 use std::alloc::Global;
 
-/// What a card does with an indicator.
+/// How a card uses an indicator.
 #[derive(Clone, Copy)]
 pub enum UseKind {
-    /// It is that of a record type, or of overflow.
+    /// As that of a record type, or of overflow.
     Type,
     /// An input field turns it on or off.
     Field,
     /// A calculation turns it on or off.
     Result,
-    /// It is asked: a condition, or a field record relation.
+    /// It is tested: by a condition, or a field record relation.
     Asked,
 }
 
@@ -50,7 +50,7 @@ fn push_three(found: &mut List<IndicatorUse>, seen: &Seen, kind: UseKind, column
     }
 }
 
-/// Appends the indicators that are asked in nine columns, from a column on.
+/// Appends the indicators that nine columns test, from `column` on.
 fn push_asked(found: &mut List<IndicatorUse>, seen: &Seen, column: usize) {
     for term in Conjunction::at(&seen.card, column).terms() {
         push_use(found, seen, UseKind::Asked, term.indicator);
@@ -81,7 +81,7 @@ fn push_card(found: &mut List<IndicatorUse>, seen: &Seen) {
     }
 }
 
-/// The indicators of a deck, card by card.
+/// Returns the indicators of a deck, card by card.
 pub fn indicator_uses(alloc: Global, view: &View) -> List<IndicatorUse> {
     let mut found = List::new(alloc);
     for seen in view.cards.iter() {
@@ -101,12 +101,13 @@ fn is_set_elsewhere(view: &View, one: &IndicatorUse) -> bool {
     }
 }
 
-/// Refuses, for a card, where an indicator that a rule asks at the front of detail may have been turned on or off since by anything but
-/// its record types: by an input field, or outside detail calculations. Those leave it for the next record, before which it goes off.
+/// Rejects the deck, for a card, if an indicator that a rule tests at the start of detail may have been turned on or off by anything
+/// but its record types: by an input field, or outside detail calculations. Detail calculations change it only for the next record,
+/// which turns it off.
 ///
 /// # Errors
 ///
-/// It may have been, or memory is refused.
+/// It may have been, or memory runs out.
 pub fn check_only_type(
     alloc: Global,
     view: &View,

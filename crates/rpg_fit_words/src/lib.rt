@@ -1,4 +1,5 @@
-//! Calculations, lines and record types of a deck that is rewritten, and what holds when they are done or put out.
+//! Calculations, lines and record types of a deck that is being rewritten, and what holds when they are done or
+//! printed.
 #![tactic(auto)]
 
 mod calculation;

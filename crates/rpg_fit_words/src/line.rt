@@ -5,7 +5,7 @@ use rpg_fit_deck::{Card, Editor, Seen, View, Word};
 use rpg_fit_terms::{Conjunction, NewCard, RuleStop, is_card};
 use std::alloc::Global;
 
-/// When a line is put out.
+/// When a line is printed.
 #[derive(Clone, Copy, PartialEq, Eq)]
 pub enum Time {
     Heading,
@@ -13,12 +13,12 @@ pub enum Time {
     Total,
     /// By EXCPT.
     Exception,
-    /// Another letter.
+    /// Any other letter.
     Unknown,
 }
 
 impl Time {
-    /// The time of a letter.
+    /// Returns the time of a letter.
     fn of(letter: u8) -> Time {
         match letter {
             b'H' => Time::Heading,
@@ -35,7 +35,7 @@ impl Time {
     }
 }
 
-/// Conditions under which a line is put out, and the first of their cards.
+/// Conditions under which a line is printed, and the first of their cards.
 #[derive(Clone, Copy)]
 pub struct Alternative {
     pub card: Seen,
@@ -80,7 +80,7 @@ fn alternative_at(seen: &Seen) -> Alternative {
 }
 
 impl Line {
-    /// A line that has its record card alone.
+    /// Begins a line with only its record card.
     fn begin(alloc: Global, head: &Seen, file: Word) -> Result<Line, RuleStop> {
         let mut alternatives = Vec::new(alloc);
         alternatives.push(alternative_at(head))?;
@@ -107,19 +107,19 @@ impl Line {
         }
     }
 
-    /// Takes all cards of the line out, as part of the change of the card `with`.
+    /// Removes all cards of the line, as part of the change of the card `with`.
     pub fn remove(&self, editor: &mut Editor, with: usize) {
         editor.remove(self.head.at, with);
         remove_cards(editor, self.more.as_slice(), with);
         remove_cards(editor, self.fields.as_slice(), with);
     }
 
-    /// A copy of its record card, with its file's name on it.
+    /// Returns a copy of its record card, with its file's name on it.
     pub fn new_head(&self) -> NewCard {
         NewCard::copy(&self.head).with(7, 14, self.file.text())
     }
 
-    /// Appends a copy of this line with another record card and other alternatives, of which there is one at least.
+    /// Appends a copy of this line with another record card and other alternatives, at least one.
     ///
     /// # Errors
     ///
@@ -143,7 +143,7 @@ impl Line {
     }
 }
 
-/// An AND or OR card without conditions.
+/// Returns an AND or OR card without conditions.
 fn condition_card(word: &[u8], number: usize) -> NewCard {
     NewCard {
         card: Card::of_form(b'O').with(14, 16, word),
@@ -165,7 +165,7 @@ pub(crate) fn push_copies(copies: &mut List<NewCard>, cards: &[Seen]) {
     }
 }
 
-/// Takes cards out, as part of the change of the card `with`.
+/// Removes cards, as part of the change of the card `with`.
 pub fn remove_cards(editor: &mut Editor, cards: &[Seen], with: usize) {
     for seen in cards {
         editor.remove(seen.at, with);
@@ -184,7 +184,7 @@ fn push_to_last(found: &mut Vec<Line>, seen: &Seen) -> Result<(), RuleStop> {
     }
 }
 
-/// Appends a card to the line that it belongs to, or the line that it begins. `file`: that of the line before.
+/// Appends a card to the line that it belongs to, or the line that it begins. `file`: that of the previous line.
 fn push_card(
     alloc: Global,
     found: &mut Vec<Line>,
@@ -202,11 +202,11 @@ fn push_card(
     Ok(())
 }
 
-/// The lines of a deck, in their order, each with the name of its file.
+/// Returns the lines of a deck, in order, each with the name of its file.
 ///
 /// # Errors
 ///
-/// An alternative has more than 60 conditions, or memory is refused.
+/// An alternative has more than 60 conditions, or memory runs out.
 pub fn lines(alloc: Global, view: &View) -> Result<Vec<Line>, RuleStop> {
     let mut found = Vec::new(alloc);
     let mut file = Word::empty();
@@ -226,11 +226,11 @@ pub struct DeckLines {
 }
 
 impl DeckLines {
-    /// Those of a deck as it is now.
+    /// Returns those of a deck in its present form.
     ///
     /// # Errors
     ///
-    /// An alternative has more than 60 conditions, or memory is refused.
+    /// An alternative has more than 60 conditions, or memory runs out.
     pub fn of(alloc: Global, editor: &Editor) -> Result<DeckLines, RuleStop> {
         let view = editor.view(alloc)?;
         let lines = lines(alloc, &view)?;

@@ -3,7 +3,7 @@
 use rpg_fit_terms::RuleStop;
 use std::alloc::Global;
 
-/// Values in their order. A list for which memory ran out remembers it, so that only `check` and `checked` return an error.
+/// A list of values. If memory runs out for one, it remembers that, so that only `check` and `checked` return an error.
 #[derive(Drop)]
 pub struct List<T> {
     values: Vec<T>,
@@ -11,7 +11,7 @@ pub struct List<T> {
 }
 
 impl<T: Copy> List<T> {
-    /// No value.
+    /// Returns an empty list.
     pub fn new(alloc: Global) -> List<T> {
         List {
             values: Vec::new(alloc),
@@ -33,27 +33,27 @@ impl<T: Copy> List<T> {
         }
     }
 
-    /// Appends the values of another list, and that memory ran out for one of them.
+    /// Appends the values of another list, and whether memory ran out for one of them.
     pub fn append(&mut self, more: &List<T>) {
         self.ran_out = self.ran_out || more.ran_out;
         self.push_all(more.as_slice());
     }
 
-    /// The values so far.
+    /// Returns the values so far.
     pub fn as_slice(&self) -> &[T] {
         self.values.as_slice()
     }
 
-    /// Whether there is no value so far.
+    /// Whether there are no values so far.
     pub fn is_empty(&self) -> bool {
         self.values.is_empty()
     }
 
-    /// Whether all values are there.
+    /// Checks that all values are there.
     ///
     /// # Errors
     ///
-    /// Memory was refused for one of them.
+    /// Memory ran out for one of them.
     pub fn check(&self) -> Result<(), RuleStop> {
         if self.ran_out {
             Err(RuleStop::NoMemory)
@@ -62,11 +62,11 @@ impl<T: Copy> List<T> {
         }
     }
 
-    /// All values, where they are.
+    /// Returns all values, in place.
     ///
     /// # Errors
     ///
-    /// Memory was refused for one of them.
+    /// Memory ran out for one of them.
     pub fn checked(&self) -> Result<&[T], RuleStop> {
         if self.ran_out {
             Err(RuleStop::NoMemory)

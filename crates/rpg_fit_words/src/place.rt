@@ -1,4 +1,4 @@
-//! The four places for calculations.
+//! The four places where rules insert calculations.
 
 use crate::group::{Group, Section, groups};
 use rpg_fit_deck::{Address, Editor, View};
@@ -18,7 +18,7 @@ pub enum Place {
     TotalEnd,
 }
 
-/// Where calculations stand in a deck that has none: before its output cards.
+/// Returns where calculations go in a deck that has none: before its output cards.
 fn before_output(view: &View) -> Address {
     for seen in view.cards.iter() {
         if is_card(seen, b'O') {
@@ -39,7 +39,7 @@ impl Place {
     }
 }
 
-/// The card that cards of a place come before.
+/// Returns the address before which cards of a place go.
 fn address_of(view: &View, groups: &[Group], place: Place) -> Address {
     for group in groups {
         if place.is_before(group.section()) {
@@ -52,11 +52,12 @@ fn address_of(view: &View, groups: &[Group], place: Place) -> Address {
     }
 }
 
-/// Puts calculations in a place of the deck as it is now, as part of the change of the card `with`.
+/// Inserts calculations at a place of the deck in its present form, as part of the change of the
+/// card `with`.
 ///
 /// # Errors
 ///
-/// Memory is refused.
+/// Memory runs out.
 pub fn insert_at(
     alloc: Global,
     editor: &mut Editor,

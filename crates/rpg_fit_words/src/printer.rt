@@ -10,11 +10,11 @@ pub struct Printer {
     /// The number of its card.
     pub number: usize,
     pub file: Word,
-    /// Its overflow indicator, perhaps blank.
+    /// Its overflow indicator, which may be blank.
     pub overflow: Indicator,
 }
 
-/// The first printer of a deck.
+/// Returns the first printer of a deck.
 pub fn printer_of(view: &View) -> Option<Printer> {
     for seen in view.cards.iter() {
         if is_card(seen, b'F') && seen.card.value(40, 46) == b"PRINTER".as_slice() {
@@ -29,12 +29,12 @@ pub fn printer_of(view: &View) -> Option<Printer> {
 }
 
 impl Printer {
-    /// Whether a line is put out on it.
+    /// Whether a line is printed on it.
     pub fn has(&self, line: &Line) -> bool {
         self.file.text() == line.file.text()
     }
 
-    /// Whether a line is put out at overflow under a condition.
+    /// Whether a line is printed at overflow under a condition.
     pub fn is_overflow(&self, line: &Line, condition: &Conjunction) -> bool {
         !self.overflow.is_blank()
             && line.time != Time::Exception

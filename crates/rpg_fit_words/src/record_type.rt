@@ -14,7 +14,7 @@ pub struct RecordType {
     pub file: Word,
 }
 
-/// Whether a card of I gives a type more codes, or other ones: AND or OR in 14 to 16.
+/// Whether an I card adds or alternates codes of a type: AND or OR in 14 to 16.
 fn continues(card: &Card) -> bool {
     card.is_blank(7, 13) && matches!(card.columns(14, 16), b"OR " | b"AND")
 }
@@ -31,7 +31,8 @@ fn push_to_last(found: &mut Vec<RecordType>, seen: &Seen) -> Result<(), RuleStop
     Ok(())
 }
 
-/// Appends a card to the type that it belongs to, or the type that it begins. `file`: that of the type before.
+/// Appends a card to the type that it belongs to, or the type that it begins. `file`: that of the previous
+/// type.
 fn push_card(
     alloc: Global,
     found: &mut Vec<RecordType>,
@@ -53,11 +54,11 @@ fn push_card(
     Ok(())
 }
 
-/// The record types of a deck, in their order, each with the name of its file.
+/// Returns the record types of a deck, in order, each with the name of its file.
 ///
 /// # Errors
 ///
-/// Memory is refused.
+/// Memory runs out.
 pub fn record_types(alloc: Global, view: &View) -> Result<Vec<RecordType>, RuleStop> {
     let mut found = Vec::new(alloc);
     let mut file = Word::empty();

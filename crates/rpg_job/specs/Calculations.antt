@@ -48,7 +48,7 @@ abbrev pub meant_result : Option Entry → Operand Key
 meant_result None = blank_operand
 meant_result (Some e) = entry_named e
 
--- where factor 1 is blank the result field takes its place
+-- if factor 1 is blank the result field takes its place
 abbrev pub first_or : Option Factor → Option Entry → Operand Key
 first_or None r = meant_result r
 first_or (Some f) r = meant_factor (Some f)

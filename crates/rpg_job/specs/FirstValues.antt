@@ -92,7 +92,7 @@ abbrev pub entry_text : Stored → List (List ℕ) → ℕ → Option (List ℕ)
 entry_text s [] n = None
 entry_text s (card ∷ deck) n = if nat_lt n s.per_card then Some (cols (n * s.width + s.before + 1) (n * s.width + s.before + s.table.length) card) else entry_text s deck (n - s.per_card)
 
--- where 44 (56) is filled a number, written as in a record; where it is blank a text
+-- if 44 (56) is filled a number, written as in a record; if it is blank a text
 abbrev pub entry_by : Option ℕ → List ℕ → Value
 entry_by None text = Text text
 entry_by (Some decimals) text = Number (unwrap_or (number_in text) (pos 0))

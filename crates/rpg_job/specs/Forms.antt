@@ -36,7 +36,7 @@ a_number c len decimals = record { kind = kind.Number; class = c; length = len; 
 -- ---- a length and decimals: where the decimals are blank a text of 1 to 256 characters, else a number of 1 to 15 digits with at most 9
 -- decimals
 
--- a form of that length: a text where the decimals are blank; none where the length is out of its limits
+-- a form of that length: a text if the decimals are blank; none if the length is out of its limits
 abbrev pub sized_as : Class → ℕ → Bool → ℕ → Option ℕ → Option FieldForm
 sized_as c entries ascending len None =
     if is_between 1 256 len then Some (record { kind = kind.Text; class = c; length = len; decimals = 0; is_ascending = ascending; entries = entries }) else None

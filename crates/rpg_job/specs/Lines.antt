@@ -110,7 +110,7 @@ or_on s = option_and_then or_card (output_on s)
 abbrev pub further : List SpecCard → List Condition
 further cards = flat_map (λ c. unwrap_or (and_on c.spec) []) (cards_before (λ s. is_some (or_on s)) cards)
 
--- each OR card gives other conditions under which the line is put out, with those of the AND cards after it
+-- each OR card gives other conditions under which the line is output, with those of the AND cards after it
 abbrev pub others : List SpecCard → List (List Condition)
 others [] = []
 others (c ∷ cs) = option_to_list (option_map (λ own. own ++ further cs) (or_on c.spec)) ++ others cs
@@ -123,7 +123,7 @@ meant_index None = index.Blank
 meant_index (Some (entry.Literal n)) = index.Literal n
 meant_index (Some (entry.Name x)) = index.Field (Named x)
 
--- 32-37 has the field; where it is blank 45-70 has a constant
+-- 32-37 has the field; if it is blank 45-70 has a constant
 abbrev pub meant_value : Option Entry → Option (List ℕ) → Operand Key
 meant_value (Some e) text = record { field = Named e.name; index = meant_index e.index }
 meant_value None (Some text) = record { field = Fixed (constant.Text text); index = index.Blank }
@@ -133,7 +133,7 @@ meant_value None None = record { field = Nowhere; index = index.Blank }
 abbrev pub is_page : Entry → Bool
 is_page e = is_none e.index && pointwise nat_eq e.name (codes "PAGE")
 
--- 38 has an edit code; where it is blank, 45-70 beside a field is an edit word; PAGE with neither is edited with Z
+-- 38 has an edit code; if it is blank, 45-70 beside a field is an edit word; PAGE with neither is edited with Z
 abbrev pub meant_editing : Option Entry → Option EditCode → Option (List ℕ) → Editing Key
 meant_editing f (Some code) text = editing.Code code
 meant_editing (Some e) None (Some word) = editing.Word (Fixed (constant.Text word))

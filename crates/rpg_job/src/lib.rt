@@ -1,2 +1,2 @@
-//! What the cards of a source mean, card by card: definitions alone (in specs/).
+//! The meaning of a source's cards, card by card: only definitions (in specs/).
 #![tactic(auto)]

@@ -1,4 +1,4 @@
--- What the machine does besides calculations: the lines of a time, and the columns of a record that become values of fields.
+-- What the machine does besides calculations: the lines of a time, and the columns of a record that are moved to fields.
 use Rattle.std.specs.Prelude.{◌≡◌, ℕ, List, [], length, slice_get, Option, None, Some}
 use Rattle.std.specs.Option.{option_map_or}
 use Rattle.std.specs.Ordering.{nat_cmp}
@@ -18,7 +18,7 @@ use Rattle.rpg_machine.specs.declared.time.OutputTime.TheVariants as times
 use Rattle.rpg_program.specs.Constants.{word_at}
 use Rattle.rpg_program.specs.Object.{Object, input_length, lines_of}
 
--- an effect on the world, which weighs so much
+-- an effect on the world, with this weight
 pub record ByEffect (weight : ℕ) (effect : World nat_cmp → Effect nat_cmp) (c : Config) (e : End) (d : Config) (out : Output) : Type 0 where
   pub ends : e ≡ (effect c.world).ending
   pub leads : d ≡ record (charged weight c) { world = (effect c.world).world }
@@ -36,7 +36,7 @@ output_weight p times.Detail = detail_weight (lines_of p)
 output_weight p times.Total = total_weight (lines_of p)
 output_weight p times.Overflow = overflow_weight (lines_of p)
 
--- the lines of a time are put out
+-- the lines of a time are output
 abbrev pub PutsOut : Object → OutputTime → Config → End → Config → Output → Type 0
 PutsOut p time = ByEffect (output_weight p time) (output_effect p time)
 
@@ -49,7 +49,7 @@ input_fields_of (Some t) = t.inputs
 abbrev pub inputs_at : Object → ℕ → List (InputField ℕ)
 inputs_at p row = input_fields_of (slice_get p.types row)
 
--- how long the records of its file are
+-- the record length of its file
 abbrev pub length_at : Object → ℕ → ℕ
 length_at p row = input_length p (option_map_or (λ t. t.file) (slice_get p.types row) Primary)
 

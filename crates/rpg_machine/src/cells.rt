@@ -5,10 +5,10 @@ ghost use Rattle.std.specs.FinMap as map;
 use rpg_program::section::Place;
 use std::marker::Model;
 
-/// The most subroutines of a program.
+/// The most subroutines that a program can have.
 const MOST_SUBROUTINES: usize = 100;
 
-/// Where each subroutine that runs goes back to. Subroutines are numbered from 0.
+/// Where each running subroutine returns to. Subroutines are numbered from 0.
 #[derive(Drop)]
 pub(crate) struct Cells {
     at: [Option<Place>; MOST_SUBROUTINES],
@@ -30,7 +30,7 @@ impl Model for Cells {
 }
 
 impl Cells {
-    /// None is set.
+    /// No cell is set.
     pub fn new() -> Cells
         ensures { result ≡ map.empty }
     {

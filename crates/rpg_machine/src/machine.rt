@@ -1,4 +1,4 @@
-//! The machine, to its callers.
+//! The machine's public calls.
 ghost use Rattle.std.specs.Prelude.{IfOk};
 ghost use Rattle.rpg_machine_lines.specs.Right.{HasLineRoom};
 ghost use Rattle.rpg_machine.specs.Leaving.{IsStartOf};
@@ -21,9 +21,9 @@ use rpg_verify::Verified;
 use std::alloc::{AllocError, Global};
 use std::marker::Model;
 
-/// An accepted program that is run, with the output since it was taken.
+/// An accepted program that runs, with its output since it was last taken.
 ///
-/// After an `Err` or a halt nothing is known of its values: it takes no further call but for its steps and its output.
+/// After an `Err` or a halt its values are unspecified: only its steps and its output may still be read.
 #[derive(Drop)]
 pub struct Machine<'a, S: Store + Drop> {
     alloc: Global,
@@ -47,7 +47,7 @@ impl<'a, S: Store + Drop> Model for Machine<'a, S> {
     ghost invariant = { λ m. IsStateOf m.program m.state };
 }
 
-/// Room for a line of either file.
+/// Returns room for a line of either file.
 fn line_room(alloc: Global, rows: &Rows) -> Result<Vec<u8>, AllocError>
     ensures { IfOk result (λ text. HasLineRoom (seen rows.now) text.items) }
 {
@@ -56,7 +56,7 @@ fn line_room(alloc: Global, rows: &Rows) -> Result<Vec<u8>, AllocError>
     Ok(text)
 }
 
-/// What a program starts with: after detail calculations, as it is before every cycle.
+/// Returns the first state: after detail calculations, as before every cycle.
 fn first_state<'a, S: Store + Drop>(
     alloc: Global,
     memory: Memory<'a, S>,
@@ -99,8 +99,8 @@ impl<'a, S: Store + Drop> Machine<'a, S> {
     ghost use Rattle.rpg_program.specs.Sections.{has_end};
     ghost use Rattle.rpg_memory.specs.Memory.{first_working};
 
-    /// A machine before its first cycle: no indicator on but L0 and 1P, the form at its first line, and the values that are in the memory.
-    /// Not inlined, so that the run's loop has more registers.
+    /// Returns a machine before its first cycle: only L0 and 1P on, the form at its first line, and the values that are in the memory. Not
+    /// inlined, so that the run's loop has more registers.
     #[inline(never)]
     pub fn new(
         alloc: Global,
@@ -121,7 +121,7 @@ impl<'a, S: Store + Drop> Machine<'a, S> {
         })
     }
 
-    /// The program that is run.
+    /// Returns the program that it runs.
     pub fn program(&self) -> &'a Verified
         ensures { result.now ≡ self.now.program }
     {
@@ -144,7 +144,7 @@ impl<'a, S: Store + Drop> Machine<'a, S> {
         Ok(end)
     }
 
-    /// Puts out the lines of a time that are due.
+    /// Outputs the lines of a time that are due.
     pub fn output(&mut self, time: OutputTime) -> Result<End, AllocError>
         requires ready { IsReady self.old }
         requires steps { self.old.config.steps < 2 ^ 63 }
@@ -161,7 +161,7 @@ impl<'a, S: Store + Drop> Machine<'a, S> {
         Ok(end)
     }
 
-    /// Fills the fields of a record type, counted from 0, from a record that has all columns of its file's records.
+    /// Fills the fields of a record type, counted from 0, from a record as long as its file's records.
     #[inline(always)]
     pub fn fill_fields(&mut self, row: usize, text: &[u8]) -> End
         requires ready { IsReady self.old }
@@ -180,7 +180,7 @@ impl<'a, S: Store + Drop> Machine<'a, S> {
         end
     }
 
-    /// The allowance full, and no steps.
+    /// Refills the allowance and resets the steps.
     pub fn refill(&mut self)
         ensures refilled { self.new ≡ of.refilled self.old }
         ensures ready { IsReady self.old → IsReady self.new }
@@ -189,14 +189,14 @@ impl<'a, S: Store + Drop> Machine<'a, S> {
         self.state.steps = 0;
     }
 
-    /// The steps since the machine was refilled.
+    /// Returns the steps since the last refill.
     pub fn steps(&self) -> u64
         ensures { result ≡ self.now.config.steps }
     {
         self.state.steps
     }
 
-    /// Where the calculations are: at the running instruction, or after the last one.
+    /// Returns the place of the running instruction, or the one after the last.
     pub fn place(&self) -> Place
         ensures { result ≡ here self.now.config }
     {
@@ -206,7 +206,7 @@ impl<'a, S: Store + Drop> Machine<'a, S> {
         }
     }
 
-    /// What its program's fields hold, and which indicators are on.
+    /// Returns the values of its program's fields, and its indicators.
     pub fn memory(&self) -> &Memory<'a, S>
         ensures program { result.now.program ≡ self.now.program }
         ensures world { result.now.world ≡ self.now.config.world }
@@ -251,7 +251,7 @@ impl<'a, S: Store + Drop> Machine<'a, S> {
         Ok(())
     }
 
-    /// The bytes that were put out since they were taken last.
+    /// Takes the output since the last call.
     pub fn take_output(&mut self) -> Output
         ensures print { result.print.items ≡ self.old.output.print }
         ensures disk { result.disk.items ≡ self.old.output.disk }
@@ -263,7 +263,7 @@ impl<'a, S: Store + Drop> Machine<'a, S> {
         let disk = std::mem::replace(&mut output.disk, Vec::new(self.alloc));
         Output { print, disk }
     }
-    /// The bytes that were put out since they were taken or dropped last.
+    /// Returns the output since it was last taken or cleared.
     pub fn pending_output(&self) -> &Output
         ensures print { result.now.print.items ≡ self.now.output.print }
         ensures disk { result.now.disk.items ≡ self.now.output.disk }
@@ -271,7 +271,7 @@ impl<'a, S: Store + Drop> Machine<'a, S> {
         &self.state.writer.output
     }
 
-    /// Drops those bytes, and keeps their room.
+    /// Clears the output and keeps its capacity.
     pub fn clear_output(&mut self)
         ensures rest { self.new ≡ of.taken self.old }
         ensures ready { IsReady self.old → IsReady self.new }

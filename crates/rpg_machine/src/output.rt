@@ -1,4 +1,4 @@
-//! The outputs of a cycle.
+//! The output times of a cycle.
 ghost use Rattle.std.specs.Prelude.{◌≡◌, IfOk, OnOk};
 ghost use Rattle.rpg_program.specs.Ends.{end_of};
 ghost use Rattle.rpg_machine.specs.Outputs as spec;
@@ -16,7 +16,7 @@ use rpg_program::outcome::End;
 use rpg_store::store::Store;
 use std::alloc::AllocError;
 
-/// Puts out the lines of a time, which weigh so much. Where no line is a T line, total time costs nothing.
+/// Outputs the lines of a time, which have this weight. If there are no T lines, total time costs nothing.
 #[tactic(auto, using(rpg_program::proofs::Fronts::grows_not))]
 pub(crate) fn put_out<S: Store + Drop>(
     memory: &mut Memory<'_, S>,

@@ -1,4 +1,4 @@
-//! What changes while a program runs.
+//! The state that changes while a program runs.
 
 use crate::cells::Cells;
 use rpg_machine_lines::{Entries, Output};
@@ -6,7 +6,7 @@ use rpg_memory::memory::Memory;
 use rpg_program::section::Section;
 use rpg_store::store::Store;
 
-/// The bytes that were put out, and room for the line that is assembled.
+/// The output so far, and room for the line being assembled.
 #[derive(Drop)]
 pub(crate) struct Writer {
     pub output: Output,
@@ -14,7 +14,7 @@ pub(crate) struct Writer {
     pub to_blank: Entries,
 }
 
-/// Where a program is and all that it has changed.
+/// Where a program is, and all that it has changed.
 #[derive(Drop)]
 pub(crate) struct State<'a, S: Store + Drop> {
     pub memory: Memory<'a, S>,
@@ -22,7 +22,7 @@ pub(crate) struct State<'a, S: Store + Drop> {
     pub section: Section,
     pub place: u16,
     pub cells: Cells,
-    /// Backward branches and calls that are left.
+    /// How many backward branches and calls are left.
     pub allowance: u16,
     pub steps: u64,
 }

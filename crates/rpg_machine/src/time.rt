@@ -1,7 +1,7 @@
-//! The outputs of a cycle.
+//! The output times of a cycle.
 
-/// When the machine puts lines out by itself: heading and detail lines at the beginning of a cycle, total lines at total time, and
-/// all of these where the page is full.
+/// When the machine writes lines by itself: heading and detail lines at the beginning of a cycle, total lines at total time, and
+/// all of these when the page is full.
 #[derive(Clone, Copy)]
 pub enum OutputTime {
     Detail,

@@ -1,4 +1,4 @@
--- What putting out lines and their fields needs, and what it leaves as it was.
+-- What output of lines and their fields needs, and what it leaves as it was.
 use Rattle.std.specs.Prelude.{◌≡◌, ℕ, ◌+◌, ◌<◌, ◌≤◌, true, List, length, Option, Result, OnOk}
 use Rattle.rpg_program.specs.Fronts.{OnlyGrows}
 use Rattle.rpg_program.specs.LineFaults.{is_spacing}

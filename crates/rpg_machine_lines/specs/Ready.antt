@@ -1,4 +1,4 @@
--- Where the form is when a line may be put out, and where the line is blank.
+-- Where the form is when a line may be output, and where the line is blank.
 use Rattle.std.specs.Prelude.{◌≡◌, ℕ, ◌-◌, ◌≤◌, List, length, drop, replicate}
 use Rattle.rpg_paper.specs.Paper.{Position}
 

@@ -5,7 +5,7 @@ use Rattle.rpg_program.specs.declared.line.Time.{Time}
 use Rattle.rpg_machine_lines.specs.declared.weights.Weighed.{Weighed}
 use Rattle.rpg_machine_lines.specs.declared.weights.Weighed.TheVariants as outputs
 
--- the lines that an output may put out, by their time
+-- the lines that an output may output, by their time
 abbrev pub weighed : Weighed → Time → Bool
 weighed outputs.Detail time = is_at_detail time
 weighed outputs.Total time = is_at_total time

@@ -1,4 +1,4 @@
-//! A line is assembled: the fields whose conditions hold are laid over blanks, in order.
+//! Assembles a line: writes the fields whose conditions hold over blanks, in order.
 ghost use Rattle.std.specs.Prelude.{◌≡◌, ◌≤◌, ◌+◌, length, drop, true, None, IfSome};
 ghost use Rattle.rpg_program.specs.Ends.{GoesOn, end_of};
 ghost use Rattle.rpg_program.specs.LineFaults as faults;
@@ -26,7 +26,7 @@ use rpg_program::operation::Operand;
 use rpg_program::outcome::End;
 use rpg_store::store::Store;
 
-/// The position that an operand names, where its index is in range; `form` is that of its field.
+/// Returns the position that an operand names, if its index is in range; `form` is that of its field.
 #[tactic(auto, using(crate::proofs::Operands::entries))]
 fn position_of<S: Store + Drop>(
     memory: &Memory<'_, S>,
@@ -42,7 +42,7 @@ fn position_of<S: Store + Drop>(
     entry::position_of(memory, &operand, form)
 }
 
-/// With blank after, the entry that was assembled is to be blanked.
+/// Notes the entry of a field with blank after, to be blanked later.
 #[tactic(auto, using(crate::proofs::Entering::entering))]
 fn remember<S: Store + Drop>(
     memory: &Memory<'_, S>,
@@ -60,7 +60,7 @@ fn remember<S: Store + Drop>(
     }
 }
 
-/// One field, where its conditions hold; its entry is looked for. Apart from the loop over fields, which seldom comes here.
+/// Assembles one field, if its conditions hold, after looking up its entry. Separate from the loop over fields, which seldom calls it.
 #[inline(never)]
 #[tactic(auto, using(crate::proofs::Fields::rightness), unfolding(rpg_program::specs::Lines::with_field))]
 fn with_field<S: Store + Drop>(
@@ -90,7 +90,7 @@ fn with_field<S: Store + Drop>(
     }
 }
 
-/// One field that is put out, by the entry that its operand names at all times.
+/// Assembles one field that is printed, from the entry that its operand always names.
 #[inline(always)]
 fn with_fixed_field<S: Store + Drop>(
     memory: &Memory<'_, S>,
@@ -111,7 +111,7 @@ fn with_fixed_field<S: Store + Drop>(
     remember(memory, to_blank, field, fixed.resolved.entry.position);
 }
 
-/// One field, where its conditions hold, by what was found of it.
+/// Assembles one field, if its conditions hold, as planned.
 #[tactic(auto, using(crate::proofs::Planned::always_put), unfolding(rpg_program::specs::Lines::with_field))]
 fn with_planned_field<S: Store + Drop>(
     memory: &mut Memory<'_, S>,
@@ -137,7 +137,7 @@ fn with_planned_field<S: Store + Drop>(
     End::GoesOn
 }
 
-/// All fields, in order, until an index is bad.
+/// Assembles all fields, in order, until an index is bad.
 pub fn assemble<S: Store + Drop>(
     memory: &mut Memory<'_, S>,
     text: &mut [u8],

@@ -1,6 +1,6 @@
-//! The bytes that are put out.
+//! The bytes of the output.
 
-/// Bytes of the printer and of the disk, in the order in which lines and records were put out.
+/// Bytes of the printer and of the disk, in the order of lines and records.
 #[derive(Drop)]
 pub struct Output {
     pub print: Vec<u8>,

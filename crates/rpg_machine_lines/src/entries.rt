@@ -7,7 +7,8 @@ use std::marker::Model;
 /// The most fields of a line.
 const MOST_FIELDS: usize = 200;
 
-/// The entries, by field and position, that are to be blanked once the line is put out.
+/// The entries, by field and position, that are to be blanked after the line is
+/// written.
 #[derive(Drop)]
 pub struct Entries {
     entries: [(u16, u16); MOST_FIELDS],

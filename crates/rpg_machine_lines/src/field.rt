@@ -23,7 +23,7 @@ use rpg_program::rows::Rows;
 use rpg_program::words::word_at;
 use rpg_store::store::Store;
 
-/// The word that a number of so many digits is edited by.
+/// Returns the edit word for a number of this many digits.
 #[tactic(auto, using(crate::proofs::Fields::fitting))]
 fn edit_word(rows: &Rows, constant: u16, digits: u8) -> EditWord
     requires constant { forms.is_text_constant (forms.form_at (seen rows.now).fields constant) ≡ true }
@@ -36,7 +36,7 @@ fn edit_word(rows: &Rows, constant: u16, digits: u8) -> EditWord
     }
 }
 
-/// Lays a number over the line, edited as its field requires it.
+/// Writes a number over the line, edited as its field requires.
 #[inline(always)]
 fn lay_number(rows: &Rows, text: &mut [u8], field: &LineField<u16>, form: FieldForm, n: i64)
     requires numeric { IsEditableForm form }
@@ -55,7 +55,7 @@ fn lay_number(rows: &Rows, text: &mut [u8], field: &LineField<u16>, form: FieldF
     };
 }
 
-/// Copies a text over one that is as long. Up to three characters are put there without a call, which costs less.
+/// Copies a text over one of the same length. Up to three characters are copied without a call, which costs less.
 #[inline(always)]
 fn copy_text(to: &mut [u8], from: &[u8])
     requires { length to.old ≡ length from.now }
@@ -76,7 +76,7 @@ fn copy_text(to: &mut [u8], from: &[u8])
     }
 }
 
-/// Lays a text over the line, ending at that place.
+/// Writes a text over the line, ending at this place.
 #[tactic(auto, unfolding(rpg_program::specs::Lines::laid_over))]
 fn lay_text(text: &mut [u8], end: u16, part: &[u8])
     requires width { length part.now ≤ end }
@@ -87,7 +87,7 @@ fn lay_text(text: &mut [u8], end: u16, part: &[u8])
     copy_text(&mut text[start..end as usize], part);
 }
 
-/// Lays the value of an entry over the line; `form` is that of its field.
+/// Writes the value of an entry over the line; `form` is that of its field.
 #[inline(always)]
 #[tactic(auto, using(crate::proofs::Operands::values))]
 pub fn lay_value<S: Store + Drop>(
@@ -114,7 +114,7 @@ pub fn lay_value<S: Store + Drop>(
     }
 }
 
-/// Lays the value of an entry that was found once over the line.
+/// Writes the value of a precomputed entry over the line.
 #[inline(always)]
 #[tactic(auto, using(crate::proofs::Operands::values))]
 pub fn lay_fixed_value<S: Store + Drop>(
@@ -141,7 +141,7 @@ pub fn lay_fixed_value<S: Store + Drop>(
     }
 }
 
-/// The next page.
+/// Returns the number of the next page.
 #[tactic(auto, unfolding(rpg_program::specs::Lines::next_page))]
 fn next_page(n: i64) -> i64
     requires { unsigned_abs n < 10000 }
@@ -150,7 +150,7 @@ fn next_page(n: i64) -> i64
     if n == 9999 { 0 } else { n + 1 }
 }
 
-/// PAGE is made one more before it is printed.
+/// Increments PAGE, before it is printed.
 #[tactic(auto, using(crate::proofs::Keeping::pages))]
 pub fn count_page<S: Store + Drop>(memory: &mut Memory<'_, S>, field: &LineField<u16>, entry: u16)
     requires source { faults.fits_source field.now.source (forms_in memory.old field.now.operand.field) ≡ true }
@@ -166,14 +166,14 @@ pub fn count_page<S: Store + Drop>(memory: &mut Memory<'_, S>, field: &LineField
     }
 }
 
-/// Blanks in every place.
+/// Fills a line with blanks.
 pub fn fill_blanks(text: &mut [u8])
     ensures { text.new ≡ replicate (length text.old) 32 }
 {
     text.fill(b' ');
 }
 
-/// A text entry becomes blank.
+/// Sets a text entry to blanks.
 #[tactic(auto, using(crate::proofs::Keeping::blanking))]
 fn blank_text<S: Store + Drop>(memory: &mut Memory<'_, S>, entry: (u16, u16))
     requires entry { IsFieldEntry memory.old.program.fields entry.0 entry.1 }
@@ -187,7 +187,7 @@ fn blank_text<S: Store + Drop>(memory: &mut Memory<'_, S>, entry: (u16, u16))
     memory.set_text(entry.0, entry.1, text);
 }
 
-/// An entry becomes zero or blank.
+/// Sets an entry to zero or blanks.
 #[tactic(auto, using(crate::proofs::Keeping::blanking))]
 fn blank<S: Store + Drop>(memory: &mut Memory<'_, S>, entry: (u16, u16))
     requires { IsFieldEntry memory.old.program.fields entry.0 entry.1 }
@@ -200,7 +200,7 @@ fn blank<S: Store + Drop>(memory: &mut Memory<'_, S>, entry: (u16, u16))
     }
 }
 
-/// The entries become zero or blank, in order.
+/// Sets the entries to zero or blanks, in order.
 pub fn blank_all<S: Store + Drop>(memory: &mut Memory<'_, S>, entries: &[(u16, u16)])
     requires { AreFieldEntries memory.old.program.fields entries.now }
     ensures { memory.new ≡ fields_replaced (lines.blanked_all entries.now memory.old.world.data.fields) memory.old }

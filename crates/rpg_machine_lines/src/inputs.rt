@@ -1,4 +1,4 @@
-//! The columns of a record that become values of fields. No field is tested here: the rules have tested them all.
+//! Moves the columns of a record to fields. No field is checked here: the rules have checked them all.
 ghost use Rattle.std.specs.Prelude.{◌≡◌, ◌+◌, ◌-◌, All, length, true, None};
 ghost use Rattle.rpg_program.specs.Ends.{end_of};
 ghost use Rattle.rpg_program.specs.Input as of;
@@ -23,7 +23,7 @@ use rpg_store::store::Store;
 use rpg_text::is_blank;
 use std::cmp::Ordering;
 
-/// The columns of a record that an input field takes.
+/// Returns the columns of a record that an input field reads.
 #[inline(always)]
 fn columns_of(text: &[u8], input: InputField<u16>) -> &[u8]
     requires { HasColumns input (length text.now) }
@@ -33,7 +33,7 @@ fn columns_of(text: &[u8], input: InputField<u16>) -> &[u8]
     &text[usize::from(input.from) - 1..usize::from(input.to)]
 }
 
-/// How a text compares with zero: only a blank text has an order.
+/// Compares a text with zero: only a blank text has an order.
 #[inline(always)]
 fn order_of_text(text: &[u8]) -> Option<Ordering>
     ensures { result ≡ order_of_text text.now }
@@ -41,7 +41,7 @@ fn order_of_text(text: &[u8]) -> Option<Ordering>
     is_blank(text).then_some(Ordering::Equal)
 }
 
-/// Puts the number that digits spell into a field, if they spell one.
+/// Stores the number in these digits in a field, if they are a number.
 #[inline(always)]
 #[tactic(auto, using(crate::proofs::Filling::numbers, crate::proofs::Filling::silent), unfolding(rpg_program::specs::Showing::shown_if_any))]
 fn fill_number<S: Store + Drop>(
@@ -66,7 +66,7 @@ fn fill_number<S: Store + Drop>(
     }
 }
 
-/// Shows whether a text is blank, where an indicator is named.
+/// Shows whether a text is blank, if an indicator is named.
 #[inline(always)]
 #[tactic(auto, using(crate::proofs::Filling::silent))]
 fn show_text<S: Store + Drop>(
@@ -83,7 +83,7 @@ fn show_text<S: Store + Drop>(
     }
 }
 
-/// Puts characters into a field. The indicators are set first, so that fewer values stay live over the call that copies them.
+/// Stores characters in a field. The indicators are set first, so that fewer values stay live over the call that copies them.
 #[inline(always)]
 fn fill_text<S: Store + Drop>(
     memory: &mut Memory<'_, S>,
@@ -100,7 +100,7 @@ fn fill_text<S: Store + Drop>(
     End::GoesOn
 }
 
-/// Fills one field, by what was found of it.
+/// Fills one field, with what is precomputed for it.
 #[inline(always)]
 fn fill_one<S: Store + Drop>(
     memory: &mut Memory<'_, S>,

@@ -1,5 +1,5 @@
-//! What goes out of storage and into it. Output lines of an object program over any store are assembled in one buffer, edited, and placed
-//! on the form or written as records. Input fields become values of fields from the columns of a record.
+//! Output and input of an object program over any store. Output lines are assembled in one buffer, edited, and placed on the form or
+//! written as records. Columns of a record are moved to input fields.
 #![tactic(auto)]
 
 mod assembly;

@@ -1,4 +1,4 @@
-//! One line is put out.
+//! Writes one line.
 ghost use Rattle.std.specs.Prelude.{IfOk};
 ghost use Rattle.rpg_program.specs.Ends.{end_of};
 ghost use Rattle.rpg_program.specs.Fronts.{OnlyGrows};
@@ -18,7 +18,7 @@ use rpg_program::rows::Line;
 use rpg_store::store::Store;
 use std::alloc::AllocError;
 
-/// Puts a line out: assembled whole over `text`, placed, and then its entries blanked.
+/// Writes a line: assembles it in `text`, places it, and then blanks its entries.
 pub fn put_line<S: Store + Drop>(
     memory: &mut Memory<'_, S>,
     output: &mut Output,

@@ -18,7 +18,7 @@ use rpg_program::outcome::End;
 use rpg_store::store::Store;
 use std::alloc::AllocError;
 
-/// Detail output: H and D lines, and then the overflow indicator is settled. `text` is room for one line of either file.
+/// Detail output: H and D lines, after which the overflow indicator is settled. `text` has room for one line of either file.
 pub fn put_details<S: Store + Drop>(
     memory: &mut Memory<'_, S>,
     output: &mut Output,
@@ -43,7 +43,7 @@ pub fn put_details<S: Store + Drop>(
     Ok(End::GoesOn)
 }
 
-/// Total output: T lines. Mostly none of them is due, which is found without entering their loop.
+/// Total output: T lines. Usually none is due, which is detected without entering their loop.
 pub fn put_totals<S: Store + Drop>(
     memory: &mut Memory<'_, S>,
     output: &mut Output,
@@ -87,7 +87,7 @@ fn put_overflow_details<S: Store + Drop>(
     Ok(End::GoesOn)
 }
 
-/// Overflow output: T lines, and then H and D lines.
+/// Overflow output: T lines, then H and D lines.
 pub fn put_overflow<S: Store + Drop>(
     memory: &mut Memory<'_, S>,
     output: &mut Output,

@@ -13,7 +13,7 @@ use rpg_program::line::{File, Spacing};
 use rpg_store::store::Store;
 use std::alloc::AllocError;
 
-/// The form moves: a skip, and then a space.
+/// Moves the form: a skip, then a space.
 #[tactic(auto, using(crate::proofs::Moving::moving), unfolding(rpg_program::specs::Lines::after_movement))]
 fn move_form<S: Store + Drop>(memory: &mut Memory<'_, S>, line: u8, spaces: u8)
     requires line { line ≤ 66 }
@@ -54,7 +54,7 @@ fn append_record(disk: &mut Vec<u8>, text: &[u8]) -> Result<(), AllocError>
     Ok(())
 }
 
-/// A record of the disk, with a line feed after it.
+/// Writes a record to the disk, followed by a line feed.
 #[tactic(auto, using(rpg_program::proofs::Printing::record_done))]
 fn write_record<S: Store + Drop>(
     memory: &Memory<'_, S>,
@@ -69,7 +69,7 @@ fn write_record<S: Store + Drop>(
     Ok(())
 }
 
-/// Puts a line on its file. On the printer blanks at the end make no bytes.
+/// Writes a line to its file. Trailing blanks aren't sent to the printer.
 pub fn put_on<S: Store + Drop>(
     memory: &mut Memory<'_, S>,
     output: &mut Output,

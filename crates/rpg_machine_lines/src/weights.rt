@@ -1,4 +1,4 @@
-//! What the lines of each output weigh.
+//! The weights of the lines of each output.
 ghost use Rattle.std.specs.Prelude.{◌≡◌, ◌≤◌};
 ghost use Rattle.rpg_program.specs.Weights as words;
 ghost use Rattle.rpg_machine_lines.specs.Weighed.{weighed};
@@ -8,7 +8,7 @@ ghost use Rattle.rpg_program.specs.Object.{lines_of, seen};
 use rpg_program::line::Time;
 use rpg_program::rows::Rows;
 
-/// The output whose lines are weighed.
+/// The output whose lines are counted.
 #[derive(Clone, Copy)]
 enum Weighed {
     Detail,
@@ -28,7 +28,7 @@ fn is_weighed(output: Weighed, time: Time) -> bool
     }
 }
 
-/// Linear in the lines.
+/// Returns the weight of the lines of an output. Linear in the lines.
 fn lines_weight(rows: &Rows, output: Weighed) -> u64
     requires { IsProgram (seen rows.now) }
     ensures value { result ≡ words.lines_weight (weighed output) (lines_of (seen rows.now)) }
@@ -42,7 +42,7 @@ fn lines_weight(rows: &Rows, output: Weighed) -> u64
     weight
 }
 
-/// The weight of H and D lines. Linear in the lines.
+/// Returns the weight of H and D lines. Linear in the lines.
 pub fn detail_weight(rows: &Rows) -> u32
     requires { IsProgram (seen rows.now) }
     ensures value { result ≡ words.detail_weight (lines_of (seen rows.now)) }
@@ -51,7 +51,7 @@ pub fn detail_weight(rows: &Rows) -> u32
     lines_weight(rows, Weighed::Detail) as u32
 }
 
-/// The weight of T lines. Linear in the lines.
+/// Returns the weight of T lines. Linear in the lines.
 pub fn total_weight(rows: &Rows) -> u32
     requires { IsProgram (seen rows.now) }
     ensures value { result ≡ words.total_weight (lines_of (seen rows.now)) }
@@ -60,7 +60,7 @@ pub fn total_weight(rows: &Rows) -> u32
     lines_weight(rows, Weighed::Total) as u32
 }
 
-/// The weight of H, D and T lines. Linear in the lines.
+/// Returns the weight of H, D and T lines. Linear in the lines.
 pub fn overflow_weight(rows: &Rows) -> u32
     requires { IsProgram (seen rows.now) }
     ensures value { result ≡ words.overflow_weight (lines_of (seen rows.now)) }
@@ -69,7 +69,7 @@ pub fn overflow_weight(rows: &Rows) -> u32
     lines_weight(rows, Weighed::Overflow) as u32
 }
 
-/// The weight of E lines. Linear in the lines.
+/// Returns the weight of E lines. Linear in the lines.
 pub fn exceptions_weight(rows: &Rows) -> u32
     requires { IsProgram (seen rows.now) }
     ensures value { result ≡ words.exceptions_weight (lines_of (seen rows.now)) }

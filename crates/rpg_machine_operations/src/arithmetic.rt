@@ -1,4 +1,4 @@
-//! Arithmetic: what a result is, and what becomes of it.
+//! Arithmetic: computing a result, and storing it.
 ghost use Rattle.std.specs.Prelude.{◌≡◌, ◌≢◌, ◌<◌, ◌≤◌, ◌+◌, ◌^◌, pos, true, false, None, if◌then◌else◌, unsigned_abs, IfSome};
 ghost use Rattle.rpg_decimal_words.specs.Fraction.{stored_number, times, with_decimals};
 ghost use Rattle.rpg_decimal.specs.Num.{value_of};
@@ -24,7 +24,7 @@ use rpg_program::operation::{Entry, Operand, Operator, Shows};
 use rpg_program::outcome::End;
 use rpg_store::store::Store;
 
-/// Stores a number, and sets the indicators by it.
+/// Stores a number, and sets the indicators for it.
 pub(crate) fn store<S: Store + Drop>(
     memory: &mut Memory<'_, S>,
     to: Entry<u16>,
@@ -39,7 +39,7 @@ pub(crate) fn store<S: Store + Drop>(
     memory.show(shows, n.cmp(&0));
 }
 
-/// What an operator makes of two numbers.
+/// Returns an operator's result for two numbers.
 #[inline(always)]
 pub(crate) fn operated(operator: Operator, a: Num, b: Num, target: Target) -> i64
     ensures value { result ≡ stored_number target.half target.dec target.len (acts.computed operator (value_of a) (value_of b)) }
@@ -52,7 +52,7 @@ pub(crate) fn operated(operator: Operator, a: Num, b: Num, target: Target) -> i6
     }
 }
 
-/// The product of numbers that has the target's decimals.
+/// Returns the product of numbers with the target's decimals.
 #[inline(always)]
 fn product_aligned(a: Num, b: Num, target: Target) -> i64
     requires { a.dec + b.dec ≡ target.dec }
@@ -63,7 +63,7 @@ fn product_aligned(a: Num, b: Num, target: Target) -> i64
     fit(product, target.len)
 }
 
-/// What an operator makes of two numbers, which has the target's decimals: no number is shifted.
+/// Returns an operator's result, which has the target's decimals: no number is shifted.
 #[inline(always)]
 pub(crate) fn operated_aligned(operator: Operator, a: Num, b: Num, target: Target) -> i64
     requires { are_aligned operator a.dec b.dec target.dec ≡ true }
@@ -85,7 +85,7 @@ pub(crate) fn operated_aligned(operator: Operator, a: Num, b: Num, target: Targe
     }
 }
 
-/// The result of ADD, SUB and MULT.
+/// Returns the result of ADD, SUB and MULT.
 fn computed<S: Store + Drop>(
     memory: &Memory<'_, S>,
     operator: Operator,
@@ -103,7 +103,7 @@ fn computed<S: Store + Drop>(
     operated(operator, a, b, target_of(memory, to, half))
 }
 
-/// A number as the target keeps it, with its sign turned where asked.
+/// Returns a number as the target keeps it, negated if requested.
 #[inline(always)]
 pub(crate) fn kept_with_sign(is_negated: bool, b: Num, target: Target) -> i64
     ensures value { result ≡ stored_number target.half target.dec target.len (with_decimals (acts.assigned is_negated b.value) b.dec) }
@@ -113,7 +113,7 @@ pub(crate) fn kept_with_sign(is_negated: bool, b: Num, target: Target) -> i64
     keep(n, Scale { value: b.dec }, target)
 }
 
-/// The same of a number with the target's decimals.
+/// Like `kept_with_sign`, for a number with the target's decimals.
 #[inline(always)]
 pub(crate) fn kept_aligned(is_negated: bool, b: Num, target: Target) -> i64
     requires { b.dec ≡ target.dec }
@@ -123,7 +123,7 @@ pub(crate) fn kept_aligned(is_negated: bool, b: Num, target: Target) -> i64
     fit(i128::from(signed(is_negated, b.value)), target.len)
 }
 
-/// The result of Z-ADD and Z-SUB.
+/// Returns the result of Z-ADD and Z-SUB.
 fn assigned<S: Store + Drop>(
     memory: &Memory<'_, S>,
     is_negated: bool,
@@ -140,7 +140,7 @@ fn assigned<S: Store + Drop>(
     kept_with_sign(is_negated, b, target_of(memory, to, half))
 }
 
-/// The number, with its sign turned where asked.
+/// Returns the number, negated if requested.
 fn signed(is_negated: bool, n: i64) -> i64
     requires { unsigned_abs n < 10 ^ 15 }
     ensures value { result ≡ acts.assigned is_negated n }
@@ -149,7 +149,7 @@ fn signed(is_negated: bool, n: i64) -> i64
     if is_negated { -n } else { n }
 }
 
-/// What a division leaves.
+/// Returns the remainder of a division.
 fn left_over(a: Num, b: Num, dec: u8) -> Rest
     requires divisor { b.value ≢ pos 0 }
     requires decimals { dec ≤ 9 }
@@ -161,7 +161,7 @@ fn left_over(a: Num, b: Num, dec: u8) -> Rest
     }
 }
 
-/// What is left once a division is done: where its quotient is half adjusted, what was left before.
+/// Returns the remainder after a division: the previous one if the quotient is half adjusted.
 fn left_after(before: Rest, half: bool, a: Num, b: Num, dec: u8) -> Rest
     requires divisor { b.value ≢ pos 0 }
     requires decimals { dec ≤ 9 }
@@ -170,7 +170,7 @@ fn left_after(before: Rest, half: bool, a: Num, b: Num, dec: u8) -> Rest
     if half { before } else { left_over(a, b, dec) }
 }
 
-/// A quotient as the result field keeps it; the remainder is kept. None by a zero divisor.
+/// Returns a quotient as the result field keeps it, and keeps the remainder. None for a zero divisor.
 fn divided<S: Store + Drop>(
     memory: &mut Memory<'_, S>,
     half: bool,
@@ -196,7 +196,7 @@ fn divided<S: Store + Drop>(
     }
 }
 
-/// The result of MVR: what the last division left.
+/// Returns the result of MVR: the remainder of the last division.
 fn kept_remainder<S: Store + Drop>(memory: &Memory<'_, S>, to: Resolved) -> i64
     requires { NamesNumber memory.now to }
     ensures value { result ≡ stored_value_in memory.now false to memory.now.world.data.remainder }
@@ -206,7 +206,7 @@ fn kept_remainder<S: Store + Drop>(memory: &Memory<'_, S>, to: Resolved) -> i64
     keep(rest.value, rest.dec, target_of(memory, to, false))
 }
 
-/// ADD, SUB and MULT. None where an index is out of range.
+/// ADD, SUB and MULT. None if an index is out of range.
 #[tactic(auto, unfolding(rpg_program::specs::Act::act, rpg_program::specs::Operate::has_entries, rpg_program::specs::Operate::operate, rpg_program::specs::Operate::resolved, rpg_program::specs::Rows::row_of))]
 pub fn compute<S: Store + Drop>(
     memory: &mut Memory<'_, S>,
@@ -250,7 +250,7 @@ fn divide_numbers<S: Store + Drop>(
     End::GoesOn
 }
 
-/// DIV. None where an index is out of range.
+/// DIV. None if an index is out of range.
 #[tactic(auto, unfolding(rpg_program::specs::Act::act, rpg_program::specs::Operate::has_entries, rpg_program::specs::Operate::operate, rpg_program::specs::Operate::resolved, rpg_program::specs::Rows::row_of))]
 pub fn divide<S: Store + Drop>(
     memory: &mut Memory<'_, S>,
@@ -271,7 +271,7 @@ pub fn divide<S: Store + Drop>(
     Some(divide_numbers(memory, half, factor1, factor2, to, shows))
 }
 
-/// Z-ADD and Z-SUB. None where an index is out of range.
+/// Z-ADD and Z-SUB. None if an index is out of range.
 #[tactic(auto, unfolding(rpg_program::specs::Act::act, rpg_program::specs::Operate::has_entries, rpg_program::specs::Operate::operate, rpg_program::specs::Operate::resolved, rpg_program::specs::Rows::row_of))]
 pub fn assign<S: Store + Drop>(
     memory: &mut Memory<'_, S>,
@@ -292,7 +292,7 @@ pub fn assign<S: Store + Drop>(
     Some(End::GoesOn)
 }
 
-/// MVR. None where an index is out of range.
+/// MVR. None if an index is out of range.
 #[tactic(auto, unfolding(rpg_program::specs::Act::act, rpg_program::specs::Operate::has_entries, rpg_program::specs::Operate::operate, rpg_program::specs::Operate::resolved, rpg_program::specs::Rows::row_of))]
 pub fn take_remainder<S: Store + Drop>(
     memory: &mut Memory<'_, S>,

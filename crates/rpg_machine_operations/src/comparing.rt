@@ -1,4 +1,4 @@
-//! How entries compare, and COMP.
+//! Comparing entries, and COMP.
 ghost use Rattle.std.specs.Prelude.{◌≡◌};
 ghost use Rattle.rpg_program.specs.declared.operation.Action.TheVariants as actions;
 ghost use Rattle.rpg_memory.specs.Fields.{IsResolved};
@@ -16,7 +16,7 @@ use rpg_program::outcome::End;
 use rpg_store::store::Store;
 use std::cmp::Ordering;
 
-/// How an entry compares with another one of its kind.
+/// Compares an entry with another one of its kind.
 pub fn compared<S: Store + Drop>(
     memory: &Memory<'_, S>,
     kind: Kind,
@@ -36,7 +36,7 @@ pub fn compared<S: Store + Drop>(
     }
 }
 
-/// The indicators show how factor 1 compares with factor 2.
+/// Sets the indicators for the order of factor 1 and factor 2.
 fn show_order<S: Store + Drop>(
     memory: &mut Memory<'_, S>,
     factor1: Resolved,
@@ -50,7 +50,7 @@ fn show_order<S: Store + Drop>(
     memory.show(shows, order);
 }
 
-/// COMP. None where an index is out of range.
+/// COMP. None if an index is out of range.
 #[tactic(auto, unfolding(rpg_program::specs::Act::act, rpg_program::specs::Operate::has_entries, rpg_program::specs::Operate::operate, rpg_program::specs::Operate::resolved, rpg_program::specs::Rows::row_of))]
 pub fn compare_entries<S: Store + Drop>(
     memory: &mut Memory<'_, S>,

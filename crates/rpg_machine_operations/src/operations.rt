@@ -22,7 +22,7 @@ use rpg_program::outcome::End;
 use rpg_program::rows::Rows;
 use rpg_store::store::Store;
 
-/// The weight of an operation: one, and the entries that XFOOT and LOKUP go through.
+/// Returns the weight of an operation: one, plus the entries that XFOOT and LOKUP go through.
 #[tactic(auto, unfolding(rpg_program::specs::Weights::row_weight, rpg_program::specs::Rows::row_of))]
 pub fn weight(rows: &Rows, action: &Action<Operand<u16>>) -> u32
     ensures { result ≡ weights.row_weight (form_at rows.now.fields.items) (rows_of.row_of (rows_of.form_of (form_at rows.now.fields.items)) action.now) }
@@ -54,7 +54,7 @@ fn set_indicators<S: Store + Drop>(
     Some(End::GoesOn)
 }
 
-/// Does an operation of a right program. None where an index is out of range.
+/// Does an operation of an accepted program. None if an index is out of range.
 fn operate_in_range<S: Store + Drop>(
     memory: &mut Memory<'_, S>,
     action: &Action<Operand<u16>>,
@@ -112,7 +112,7 @@ fn operate_in_range<S: Store + Drop>(
     }
 }
 
-/// Does an operation of a right program: halt 2 where an index is out of range.
+/// Does an operation of an accepted program: halt 2 if an index is out of range.
 pub fn operate<S: Store + Drop>(memory: &mut Memory<'_, S>, action: &Action<Operand<u16>>) -> End
     requires right { IsRightAction memory.old.program.fields action.now }
     ensures { DidData (operate_in memory.old action.now) memory.old (end_of result) memory.new }

@@ -1,4 +1,4 @@
-//! MOVE and MOVEL: places of factor 2 over those of the result field.
+//! MOVE and MOVEL: places of factor 2 overwrite those of the result field.
 ghost use Rattle.std.specs.Prelude.{◌≡◌, ℕ, ℤ, All, IfSome};
 ghost use Rattle.rpg_decimal.specs.Source as sources;
 ghost use Rattle.rpg_program.specs.Act as acts;
@@ -23,7 +23,7 @@ use rpg_program::operation::{Operand, Side};
 use rpg_program::outcome::End;
 use rpg_store::store::Store;
 
-/// The digits of a number field.
+/// Returns the digits of a number field.
 #[tactic(auto, using(rpg_memory::proofs::Values::numbers))]
 fn figure_at<S: Store + Drop>(memory: &Memory<'_, S>, operand: Resolved) -> Figure
     requires { NamesNumber memory.now operand }
@@ -36,7 +36,7 @@ fn figure_at<S: Store + Drop>(memory: &Memory<'_, S>, operand: Resolved) -> Figu
     Figure { value, len }
 }
 
-/// What is moved: the value of a field.
+/// Returns what is moved: the value of a field.
 #[tactic(auto, using(crate::proofs::Characters::written))]
 fn source_at<'m, S: Store + Drop>(memory: &'m Memory<'_, S>, factor2: Resolved) -> Source<'m>
     requires { NamesLike memory.now factor2 factor2 }
@@ -51,7 +51,7 @@ fn source_at<'m, S: Store + Drop>(memory: &'m Memory<'_, S>, factor2: Resolved) 
     }
 }
 
-/// Factor 2 over a number, where that gives a number.
+/// Returns a number overwritten by factor 2, if that is a number.
 fn number_after<S: Store + Drop>(
     memory: &Memory<'_, S>,
     side: Side,
@@ -71,7 +71,7 @@ fn number_after<S: Store + Drop>(
     }
 }
 
-/// Puts factor 2 over a number. What is no number is halt 4.
+/// Moves factor 2 to a number. If the result isn't a number, halt 4.
 #[tactic(auto, unfolding(rpg_program::specs::Act::moved))]
 fn move_to_number<S: Store + Drop>(
     memory: &mut Memory<'_, S>,
@@ -99,7 +99,7 @@ fn put_over(side: Side, source: Source<'_>, text: &mut [u8])
     }
 }
 
-/// Puts factor 2 over a text.
+/// Moves factor 2 to a text.
 #[tactic(auto, unfolding(rpg_program::specs::Act::moved))]
 fn move_to_text<S: Store + Drop>(
     memory: &mut Memory<'_, S>,
@@ -120,7 +120,7 @@ fn move_to_text<S: Store + Drop>(
     memory.set_text(to.entry.field, to.entry.position, text);
 }
 
-/// Puts factor 2 over an entry.
+/// Moves factor 2 to an entry.
 fn move_to_entry<S: Store + Drop>(
     memory: &mut Memory<'_, S>,
     side: Side,
@@ -140,7 +140,7 @@ fn move_to_entry<S: Store + Drop>(
     }
 }
 
-/// MOVE and MOVEL. None where an index is out of range.
+/// MOVE and MOVEL. None if an index is out of range.
 #[tactic(auto, unfolding(rpg_program::specs::Act::act, rpg_program::specs::Operate::has_entries, rpg_program::specs::Operate::operate, rpg_program::specs::Operate::resolved, rpg_program::specs::Rows::row_of))]
 pub fn move_places<S: Store + Drop>(
     memory: &mut Memory<'_, S>,

@@ -1,4 +1,4 @@
-//! The entries that the operands of a right operation name. None where an index is out of range.
+//! The entries that an accepted operation's operands name. None if an index is out of range.
 ghost use Rattle.std.specs.Prelude.{◌≡◌, IfSome};
 ghost use Rattle.std.specs.Option.{option_map};
 ghost use Rattle.rpg_program.specs.declared.form.Kind.{Kind};
@@ -13,7 +13,7 @@ use rpg_memory::resolved::Resolved;
 use rpg_program::operation::Operand;
 use rpg_store::store::Store;
 
-/// The entry that an operand names: of whatever kind it is right for.
+/// Returns the entry that an operand names, of any kind.
 #[inline(always)]
 #[tactic(auto, unfolding(rpg_program::specs::Entries::entry_of))]
 pub fn entry_named<S: Store + Drop>(
@@ -29,7 +29,7 @@ pub fn entry_named<S: Store + Drop>(
     resolve(memory, operand)
 }
 
-/// The number that an operand names.
+/// Returns the number that an operand names.
 #[inline(always)]
 pub fn number_named<S: Store + Drop>(
     memory: &Memory<'_, S>,
@@ -42,7 +42,7 @@ pub fn number_named<S: Store + Drop>(
     entry_named(memory, operand)
 }
 
-/// The result's table of LOKUP, if there is one, with the entry that is current there.
+/// Returns the table in LOKUP's result, if there is one, with its current entry.
 #[tactic(auto, unfolding(rpg_program::specs::Entries::entry_of))]
 pub fn table_named<S: Store + Drop>(
     memory: &Memory<'_, S>,

@@ -30,7 +30,7 @@ fn same_order(a: Ordering, b: Ordering) -> bool
     a == b
 }
 
-/// Whether the entry at a position of factor 2 has that order relative to factor 1.
+/// Whether the entry at a position of factor 2 has this order relative to factor 1.
 #[tactic(auto, using(rpg_memory::proofs::Values::other_value))]
 fn stands<S: Store + Drop>(
     memory: &Memory<'_, S>,
@@ -49,7 +49,7 @@ fn stands<S: Store + Drop>(
     same_order(order, compared(memory, factor1.form.kind, other, factor1))
 }
 
-/// The first position, from one to the last, whose entry has that order relative to factor 1.
+/// Returns the first position of a range whose entry has this order relative to factor 1.
 fn first_one<S: Store + Drop>(
     memory: &Memory<'_, S>,
     factor1: Resolved,
@@ -70,7 +70,7 @@ fn first_one<S: Store + Drop>(
     None
 }
 
-/// The last position, from one to the last, whose entry has that order relative to factor 1.
+/// Returns the last position of a range whose entry has this order relative to factor 1.
 fn last_one<S: Store + Drop>(
     memory: &Memory<'_, S>,
     factor1: Resolved,
@@ -93,7 +93,7 @@ fn last_one<S: Store + Drop>(
     None
 }
 
-/// From where a search goes: the first entry, or the one that its index names.
+/// Returns where a search begins: at the first entry, or the one that its index names.
 fn start_of(factor2: Resolved) -> u16
     ensures { result ≡ acts.search_start factor2.entry }
 {
@@ -103,7 +103,7 @@ fn start_of(factor2: Resolved) -> u16
     }
 }
 
-/// The first of the entries that have that order relative to factor 1; of smaller entries, the last.
+/// Returns the first entry that has this order relative to factor 1; of smaller entries, the last.
 #[tactic(auto, using(crate::proofs::Finding::start_within, rpg_memory::proofs::Values::entries_high))]
 fn nearest<S: Store + Drop>(
     memory: &Memory<'_, S>,
@@ -125,7 +125,7 @@ fn nearest<S: Store + Drop>(
     }
 }
 
-/// The same, if an indicator is named for it.
+/// Like `nearest`, if an indicator is named for it.
 fn nearest_if_asked<S: Store + Drop>(
     memory: &Memory<'_, S>,
     factor1: Resolved,
@@ -141,7 +141,7 @@ fn nearest_if_asked<S: Store + Drop>(
     Some(Found { order, position })
 }
 
-/// What a search finds: an equal entry first, if an indicator is named for it.
+/// Returns what a search finds: first of all an equal entry, if an indicator is named for it.
 #[tactic(auto, unfolding(rpg_program::specs::Act::found_in, rpg_program::specs::Search::search_of))]
 fn search<S: Store + Drop>(
     memory: &Memory<'_, S>,
@@ -161,7 +161,7 @@ fn search<S: Store + Drop>(
     nearest_if_asked(memory, factor1, factor2, Ordering::Less, shows.minus)
 }
 
-/// Puts a position into an index field.
+/// Stores a position in an index field.
 #[tactic(auto, using(rpg_memory::proofs::Entries::index_value, crate::proofs::Finding::held))]
 fn set_index<S: Store + Drop>(memory: &mut Memory<'_, S>, index: Index<u16>, position: u16)
     requires reads { reads_index memory.old.program.fields index ≡ true }
@@ -175,7 +175,7 @@ fn set_index<S: Store + Drop>(memory: &mut Memory<'_, S>, index: Index<u16>, pos
     }
 }
 
-/// Makes an entry of a table its current one; of another field nothing is changed.
+/// Makes an entry of a table its current one; does nothing for another field.
 fn make_current<S: Store + Drop>(memory: &mut Memory<'_, S>, field: u16, position: u16)
     requires low { 1 ≤ position }
     requires high { position ≤ forms_of.entries_of (forms_in memory.old field) }
@@ -186,7 +186,7 @@ fn make_current<S: Store + Drop>(memory: &mut Memory<'_, S>, field: u16, positio
     }
 }
 
-/// Makes it current in the result's table, if there is one.
+/// Makes an entry current in the result's table, if there is one.
 fn make_current_if_any<S: Store + Drop>(
     memory: &mut Memory<'_, S>,
     table: Option<u16>,
@@ -201,7 +201,7 @@ fn make_current_if_any<S: Store + Drop>(
     }
 }
 
-/// Puts a position that was found where it goes; where nothing was found the index field gets 1.
+/// Stores a position that was found; if nothing was found, the index field gets 1.
 #[tactic(auto, unfolding(rpg_program::specs::Act::with_found))]
 fn place<S: Store + Drop>(
     memory: &mut Memory<'_, S>,
@@ -236,7 +236,7 @@ fn order_of(found: Option<Found>) -> Option<Ordering>
     Some(found?.order)
 }
 
-/// Searches factor 1 among the entries of factor 2, puts the position where it goes, and shows what was found.
+/// Searches factor 1 among the entries of factor 2, stores the position, and sets the indicators.
 #[tactic(auto, unfolding(rpg_program::specs::Act::looked_up), using(crate::proofs::Finding::found_fits, crate::proofs::Finding::no_position_fault))]
 fn search_and_place<S: Store + Drop>(
     memory: &mut Memory<'_, S>,
@@ -256,7 +256,7 @@ fn search_and_place<S: Store + Drop>(
     End::GoesOn
 }
 
-/// LOKUP. None where an index is out of range.
+/// LOKUP. None if an index is out of range.
 #[tactic(auto, unfolding(rpg_program::specs::Act::act, rpg_program::specs::Operate::has_entries, rpg_program::specs::Operate::operate, rpg_program::specs::Operate::resolved, rpg_program::specs::Rows::row_of))]
 pub fn look_up<S: Store + Drop>(
     memory: &mut Memory<'_, S>,

@@ -14,7 +14,7 @@ use rpg_program::operation::{Operand, Shows};
 use rpg_program::outcome::End;
 use rpg_store::store::Store;
 
-/// A sum with one number more.
+/// Adds a number to a sum.
 fn plus(total: i128, n: i64) -> i128
     requires total { unsigned_abs total < 10 ^ 20 }
     ensures { result ≡ total +ℤ n }
@@ -22,7 +22,7 @@ fn plus(total: i128, n: i64) -> i128
     total + i128::from(n)
 }
 
-/// The sum of all entries of an array.
+/// Returns the sum of all entries of an array.
 #[tactic(auto, using(crate::proofs::Sums::sums))]
 fn sum<S: Store + Drop>(memory: &Memory<'_, S>, array: Resolved) -> i128
     requires { NamesNumber memory.now array }
@@ -37,7 +37,7 @@ fn sum<S: Store + Drop>(memory: &Memory<'_, S>, array: Resolved) -> i128
     total
 }
 
-/// The result of XFOOT.
+/// Returns the result of XFOOT.
 #[tactic(auto, using(rpg_memory::proofs::Values::numbers))]
 fn summed<S: Store + Drop>(
     memory: &Memory<'_, S>,
@@ -56,7 +56,7 @@ fn summed<S: Store + Drop>(
     keep(sum(memory, factor2), scale, target_of(memory, to, half))
 }
 
-/// XFOOT. None where an index is out of range.
+/// XFOOT. None if an index is out of range.
 #[tactic(auto, unfolding(rpg_program::specs::Act::act, rpg_program::specs::Operate::has_entries, rpg_program::specs::Operate::operate, rpg_program::specs::Operate::resolved, rpg_program::specs::Rows::row_of))]
 pub fn cross_foot<S: Store + Drop>(
     memory: &mut Memory<'_, S>,

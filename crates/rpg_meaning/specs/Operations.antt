@@ -260,7 +260,7 @@ module _ (source : Source) (s : State) (k : CalculationSpec) where
     -- all named indicators turn on, or off
     pub on : does op.SetOn ≡ continues (turned (all_on indicators) s.world.data)
     pub off : does op.SetOff ≡ continues (turned (named_off indicators) s.world.data)
-    -- the lines of time E are put out
+    -- the lines of time E are output
     pub except : does op.Except ≡ affected s (exception_output source.forms source.words source.overflow source.lines s.world)
 
   -- ---- GOTO, TAG, EXSR, BEGSR, ENDSR

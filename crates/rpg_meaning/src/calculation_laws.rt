@@ -1,4 +1,4 @@
-//! Laws of the definitions. The functions do nothing: each is called for its contract alone.
+//! Laws of the definitions. The functions do nothing: they are called only for their contracts.
 ghost use Rattle.std.specs.Ordering.{nat_cmp};
 ghost use Rattle.std.specs.Prelude.{ℕ, List};
 ghost use Rattle.rpg_cards.specs.Keys.{Key, key_cmp};
@@ -18,12 +18,12 @@ ghost use Rattle.rpg_effect_renaming.specs.Naming.{Agree};
 ghost use Rattle.rpg_verify_rules.specs.Accepted.{IsAccepted};
 ghost use Rattle.rpg_compile_program.specs.Program.{key_numbers, program_of};
 
-/// An accepted program that is what calculation cards stand for does what they mean.
+/// An accepted program that calculation cards compile to does what they mean.
 pub fn accepted_programs_keep_meaning()
     ensures { (p : Object) → IsProgram p → IsAccepted p → (source : Source) (number : Key → ℕ) → IsTranslation p source number → KeepsMeaning p source number }
 {}
 
-/// So does the program of a source, where no calculation card lacks what it must have. And whatever a program's fields hold, there are
+/// So does the program of a source, if no calculation card lacks what it requires. And for any values of a program's fields there are
 /// values by name that agree with them.
 pub fn compiled_cards_keep_meaning()
     ensures meaning { (cards : List SpecCard) (allowance : ℕ) → IsProgram (program_of cards allowance) → IsAccepted (program_of cards allowance) → KeepsRule bad_calculation_columns cards →
@@ -31,7 +31,7 @@ pub fn compiled_cards_keep_meaning()
     ensures worlds { (cards : List SpecCard) (w : World nat_cmp) → (v : World key_cmp) × Agree (source_of cards).forms (key_numbers cards) v w }
 {}
 
-/// The number of the next card is that of the first card of the next calculation, and an earlier calculation begins on an earlier card.
+/// The number of the next card is that of the next calculation's first card, and an earlier calculation begins on an earlier card.
 pub fn numbers_are_of_cards()
     ensures theirs { (cards : List SpecCard) → NumbersAreTheirs cards }
     ensures up { (cards : List SpecCard) (low : ℕ) → Numbered low cards → NumbersGoUp cards }

@@ -5,13 +5,13 @@ ghost use Rattle.rpg_cards.specs.Plain.{Pair};
 ghost use Rattle.rpg_cards.specs.declared.spec_card.SpecCard.{SpecCard};
 ghost use Rattle.rpg_compile_program.specs.Rules.{KeepsCardRules};
 
-/// Whatever says something of calls says it of chains of calls.
+/// A statement about calls is also one about chains of calls.
 pub fn calls_are_of_chains()
     ensures { (ps : List Pair) → AreOfChains ps }
 {}
 
-/// In a source that keeps the rules of cards no call leads back, and the level of a subroutine is that of the longest chain of calls that
-/// ends in it.
+/// In a source that obeys the rules of cards no call leads back, and a subroutine has the level of the longest chain of calls that ends
+/// in it.
 pub fn sources_have_chains()
     ensures { (cards : List SpecCard) → KeepsCardRules cards → HasChains cards }
 {}

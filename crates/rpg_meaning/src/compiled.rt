@@ -1,4 +1,4 @@
-//! What a call of the compiler returns, as its cards mean it.
+//! Compiling a source with its meaning as the contract.
 
 ghost use Rattle.std.specs.Prelude.{◌<◌, IfErr, IfOk};
 ghost use Rattle.rpg_compile.specs.Compile.{Compiles};

@@ -1,4 +1,4 @@
-//! Laws of the definitions. The functions do nothing: each is called for its contract alone.
+//! Laws of the definitions. The functions do nothing: they are called only for their contracts.
 ghost use Rattle.std.specs.Prelude.{◌≡◌, ℕ, ℤ, List, Some};
 ghost use Rattle.rpg_cards.specs.Keys.{key_cmp};
 ghost use Rattle.rpg_cards.specs.declared.spec_card.SpecCard.{SpecCard};
@@ -12,15 +12,15 @@ ghost use Rattle.rpg_program.specs.Kept.{IsProgram};
 ghost use Rattle.rpg_verify_rules.specs.Accepted.{IsAccepted};
 ghost use Rattle.rpg_compile_program.specs.Program.{program_of};
 
-/// Each run of a source's program is the run of its cards, where the program is accepted and no calculation card lacks what it must have;
-/// and there is what the cards start with.
+/// Each run of a source's program is a run of its cards, if the program is accepted and no calculation card lacks what it requires; and
+/// there are values that the cards start with.
 pub fn runs_are_those_of_cards()
     ensures runs { (cards : List SpecCard) (allowance : ℕ) (text : List ℕ) (date : ℤ) → IsProgram (program_of cards allowance) →
         IsAccepted (program_of cards allowance) → KeepsRule bad_calculation_columns cards → date_in text ≡ Some date → RunsAreMeant cards allowance date }
     ensures start { (cards : List SpecCard) (allowance : ℕ) (date : ℤ) → IsProgram (program_of cards allowance) → (w : World key_cmp) × IsStart cards date w }
 {}
 
-/// The cards have one run over records: one end, one count of cycles, one output.
+/// The cards have one run over given records: one end, one count of cycles, one output.
 pub fn cards_have_one_run()
     ensures { MeantRunsAreOne }
 {}

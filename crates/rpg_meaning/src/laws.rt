@@ -1,4 +1,5 @@
-//! Laws of what is compiled. The functions do nothing: each is called for its contract alone.
+//! Laws of compiled programs. The functions do nothing: they are called only for their
+//! contracts.
 ghost use Rattle.rpg_compile.specs.Compile.{Compiles};
 ghost use Rattle.rpg_meaning.specs.Jobs.Meant.{DoesAsMeant};
 ghost use Rattle.rpg_faults.specs.Source.{cards_in};

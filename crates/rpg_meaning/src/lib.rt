@@ -1,6 +1,6 @@
-//! What cards mean, from calls and operations to a whole job, and that a run of their program is that.
-//! That a compiled program does what the cards of its text mean, from the text of a source and the bytes of its inputs to the bytes that
-//! are printed and stored.
+//! The meaning of cards, from calls and operations to a whole job, and that a run of their program is a run of that job. A compiled
+//! program does what the cards of its text mean, from the text of a source and the bytes of its inputs to the bytes that are printed and
+//! stored.
 #![tactic(auto)]
 
 pub mod calculation_laws;

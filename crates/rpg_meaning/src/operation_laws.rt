@@ -1,11 +1,11 @@
-//! Laws of the definitions. The function does nothing: it is called for its contract alone.
+//! Laws of the definitions. The function does nothing: it is called only for its contract.
 ghost use Rattle.rpg_meaning.specs.Calculations.Meaning.{Source, State};
 ghost use Rattle.rpg_meaning.specs.Operations.{Compares, Computes, Divides, TransfersControl, LooksUp, Moves, Sets};
 ghost use Rattle.rpg_decimal_words.specs.Move.{number_moved_left, number_moved_right, overlay_left, overlay_right};
 ghost use Rattle.rpg_sheet_specs.specs.declared.calculation.CalculationSpec.{CalculationSpec};
 ghost use Rattle.rpg_sheet_specs.specs.declared.calculation.Operation.TheVariants as op;
 
-/// What each operation does, by its card and by what factor 1, factor 2 and the result field are then.
+/// What each operation does, given its card and the values of factor 1, factor 2 and the result field.
 pub fn operations_do()
     ensures computes { (source : Source) (s : State) (k : CalculationSpec) → Computes source s k }
     ensures divides { (source : Source) (s : State) (k : CalculationSpec) → Divides source s k }

@@ -1,4 +1,4 @@
-//! A source without a fault, with the program that it compiles to.
+//! A source without faults, with the program that it compiles to.
 
 ghost use Rattle.std.specs.Prelude.{◌≡◌, ◌<◌, IfErr, IfOk};
 ghost use Rattle.rpg_compile.specs.Compile.{Compiles};
@@ -11,7 +11,7 @@ use rpg_compile::SourceFault;
 use rpg_engine::{Verified, accept};
 use std::alloc::Global;
 
-/// The text of a source without a fault, and its accepted program. `allowance` is what a cycle may spend on backward branches and calls.
+/// The text of a source without faults, and its accepted program. `allowance` limits the backward branches and calls of a cycle.
 #[derive(Drop)]
 pub struct CompiledSource {
     text: Vec<u8>,
@@ -21,7 +21,7 @@ pub struct CompiledSource {
 }
 
 impl CompiledSource {
-    /// Compiles a source. A text that isn't compiled is handed back.
+    /// Compiles a source. A text that doesn't compile is given back.
     pub fn new(
         alloc: Global,
         text: Vec<u8>,

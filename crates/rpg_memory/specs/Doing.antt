@@ -11,7 +11,7 @@ IsRightEnd GoesOn = Unit {0}
 IsRightEnd (Halt k) = 1 ≤ k × k ≤ 4
 IsRightEnd (Wrong f) = ⊥
 
--- this was done to the data, and nothing was wrong; nothing but the data is changed
+-- this was done to the data, and nothing was wrong; only the data changed
 pub record DidData (ended : Ended nat_cmp) (old : Working) (e : End) (new : Working) : Type 0 where
   pub leaves : ends_with e new.world.data ≡ ended
   pub right : IsRightEnd e

@@ -11,7 +11,7 @@ use Rattle.rpg_program.specs.Object.{Object}
 use Rattle.rpg_store.specs.First.{first_contents}
 use Rattle.rpg_store.specs.Store.{Currents, Values}
 
--- a number of so many digits, or a text of so many characters
+-- a number with this many digits, or a text with this many characters
 abbrev pub HasForm : Kind → ℕ → Option Value → Type 0
 HasForm kinds.Number len (Some (Number n)) = unsigned_abs n < 10 ^ len
 HasForm kinds.Text len (Some (Text text)) = length text ≡ len
@@ -19,7 +19,8 @@ HasForm kinds.Number len (Some (Text text)) = ⊥
 HasForm kinds.Text len (Some (Number n)) = ⊥
 HasForm k len None = ⊥
 
--- each entry of a field has a value of the field's form, texts are characters, and the current entry of a table is one of its entries
+-- each entry of a field has a value of the field's form, texts consist of characters, and the current entry of a table is one of its
+-- entries
 pub record Fits (forms : List FieldForm) (values : Values) (current : Currents) : Type 0 where
   pub each : (field : ℕ) (d : FieldForm) → form_at forms field ≡ Some d → (n : ℕ) → 1 ≤ n → n ≤ d.entries → HasForm d.kind d.length (map.get values (field, n))
   pub characters : (field n : ℕ) (text : List ℕ) → map.get values (field, n) ≡ Some (Text text) → All IsCharacter text

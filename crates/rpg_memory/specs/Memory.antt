@@ -19,18 +19,18 @@ use Rattle.rpg_program.specs.Object.{Object}
 use Rattle.rpg_memory.specs.Fits.{Fits}
 use Rattle.rpg_store.specs.Store.{Values, Currents}
 
--- a program that runs: the line placed last, and the world, whose pages are counted from there
+-- a running program: the line placed last, and the world, whose pages are counted from there
 pub record Working : Type 0 where
   pub program : Object
   pub last : Option ℕ
   pub world : World nat_cmp
 
--- the value of what a division left
+-- the value of a remainder
 abbrev pub rest_value : Rest → Fraction
 rest_value r = with_decimals r.value r.dec.value
 
--- L0 (100) and 1P (111) are on, no division has left anything, and the form is at line 1 of the first page, which is page 0 where pages
--- are counted from the line placed last
+-- L0 (100) and 1P (111) are on, there is no remainder yet, and the form is at line 1 of the first page, which is page 0 if pages are
+-- counted from the line placed last
 abbrev pub first_world : Fields nat_cmp → World nat_cmp
 first_world fields = record {
   «data» = record { fields = fields; on = set.from_list (100 ∷ 111 ∷ []); remainder = with_decimals (pos 0) 0 };
@@ -41,7 +41,7 @@ first_world fields = record {
 abbrev pub first_working : Object → Fields nat_cmp → Working
 first_working p fields = record { program = p; last = None; world = first_world fields }
 
--- ---- words on what a memory represents
+-- ---- terms for what a memory represents
 
 -- what it holds of the paper, with its world
 abbrev pub held_of : Working → Held
@@ -63,7 +63,7 @@ on_line line w = record w { paper = record w.paper { here = record { page = 0; l
 abbrev pub with_line_placed : Working → Working
 with_line_placed w = record w { last = Some w.world.paper.here.line; world = on_line w.world.paper.here.line w.world }
 
--- the data became those: program and paper are as they were
+-- the data replaced by these: program and paper are unchanged
 abbrev pub data_put : Data nat_cmp → Working → Working
 data_put d w = record w { world = with_data d w.world }
 
@@ -79,7 +79,7 @@ indicator_turned n is_on d = with_on (if is_on then set.insert d.on n else set.r
 abbrev pub with_remainder : Fraction → Data nat_cmp → Data nat_cmp
 with_remainder p d = record d { remainder = p }
 
--- the position that an operand names now, and the entry, where it names one
+-- the position that an operand names now, and the entry, if it names one
 abbrev pub position_in : Working → Operand ℕ → Option ℕ
 position_in w o = position_of (forms_in w) w.world.data.fields o
 
@@ -87,7 +87,7 @@ position_in w o = position_of (forms_in w) w.world.data.fields o
 abbrev pub entry_if_in_range : Working → Operand ℕ → Option (Entry ℕ)
 entry_if_in_range w o = if is_some (position_in w o) then Some (entry_of (forms_in w) w.world.data.fields o) else None
 
--- an operand was resolved to an entry of a number field, of a text field, or of a field of the kind of another operand's
+-- an operand was resolved to an entry of a number field, of a text field, or of a field of the same kind as another operand's
 abbrev pub NamesNumber : Working → Resolved → Type 0
 NamesNumber w r = IsResolved w.program.fields kinds.Number r
 
@@ -99,7 +99,7 @@ NamesText w r = IsResolved w.program.fields kinds.Text r
 abbrev pub NamesLike : Working → Resolved → Resolved → Type 0
 NamesLike w a r = IsResolved w.program.fields (kind_of (forms_in w a.entry.field)) r
 
--- ---- what every memory keeps
+-- ---- what holds of every memory
 
 module _ {S : Type 0} (store_forms : S → List FieldForm) (contents : S → Values) (currents : S → Currents) where
   -- the store has the fields of the program, each with values of its form

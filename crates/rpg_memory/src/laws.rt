@@ -5,7 +5,7 @@ ghost use Rattle.rpg_memory.specs.Fits.{Fits, KeepsConstants};
 
 use rpg_program::Program;
 
-/// What a program starts with fits its fields, and constants have their first values.
+/// The values that a program starts with fit its fields, and constants have their first values.
 #[tactic(auto, using(crate::proofs::FirstFits::first_fits))]
 pub fn first_values_fit(program: &Program)
     ensures fits { Fits program.now.fields (first_contents program.now) (first_currents program.now) }
@@ -14,7 +14,7 @@ pub fn first_values_fit(program: &Program)
     let _kept = program.rows();
 }
 
-/// The forms of every object program are such that operations may work on them.
+/// The forms of every object program are such that operations can use them.
 #[tactic(auto, using(crate::proofs::Programs::programs))]
 pub fn forms_are_good(program: &Program)
     ensures { AreForms program.now.fields }

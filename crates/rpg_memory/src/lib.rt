@@ -1,4 +1,4 @@
-//! The memory of a program that runs: the values of its fields, the indicators, the remainder, and where the form is.
+//! The memory of a running program: the values of its fields, the indicators, the remainder, and where the form is.
 #![tactic(auto)]
 
 pub mod condition;

@@ -11,14 +11,14 @@ use rpg_store::store::Store;
 use std::alloc::AllocError;
 
 impl<'a, S: Store + Drop> Memory<'a, S> {
-    /// The overflow indicator of its program.
+    /// Returns the overflow indicator of its program.
     fn overflow(&self) -> Option<u8>
         ensures { result ≡ self.now.program.overflow }
     {
         self.rows().overflow
     }
 
-    /// The form moves some lines on.
+    /// Moves the form on by some lines.
     #[tactic(auto, unfolding(rpg_program::specs::Lines::after_movement))]
     pub fn space(&mut self, spaces: u8)
         requires spaces { spaces ≤ 3 }
@@ -32,7 +32,7 @@ impl<'a, S: Store + Drop> Memory<'a, S> {
         }
     }
 
-    /// The form moves to a line; 0 is no skip.
+    /// Moves the form to a line; 0 means no skip.
     #[tactic(auto, unfolding(rpg_program::specs::Lines::after_movement))]
     pub fn skip(&mut self, line: u8)
         requires line { line ≤ 66 }
@@ -46,7 +46,7 @@ impl<'a, S: Store + Drop> Memory<'a, S> {
         }
     }
 
-    /// The overflow indicator goes off where an overflow output has been done and no movement since has turned it on.
+    /// Turns the overflow indicator off, if overflow output was done and no movement since has turned it on.
     pub fn settle(&mut self)
         ensures { self.new ≡ record self.old { world = lines.settled self.old.program.overflow self.old.world } }
     {
@@ -57,7 +57,7 @@ impl<'a, S: Store + Drop> Memory<'a, S> {
         self.was_overflow = false;
     }
 
-    /// From the end of an overflow output on, movements are watched.
+    /// Begins to watch movements, at the end of an overflow output.
     pub fn watch_movements(&mut self)
         ensures { self.new ≡ record self.old { world = lines.movements_watched self.old.world } }
     {

@@ -2,7 +2,7 @@
 ghost use Rattle.std.specs.Prelude.{◌≡◌};
 ghost use Rattle.rpg_program.specs.Entries as named;
 
-/// A number as a position, where it is one of the entries.
+/// Returns a number as a position, if it is one of the entries.
 pub fn in_range(entries: u16, n: i64) -> Option<u16>
     ensures { result ≡ named.in_range entries n }
 {

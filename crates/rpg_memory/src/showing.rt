@@ -7,7 +7,7 @@ use crate::indicators::{Indicators, turn_off, turn_on};
 use rpg_program::operation::Shows;
 use std::cmp::Ordering;
 
-/// The indicator for the order of a result relative to zero, or of factor 1 relative to factor 2.
+/// Returns the indicator for the order of a result relative to zero, or of factor 1 relative to factor 2.
 fn indicator_for(shows: Shows, order: Ordering) -> Option<u8>
     ensures { result ≡ of.indicator_for shows order }
 {
@@ -18,7 +18,7 @@ fn indicator_for(shows: Shows, order: Ordering) -> Option<u8>
     }
 }
 
-/// Whether no indicator is named, as with most operations: then there is nothing to show, and the order needn't be known.
+/// Whether no indicator is named, as in most operations: then nothing is set, and the order needn't be known.
 #[inline(always)]
 pub fn names_none(shows: Shows) -> bool
     ensures { result ≡ silent.names_none shows }
@@ -26,7 +26,7 @@ pub fn names_none(shows: Shows) -> bool
     shows.plus.is_none() && (shows.minus.is_none() && shows.zero.is_none())
 }
 
-/// Turns off all indicators that are named, and then on the one whose condition holds.
+/// Turns off all named indicators, then turns on the one whose condition holds.
 #[tactic(auto, using(crate::proofs::Silent::nothing_shown), unfolding(rpg_program::specs::Showing::shown))]
 pub fn show(on: &mut Indicators, shows: Shows, order: Ordering)
     ensures { on.new ≡ of.shown shows order on.old }
@@ -40,7 +40,7 @@ pub fn show(on: &mut Indicators, shows: Shows, order: Ordering)
     turn_on(on, indicator_for(shows, order));
 }
 
-/// Turns off all indicators that are named, and then on the one of the order of what was found.
+/// Turns off all named indicators, then turns on the one for the order of what was found.
 #[tactic(auto, unfolding(rpg_program::specs::Showing::shown_if_any))]
 pub fn show_if_any(on: &mut Indicators, shows: Shows, order: Option<Ordering>)
     ensures { on.new ≡ of.shown_if_any shows order on.old }

@@ -17,7 +17,7 @@ IsOkBarMemory (Ok x) P = P x
 IsOkBarMemory (Err faults.NoMemory) P = Unit {0}
 IsOkBarMemory (Err (faults.Object offset code)) P = ⊥
 
--- an Ok where there is no fault, and else the fault, unless memory ran out
+-- an Ok if there is no fault, and else the fault, unless memory ran out
 abbrev pub FaultIs : {X : Type 0} → Result X DecodeFault → Option (ℕ × Code) → Type 0
 FaultIs (Ok x) first = first ≡ None
 FaultIs (Err faults.NoMemory) first = Unit {0}

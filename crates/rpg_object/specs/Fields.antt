@@ -52,7 +52,7 @@ abbrev pub most_decimals : Kind → Class → ℕ
 most_decimals kinds.Number c = if is_date c then 0 else 9
 most_decimals kinds.Text c = 0
 
--- so many at most, and no more than digits
+-- at most this many, and no more than the digits
 abbrev pub is_decimals : ℕ → ℕ → ℕ → Bool
 is_decimals most digits n = nat_le n most && nat_le n digits
 

@@ -14,7 +14,7 @@ use Rattle.rpg_object_format.specs.Format.{Format, ends_early, ruled, times_with
 use Rattle.rpg_program.specs.Kept.{IsValueOf}
 use Rattle.rpg_text.specs.Texts.{is_character}
 
--- the number that a text was read as, where the text is the one that is written for it
+-- the number that a text was read as, if the text is the one that is written for it
 abbrev pub as_written : List ℕ → Option ℤ → Result ℤ Code
 as_written text None = Err NotAllowed
 as_written text (Some n) = if bytes_eq text (zoned_text (length text) n) then Ok n else Err NotAllowed
@@ -59,7 +59,7 @@ entries_format f = table f.entries (value f.kind f.length)
 
 -- ---- all fields
 
--- the values of the next field, none where there is no further one
+-- the values of the next field, none if there is no further one
 abbrev pub next_entries : List FieldForm → Format (List Value)
 next_entries [] = table 0 (value kinds.Text 1)
 next_entries (f ∷ fs) = entries_format f

@@ -1,4 +1,4 @@
-//! Bytes to an object program.
+//! Decodes an object program from bytes.
 
 ghost use Rattle.std.specs.Prelude.{◌≡◌, IfOk, Some};
 ghost use Rattle.rpg_object_format.specs.Format.{fault_at};
@@ -21,11 +21,11 @@ use std::alloc::Global;
 use std::error::Error;
 use std::fmt;
 
-/// Why bytes weren't decoded.
+/// Why bytes can't be decoded.
 #[derive(Clone, Copy, Debug, PartialEq, Eq)]
 pub enum DecodeFault {
-    /// The first number that breaks its rule: the offset of its first byte, counted from 0, and how it breaks it.
-    /// A number that is cut short is at the end of the bytes.
+    /// The first number that breaks its rule: the offset of its first byte, counted from 0, and how it breaks it. The offset of a number
+    /// that is cut short is the end of the bytes.
     Object { offset: usize, code: Code },
     NoMemory,
 }
@@ -82,7 +82,7 @@ fn body_at(alloc: Global, bytes: &[u8]) -> Result<(Rows, &[u8]), ReadFault>
     ))
 }
 
-/// The rows that the bytes spell, all of the bytes.
+/// Reads rows from all of the bytes.
 #[tactic(auto, unfolding(crate::specs::Program::reading))]
 fn rows_of(alloc: Global, bytes: &[u8]) -> Result<Rows, ReadFault>
     ensures { ReadsAs seen result (reading bytes.now) }
@@ -97,7 +97,7 @@ fn rows_of(alloc: Global, bytes: &[u8]) -> Result<Rows, ReadFault>
     Ok(rows)
 }
 
-/// The program that the bytes spell, all of the bytes.
+/// Decodes a program from all of the bytes.
 pub fn decode(alloc: Global, bytes: &[u8]) -> Result<Program, DecodeFault>
     // What is decoded is a program, and the bytes are its spelling.
     ensures found { IfOk result (λ p. IsProgram p × (bytes.now ≡ spelling p)) }

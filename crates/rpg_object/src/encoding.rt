@@ -1,4 +1,4 @@
-//! An object program to bytes.
+//! Encodes an object program as bytes.
 
 ghost use Rattle.std.specs.Prelude.{◌≡◌, ◌++◌, IfOk, OnOk};
 ghost use Rattle.rpg_program.specs.Kept.{IsProgram};
@@ -63,7 +63,7 @@ fn put_body(out: &mut Vec<u8>, rows: &Rows) -> Result<(), AllocError>
     Ok(())
 }
 
-/// The one spelling of the program.
+/// Encodes a program. Each program has exactly one encoding.
 pub fn encode(alloc: Global, program: &Program) -> Result<Vec<u8>, AllocError>
     ensures { IfOk result (λ v. v.items ≡ spelling program.now) }
 {

@@ -15,7 +15,7 @@ use rpg_object_format::number::{byte_at, flag_number, high, low, number_at, numb
 use rpg_program::form::{Class, FieldForm, Kind};
 use std::alloc::{AllocError, Global};
 
-/// Bytes of storage in all.
+/// The bytes of storage that all fields have together.
 const STORAGE: u32 = 65_535;
 
 fn kind_of(n: u8) -> Result<Kind, Code>
@@ -37,7 +37,7 @@ fn kind_number(kind: Kind) -> u8
     }
 }
 
-/// The class of a number, or of a text, which is no date.
+/// Returns the class of a number or a text. A text can't be a date.
 fn class_of(kind: Kind, n: u8) -> Result<Class, Code>
     ensures { result ≡ class_of kind n }
 {
@@ -134,7 +134,7 @@ fn decimals_of(most: u8, length: u16, n: u8) -> Result<u8, Code>
     }
 }
 
-/// The entries of a field, whose bytes must fit in the storage that is left.
+/// Checks the number of entries of a field, whose bytes must fit in the remaining storage.
 fn entries_within(most: u16, length: u16, storage: u32, n: u16) -> Result<u16, Code>
     ensures { result ≡ entries_within most length storage n }
 {
@@ -182,7 +182,7 @@ fn entries_at(bytes: &[u8], most: u16, length: u16, storage: u32) -> Result<(u16
     number_at(bytes, |n| entries_within(most, length, storage, n))
 }
 
-/// Reads a field that takes its bytes from the storage that is left.
+/// Reads a field, which takes its bytes from the remaining storage.
 #[tactic(auto, unfolding(rpg_object_format::specs::Format::byte, rpg_object_format::specs::Format::two_bytes, rpg_object_format::specs::Format::pair, rpg_object_format::specs::Format::row, crate::specs::Fields::field))]
 fn field_at(bytes: &[u8], storage: u32) -> Result<(FieldForm, &[u8]), ReadFault>
     ensures { ReadsAs (λ x. (x.0, x.1.now)) result ((field storage).reading bytes.now) }
@@ -206,7 +206,7 @@ fn field_at(bytes: &[u8], storage: u32) -> Result<(FieldForm, &[u8]), ReadFault>
     ))
 }
 
-/// Reads so many fields.
+/// Reads `count` fields.
 pub fn fields_at(
     alloc: Global,
     count: u16,

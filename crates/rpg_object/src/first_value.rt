@@ -20,8 +20,7 @@ use std::alloc::{AllocError, Global};
 /// The most digits that a number has.
 const DIGITS: usize = 15;
 
-/// The number that the text is written for: it has no blank for a zero, no letter for a plus sign, and no minus
-/// sign on a zero.
+/// Returns the number that a text encodes. The text has no blank for a zero, no letter for a plus sign, and no minus sign on a zero.
 fn number_written(text: &[u8]) -> Result<i64, Code>
     requires low { 1 ≤ length text.now }
     requires high { length text.now ≤ 15 }
@@ -40,7 +39,7 @@ fn number_written(text: &[u8]) -> Result<i64, Code>
     }
 }
 
-/// Reads the number that the first bytes are written for.
+/// Reads a number of `len` digits.
 fn number_value_at(bytes: &[u8], len: u16) -> Result<(Value, &[u8]), ReadFault>
     requires low { 1 ≤ len }
     requires high { len ≤ 15 }
@@ -57,7 +56,7 @@ fn number_value_at(bytes: &[u8], len: u16) -> Result<(Value, &[u8]), ReadFault>
     }
 }
 
-/// Reads the characters of a text.
+/// Reads a text of `len` characters.
 fn text_value_at(alloc: Global, bytes: &[u8], len: u16) -> Result<(Value, &[u8]), ReadFault>
     ensures { ReadsAs (λ x. (held x.0, x.1.now)) result (read_value kinds.Text len bytes.now) }
 {

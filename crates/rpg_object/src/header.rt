@@ -16,10 +16,10 @@ use rpg_object_instructions::indicator::indicator_number;
 use rpg_program::rows::Version;
 use std::alloc::AllocError;
 
-/// The most instructions that a program has, of all its sections together.
+/// The most instructions of a program, in all its sections together.
 pub const INSTRUCTIONS: u16 = 8_192;
 
-/// What a program of each version runs with: its allowance, the lengths of its files, and its overflow indicator.
+/// The settings of a program of either version: its allowance, the lengths of its files, and its overflow indicator.
 #[derive(Clone, Copy)]
 pub struct Settings {
     pub allowance: u16,
@@ -40,13 +40,13 @@ pub struct Counts {
     pub subroutines: u16,
 }
 
-/// The header of an object program, 32 bytes with the name before it.
+/// The header of an object program, 32 bytes including the name.
 #[derive(Clone, Copy)]
 pub struct Header {
     pub version: Version,
     pub settings: Settings,
     pub counts: Counts,
-    /// 0 without a secondary file.
+    /// 0 if there is no secondary file.
     pub secondary_length: u16,
 }
 

@@ -5,22 +5,23 @@ ghost use Rattle.rpg_program.specs.Kept.{IsProgram};
 ghost use Rattle.rpg_program.specs.Object.{Object};
 ghost use Rattle.rpg_object.specs.Program.{body, reading, spelling, FaultStays};
 
-/// Bytes after a fault change neither its offset nor its code, unless they may complete what is cut short.
+/// Appending bytes changes neither the offset nor the code of a fault, unless they may complete what is
+/// cut short.
 pub fn bytes_after_keep_a_fault(bytes: &[u8], more: &[u8])
     ensures { FaultStays bytes.now more.now }
 {}
 
-/// What a program spells is read as that program.
+/// A program's encoding decodes to that program.
 pub fn a_spelling_is_read_again()
     ensures { (p : Object) → IsProgram p → reading (spelling p) ≡ Ok p }
 {}
 
-/// Two programs have two spellings.
+/// Different programs have different encodings.
 pub fn a_spelling_is_of_one_program()
     ensures { (p q : Object) → IsProgram p → IsProgram q → spelling p ≡ spelling q → p ≡ q }
 {}
 
-/// What the format of programs holds is a program, row by row in plain words, and what is one it holds.
+/// What the format accepts is a program, row by row in plain words, and the format accepts every program.
 pub fn the_format_holds_programs()
     ensures kept { (p : Object) → body.Holds p → IsProgram p }
     ensures held { (p : Object) → IsProgram p → body.Holds p }

@@ -1,4 +1,5 @@
-//! Object programs as bytes: what they spell, and which number is the first to break its rule.
+//! Object programs as bytes: what they encode, and which number is the first to break its
+//! rule.
 #![tactic(auto)]
 
 mod decoding;

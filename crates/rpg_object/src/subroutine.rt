@@ -13,7 +13,7 @@ use rpg_object_rows::{instructions_at, put_instructions};
 use rpg_program::rows::Subroutine;
 use std::alloc::{AllocError, Global};
 
-/// Reads a subroutine that takes its instructions from those that are left.
+/// Reads a subroutine of at most `left` instructions.
 #[tactic(auto, unfolding(rpg_object_format::specs::Format::two_bytes, rpg_object_format::specs::Format::pair, rpg_object_format::specs::Format::row, crate::specs::Subroutines::subroutine))]
 fn subroutine_at(alloc: Global, left: u16, bytes: &[u8]) -> Result<(Subroutine, &[u8]), ReadFault>
     ensures read { ReadsAs (λ x. (subroutine_row x.0, x.1.now)) result ((spec.subroutine left).reading bytes.now) }
@@ -31,7 +31,7 @@ fn subroutine_at(alloc: Global, left: u16, bytes: &[u8]) -> Result<(Subroutine, 
     ))
 }
 
-/// Reads so many subroutines, which have no more than `left` instructions together.
+/// Reads `count` subroutines, which have at most `left` instructions together.
 pub fn subroutines_at(
     alloc: Global,
     count: u16,

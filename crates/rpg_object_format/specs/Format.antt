@@ -92,7 +92,7 @@ row make parts f = record {
 abbrev pub with_listed : {X : Type 0} → X → List X × List ℕ → Result (List X × List ℕ) Fault
 with_listed x xs = Ok (x ∷ xs.0, xs.1)
 
--- so many rows, each by what the ones before it have left
+-- this many rows, each by what the ones before it have left
 unfoldable pub read_times : {S X : Type 0} → (S → List ℕ → Result (X × List ℕ) Fault) → (S → X → S) → ℕ → S → List ℕ → Result (List X × List ℕ) Fault
 read_times read next zero s bytes = Ok ([], bytes)
 read_times read next (suc n) s bytes = read s bytes >>= λ x. read_times read next n (next s x.0) x.1 >>= with_listed x.0

@@ -1,4 +1,4 @@
-//! What is wrong with bytes that were to spell something.
+//! What is wrong with bytes that can't be read.
 
 ghost use Rattle.std.specs.Prelude.{◌≡◌, ◌≤◌, Some, length};
 ghost use Rattle.rpg_object_format.specs.CodeTexts.{code_text};
@@ -10,24 +10,24 @@ use std::fmt;
 /// How a number breaks its rule.
 #[derive(Clone, Copy, Debug, PartialEq, Eq)]
 pub enum Code {
-    /// B1: the bytes don't begin with the name of an object.
+    /// B1: the bytes don't begin with the name of an object program.
     NoObject,
-    /// B2: the version is another one.
+    /// B2: the version isn't supported.
     Version,
-    /// B3: the bytes end before the number does.
+    /// B3: the bytes end inside a number.
     CutShort,
     /// B4: bytes are left over.
     LeftOver,
     /// B5: the value isn't among those allowed.
     NotAllowed,
-    /// B6: a number that isn't used is not 0.
+    /// B6: an unused number isn't 0.
     Unused,
-    /// B7: a count, or what the counts make in all, is past its limit.
+    /// B7: a count, or a total of counts, is over its limit.
     PastLimit,
 }
 
 impl Code {
-    /// The letter B and the number.
+    /// Returns the letter B and the number.
     pub fn text(self) -> &'static str
         ensures value { result.now ≡ code_text self }
         ensures len { length result.now ≤ 2 }
@@ -43,7 +43,7 @@ impl Code {
         }
     }
 
-    /// What is wrong, as a person reads it.
+    /// What is wrong, in words.
     pub const fn sentence(self) -> &'static str {
         match self {
             Code::NoObject => "the first six bytes aren't RPGOBJ, or are missing",
@@ -66,14 +66,14 @@ impl fmt::Display for Code {
     }
 }
 
-/// The number that breaks its rule, by the bytes from its first one to the end of all; 0 where it is cut short.
+/// The number that breaks its rule, as the count of bytes from its first one to the end; 0 if it is cut short.
 #[derive(Clone, Copy, Debug, PartialEq, Eq)]
 pub struct Fault {
     pub left: usize,
     pub code: Code,
 }
 
-/// Why bytes weren't read.
+/// Why bytes can't be read.
 #[derive(Clone, Copy, Debug, PartialEq, Eq)]
 pub enum ReadFault {
     NoMemory,

@@ -1,4 +1,4 @@
-//! Formats of bytes: each defines how a value is spelled, which values it may hold, and how bytes are read, with the
+//! Byte formats: each defines how a value is encoded, which values are allowed, and how bytes are read, with the
 //! first number that breaks its rule.
 #![tactic(auto)]
 

@@ -1,4 +1,4 @@
-//! Single numbers, of one byte or of two with the higher byte first: what they are read as, and how they are spelled.
+//! Single numbers, of one byte or of two in big-endian order: how they are read and encoded.
 
 ghost use Rattle.std.specs.Prelude.{◌≡◌, ℕ, ◌/◌, ◌%◌, ◌^◌, ◌<◌, ◌++◌, OnOk};
 ghost use Rattle.rpg_text.specs.Texts.{is_between};
@@ -9,7 +9,7 @@ ghost use Rattle.rpg_object_format.specs.Reading.{ReadsAs, GivesByte, GivesTwo};
 use crate::fault::{Code, Fault, ReadFault};
 use std::alloc::AllocError;
 
-/// The fault of bytes that end in the middle of a number.
+/// Returns the fault of bytes that end inside a number.
 pub fn ends_early() -> ReadFault
     ensures { result ≡ ReadFault.At ends_early }
 {
@@ -19,7 +19,7 @@ pub fn ends_early() -> ReadFault
     })
 }
 
-/// The fault of the number at the front of these bytes.
+/// Returns the fault of the number at the start of these bytes.
 pub fn fault_at(bytes: &[u8], code: Code) -> ReadFault
     ensures { result ≡ ReadFault.At (fault_at bytes.now code) }
 {
@@ -29,7 +29,7 @@ pub fn fault_at(bytes: &[u8], code: Code) -> ReadFault
     })
 }
 
-/// Reads a byte, and returns its value by the rule.
+/// Reads a byte, and returns the value that the rule gives it.
 pub fn byte_at<T, F: FnOnce(u8) -> Result<T, Code>>(
     bytes: &[u8],
     rule: F,
@@ -49,7 +49,7 @@ pub fn byte_at<T, F: FnOnce(u8) -> Result<T, Code>>(
     }
 }
 
-/// Reads a number of two bytes, and returns its value by the rule.
+/// Reads a two-byte number, and returns the value that the rule gives it.
 pub fn number_at<T, F: FnOnce(u16) -> Result<T, Code>>(
     bytes: &[u8],
     rule: F,
@@ -89,7 +89,7 @@ fn byte_between(low: u8, high: u8, n: u8) -> Result<u8, Code>
     }
 }
 
-/// Whether a count is within its limit.
+/// Checks that a count is within its limit.
 fn up_to(limit: u16, n: u16) -> Result<u16, Code>
     ensures { result ≡ up_to limit n }
 {
@@ -116,7 +116,7 @@ fn flag(n: u8) -> Result<bool, Code>
     }
 }
 
-/// Reads a number of two bytes within limits.
+/// Reads a two-byte number within limits.
 #[tactic(auto, unfolding(crate::specs::Format::read_two))]
 pub fn number_between_at(bytes: &[u8], low: u16, high: u16) -> Result<(u16, &[u8]), ReadFault>
     ensures { ReadsAs (λ x. (x.0, x.1.now)) result (read_two (allowed (is_between low high)) bytes.now) }
@@ -124,7 +124,7 @@ pub fn number_between_at(bytes: &[u8], low: u16, high: u16) -> Result<(u16, &[u8
     number_at(bytes, |n| between(low, high, n))
 }
 
-/// Reads any number of two bytes.
+/// Reads any two-byte number.
 #[tactic(auto, unfolding(crate::specs::Format::read_two))]
 pub fn any_number_at(bytes: &[u8]) -> Result<(u16, &[u8]), ReadFault>
     ensures { ReadsAs (λ x. (x.0, x.1.now)) result (read_two (allowed is_any_number) bytes.now) }
@@ -148,7 +148,7 @@ pub fn count_at(bytes: &[u8], limit: u16) -> Result<(u16, &[u8]), ReadFault>
     number_at(bytes, |n| up_to(limit, n))
 }
 
-/// Reads a yes or no.
+/// Reads a flag, 0 or 1.
 #[tactic(auto, unfolding(crate::specs::Format::read_byte))]
 pub fn flag_at(bytes: &[u8]) -> Result<(bool, &[u8]), ReadFault>
     ensures { ReadsAs (λ x. (x.0, x.1.now)) result (read_byte flag bytes.now) }
@@ -156,7 +156,7 @@ pub fn flag_at(bytes: &[u8]) -> Result<(bool, &[u8]), ReadFault>
     byte_at(bytes, |n| flag(n))
 }
 
-/// Reads a byte that is always the same.
+/// Reads a byte that must be `k`.
 #[tactic(auto, unfolding(crate::specs::Format::read_byte))]
 pub fn only_byte_at(bytes: &[u8], k: u8, code: Code) -> Result<((), &[u8]), ReadFault>
     ensures { ReadsAs (λ x. (x.0, x.1.now)) result (read_byte (exactly k code) bytes.now) }
@@ -164,7 +164,7 @@ pub fn only_byte_at(bytes: &[u8], k: u8, code: Code) -> Result<((), &[u8]), Read
     byte_at(bytes, |n| only(k as u16, code, n as u16))
 }
 
-/// Reads a number of two bytes that is always the same.
+/// Reads a two-byte number that must be `k`.
 #[tactic(auto, unfolding(crate::specs::Format::read_two))]
 pub fn only_number_at(bytes: &[u8], k: u16, code: Code) -> Result<((), &[u8]), ReadFault>
     ensures { ReadsAs (λ x. (x.0, x.1.now)) result (read_two (exactly k code) bytes.now) }
@@ -186,14 +186,14 @@ pub fn low(n: u16) -> u8
     (n % 256) as u8
 }
 
-/// The number of a yes or no.
+/// Returns the byte of a flag.
 pub fn flag_number(flag: bool) -> u8
     ensures { result ≡ flag_number flag }
 {
     if flag { 1 } else { 0 }
 }
 
-/// Writes numbers of two bytes each.
+/// Writes two-byte numbers.
 pub fn put_numbers(out: &mut Vec<u8>, numbers: &[u16]) -> Result<(), AllocError>
     ensures { OnOk result (out.new.items ≡ out.old.items ++ spelled_along (λ s n. two n) keep tt numbers.now) }
 {

@@ -68,7 +68,7 @@ are_negations s n = nat_le n 7 && (may_negate s.plus (has_bit 1 n) && (may_negat
 abbrev pub condition_with : Bool → Option ℕ → Option Condition
 condition_with is_negated o = option_map (λ n. record { indicator = n; is_negated = is_negated }) o
 
--- three indicators as conditions, negated where their bits are on
+-- three indicators as conditions, negated if their bits are on
 abbrev pub conditions_of : Shows → ℕ → Conditions
 conditions_of s n = record {
   first = condition_with (has_bit 1 n) s.plus;

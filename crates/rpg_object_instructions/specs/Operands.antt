@@ -35,7 +35,7 @@ operand = row
 
 -- ---- where there is no operand
 
--- the operand written where there is none: field 0 without an index
+-- the operand written if there is none: field 0 without an index
 abbrev pub no_operand : Operand ℕ
 no_operand = record { field = 0; index = Blank }
 

@@ -10,7 +10,7 @@ use Rattle.rpg_object_format.specs.Numbers.{is_any_number, byte_where, count, on
 abbrev pub any_byte : Format ℕ
 any_byte = byte_where is_any_number
 
--- 0, where the byte isn't used
+-- 0, if the byte isn't used
 abbrev pub unused_byte : Format (Unit {0})
 unused_byte = only_byte 0 Unused
 
@@ -36,11 +36,11 @@ row_where Is make parts f = record {
 abbrev pub always : {X : Type 0} → X → Format (Unit {0}) → Format X
 always x numbers = row_where (λ y. y ≡ x) (λ u. x) (λ y. tt) numbers
 
--- a format where it is used; where it isn't, the value that means nothing, as these numbers
+-- a format if it is used; if it isn't, the value that means nothing, as these numbers
 abbrev pub where_used : {X : Type 0} → Bool → Format X → X → Format (Unit {0}) → Format X
 where_used true f nothing zeros = f
 where_used false f nothing zeros = always nothing zeros
 
--- a count, and so many rows
+-- a count, and that many rows
 abbrev pub counted_rows : {X : Type 0} → ℕ → Format X → Format (List X)
 counted_rows limit f = row (λ p. p.1) (λ xs. (length xs, xs)) (pair (count limit) (λ n. table n f))

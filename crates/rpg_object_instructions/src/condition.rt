@@ -83,7 +83,7 @@ fn condition_with(is_negated: bool, indicator: Option<u8>) -> Option<Condition>
     }
 }
 
-/// The conditions with these indicators and N bits.
+/// Builds the conditions from these indicators and N bits.
 pub(crate) fn conditions_of(shows: Shows, negations: u8) -> Conditions
     ensures { result ≡ conditions_of shows negations }
 {
@@ -103,7 +103,7 @@ fn indicator_in(condition: Option<Condition>) -> Option<u8>
     }
 }
 
-/// The indicators of three conditions.
+/// Returns the indicators of three conditions.
 pub fn indicators_of(conditions: Conditions) -> Shows
     ensures { result ≡ indicators_of conditions }
 {

@@ -19,7 +19,7 @@ fn indicator_of(n: u8) -> Result<Option<u8>, Code>
     }
 }
 
-/// The number of an indicator; 0 for none.
+/// Returns the number of an indicator, 0 for none.
 pub fn indicator_number(indicator: Option<u8>) -> u8
     ensures { result ≡ indicator_number indicator }
 {

@@ -124,7 +124,7 @@ fn branch(is_taken_where: bool, numbers: Numbers) -> Instruction<u16>
     }
 }
 
-/// The instruction of these numbers.
+/// Builds the instruction from these numbers.
 fn instruction_of(numbers: Numbers) -> Instruction<u16>
     ensures { result ≡ rows.instruction_of numbers }
 {
@@ -202,7 +202,7 @@ fn branching(is_taken_where: bool) -> Opcode
     }
 }
 
-/// An operation without any number.
+/// An operation whose numbers are all 0.
 fn bare(operation: Opcode) -> Numbers
     ensures { result ≡ rows.bare operation }
 {
@@ -304,7 +304,7 @@ fn shows_in(action: Action<Operand<u16>>) -> Shows
     }
 }
 
-/// The numbers of an operation: what it has, and 0 for what it doesn't use.
+/// The numbers of an operation, with 0 for those that it doesn't use.
 fn action_numbers(action: Action<Operand<u16>>) -> Numbers
     ensures { result ≡ rows.action_numbers action }
 {
@@ -349,8 +349,8 @@ fn numbers_of(instruction: Instruction<u16>) -> Numbers
 
 // ---- rows
 
-/// Reads an instruction, 20 bytes. An operation that isn't known is B5, a number that its operation doesn't use and that isn't 0
-/// is B6.
+/// Reads an instruction, 20 bytes. An unknown operation is B5. A number that isn't 0 although its operation doesn't use it is
+/// B6.
 #[tactic(auto, unfolding(crate::specs::Shapes::row_where, crate::specs::Instructions::instruction))]
 pub fn instruction_at(bytes: &[u8]) -> Result<(Instruction<u16>, &[u8]), ReadFault>
     ensures { ReadsAs (λ x. (x.0, x.1.now)) result (rows.instruction.reading bytes.now) }

@@ -5,7 +5,7 @@ ghost use Rattle.rpg_program.specs.declared.operation.Instruction.{Instruction};
 ghost use Rattle.rpg_program.specs.Kept.{IsInstructionRow};
 ghost use Rattle.rpg_object_instructions.specs.Instructions.{instruction};
 
-/// What an instruction keeps, in plain words, and back.
+/// The limits of an instruction, in plain words, and the converse.
 #[tactic(auto, using(crate::proofs::InstructionKept::instruction_kept, crate::proofs::InstructionKept::instruction_from))]
 pub fn instructions_are_plain()
     ensures plain { (i : Instruction ℕ) → instruction.Holds i → IsInstructionRow i }

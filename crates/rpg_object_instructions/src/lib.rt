@@ -1,4 +1,4 @@
-//! The instructions of an object program, and what other rows share with them, each with the bytes that spell it.
+//! The instructions of an object program, and the parts that other rows share with them, each with its encoding.
 #![tactic(auto)]
 
 pub mod condition;

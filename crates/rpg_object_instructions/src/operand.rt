@@ -10,7 +10,7 @@ use rpg_object_format::fault::{Code, ReadFault};
 use rpg_object_format::number::{any_number_at, number_at, only_number_at};
 use rpg_program::operation::{Index, Operand};
 
-/// What is added to the number of an index field.
+/// What is added to a field's number if the index is a field.
 const FIELDS: u16 = 10_000;
 
 fn index_of(n: u16) -> Index<u16>
@@ -23,7 +23,7 @@ fn index_of(n: u16) -> Index<u16>
     }
 }
 
-/// The number of an index; 0 for none.
+/// Returns the number of an index, 0 for none.
 pub fn index_number(index: Index<u16>) -> u16
     requires { IsIndexRow index }
     ensures { result ≡ rows.index_number index }
@@ -52,7 +52,7 @@ pub fn operand_at(bytes: &[u8]) -> Result<(Operand<u16>, &[u8]), ReadFault>
     Ok((Operand { field, index }, rest))
 }
 
-/// Reads the field and the index of no operand.
+/// Reads the zero field and index of an absent operand.
 #[tactic(auto, unfolding(rpg_object_format::specs::Format::two_bytes, rpg_object_format::specs::Format::pair, rpg_object_format::specs::Format::row, crate::specs::Operands::unused_operand))]
 pub(crate) fn unused_operand_at(bytes: &[u8]) -> Result<((), &[u8]), ReadFault>
     ensures { ReadsAs (λ x. (x.0, x.1.now)) result (rows.unused_operand.reading bytes.now) }
@@ -62,13 +62,13 @@ pub(crate) fn unused_operand_at(bytes: &[u8]) -> Result<((), &[u8]), ReadFault>
     Ok(((), rest))
 }
 
-/// The operand written where there is none.
+/// The operand that encodes an absent one.
 pub(crate) const NO_OPERAND: Operand<u16> = Operand {
     field: 0,
     index: Index::Blank,
 };
 
-/// The operand, if it is one.
+/// Returns the operand, or None if it encodes an absent one.
 pub(crate) fn optional_of(operand: Operand<u16>) -> Option<Operand<u16>>
     ensures { result ≡ rows.optional_of operand }
 {
@@ -78,7 +78,7 @@ pub(crate) fn optional_of(operand: Operand<u16>) -> Option<Operand<u16>>
     }
 }
 
-/// The operand, or the one written where there is none.
+/// Returns the operand, or the one that encodes its absence.
 pub(crate) fn operand_or_none(operand: Option<Operand<u16>>) -> Operand<u16>
     ensures { result ≡ rows.operand_or_none operand }
 {

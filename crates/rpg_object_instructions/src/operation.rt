@@ -6,7 +6,7 @@ ghost use Rattle.rpg_object_instructions.specs.Instructions as rows;
 use rpg_object_format::fault::Code;
 use rpg_program::operation::{Operand, Shows};
 
-/// What an instruction does, apart from its operands.
+/// What an instruction does, without its operands.
 #[derive(Clone, Copy)]
 pub enum Opcode {
     Add,
@@ -42,7 +42,8 @@ pub struct Columns {
     pub negations: bool,
 }
 
-/// The numbers of an instruction: 0, or its equivalent, where the operation doesn't use one.
+/// The numbers of an instruction: 0, or its equivalent, for each that the operation doesn't
+/// use.
 #[derive(Clone, Copy)]
 pub struct Numbers {
     pub operation: Opcode,
@@ -180,7 +181,7 @@ pub fn operation_number(operation: Opcode) -> u8
     }
 }
 
-/// The row of an operation in the table.
+/// Returns the row of an operation in the table.
 pub fn columns_of(operation: Opcode) -> Columns
     ensures { result ≡ rows.used_columns operation }
 {

@@ -96,7 +96,7 @@ is_word letters.Plain = false
 is_word (letters.Code code) = false
 is_word letters.Word = true
 
--- the field of a word, which is 0 where there is none
+-- the field of a word, which is 0 if there is none
 abbrev pub is_word_field : Letter → ℕ → Bool
 is_word_field letter n = is_word letter || (n == 0)
 
@@ -112,7 +112,7 @@ letter_in editings.Plain = letters.Plain
 letter_in (editings.Code code) = letters.Code code
 letter_in (editings.Word field) = letters.Word
 
--- the field of the edit word; 0 where there is none
+-- the field of the edit word; 0 if there is none
 abbrev pub word_in : Editing ℕ → ℕ
 word_in editings.Plain = 0
 word_in (editings.Code code) = 0

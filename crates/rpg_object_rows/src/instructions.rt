@@ -33,7 +33,7 @@ impl Row for Instruction<u16> {
     }
 }
 
-/// Reads so many instructions. How many there may be is the caller's to test.
+/// Reads `count` instructions. The caller checks the count.
 #[tactic(auto, unfolding(rpg_object_format::specs::Format::times_with))]
 pub fn instructions_at(
     alloc: Global,

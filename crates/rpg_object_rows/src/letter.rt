@@ -1,4 +1,4 @@
-//! The letter of a line's field: how it is edited, apart from the field of an edit word.
+//! The letter of a line's field: how it is edited, without the field of an edit word.
 
 ghost use Rattle.std.specs.Prelude.{◌≡◌};
 ghost use Rattle.rpg_object_format.specs.Format.{read_byte, read_two};
@@ -59,7 +59,7 @@ fn word_field(letter: Letter, n: u16) -> Result<u16, Code>
     }
 }
 
-/// Reads the field of an edit word, which is 0 where there is none.
+/// Reads the field of an edit word, 0 if there is none.
 #[tactic(auto, unfolding(rpg_object_format::specs::Format::read_two))]
 pub fn word_field_at(bytes: &[u8], letter: Letter) -> Result<(u16, &[u8]), ReadFault>
     ensures { ReadsAs (λ x. (x.0, x.1.now)) result (read_two (allowed (rows.is_word_field letter)) bytes.now) }
@@ -67,7 +67,7 @@ pub fn word_field_at(bytes: &[u8], letter: Letter) -> Result<(u16, &[u8]), ReadF
     number_at(bytes, |n| word_field(letter, n))
 }
 
-/// How a field with this letter is edited.
+/// Returns the editing of a field with this letter.
 pub fn editing_of(letter: Letter, field: u16) -> Editing<u16>
     ensures { result ≡ rows.editing_by_letter letter field }
 {
@@ -88,7 +88,7 @@ pub fn letter_in(editing: Editing<u16>) -> Letter
     }
 }
 
-/// The field of the edit word; 0 where there is none.
+/// Returns the field of the edit word, 0 if there is none.
 pub fn word_in(editing: Editing<u16>) -> u16
     ensures { result ≡ rows.word_in editing }
 {

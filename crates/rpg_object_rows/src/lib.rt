@@ -1,4 +1,4 @@
-//! The record types and output lines of an object program, each with the bytes that spell it, and tables of rows.
+//! The record types and output lines of an object program, each with its encoding, and tables of rows.
 #![tactic(auto)]
 
 mod conditions;

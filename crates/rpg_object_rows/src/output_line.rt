@@ -74,7 +74,7 @@ fn time_at(bytes: &[u8]) -> Result<(Time, &[u8]), ReadFault>
     byte_at(bytes, time_of)
 }
 
-/// At least one, and at most 50.
+/// Checks a count of alternatives: 1 to 50.
 fn alternative_count(n: u16) -> Result<u16, Code>
     ensures { result ≡ rows.allowed_alternatives n }
 {
@@ -147,7 +147,7 @@ impl Row for Vec<Condition> {
 
 // ---- lines
 
-/// Reads a line. No alternative is B5; more than 50, more than 60 conditions of one, or more than 200 fields are B7.
+/// Reads a line. B5 if it has no alternative; B7 if it has more than 50, more than 60 conditions in one, or more than 200 fields.
 #[tactic(auto, unfolding(rpg_object_format::specs::Format::byte, rpg_object_format::specs::Format::two_bytes, rpg_object_format::specs::Format::pair, rpg_object_format::specs::Format::row, rpg_object_format::specs::Format::times_with, crate::specs::Lines::line_parts, crate::specs::Lines::line))]
 pub fn line_at(alloc: Global, bytes: &[u8]) -> Result<(Line, &[u8]), ReadFault>
     ensures { ReadsAs (λ x. (line_row x.0, x.1.now)) result (rows.line.reading bytes.now) }
@@ -228,7 +228,7 @@ impl Row for Line {
     }
 }
 
-/// Reads so many lines. How many there may be is the caller's to test.
+/// Reads `count` lines. The caller checks the count.
 #[tactic(auto, unfolding(rpg_object_format::specs::Format::times_with))]
 pub fn lines_at(alloc: Global, count: u16, bytes: &[u8]) -> Result<(Vec<Line>, &[u8]), ReadFault>
     ensures { ReadsAs (λ x. (map line_row x.0.items, x.1.now)) result ((table count rows.line).reading bytes.now) }

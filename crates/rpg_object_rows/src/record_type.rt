@@ -223,8 +223,7 @@ fn put_match_count(out: &mut Vec<u8>, version: Version, count: u16) -> Result<()
     }
 }
 
-/// Reads a record type, as the version spells it. More than 100 codes, 100 control fields, 500 input fields or 9 match
-/// fields are B7.
+/// Reads a record type, in the encoding of the version. B7 for more than 100 codes, 100 control fields, 500 input fields or 9 match fields.
 #[tactic(auto, unfolding(rpg_object_format::specs::Format::byte, rpg_object_format::specs::Format::two_bytes, rpg_object_format::specs::Format::pair, rpg_object_format::specs::Format::row, rpg_object_format::specs::Format::times_with, crate::specs::Types::type_parts, crate::specs::Types::record_type_format))]
 pub fn record_type_at(
     alloc: Global,
@@ -282,7 +281,7 @@ fn put_type_head(
     put_match_count(out, version, record_type.matches.len() as u16)
 }
 
-/// Writes a record type, as the version spells it.
+/// Writes a record type, in the encoding of the version.
 pub fn put_record_type(
     out: &mut Vec<u8>,
     version: Version,
@@ -300,7 +299,7 @@ pub fn put_record_type(
     Ok(())
 }
 
-/// Reads so many record types. How many there may be is the caller's to test.
+/// Reads `count` record types. The caller checks the count.
 pub fn record_types_at(
     alloc: Global,
     version: Version,

@@ -9,14 +9,14 @@ ghost use Rattle.rpg_program.specs.declared.rows.Version.TheVariants as versions
 ghost use Rattle.rpg_object_rows.specs.Lines.{line};
 ghost use Rattle.rpg_object_rows.specs.Types.{record_type_format};
 
-/// What a record type keeps, in plain words, and back. In version 1 it is of the primary file and has no match fields.
+/// The limits of a record type, in plain words, and the converse. In version 1 it is of the primary file and has no match fields.
 pub fn record_types_are_plain()
     ensures plain { (v : Version) (t : TypeRow ℕ) → (record_type_format v).Holds t → IsTypeRow t }
     ensures first { (t : TypeRow ℕ) → (record_type_format versions.One).Holds t → IsPlainType t }
     ensures whole { (v : Version) (t : TypeRow ℕ) → IsTypeRow t → (v ≡ versions.One → IsPlainType t) → (record_type_format v).Holds t }
 {}
 
-/// What a line keeps, in plain words, and back.
+/// The limits of a line, in plain words, and the converse.
 #[tactic(auto, using(crate::proofs::LineLaws::line_kept, crate::proofs::LineLaws::line_from))]
 pub fn lines_are_plain()
     ensures plain { (l : LineRow) → line.Holds l → IsLineRow l }

@@ -1,4 +1,4 @@
-//! Tables: rows of one format, one after another.
+//! Tables: consecutive rows of one format.
 
 ghost use Rattle.std.specs.Prelude.{◌≡◌, ℕ, List, ◌++◌, map, All, Result, OnOk};
 ghost use Rattle.rpg_object_format.specs.declared.fault.Fault.{Fault};
@@ -8,7 +8,7 @@ ghost use Rattle.rpg_object_format.specs.Reading.{ReadsAs};
 use rpg_object_format::fault::ReadFault;
 use std::alloc::{AllocError, Global};
 
-/// A row that is read the same way wherever it is.
+/// A row whose encoding doesn't depend on where it is.
 pub trait Row: Drop {
     ghost Seen: { Type 0 };
 
@@ -28,7 +28,7 @@ pub trait Row: Drop {
         ensures { OnOk result (out.new.items ≡ out.old.items ++ spell (seen self.now)) };
 }
 
-/// Reads so many rows.
+/// Reads `count` rows.
 pub fn rows_at<T: Row>(
     alloc: Global,
     count: u16,

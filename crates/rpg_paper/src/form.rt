@@ -1,4 +1,4 @@
-//! The printed form: where the paper is, and the bytes that bring it to a line.
+//! The printed form: where the paper is, and the bytes that move it to a line.
 
 ghost use Rattle.std.specs.Prelude.{◌≡◌, ℕ, ◌+◌, ◌<◌, ◌≤◌, ◌↔◌, List, [], ◌∷◌, ◌++◌, Option, Some, None, IsTrue, OnOk, OnErr};
 ghost use Rattle.rpg_text.specs.Texts.{trimmed};
@@ -12,7 +12,7 @@ use std::error::Error;
 use std::fmt;
 use std::marker::Model;
 
-/// Memory for the printer's bytes was refused.
+/// Memory ran out for the printer's bytes.
 #[derive(Clone, Copy, Debug)]
 pub struct NoMemory;
 
@@ -24,10 +24,10 @@ impl fmt::Display for NoMemory {
 
 impl Error for NoMemory {}
 
-/// The lines of a page (this profile).
+/// The lines of a page in this profile.
 const PAGE_LINES: u8 = 66;
 
-/// The first line of the overflow area: a movement that ends there turns the overflow indicator on (this profile).
+/// The first line of the overflow area: a movement that ends there turns the overflow indicator on in this profile.
 const OVERFLOW_LINE: u8 = 60;
 
 const LINE_FEED: u8 = 10;
@@ -36,8 +36,8 @@ const FORM_FEED: u8 = 12;
 
 const CARRIAGE_RETURN: u8 = 13;
 
-/// Where the printer's paper is: the line placed last, the pages begun since, and the present line.
-/// Lines are counted from 1 to 66, on pages without end.
+/// Where the printer's paper is: the line placed last, the pages begun since, and the present line. Lines are counted from 1 to 66, on
+/// endless pages.
 #[derive(Clone, Copy)]
 pub struct Form {
     last: Option<u8>,
@@ -58,7 +58,7 @@ impl Model for Form {
 }
 
 impl Form {
-    /// The form at the first line of the first page, nothing being placed.
+    /// Returns a form at the first line of the first page, with nothing placed.
     pub fn new() -> Self
         ensures stands { StandsAt result None top_of_paper }
         ensures paper { HasPrinted result [] top_of_paper [] }
@@ -71,21 +71,21 @@ impl Form {
         }
     }
 
-    /// The pages begun since a line was placed, or since the first page where none was.
+    /// Returns how many pages were begun since a line was placed, or since the first page if none was.
     pub fn begun(&self) -> u16
         ensures { result ≡ self.now.begun }
     {
         self.begun
     }
 
-    /// The line placed last on its page, if one was placed.
+    /// Returns the line placed last on its page, if there is one.
     pub fn last(&self) -> Option<u8>
         ensures { result ≡ self.now.last }
     {
         self.last
     }
 
-    /// Moves `lines` lines on. Returns whether this turns the overflow indicator on.
+    /// Moves on by `lines` lines. Returns whether this turns the overflow indicator on.
     pub fn space(&mut self, lines: u8) -> bool
         requires few_lines { lines ≤ 3 }
         requires few_pages { self.old.begun < 1000 }
@@ -94,7 +94,7 @@ impl Form {
         ensures overflow { (last : Option Position) (here : Position) → StandsAt self.old last here
             → IsTrue result ↔ TurnsOverflowOn here (spaced lines here) }
 
-        // The same by what the form itself remembers.
+        // The same in terms of the form's own state.
         ensures form { self.new ≡ form_after_space lines self.old }
         ensures test { result ≡ turns_overflow_on (here_of self.old) (here_of self.new) }
     {
@@ -112,8 +112,7 @@ impl Form {
         line >= OVERFLOW_LINE
     }
 
-    /// Moves to the next such line that isn't before the present one. Returns whether this turns the overflow
-    /// indicator on.
+    /// Moves to the next line with this number that isn't before the present one. Returns whether this turns the overflow indicator on.
     pub fn skip(&mut self, line: u8) -> bool
         requires low { 1 ≤ line }
         requires high { line ≤ 66 }
@@ -123,7 +122,7 @@ impl Form {
         ensures overflow { (last : Option Position) (here : Position) → StandsAt self.old last here
             → IsTrue result ↔ TurnsOverflowOn here (skipped line here) }
 
-        // The same by what the form itself remembers.
+        // The same in terms of the form's own state.
         ensures form { self.new ≡ form_after_skip line self.old }
         ensures test { result ≡ turns_overflow_on (here_of self.old) (here_of self.new) }
     {
@@ -136,8 +135,8 @@ impl Form {
         line > from && line >= OVERFLOW_LINE
     }
 
-    /// Places a line of text here: appends the bytes that bring the paper from the line placed last to this one,
-    /// and the text without the blanks at its end.
+    /// Places a line of text here: appends the bytes that move the paper from the line placed last to this one, and the text without
+    /// trailing blanks.
     pub fn place(&mut self, text: &[u8], out: &mut Vec<u8>) -> Result<(), NoMemory>
         // The bytes are those of the paper, whatever was placed before.
         ensures paper { (sent : List ℕ) (lines : List Placed) (here : Position)
@@ -148,7 +147,7 @@ impl Form {
         ensures stands { (last : Option Position) (here : Position) → StandsAt self.old last here
             → OnOk result (StandsAt self.new (Some here) here) }
 
-        // The same by what the form itself remembers.
+        // The same in terms of the form's own state.
         ensures line { OnOk result (out.new.items ≡ out.old.items ++ way_of self.old ++ trimmed text.now) }
         ensures form { OnOk result (self.new ≡ after_line self.old) }
 

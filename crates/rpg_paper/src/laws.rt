@@ -4,7 +4,7 @@ ghost use Rattle.std.specs.Prelude.{◌≡◌, ℕ, ◌+◌, ◌≤◌, List, �
 ghost use Rattle.rpg_paper.specs.Paper.{Position, Placed, TurnsOverflowOn, turns_overflow_on, lines_to, spaced, skipped, bytes_from, paper, last_position};
 ghost use Rattle.rpg_paper.specs.Form.{FormLine, placed_after, form_bytes};
 
-/// Lines placed after other lines add to the paper what they add after its last line.
+/// Lines placed after others add to the paper what they add after its last line.
 pub fn lines_follow_lines()
     ensures { (xs ys : List Placed) → paper (xs ++ ys) ≡ paper xs ++ bytes_from (last_position xs) ys }
 {}
@@ -14,7 +14,7 @@ pub fn spaces_pass_lines()
     ensures { (n : ℕ) (p : Position) → lines_to (spaced n p) ≡ lines_to p + n }
 {}
 
-/// A skip leads to the first such line of the paper that isn't before the present one.
+/// A skip leads to the first line of the paper with this number that isn't before the present one.
 pub fn skips_lead_to_the_next_such_line()
     ensures line { (line : ℕ) (p : Position) → (skipped line p).line ≡ line }
     ensures not_back { (line : ℕ) (p : Position) → p.line ≤ 66 → lines_to p ≤ lines_to (skipped line p) }
@@ -27,7 +27,7 @@ pub fn overflow_is_tested()
     ensures { (from to : Position) → IsTrue (turns_overflow_on from to) ↔ TurnsOverflowOn from to }
 {}
 
-/// Pages counted from the line before give the bytes of the positions.
+/// Pages counted from the previous line give the bytes of the positions.
 pub fn counted_pages_give_positions()
     ensures { (previous : Option Position) (xs : List FormLine)
         → bytes_from previous (placed_after previous xs) ≡ form_bytes (option_map (λ p. p.line) previous) xs }

@@ -1,4 +1,4 @@
-//! Parts of what is sent to the printer.
+//! Parts of the printer's bytes.
 
 ghost use Rattle.std.specs.Prelude.{replicate};
 ghost use Rattle.rpg_paper.specs.Form.{Adds};

@@ -38,11 +38,11 @@ computed Add p q = plus p q
 computed Subtract p q = minus p q
 computed Multiply p q = times p q
 
--- one number divided by another, exactly; none where that is zero
+-- one number divided by another, exactly; none if that is zero
 abbrev pub divided : Fraction → Fraction → Option Fraction
 divided p q = if int_eq q.top (pos 0) then None else Some (over p q)
 
--- with its sign turned, where asked
+-- with its sign turned, if asked
 abbrev pub assigned : Bool → ℤ → ℤ
 assigned negated n = if negated then neg_ℤ n else n
 
@@ -101,7 +101,7 @@ module _ {K : Type 0} {R : K → K → Ordering} where
   index_set (Field k) n d = set_value d k 1 (Number (pos n))
 
 module _ {K : Type 0} {R : K → K → Ordering} (forms : K → Option FieldForm) where
-  -- the number of an entry, its decimal point where its form has it
+  -- the number of an entry, its decimal point if its form has it
   abbrev pub exact : Data R → Entry K → Fraction
   exact d o = with_decimals (number_at d o.field o.position) (decimals_of (forms o.field))
 
@@ -109,7 +109,7 @@ module _ {K : Type 0} {R : K → K → Ordering} (forms : K → Option FieldForm
   abbrev pub summed : Data R → Entry K → Fraction
   summed d b = with_decimals (sum_to (number_at d b.field) (entries_of (forms b.field))) (decimals_of (forms b.field))
 
-  -- a division leaves its remainder where it isn't half adjusted, else the one before
+  -- a division leaves its remainder if it isn't half adjusted, else the one before
   abbrev pub remainder_after : Bool → Data R → Entry K → Entry K → Entry K → Fraction
   remainder_after half d a b r =
       if half then d.remainder
@@ -142,7 +142,7 @@ module _ {K : Type 0} {R : K → K → Ordering} (forms : K → Option FieldForm
 
   -- ---- LOKUP
 
-  -- a position becomes current, where the field is a table
+  -- a position becomes current, if the field is a table
   abbrev pub made_current : K → ℕ → Data R → Data R
   made_current k n d = if is_table_form (forms k) then set_current d k n else d
 
@@ -151,7 +151,7 @@ module _ {K : Type 0} {R : K → K → Ordering} (forms : K → Option FieldForm
   made_current_if_any None n d = d
   made_current_if_any (Some table) n d = made_current table n d
 
-  -- what is found goes to the index field, 1 where there is nothing; it becomes current in factor 2 and in the result's table
+  -- what is found goes to the index field, 1 if there is nothing; it becomes current in factor 2 and in the result's table
   unfoldable pub with_found : Entry K → Option K → Option Found → Data R → Data R
   with_found b table None d = index_set b.index 1 d
   with_found b table (Some f) d = made_current_if_any table f.position (made_current b.field f.position (index_set b.index f.position d))

@@ -1,4 +1,4 @@
--- What an instruction or an output does: how it ends, the world that it leaves, and what it puts out.
+-- What an instruction or an output does: how it ends, the world that it leaves, and what it outputs.
 use Rattle.std.specs.Prelude.{ℕ, List, [], ◌++◌, Option, None, Some}
 use Rattle.std.specs.declared.cmp.Ordering.{Ordering}
 use Rattle.rpg_paper.specs.Paper.{Placed}
@@ -13,15 +13,15 @@ pub record Effect {K : Type 0} (R : K → K → Ordering) : Type 0 where
   pub records : List (List ℕ)
 
 module _ {K : Type 0} {R : K → K → Ordering} where
-  -- nothing is put out
+  -- nothing is output
   abbrev pub quiet : End → World R → Effect R
   quiet e w = record { ending = e; world = w; lines = []; records = [] }
 
-  -- goes on with that world, and puts nothing out
+  -- goes on with that world, and outputs nothing
   abbrev pub Leaves : World R → Effect R
   Leaves w = quiet GoesOn w
 
-  -- what an effect puts out follows what another put out
+  -- what an effect outputs follows what another output
   abbrev pub after_output : Effect R → Effect R → Effect R
   after_output d e = record { ending = e.ending; world = e.world; lines = d.lines ++ e.lines; records = d.records ++ e.records }
 

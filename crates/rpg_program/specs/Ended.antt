@@ -1,4 +1,4 @@
--- How an operation or an input field ends, and the data that it leaves: it sees no paper, and puts nothing out.
+-- How an operation or an input field ends, and the data that it leaves: it sees no paper, and outputs nothing.
 use Rattle.std.specs.Prelude.{ℕ, Option, None, Some}
 use Rattle.std.specs.declared.cmp.Ordering.{Ordering}
 use Rattle.rpg_program.specs.Effect.{Effect, quiet}
@@ -39,6 +39,6 @@ module _ {K : Type 0} {R : K → K → Ordering} where
   if_right None d o = o
   if_right (Some f) d o = ends_with (Wrong f) d
 
-  -- what is done to the data, as an effect of a world: the paper stays as it is, and nothing is put out
+  -- what is done to the data, as an effect of a world: the paper stays as it is, and nothing is output
   abbrev pub on_data : (Data R → Ended R) → World R → Effect R
   on_data f w = let o = f w.data in quiet o.ending (with_data o.data w)

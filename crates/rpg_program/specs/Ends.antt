@@ -5,7 +5,7 @@ use Rattle.rpg_program.specs.declared.outcome.End as rust
 use Rattle.rpg_program.specs.declared.outcome.End.TheVariants as answers
 
 -- What is wrong with a step: a place outside the running section; a field, record column or place of a line that isn't there, or a
--- write where none is allowed; a value or a part of a field of another kind than required; a return where no call was made.
+-- write if none is allowed; a value or a part of a field of another kind than required; a return if no call was made.
 pub data Fault : Type 0 where
   Jump : Fault
   Storage : Fault

@@ -22,10 +22,10 @@ module _ {K : Type 0} {R : K → K → Ordering} (forms : K → Option FieldForm
   position_by fields field (Literal n) = Some n
   position_by fields field (Field k) = in_range (entries_of (forms field)) (number_of (value_in fields (k, 1)))
 
-  -- the position that an operand names now; none where the number in its index field is out of range
+  -- the position that an operand names now; none if the number in its index field is out of range
   unfoldable pub position_of : Fields R → Operand K → Option ℕ
   position_of fields o = position_by fields o.field o.index
 
-  -- the entry that it names, where it names one
+  -- the entry that it names, if it names one
   unfoldable pub entry_of : Fields R → Operand K → Entry K
   entry_of fields o = record { field = o.field; index = o.index; position = unwrap_or (position_of fields o) 0 }

@@ -61,22 +61,22 @@ abbrev pub has_field : Option FieldForm → Bool
 has_field None = false
 has_field (Some d) = true
 
--- its kind; where there is no field, number
+-- its kind; if there is no field, number
 abbrev pub kind_of : Option FieldForm → Kind
 kind_of None = kinds.Number
 kind_of (Some d) = d.kind
 
--- its length; where there is no field, 0
+-- its length; if there is no field, 0
 abbrev pub length_of : Option FieldForm → ℕ
 length_of None = 0
 length_of (Some d) = d.length
 
--- its decimals; where there is no field, 0
+-- its decimals; if there is no field, 0
 abbrev pub decimals_of : Option FieldForm → ℕ
 decimals_of None = 0
 decimals_of (Some d) = d.decimals
 
--- its entries; where there is no field, 0
+-- its entries; if there is no field, 0
 abbrev pub entries_of : Option FieldForm → ℕ
 entries_of None = 0
 entries_of (Some d) = d.entries

@@ -1,4 +1,4 @@
--- What was put out before isn't lost by what is put out after it, whether that goes well or not.
+-- What was output before isn't lost by what is output after it, whether that goes well or not.
 use Rattle.std.specs.Prelude.{◌≡◌, ◌++◌}
 use Rattle.rpg_program.specs.Put.{Bytes}
 

@@ -91,7 +91,7 @@ pub record IsFieldRow (f : FieldForm) : Type 0 where
   pub single : may_have_entries f.class ≡ false → f.entries ≡ 1
   pub unordered : may_have_entries f.class ≡ false → f.is_ascending ≡ false
 
--- a number of so many digits, or a text of so many characters
+-- a number with this many digits, or a text with this many characters
 abbrev pub IsValueOf : Kind → ℕ → Value → Type 0
 IsValueOf kinds.Number len (Number n) = unsigned_abs n < 10 ^ len
 IsValueOf kinds.Text len (Text text) = (length text ≡ len) × All IsCharacter text

@@ -48,7 +48,7 @@ module _ {K : Type 0} (forms : K → Option FieldForm) where
   has_word (editings.Code code) = true
   has_word (editings.Word k) = has_field (forms k)
 
-  -- written to only where that is allowed
+  -- written to only if that is allowed
   abbrev pub may_change : LineField K → Bool
   may_change f = not (f.is_blanked || prints_page f.source) || may_write (forms f.operand.field)
 
@@ -86,7 +86,7 @@ module _ {K : Type 0} (forms : K → Option FieldForm) (words : K → List ℕ) 
   abbrev pub AreRight : ℕ → List (LineField K) → Type 0
   AreRight len fields = All (λ f. field_fault len f ≡ None) fields
 
-  -- blank after is used only where the field may be written
+  -- blank after is used only if the field may be written
   abbrev pub blanks_writable : LineField K → Bool
   blanks_writable f = not f.is_blanked || may_write (forms f.operand.field)
 

@@ -1,4 +1,4 @@
--- Output lines: the text of a line, when it is put out, and its effect on a world.
+-- Output lines: the text of a line, when it is output, and its effect on a world.
 use Rattle.std.specs.Prelude.{ℕ, ℤ, pos, ◌+ℤ◌, ◌-◌, Bool, true, false, not, ◌&&◌, ◌==◌, List, [], ◌∷◌, ◌++◌, length, take, drop, replicate, Option, None, Some, if◌then◌else◌}
 use Rattle.std.specs.FinSet as set
 use Rattle.std.specs.List.{list_any}
@@ -35,7 +35,7 @@ pub record Line (K : Type 0) : Type 0 where
   pub alternatives : List (List Condition)
   pub fields : List (LineField K)
 
--- ---- when a line is put out
+-- ---- when a line is output
 
 -- an indicator is named without N
 abbrev pub names_indicator : ℕ → List Condition → Bool
@@ -46,7 +46,7 @@ abbrev pub names_overflow : Option ℕ → List Condition → Bool
 names_overflow None cs = false
 names_overflow (Some n) cs = names_indicator n cs
 
--- the passage that an alternative of a line counts at: that of overflow where it names the overflow indicator, else its line's own
+-- the passage that an alternative of a line counts at: that of overflow if it names the overflow indicator, else its line's own
 unfoldable pub pass_of : Option ℕ → Time → List Condition → Pass
 pass_of overflow times.Heading cs = if names_overflow overflow cs then passes.OverflowDetail else passes.Detail
 pass_of overflow times.Detail cs = if names_overflow overflow cs then passes.OverflowDetail else passes.Detail
@@ -66,7 +66,7 @@ is_pass p q = false
 abbrev pub is_met : Option ℕ → Pass → set.FinSet nat_cmp → Time → List Condition → Bool
 is_met overflow pass on time cs = is_pass (pass_of overflow time cs) pass && all_hold on cs
 
--- a line is due where one of its alternatives is met
+-- a line is due if one of its alternatives is met
 abbrev pub is_asked : Option ℕ → Pass → set.FinSet nat_cmp → Time → List (List Condition) → Bool
 is_asked overflow pass on time alternatives = list_any (λ cs. is_met overflow pass on time cs) alternatives
 
@@ -192,7 +192,7 @@ module _ {K : Type 0} {R : K → K → Ordering} where
   movements_watched w = record w { paper = record w.paper { was_overflow = true; has_turned_on = false } }
 
 module _ {K : Type 0} {R : K → K → Ordering} (forms : K → Option FieldForm) (words : K → List ℕ) where
-  -- the text of an entry is laid over the line; where the index is bad, halt 2
+  -- the text of an entry is laid over the line; if the index is bad, halt 2
   abbrev pub laid : Draft R → LineField K → Option ℕ → Drafted R
   laid d f None = drafted (Halt 2) d
   laid d f (Some position) =
@@ -215,14 +215,14 @@ module _ {K : Type 0} {R : K → K → Ordering} (forms : K → Option FieldForm
   assembled on len [] d = drafted GoesOn d
   assembled on len (f ∷ fs) d = let one = with_field on len d f in go_on_with one.ending one (assembled on len fs)
 
-  -- the line is put out, and then its entries are blanked, unless a field has stopped it
+  -- the line is output, and then its entries are blanked, unless a field has stopped it
   abbrev pub put_out : Option ℕ → Line K → World R → End → Draft R → Effect R
   put_out overflow l w GoesOn d =
       then_go (put_on overflow l.file l.spacing d.text (with_fields d.fields w)) (λ v. Leaves (with_fields (blanked_all d.to_blank v.data.fields) v))
   put_out overflow l w (Halt k) d = quiet (Halt k) (with_fields d.fields w)
   put_out overflow l w (Wrong f) d = quiet (Wrong f) (with_fields d.fields w)
 
-  -- a line is assembled whole, and then put out
+  -- a line is assembled whole, and then output
   unfoldable pub line_out : Option ℕ → Line K → World R → Effect R
   line_out overflow l w =
       unless_wrong (line_fault l.len l.spacing) w

@@ -90,18 +90,18 @@ version_number Two = 2
 
 -- ---- input files
 
--- the length of a file's records, 0 where there is no such file
+-- the length of a file's records, 0 if there is no such file
 abbrev pub input_length : Object → InputFile → ℕ
 input_length p Primary = p.record_length
 input_length p Secondary = p.secondary_length
 
--- records of a file have a length where it is there
+-- records of a file have a length if it is there
 abbrev pub has_file : Object → InputFile → Bool
 has_file p f = not (input_length p f == 0)
 
 -- ---- lines as output knows them
 
--- the length of a file's lines or records, 0 where there is no such file
+-- the length of a file's lines or records, 0 if there is no such file
 abbrev pub file_length : Object → File → ℕ
 file_length p files.Printer = p.printer_length
 file_length p files.Disk = p.disk_length

@@ -21,12 +21,12 @@ pub record IsLast (test : ℕ → Bool) (from last n : ℕ) : Type 0 where
 abbrev pub NonePasses : (ℕ → Bool) → ℕ → ℕ → Type 0
 NonePasses test from last = (m : ℕ) → from ≤ m → m ≤ last → test m ≡ false
 
--- a search for the first finds the first position that passes, and none exactly where none does
+-- a search for the first finds the first position that passes, and none exactly if none does
 abbrev pub FindsFirst : Type 0
 FindsFirst = (standing : ℕ → Ordering) (order : Ordering) (from last : ℕ) →
     MatchOption (first_one standing order (positions from last)) (NonePasses (stands standing order) from last) (IsFirst (stands standing order) from last)
 
--- a search for the last finds the last position that passes, and none exactly where none does
+-- a search for the last finds the last position that passes, and none exactly if none does
 abbrev pub FindsLast : Type 0
 FindsLast = (standing : ℕ → Ordering) (order : Ordering) (from last : ℕ) →
     MatchOption (last_one standing order (positions from last)) (NonePasses (stands standing order) from last) (IsLast (stands standing order) from last)

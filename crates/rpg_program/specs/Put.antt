@@ -1,4 +1,4 @@
--- What was put out: lines and records, and their bytes. A form remembers of the lines before only which was placed
+-- What was output: lines and records, and their bytes. A form remembers of the lines before only which was placed
 -- last, so its worlds count pages from there, and what is stated about an output holds for every line that may have been placed before.
 use Rattle.std.specs.Prelude.{◌≡◌, ℕ, ◌+◌, List, [], ◌∷◌, ◌++◌, Option, option_map}
 use Rattle.std.specs.Ordering.{nat_cmp}
@@ -47,7 +47,7 @@ pub record IsLeft (previous : Option Position) (after : Effect nat_cmp) (old : B
 pub record IsDone (effect : World nat_cmp → Effect nat_cmp) (w : Held) (old : Bytes) (e : End) (v : Held) (new : Bytes) : Type 0 where
   pub following : (previous : Option Position) → w.last ≡ line_of previous → IsLeft previous (effect (on_paper previous w.world)) old e v new
 
--- all that a job has put out: the lines on its paper, from the top, and the records on its disk, with the bytes that were sent before
+-- all that a job has output: the lines on its paper, from the top, and the records on its disk, with the bytes that were sent before
 pub record HasPut (sent : Bytes) (w : Held) (bytes : Bytes) (lines : List Placed) (records : List (List ℕ)) : Type 0 where
   pub last : w.last ≡ line_of (last_position lines)
   pub print : sent.print ++ bytes.print ≡ paper lines

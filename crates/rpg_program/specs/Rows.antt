@@ -173,7 +173,7 @@ module _ {K : Type 0} (forms : K → Option FieldForm) where
   abbrev pub is_good_operand : Use (Operand K) → Bool
   is_good_operand u = is_there u && is_shaped (forms u.operand.field) (operand_shape u.shape) u.operand.index
 
-  -- a field or an entry that isn't there, or a write where none is allowed
+  -- a field or an entry that isn't there, or a write if none is allowed
   unfoldable pub lacks_storage : Row (Operand K) → Bool
   lacks_storage r = not (all_of is_there r && all_used is_written r.result)
 

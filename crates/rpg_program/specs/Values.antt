@@ -15,13 +15,13 @@ abbrev pub held : entry.Value → Value
 held (kinds.Number n) = Number n
 held (kinds.Text text) = Text text.items
 
--- the number that is held, 0 where there is none
+-- the number that is held, 0 if there is none
 abbrev pub number_of : Option Value → ℤ
 number_of None = pos 0
 number_of (Some (Number n)) = n
 number_of (Some (Text text)) = pos 0
 
--- the characters that are held, none where there is no text
+-- the characters that are held, none if there is no text
 abbrev pub characters_of : Option Value → List ℕ
 characters_of None = []
 characters_of (Some (Number n)) = []

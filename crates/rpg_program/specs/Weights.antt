@@ -82,7 +82,7 @@ goes_through shapes.Whole = true
 goes_through shapes.Searched = true
 goes_through s = false
 
--- what EXCPT weighs besides itself, where all exception lines weigh so much
+-- what EXCPT weighs besides itself, if all exception lines weigh so much
 abbrev pub exceptions_of : {K : Type 0} → ℕ → Instruction K → ℕ
 exceptions_of exceptions Except = exceptions
 exceptions_of exceptions i = 0

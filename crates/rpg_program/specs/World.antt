@@ -35,7 +35,7 @@ pub record World {K : Type 0} (R : K → K → Ordering) : Type 0 where
 
 -- ---- conditions
 
--- its indicator is on, or where it is negated off
+-- its indicator is on, or if it is negated off
 abbrev pub holds : set.FinSet nat_cmp → Condition → Bool
 holds on c = if c.is_negated then not (set.contains on c.indicator) else set.contains on c.indicator
 

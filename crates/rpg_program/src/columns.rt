@@ -1,4 +1,4 @@
-//! The table of operations: the columns of each, and what is required of them.
+//! The table of operations: the columns of each operation, and what they require.
 
 ghost use Rattle.std.specs.Prelude.{◌≡◌, ◌≤◌};
 ghost use Rattle.rpg_program.specs.Forms as forms;
@@ -31,7 +31,7 @@ fn use_of(shape: Shape, kind: Kind, operand: Operand<u16>) -> Option<Use<Operand
     })
 }
 
-/// The kind of the field that an operand names.
+/// Returns the kind of the field that an operand names.
 fn kind_at(rows: &Rows, operand: Operand<u16>) -> Kind
     ensures { result ≡ forms.kind_of (words.form_of (forms.form_at rows.now.fields.items) operand) }
 {
@@ -44,7 +44,7 @@ fn number(operand: Operand<u16>) -> Option<Use<Operand<u16>>>
     use_of(Shape::One, Kind::Number, operand)
 }
 
-/// An entry of the kind that another operand has.
+/// Returns the use of an entry of the same kind as another operand.
 fn like(rows: &Rows, other: Operand<u16>, operand: Operand<u16>) -> Option<Use<Operand<u16>>>
     ensures { result ≡ words.like (words.form_of (forms.form_at rows.now.fields.items)) other operand }
 {
@@ -66,7 +66,7 @@ fn table(rows: &Rows, operand: Option<Operand<u16>>) -> Option<Use<Operand<u16>>
     }
 }
 
-/// The row of an operation.
+/// Returns the row of an operation.
 #[tactic(auto, unfolding(crate::specs::Rows::row_of))]
 pub fn row_of(rows: &Rows, action: Action<Operand<u16>>) -> Row<Operand<u16>>
     ensures { result ≡ words.row_of (words.form_of (forms.form_at rows.now.fields.items)) action }
@@ -160,7 +160,7 @@ pub fn row_of(rows: &Rows, action: Action<Operand<u16>>) -> Row<Operand<u16>>
     }
 }
 
-/// The row of an instruction: EXCPT and what only leads control have no operands.
+/// Returns the row of an instruction. EXCPT and transfers of control have no operands.
 pub fn columns_of(rows: &Rows, instruction: Instruction<u16>) -> Row<Operand<u16>>
     ensures { result ≡ instructions.instruction_columns (forms.form_at rows.now.fields.items) instruction }
 {
@@ -192,7 +192,7 @@ fn has_index(rows: &Rows, form: FieldForm, index: Index<u16>) -> bool
     }
 }
 
-/// Whether the entry that an operand names is there.
+/// Whether the entry that an operand names exists.
 pub fn has_entry(rows: &Rows, operand: Operand<u16>) -> bool
     ensures { result ≡ words.has_entry (forms.form_at rows.now.fields.items) operand }
 {
@@ -242,7 +242,7 @@ fn is_shaped(rows: &Rows, form: Option<FieldForm>, shape: Shape, index: Index<u1
     }
 }
 
-/// Whether an operand is one entry, and no whole array.
+/// Whether an operand is a single entry, not a whole array.
 pub fn is_one_entry(rows: &Rows, operand: Operand<u16>) -> bool
     ensures { result ≡ words.is_one_entry (forms.form_at rows.now.fields.items) operand }
 {
@@ -264,7 +264,7 @@ fn operand_shape(shape: Shape) -> Shape
     }
 }
 
-/// Whether field and index are there, and the index is as the shape requires.
+/// Whether the field and the index exist, and the index is as the shape requires.
 pub fn is_good(rows: &Rows, used: Use<Operand<u16>>) -> bool
     ensures { result ≡ words.is_good_operand (forms.form_at rows.now.fields.items) used }
 {
@@ -285,7 +285,7 @@ pub fn is_writable_use(rows: &Rows, used: Use<Operand<u16>>) -> bool
     may_write(form_at(rows, used.operand.field))
 }
 
-/// Whether it is a table, where an entry of it becomes current.
+/// Whether it is a table, if an entry of it becomes current.
 pub fn is_current_table(rows: &Rows, used: Use<Operand<u16>>) -> bool
     ensures { result ≡ words.is_current_table (forms.form_at rows.now.fields.items) used }
 {
@@ -305,7 +305,7 @@ fn can_hold(rows: &Rows, index: Index<u16>, position: u16) -> bool
     }
 }
 
-/// Whether the index field can hold a position, and the table of a result has it.
+/// Whether the index field can hold a position, and a result's table has that position.
 fn holds_position(
     rows: &Rows,
     index: Index<u16>,
@@ -323,7 +323,7 @@ fn holds_position(
     }
 }
 
-/// Whether whatever a search finds fits its index field and the result's table.
+/// Whether any result of a search fits its index field and the result's table.
 #[tactic(auto, unfolding(crate::specs::Rows::holds_positions))]
 pub fn holds_positions(rows: &Rows, row: Row<Operand<u16>>) -> bool
     ensures { result ≡ words.holds_positions (forms.form_at rows.now.fields.items) row }

@@ -3,7 +3,7 @@
 ghost use Rattle.std.specs.Prelude.{◌≡◌};
 ghost use Rattle.rpg_program.specs.Control as words;
 
-/// That an indicator (1 to 129) is on, or where the condition is negated that it is off.
+/// A condition that an indicator (1 to 129) is on or, if negated, off.
 #[derive(Clone, Copy)]
 pub struct Condition {
     pub indicator: u8,
@@ -18,7 +18,7 @@ pub struct Conditions {
     pub third: Option<Condition>,
 }
 
-/// Whether there is at least one of the three.
+/// Whether any of the three is filled.
 pub fn has_conditions(conditions: Conditions) -> bool
     ensures { result ≡ words.has_conditions conditions }
 {

@@ -10,7 +10,7 @@ pub enum Kind {
     Text,
 }
 
-/// What a field is for.
+/// The use of a field.
 #[derive(Clone, Copy, PartialEq, Eq)]
 pub enum Class {
     Plain,
@@ -21,7 +21,7 @@ pub enum Class {
     Date,
 }
 
-/// The form of a field: what it holds and how much of it.
+/// The form of a field: what it holds, and how much.
 #[derive(Clone, Copy)]
 pub struct FieldForm {
     pub kind: Kind,
@@ -40,7 +40,7 @@ impl FieldForm {
     ghost use Rattle.std.specs.Prelude.{◌≡◌};
     ghost use Rattle.rpg_program.specs.Forms.{size_of};
 
-    /// The bytes that a field of this form takes.
+    /// Returns how many bytes a field of this form takes.
     pub fn size(&self) -> u32
         ensures { result ≡ size_of self.now }
     {
@@ -48,7 +48,7 @@ impl FieldForm {
     }
 }
 
-/// Whether a number of so many digits may be as large. Five digits hold any number of two bytes.
+/// Whether a number of this many digits can be `n`. Five digits hold any two-byte number.
 #[tactic(auto, using(crate::proofs::Digits::five_digits))]
 pub fn fits_digits(n: u16, digits: u16) -> bool
     ensures { result ≡ nat_lt n (10 ^ digits) }

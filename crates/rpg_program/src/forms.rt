@@ -1,4 +1,4 @@
-//! Fields by their numbers, and what is required of their forms.
+//! Fields by number, and requirements on their forms.
 
 ghost use Rattle.std.specs.Prelude.{◌≡◌};
 ghost use Rattle.rpg_program.specs.Forms as words;
@@ -6,7 +6,7 @@ ghost use Rattle.rpg_program.specs.Forms as words;
 use crate::form::{FieldForm, Kind, is_constant, is_plain, is_table, is_writable, same_kind};
 use crate::rows::Rows;
 
-/// The form of a field, if there is one; the first field is 1.
+/// Returns the form of a field, if it exists; the first field is 1.
 pub fn form_at(rows: &Rows, field: u16) -> Option<FieldForm>
     ensures { result ≡ words.form_at rows.now.fields.items field }
 {
@@ -16,7 +16,7 @@ pub fn form_at(rows: &Rows, field: u16) -> Option<FieldForm>
     rows.fields.get(usize::from(field) - 1).copied()
 }
 
-/// Number where there is no field.
+/// Returns the kind of a field; number if it doesn't exist.
 pub fn kind_of(form: Option<FieldForm>) -> Kind
     ensures { result ≡ words.kind_of form }
 {
@@ -26,7 +26,7 @@ pub fn kind_of(form: Option<FieldForm>) -> Kind
     }
 }
 
-/// 0 where there is no field.
+/// Returns the length of a field, 0 if it doesn't exist.
 pub fn length_of(form: Option<FieldForm>) -> u16
     ensures { result ≡ words.length_of form }
 {
@@ -36,7 +36,7 @@ pub fn length_of(form: Option<FieldForm>) -> u16
     }
 }
 
-/// 0 where there is no field.
+/// Returns the decimals of a field, 0 if it doesn't exist.
 pub fn decimals_of(form: Option<FieldForm>) -> u8
     ensures { result ≡ words.decimals_of form }
 {
@@ -46,7 +46,7 @@ pub fn decimals_of(form: Option<FieldForm>) -> u8
     }
 }
 
-/// 0 where there is no field.
+/// Returns the entries of a field, 0 if it doesn't exist.
 pub fn entries_of(form: Option<FieldForm>) -> u16
     ensures { result ≡ words.entries_of form }
 {
@@ -74,7 +74,7 @@ pub fn is_table_form(form: Option<FieldForm>) -> bool
     }
 }
 
-/// A plain number without decimals.
+/// Whether it is a plain number without decimals.
 pub fn is_index_form(form: Option<FieldForm>) -> bool
     ensures { result ≡ words.is_index_form form }
 {
@@ -86,7 +86,7 @@ pub fn is_index_form(form: Option<FieldForm>) -> bool
     }
 }
 
-/// A constant that is a text, as edit words are.
+/// Whether it is a constant that is a text, as edit words are.
 pub fn is_text_constant(form: Option<FieldForm>) -> bool
     ensures { result ≡ words.is_text_constant form }
 {

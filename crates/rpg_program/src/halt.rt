@@ -8,24 +8,24 @@ ghost use Rattle.rpg_program.specs.Halts.{halt_number};
 pub enum Halt {
     /// A division by zero.
     ZeroDivisor,
-    /// An index that is no entry of its table or array.
+    /// An index without an entry in its table or array.
     BadIndex,
-    /// A record that is of no type.
+    /// A record that belongs to no type.
     NoRecordType,
-    /// A numeric field that holds a character that is no digit.
+    /// A numeric field with a character that isn't a digit.
     BadDigit,
-    /// A branch back or a call for which the cycle has no allowance left.
+    /// A backward branch or a call beyond the cycle's allowance.
     AllowanceSpent,
     /// A halt indicator that is on.
     IndicatorOn,
-    /// A record that is too long, or has a byte that is no character.
+    /// A record that is too long, or has a byte that isn't a character.
     BadRecord,
     /// A record whose match value is lower than the last one of its file.
     OutOfSequence,
 }
 
 impl Halt {
-    /// The number of a halt.
+    /// Returns the number of a halt.
     pub fn number(self) -> u8
         ensures { result ≡ halt_number self }
     {
@@ -41,7 +41,7 @@ impl Halt {
         }
     }
 
-    /// What happened, in a sentence.
+    /// Returns what happened, in a sentence.
     pub fn sentence(self) -> &'static str {
         match self {
             Halt::ZeroDivisor => "a calculation divides by zero",

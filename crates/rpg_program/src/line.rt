@@ -12,7 +12,7 @@ pub enum File {
     Disk,
 }
 
-/// When a line is put out.
+/// When a line is written.
 #[derive(Clone, Copy)]
 pub enum Time {
     Heading,
@@ -21,7 +21,7 @@ pub enum Time {
     Exception,
 }
 
-/// One passage through the lines: at detail time, at total time, the two of overflow output, and that of an EXCPT.
+/// A pass through the lines: at detail time, at total time, the two of overflow output, and that of EXCPT.
 #[derive(Clone, Copy)]
 pub enum Pass {
     Detail,
@@ -31,14 +31,14 @@ pub enum Pass {
     Exception,
 }
 
-/// What a field of a line prints: a value as it is, or PAGE, which is made one more first.
+/// What a field of a line prints: a value unchanged, or PAGE, which is incremented first.
 #[derive(Clone, Copy)]
 pub enum Source {
     Value,
     Page,
 }
 
-/// How a field is edited: not at all, by a code, or by the edit word that a constant holds.
+/// How a field is edited: not at all, by a code, or by the edit word in a constant.
 #[derive(Copy)]
 pub enum Editing<K> {
     Plain,
@@ -52,15 +52,15 @@ pub struct LineField<K> {
     pub source: Source,
     pub operand: Operand<K>,
     pub editing: Editing<K>,
-    /// Anything but blank goes only with a code.
+    /// Blank unless the field has an edit code.
     pub fill: Fill,
-    /// Blank after: the entry becomes zero or blank once the line has been put out.
+    /// Blank after: the entry becomes zero or blank after the line is written.
     pub is_blanked: bool,
     pub end: u16,
     pub conditions: Conditions,
 }
 
-/// The form's movements before a line and after it: spaces of 0 to 3 lines, skips to a line from 1 to 66, 0 for none.
+/// The form's movements before and after a line: spaces of 0 to 3 lines, skips to a line from 1 to 66, 0 for none.
 #[derive(Clone, Copy)]
 pub struct Spacing {
     pub space_before: u8,

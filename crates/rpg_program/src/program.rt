@@ -6,7 +6,8 @@ ghost use Rattle.rpg_program.specs.Object.{seen};
 use crate::rows::Rows;
 use std::marker::Model;
 
-/// An object program. It keeps all that the object format requires of its rows.
+/// An object program, which satisfies everything that the object format
+/// requires of its rows.
 #[derive(Drop)]
 pub struct Program {
     rows: Rows,
@@ -24,7 +25,7 @@ impl Model for Program {
 }
 
 impl Program {
-    /// The program of these rows.
+    /// Makes a program of these rows.
     pub fn build(rows: Rows) -> Program
         requires { IsProgram (seen rows) }
         ensures { result ≡ seen rows }
@@ -32,7 +33,7 @@ impl Program {
         Program { rows }
     }
 
-    /// The rows of the program.
+    /// Returns the rows of the program.
     pub fn rows(&self) -> &Rows
         ensures same { seen result.now ≡ self.now }
         ensures kept { IsProgram self.now }

@@ -18,11 +18,11 @@ pub struct RecordType {
     pub file: InputFile,
     /// The indicator that it turns on, 1 to 129.
     pub indicator: Option<u8>,
-    /// Records are of this type where all of these hold; at most 100.
+    /// Records belong to this type if all of these hold; at most 100.
     pub codes: Vec<RecordCode>,
     /// The control fields, at most 100.
     pub levels: Vec<ControlField>,
-    /// The columns that become values of fields, at most 500.
+    /// The columns that are moved to fields, at most 500.
     pub inputs: Vec<InputField<u16>>,
     /// The match fields, at most 9.
     pub matches: Vec<ControlField>,
@@ -34,14 +34,14 @@ pub struct Line {
     pub file: File,
     pub time: Time,
     pub spacing: Spacing,
-    /// The line is put out where all conditions of one of these hold: 1 to 50 of them, of at most 60 conditions each.
+    /// The line is written if all conditions of one of these hold: 1 to 50 of them, of at most 60 conditions each.
     pub alternatives: Vec<Vec<Condition>>,
     /// At most 200.
     pub fields: Vec<LineField<u16>>,
 }
 
 impl Line {
-    /// What the line weighs where it is meant: one, and one more for each of its fields.
+    /// Returns the line's weight if it counts: one, and one more for each of its fields.
     pub fn weight_where(&self, is_meant: bool) -> u64
         ensures { result ≡ cond is_meant (1 + length self.now.fields.items) 0 }
     {
@@ -56,12 +56,12 @@ impl Line {
 /// A subroutine.
 #[derive(Drop)]
 pub struct Subroutine {
-    /// Calls lead only to higher levels, which the verifier ensures; in the row it may be any number.
+    /// Calls lead only to higher levels, which the verifier ensures; the row itself allows any number.
     pub level: u16,
     pub instructions: Vec<Instruction<u16>>,
 }
 
-/// How an object program is spelled. One of version 1 has neither a secondary file nor match fields.
+/// How an object program is encoded. Version 1 has neither a secondary file nor match fields.
 #[derive(Clone, Copy, PartialEq, Eq)]
 pub enum Version {
     One,
@@ -83,15 +83,15 @@ impl Version {
 #[derive(Drop)]
 pub struct Rows {
     pub version: Version,
-    /// Backward branches and calls that a cycle may take, 1 to 65,535.
+    /// The most backward branches and calls of a cycle, 1 to 65,535.
     pub allowance: u16,
-    /// Columns of a record of the primary file, 1 to 9,999.
+    /// The length of a primary record, 1 to 9,999.
     pub record_length: u16,
-    /// Columns of a record of the secondary file, at most 9,999; 0 without one.
+    /// The length of a secondary record, at most 9,999; 0 without a secondary file.
     pub secondary_length: u16,
-    /// Places of a printed line, at most 132; 0 without a printer.
+    /// The length of a printed line, at most 132; 0 without a printer.
     pub printer_length: u16,
-    /// Columns of a disk record, at most 9,999; 0 without a disk file.
+    /// The length of a disk record, at most 9,999; 0 without a disk file.
     pub disk_length: u16,
     /// The indicator that a full page turns on, 112 to 119.
     pub overflow: Option<u8>,
@@ -103,8 +103,8 @@ pub struct Rows {
     pub types: Vec<RecordType>,
     /// At most 1,000.
     pub lines: Vec<Line>,
-    /// The instructions of detail calculations, of total calculations and of each subroutine: at most 8,192 in all, whose places
-    /// are numbered through in this order, from 0.
+    /// The instructions of detail calculations, of total calculations and of each subroutine: at most 8,192 in all. Their places
+    /// are numbered consecutively in this order, from 0.
     pub detail: Vec<Instruction<u16>>,
     pub total: Vec<Instruction<u16>>,
     /// At most 100.
@@ -112,7 +112,7 @@ pub struct Rows {
 }
 
 impl Rows {
-    /// The columns of a record of an input file, 0 where there is no such file.
+    /// Returns the record length of an input file, 0 if it doesn't exist.
     pub fn input_length(&self, file: InputFile) -> u16
         ensures { result ≡ objects.input_length (seen self.now) file }
     {
@@ -122,14 +122,14 @@ impl Rows {
         }
     }
 
-    /// Whether there is such an input file.
+    /// Whether the input file exists.
     pub fn has_file(&self, file: InputFile) -> bool
         ensures { result ≡ objects.has_file (seen self.now) file }
     {
         self.input_length(file) != 0
     }
 
-    /// The places of a printed line, or the columns of a disk record; 0 where there is no such file.
+    /// Returns the length of a printed line or of a disk record; 0 if the file doesn't exist.
     pub fn file_length(&self, file: File) -> u16
         ensures { result ≡ objects.file_length (seen self.now) file }
     {

@@ -8,7 +8,7 @@ pub enum Section {
     Subroutine(u16),
 }
 
-/// A place of a section. Places are numbered through the whole program.
+/// A place in a section. Places are numbered through the whole program.
 #[derive(Clone, Copy)]
 pub struct Place {
     pub section: Section,

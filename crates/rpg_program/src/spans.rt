@@ -1,4 +1,4 @@
-//! Sections with what is known of them while their instructions are judged, and where control may go from there.
+//! Sections with what is needed to check their instructions, and where control may go from them.
 
 ghost use Rattle.std.specs.Prelude.{◌≡◌, nat_lt};
 ghost use Rattle.rpg_program.specs.Spans.{IsSpan};
@@ -37,7 +37,7 @@ pub fn is_place(rows: &Rows, span: Span, place: usize) -> bool
     span.first <= place && (place < span.end || (has_end(span.section) && place == span.end))
 }
 
-/// The level of a subroutine, 0 where there is none of that number.
+/// Returns the level of a subroutine, 0 if it doesn't exist.
 fn level_of(rows: &Rows, subroutine: u16) -> u16
     ensures { result ≡ sections.level_of (seen rows.now) (section_names.Subroutine subroutine) }
 {

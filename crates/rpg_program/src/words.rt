@@ -1,4 +1,4 @@
-//! The characters of text constants, as edit words are.
+//! The characters of text constants, such as edit words.
 
 ghost use Rattle.std.specs.Prelude.{◌≡◌, true, map, slice_get};
 ghost use Rattle.rpg_program.specs.Forms as forms;
@@ -9,7 +9,7 @@ ghost use Rattle.rpg_program.specs.Object.{seen};
 use crate::rows::Rows;
 use crate::value::Value;
 
-/// The characters of the first of these values.
+/// Returns the characters of the first of these values.
 fn first_text(values: &[Value]) -> &[u8]
     ensures { result.now ≡ characters_of (slice_get (map held values.now) 0) }
 {
@@ -20,7 +20,8 @@ fn first_text(values: &[Value]) -> &[u8]
     }
 }
 
-/// The characters of a field that is a text constant. They are read from the program: constants are never written.
+/// Returns the characters of a field that is a text constant. They are read from the program, since constants are
+/// never written.
 pub fn word_at(rows: &Rows, field: u16) -> &[u8]
     requires { forms.is_text_constant (forms.form_at rows.now.fields.items field) ≡ true }
     ensures { result.now ≡ constants.word_at (seen rows.now) field }

@@ -32,7 +32,7 @@ column_kind has_code fields k =
     else if list_any (covers k) fields then columns.LastPlace
     else columns.Unnamed
 
--- a type with what stands in each column of a record of so many bytes, by the columns of codes
+-- a type with the contents of each column of a record of this length, by the columns of codes
 abbrev pub type_by : (ℕ → Bool) → ℕ → TypeRead → TypeSeen
 type_by has_code length t = record {
   card = t.card;

@@ -40,7 +40,7 @@ abbrev pub some_types : ℕ → List TypeRead → Result (List TypeRead) DeckFau
 some_types card [] = Err (faults.Card card card_faults.NoType)
 some_types card (t ∷ ts) = Ok (t ∷ ts)
 
--- the layout of a file whose records have so many bytes, by all cards of the deck
+-- the layout of a file with this record length, by all cards of the deck
 abbrev pub layout_for : Bool → DeckCard → List DeckCard → ℕ → Result LayoutSeen DeckFault
 layout_for are_lines file cards length =
     and_then (types_read length (cards_of_file (file_name file.card) false cards)) (λ types.

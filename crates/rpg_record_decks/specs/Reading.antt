@@ -26,6 +26,6 @@ type_now types = option_map type_read types.now
 abbrev pub GoOnAlike : InputSpec → Option TypeRead → Option TypeRead → Type 0
 GoOnAlike spec one other = (length : ℕ) (c : DeckCard) → type_after length one c spec ≡ type_after length other c spec
 
--- all types, where these cards follow
+-- all types, if these cards follow
 abbrev pub all_types : ℕ → Types → List DeckCard → Result (List TypeRead) DeckFault
 all_types length types cs = onto (types_done types) (types_read_after length (type_now types) cs)

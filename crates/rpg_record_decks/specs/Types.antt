@@ -32,7 +32,7 @@ use Rattle.rpg_record_decks.specs.declared.fields.FieldColumns.{FieldColumns}
 abbrev pub is_input_card : List ℕ → Bool
 is_input_card card = bytes_eq (cols 6 6 card) (codes "I")
 
--- whether an I card is one of the file of this name: AND cards and cards without a name are where the card before them is
+-- whether an I card is one of the file of this name: AND cards and cards without a name are if the card before them is
 abbrev pub is_of_file : List ℕ → Bool → List ℕ → Bool
 is_of_file name before card = if is_and_card card || length (file_name card) == 0 then before else bytes_eq (file_name card) name
 
@@ -92,7 +92,7 @@ with_codes length t three = and_then (with_three length t.codes three) (λ cs. O
 abbrev pub field_columns : Option NumberForm → InputFieldSpec → FieldColumns
 field_columns form f = record { first = f.from; last = f.to; form = form; has_decimals = is_some f.decimals }
 
--- its columns are in a record of so many bytes
+-- its columns are in a record of this length
 abbrev pub is_inside : ℕ → FieldColumns → Bool
 is_inside length f = nat_le 1 f.first && nat_le f.first f.last && nat_le f.last length
 
@@ -164,6 +164,6 @@ types_read_after length now (c ∷ cs) =
     and_then (at_card c.number (input_spec_of c.card)) (λ spec.
     and_then (at_card c.number (type_after length now c spec)) (λ t. onto (type_before now spec) (types_read_after length (Some t) cs)))
 
--- the types of a file's cards, whose records have so many bytes
+-- the types of a file's cards, whose records have this length
 abbrev pub types_read : ℕ → List DeckCard → Result (List TypeRead) DeckFault
 types_read length cards = types_read_after length None cards

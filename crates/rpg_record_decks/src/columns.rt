@@ -1,4 +1,4 @@
-//! The columns of cards, and cards with other ones.
+//! Columns of cards, and cards with changed columns.
 
 ghost use Rattle.std.specs.Prelude.{◌≡◌, ◌+◌, ◌-◌, ◌≤◌, ◌++◌, IfOk, OnOk, drop, length, replicate, true, vec_len};
 ghost use Rattle.std.specs.List.{list_all};
@@ -11,7 +11,7 @@ use rpg_sheet::Card;
 use rpg_text::trimmed;
 use std::alloc::{AllocError, Global};
 
-/// The columns of a card from `first` to `last`, counted from 1.
+/// Returns the columns of a card from `first` to `last`, counted from 1.
 pub(crate) fn columns(card: &Card, first: u8, last: u8) -> &[u8]
     requires counted { 1 ≤ first }
     requires ordered { first ≤ last }
@@ -21,14 +21,14 @@ pub(crate) fn columns(card: &Card, first: u8, last: u8) -> &[u8]
     &card.as_slice()[usize::from(first) - 1..usize::from(last)]
 }
 
-/// The name of a file on an F or an I card.
+/// Returns the name of a file on an F or an I card.
 pub(crate) fn file_name(card: &Card) -> &[u8]
     ensures { result.now ≡ file_name card.now }
 {
     trimmed(columns(card, 7, 14))
 }
 
-/// A digit of a number, by the power of ten that it stands for; a blank in place of a zero at the front.
+/// Returns a digit of a number, by its power of ten; a blank instead of a leading zero.
 fn digit_or_blank(number: usize, place: usize) -> u8
     requires { 1 ≤ place }
     ensures value { result ≡ digit_or_blank number place }
@@ -41,7 +41,7 @@ fn digit_or_blank(number: usize, place: usize) -> u8
     }
 }
 
-/// The last four digits of a number in four columns, to the right.
+/// Returns the last four digits of a number, right-aligned in four columns.
 pub(crate) fn number_columns(number: usize) -> [u8; 4]
     ensures value { result ≡ number_columns number }
     ensures characters { list_all is_character result ≡ true }
@@ -54,7 +54,7 @@ pub(crate) fn number_columns(number: usize) -> [u8; 4]
     ]
 }
 
-/// Gives a text blanks up to so many columns.
+/// Pads a text with blanks to `columns` columns.
 fn pad(text: &mut Vec<u8>, columns: usize) -> Result<(), AllocError>
     ensures { OnOk result (text.new.items ≡ text.old.items ++ replicate (columns - vec_len text.old) 32) }
 {
@@ -64,7 +64,7 @@ fn pad(text: &mut Vec<u8>, columns: usize) -> Result<(), AllocError>
     Ok(())
 }
 
-/// The first columns of a line, with blanks after its end.
+/// Returns the first columns of a line, padded with blanks.
 #[tactic(auto, using(crate::proofs::EditLemmas::short_front, crate::proofs::EditLemmas::long_front))]
 fn front(alloc: Global, line: &[u8], columns: usize) -> Result<Vec<u8>, AllocError>
     ensures { IfOk result (λ start. start.items ≡ first_columns columns line.now) }
@@ -80,7 +80,7 @@ fn front(alloc: Global, line: &[u8], columns: usize) -> Result<Vec<u8>, AllocErr
     Ok(start)
 }
 
-/// What a line has from a place on.
+/// Returns a line from a place on.
 #[tactic(auto, using(crate::proofs::EditLemmas::beyond))]
 fn from_place(line: &[u8], place: usize) -> &[u8]
     ensures { result.now ≡ drop place line.now }
@@ -92,7 +92,7 @@ fn from_place(line: &[u8], place: usize) -> &[u8]
     }
 }
 
-/// A line with a text in place of its columns from the first of these on.
+/// Returns a line with a text in its columns, from the first of these on.
 #[tactic(auto, using(crate::proofs::EditLemmas::three_parts))]
 pub(crate) fn with_columns(
     alloc: Global,
@@ -110,7 +110,7 @@ pub(crate) fn with_columns(
     Ok(changed)
 }
 
-/// A card with a text in place of its columns from the first of these on.
+/// Returns a card with a text in its columns, from the first of these on.
 #[tactic(auto, using(crate::proofs::EditLemmas::changed_length, crate::proofs::EditLemmas::changed_characters, crate::proofs::EditLemmas::full_card))]
 pub(crate) fn changed_card(
     alloc: Global,

@@ -9,20 +9,20 @@ use rpg_sheet::Card;
 use rpg_text::{first_line, has_only_characters, trimmed};
 use std::alloc::Global;
 
-/// The last card that a source may have.
+/// The last card of a source.
 pub(crate) const LAST_CARD: u16 = 2_000;
 
-/// How many columns a card has.
+/// The columns of a card.
 const COLUMNS: usize = 80;
 
-/// Which file of the deck is meant, and what the arguments say besides its cards.
+/// Which file of the deck to use, and what the arguments add to its cards.
 #[derive(Clone, Copy)]
 pub struct DeckWords<'a> {
-    /// The file's name; none is the primary file.
+    /// The file's name; None for the primary file.
     pub file: Option<&'a str>,
-    /// The length of a record in place of the one on the card.
+    /// The length of a record, which overrides the one on the card.
     pub length: Option<u16>,
-    /// Each record is a line.
+    /// Whether each record is a line.
     pub are_lines: bool,
 }
 
@@ -33,7 +33,7 @@ pub(crate) struct DeckCard {
     pub card: Card,
 }
 
-/// What a line has in the columns of a card.
+/// Returns the part of a line in the columns of a card.
 fn within_card(line: &[u8]) -> &[u8]
     ensures value { result.now ≡ take 80 line.now }
     ensures fits { length result.now ≤ 80 }
@@ -45,7 +45,7 @@ fn within_card(line: &[u8]) -> &[u8]
     }
 }
 
-/// The card of a line, by its number.
+/// Returns the card of a line, with its number.
 #[tactic(auto, using(crate::proofs::CardLemmas::card_of_columns))]
 fn card_at(number: u16, line: &[u8]) -> Result<DeckCard, CardFault>
     ensures value { result ≡ card_at number line.now }
@@ -72,7 +72,7 @@ fn ends_cards(card: &Card) -> bool
     card.ends_source() || card.begins_data()
 }
 
-/// The cards of a deck before its data and its end, without comments.
+/// Returns the cards of a deck before its data and its end, without comments.
 #[tactic(auto, using(crate::proofs::CardLemmas::cards_end, crate::proofs::CardLemmas::cards_refused, crate::proofs::CardLemmas::cards_last, crate::proofs::CardLemmas::cards_skipped, crate::proofs::CardLemmas::cards_next))]
 pub(crate) fn deck_cards(alloc: Global, source: &[u8]) -> Result<Vec<DeckCard>, DeckFault>
     ensures cards { IfOk result (λ cards. cards_of source.now ≡ Ok cards.items) }

@@ -12,7 +12,7 @@ use std::alloc::{AllocError, AllocFailed};
 pub enum CardFault {
     /// It has more than 80 characters.
     TooLong,
-    /// A byte is no character.
+    /// A byte isn't a character.
     NoCharacter,
     /// It is card 2,001.
     TooMany,
@@ -22,24 +22,24 @@ pub enum CardFault {
     Length,
     /// The columns aren't in the record.
     Outside,
-    /// A packed field hasn't 1 to 8 bytes, or a binary one not 2 or 4.
+    /// The size of a packed field isn't 1 to 8 bytes, or that of a binary one not 2 or 4.
     Size,
     /// A packed or binary field has no decimals.
     NoDecimals,
-    /// A column is one of characters and of a packed or binary field.
+    /// A column belongs to characters, and also to a packed or binary field.
     Shared { card: u16 },
     /// The longest line would have more than 9,999 columns.
     Wide { columns: usize },
     /// The file has no record type.
     NoType,
-    /// Records are lines, and a field is packed or binary.
+    /// Records are lines, but a field is packed or binary.
     BytesInLines,
 }
 
 /// Why a deck has no layout.
 #[derive(Clone, Copy, PartialEq, Eq)]
 pub enum DeckFault {
-    /// A card is refused. Cards are numbered from 1.
+    /// A card is rejected. Cards are numbered from 1.
     Card { number: u16, fault: CardFault },
     /// No card describes the file.
     NoFile,
@@ -76,7 +76,7 @@ impl<T: Drop> From<AllocFailed<T>> for DeckFault {
     }
 }
 
-/// Columns of the card of this number that rpg2 refuses.
+/// Returns the fault for columns of a card that rpg2 rejects.
 pub(crate) fn bad_columns(number: u16, fault: ColumnFault) -> DeckFault
     ensures { result ≡ Card number (Columns fault.column fault.last) }
 {

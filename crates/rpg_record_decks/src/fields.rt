@@ -1,4 +1,4 @@
-//! The fields of a record type, and why they are refused.
+//! The fields of a record type, and why they are rejected.
 
 ghost use Rattle.std.specs.Prelude.{◌≡◌, ◌&&◌, ◌≤◌, IfErr, IfOk, None, Some};
 ghost use Rattle.std.specs.List.{list_any};
@@ -9,18 +9,18 @@ use crate::fault::CardFault;
 use rpg_records::{NumberField, NumberForm};
 use rpg_sheet::InputFieldSpec;
 
-/// The columns of a field, and what stands there.
+/// The columns of a field, and their contents.
 #[derive(Clone, Copy)]
 pub(crate) struct FieldColumns {
-    /// From 1.
+    /// Counted from 1.
     pub first: u16,
     pub last: u16,
-    /// How the bytes of its number stand; none where they are characters.
+    /// The format of its bytes if it is a packed or binary number; None for characters.
     pub form: Option<NumberForm>,
     pub has_decimals: bool,
 }
 
-/// The columns of a card's field.
+/// Returns the columns of a card's field.
 pub(crate) fn field_columns(form: Option<NumberForm>, field: &InputFieldSpec) -> FieldColumns
     ensures { result ≡ field_columns form field.now }
 {
@@ -33,14 +33,14 @@ pub(crate) fn field_columns(form: Option<NumberForm>, field: &InputFieldSpec) ->
 }
 
 impl FieldColumns {
-    /// Whether it is in a record of so many bytes.
+    /// Whether it is in a record of this length.
     pub fn is_inside(&self, length: u16) -> bool
         ensures { result ≡ is_inside length self.now }
     {
         1 <= self.first && self.first <= self.last && self.last <= length
     }
 
-    /// Whether the bytes of one are a number, and of the other characters.
+    /// Whether one is packed or binary and the other one characters.
     fn differs_from(&self, other: &FieldColumns) -> bool
         ensures { result ≡ differ self.now other.now }
     {
@@ -51,14 +51,14 @@ impl FieldColumns {
         }
     }
 
-    /// Whether it shares a column with another field, and the bytes of one are a number, of the other characters.
+    /// Whether it shares a column with another field, and one is packed or binary and the other one characters.
     fn mixes_with(&self, other: &FieldColumns) -> bool
         ensures { result ≡ (overlaps self.now other.now && differ self.now other.now) }
     {
         self.first <= other.last && other.first <= self.last && self.differs_from(other)
     }
 
-    /// Whether it does so with any of these fields.
+    /// Whether it mixes with any of these fields.
     pub fn mixes_with_any(&self, fields: &[FieldColumns]) -> bool
         ensures { result ≡ list_any (λ g. overlaps self.now g && differ self.now g) fields.now }
     {
@@ -71,7 +71,7 @@ impl FieldColumns {
     }
 }
 
-/// The packed or binary field of a card.
+/// Returns the packed or binary field of a card.
 pub(crate) fn number_field(
     card: u16,
     field: FieldColumns,

@@ -1,4 +1,4 @@
-//! The card of the file that is meant.
+//! Finds the card of the file to use.
 
 ghost use Rattle.std.specs.Prelude.{◌≡◌, IfErr, IfOk, Ok, find, option_copied};
 ghost use Rattle.rpg_sheet_specs.specs.Tables.{file};
@@ -14,7 +14,7 @@ use std::alloc::Global;
 /// The most bytes of a record.
 const MOST_BYTES: u16 = 9_999;
 
-/// Whether an F card is that of the primary file, or of the file of this name.
+/// Whether an F card describes the file with this name, or the primary one.
 fn has_name(card: &Card, name: Option<&str>) -> bool
     ensures { result ≡ has_name (option_copied name.entry) card.now }
 {
@@ -24,7 +24,7 @@ fn has_name(card: &Card, name: Option<&str>) -> bool
     }
 }
 
-/// Whether a card is that of the input file that is meant.
+/// Whether a card describes the input file to use.
 fn is_meant(card: &Card, name: Option<&str>) -> bool
     ensures { result ≡ is_meant (option_copied name.entry) card.now }
 {
@@ -33,7 +33,7 @@ fn is_meant(card: &Card, name: Option<&str>) -> bool
         && has_name(card, name)
 }
 
-/// The first card of the file that is meant.
+/// Returns the first card of the file to use.
 pub(crate) fn find_file<'a>(cards: &'a [DeckCard], name: Option<&str>) -> Option<&'a DeckCard>
     ensures { option_copied result ≡ find (λ c. is_meant (option_copied name.entry) c.card) cards.now }
 {
@@ -45,7 +45,7 @@ pub(crate) fn find_file<'a>(cards: &'a [DeckCard], name: Option<&str>) -> Option
     None
 }
 
-/// The length of the records by a file's card.
+/// Returns the record length on a file's card.
 fn record_length(number: u16, card: &Card) -> Result<u16, DeckFault>
     ensures { result ≡ at_card number (record_length (or_columns (file.reading card.now))) }
 {
@@ -62,7 +62,7 @@ fn record_length(number: u16, card: &Card) -> Result<u16, DeckFault>
     }
 }
 
-/// The length of the records by the file's card, or by the arguments.
+/// Returns the record length on the file's card, or the one in the arguments.
 pub(crate) fn file_length(
     alloc: Global,
     file: &DeckCard,

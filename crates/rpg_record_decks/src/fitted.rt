@@ -12,7 +12,7 @@ use crate::deck::LAST_CARD;
 use rpg_records::{Layout, NumberField};
 use std::alloc::{AllocError, Global};
 
-/// Where the digits of a card's field stand, in columns from 1.
+/// The columns of a field's digits, from 1.
 #[derive(Clone, Copy)]
 pub(crate) struct DigitColumns {
     card: u16,
@@ -20,7 +20,7 @@ pub(crate) struct DigitColumns {
     last: usize,
 }
 
-/// Adds the columns of the digits of a type's fields, which stand after a record of so many bytes.
+/// Adds the columns of the digits of a type's fields, which follow a record of `length` bytes.
 fn add_digits(
     all: &mut Vec<DigitColumns>,
     length: u16,
@@ -41,7 +41,7 @@ fn add_digits(
     Ok(())
 }
 
-/// The columns of the digits of all packed and binary fields.
+/// Returns the columns of the digits of all packed and binary fields.
 fn all_digits(alloc: Global, layout: &Layout) -> Result<Vec<DigitColumns>, AllocError>
     ensures { IfOk result (λ all. all.items ≡ all_digit_columns (layout_seen layout.now)) }
 {
@@ -52,7 +52,7 @@ fn all_digits(alloc: Global, layout: &Layout) -> Result<Vec<DigitColumns>, Alloc
     Ok(all)
 }
 
-/// The first digits whose field is on the card of this number.
+/// Returns the first digits whose field is on the card with this number.
 fn find_digits(all: &[DigitColumns], number: usize) -> Option<DigitColumns>
     ensures { result ≡ find (λ d. d.card == number) all.now }
 {
@@ -64,7 +64,7 @@ fn find_digits(all: &[DigitColumns], number: usize) -> Option<DigitColumns>
     None
 }
 
-/// A blank, and the columns of a field's digits.
+/// Returns a blank, and the columns of a field's digits.
 fn digits_text(digits: DigitColumns) -> [u8; 9]
     ensures { result ≡ 32 ∷ number_columns digits.first ++ number_columns digits.last }
 {
@@ -75,7 +75,7 @@ fn digits_text(digits: DigitColumns) -> [u8; 9]
     ]
 }
 
-/// A line without the carriage return at its end.
+/// Returns a line without a carriage return at its end.
 fn without_return(line: &[u8]) -> &[u8]
     ensures { result.now ≡ strip_carriage_return line.now }
 {
@@ -85,7 +85,7 @@ fn without_return(line: &[u8]) -> &[u8]
     }
 }
 
-/// Adds a line with a text in place of its columns from the first of these on. A carriage return at its end stays.
+/// Appends a line with a text in its columns, from the first of these on. A carriage return at its end stays.
 fn add_changed(
     alloc: Global,
     deck: &mut Vec<u8>,
@@ -105,7 +105,7 @@ fn add_changed(
     Ok(())
 }
 
-/// Adds the line of this number, with its change.
+/// Appends the line with this number, with its change.
 fn add_line(
     alloc: Global,
     deck: &mut Vec<u8>,
@@ -129,7 +129,7 @@ fn add_line(
     }
 }
 
-/// The place of the first line feed.
+/// Returns the place of the first line feed.
 fn line_feed(text: &[u8]) -> Option<usize>
     ensures place { result ≡ position is_line_feed text.now }
     ensures within { IfSome result (λ end. end < length text.now) }
@@ -137,9 +137,10 @@ fn line_feed(text: &[u8]) -> Option<usize>
     text.iter().position(|byte| *byte == b'\n')
 }
 
-/// The deck that reads the lines of a layout.
+/// Returns the deck that reads the lines of a layout.
 ///
-/// The card of its file has the length of the longest line; those of packed and binary fields have the columns of the digits. All else is as it was.
+/// The card of its file has the length of the longest line, and those of packed and binary fields have the columns of the digits. All else
+/// is unchanged.
 #[tactic(auto, using(crate::proofs::FittedLemmas::last_fitted))]
 pub fn fitted_deck(alloc: Global, source: &[u8], layout: &Layout) -> Result<Vec<u8>, AllocError>
     ensures { IfOk result (λ deck. deck.items ≡ fitted (layout_seen layout.now) source.now) }

@@ -1,4 +1,4 @@
-//! What stands in the columns of a type's records.
+//! The contents of a type's columns.
 
 ghost use Rattle.std.specs.Prelude.{◌≡◌, ℕ, Bool, IfOk, length, map, vec_len, ◌+◌, ◌==◌, ◌≤◌};
 ghost use Rattle.std.specs.List.{list_any, range_with_len};
@@ -18,14 +18,14 @@ impl FieldColumns {
         self.first <= column && column <= self.last
     }
 
-    /// Whether a byte of a packed or binary field stands there.
+    /// Whether a byte of a packed or binary field is in the column.
     fn hides(&self, column: u16) -> bool
         ensures { result ≡ hides column self.now }
     {
         self.form.is_some() && self.covers(column)
     }
 
-    /// Whether a character of a text stands there, or a place of a number that isn't its last.
+    /// Whether a character of a text is in the column, or a digit of a number other than its last.
     fn shows(&self, column: u16) -> bool
         ensures { result ≡ shows_character column self.now }
     {
@@ -33,7 +33,7 @@ impl FieldColumns {
     }
 }
 
-/// Whether a packed or binary field has a column.
+/// Whether any packed or binary field has a column.
 fn any_hides(fields: &[FieldColumns], column: u16) -> bool
     ensures { result ≡ list_any (hides column) fields.now }
 {
@@ -45,7 +45,7 @@ fn any_hides(fields: &[FieldColumns], column: u16) -> bool
     false
 }
 
-/// Whether a field has a character in a column.
+/// Whether any field has a character in a column.
 fn any_shows(fields: &[FieldColumns], column: u16) -> bool
     ensures { result ≡ list_any (shows_character column) fields.now }
 {
@@ -69,7 +69,7 @@ fn any_covers(fields: &[FieldColumns], column: u16) -> bool
     false
 }
 
-/// What fields have in a column, where a code stands or not.
+/// Returns what fields have in a column, given whether it has a code.
 fn kind_of(has_code: bool, fields: &[FieldColumns], column: u16) -> Column
     ensures { result ≡ column_kind has_code fields.now column }
 {
@@ -84,7 +84,7 @@ fn kind_of(has_code: bool, fields: &[FieldColumns], column: u16) -> Column
     }
 }
 
-/// Whether one of these codes stands at a place, counted from 0.
+/// Whether one of these codes is at a place, counted from 0.
 fn is_place(codes: &[Code], place: usize) -> bool
     ensures { result ≡ list_any (λ c. c.place == place) codes.now }
 {
@@ -96,7 +96,7 @@ fn is_place(codes: &[Code], place: usize) -> bool
     false
 }
 
-/// Whether a code of any type stands in a column.
+/// Whether a code of any type is in a column.
 fn is_code(types: &[TypeCards], column: u16) -> bool
     ensures { result ≡ is_code (map type_read types.now) column }
 {
@@ -109,7 +109,7 @@ fn is_code(types: &[TypeCards], column: u16) -> bool
     false
 }
 
-/// For each column of a record of so many bytes, whether a code of any type stands there.
+/// Returns, for each column of a record of this length, whether any type has a code there.
 #[tactic(auto, using(crate::proofs::KindLemmas::one_more))]
 pub(crate) fn code_columns(
     alloc: Global,
@@ -126,7 +126,7 @@ pub(crate) fn code_columns(
     Ok(all)
 }
 
-/// What fields have in each column, where it is known in which ones codes stand.
+/// Returns what fields have in each column, given the columns of codes.
 #[tactic(auto, using(crate::proofs::KindLemmas::one_more, crate::proofs::KindLemmas::at_place))]
 fn kinds(
     alloc: Global,
@@ -144,7 +144,7 @@ fn kinds(
     Ok(all)
 }
 
-/// A type with what stands in each column.
+/// Returns a type with the contents of each column.
 pub(crate) fn record_type(
     alloc: Global,
     are_codes: &[bool],

@@ -1,4 +1,4 @@
-//! The layout of a file's records, by the cards of a deck.
+//! The layout of a file's records, from the cards of a deck.
 
 ghost use Rattle.std.specs.Prelude.{◌≡◌, List, [], Err, IfErr, IfOk, Ok, OnOk, Some, map};
 ghost use Rattle.std.specs.List.{flat_map};
@@ -20,7 +20,7 @@ use std::alloc::{AllocError, Global};
 /// The most columns of a line.
 const MOST_COLUMNS: usize = 9_999;
 
-/// Tests that no field is packed or binary.
+/// Checks that no field is packed or binary.
 fn refuse_numbers(types: &[TypeCards]) -> Result<(), DeckFault>
     ensures none { OnOk result (flat_map (λ t. t.numbers) (map type_read types.now) ≡ []) }
     ensures first { IfErr result (λ fault. (all : List TypeRead) → without_numbers all (flat_map (λ t. t.numbers) (map type_read types.now)) ≡ Err fault) }
@@ -33,7 +33,7 @@ fn refuse_numbers(types: &[TypeCards]) -> Result<(), DeckFault>
     Ok(())
 }
 
-/// Tests that there is a type, and that none has packed or binary fields where records are lines.
+/// Checks that there is a type, and, if records are lines, that none has packed or binary fields.
 fn refuse_types(are_lines: bool, card: u16, types: &[TypeCards]) -> Result<(), DeckFault>
     ensures good { OnOk result (and_then (some_types card (map type_read types.now)) (framed are_lines) ≡ Ok (map type_read types.now)) }
     ensures bad { IfErr result (λ fault. and_then (some_types card (map type_read types.now)) (framed are_lines) ≡ Err fault) }
@@ -47,7 +47,7 @@ fn refuse_types(are_lines: bool, card: u16, types: &[TypeCards]) -> Result<(), D
     Ok(())
 }
 
-/// The layout of these types.
+/// Returns the layout of these types.
 fn lay_out(alloc: Global, card: u16, length: u16, types: &[TypeCards]) -> Result<Layout, AllocError>
     ensures { IfOk result (λ layout. layout_seen layout ≡ layout_with card length (map type_read types.now)) }
 {
@@ -63,7 +63,7 @@ fn lay_out(alloc: Global, card: u16, length: u16, types: &[TypeCards]) -> Result
     })
 }
 
-/// A layout whose lines have few enough columns.
+/// Checks that the lines of a layout aren't too long.
 #[tactic(auto, using(crate::proofs::SeenLemmas::columns_are_seen))]
 fn narrow(layout: Layout) -> Result<Layout, DeckFault>
     ensures layout { IfOk result (λ same. narrow (layout_seen layout) ≡ Ok (layout_seen same)) }
@@ -76,7 +76,7 @@ fn narrow(layout: Layout) -> Result<Layout, DeckFault>
     Ok(layout)
 }
 
-/// The layout of a file whose records have so many bytes.
+/// Returns the layout of a file with this record length.
 fn layout_for(
     alloc: Global,
     are_lines: bool,
@@ -93,7 +93,7 @@ fn layout_for(
     narrow(layout)
 }
 
-/// The layout of the records of this file.
+/// Returns the layout of this file's records.
 fn layout_of_file(
     alloc: Global,
     given: Option<u16>,
@@ -108,7 +108,7 @@ fn layout_of_file(
     layout_for(alloc, are_lines, file, cards, length)
 }
 
-/// The layout of the records of the file that is meant.
+/// Returns the layout of the records of the file to use.
 #[tactic(auto, using(crate::proofs::LayoutLemmas::no_file, crate::proofs::LayoutLemmas::file_found))]
 fn layout_by_cards(alloc: Global, words: DeckWords, cards: &[DeckCard]) -> Result<Layout, DeckFault>
     ensures layout { IfOk result (λ layout. layout_by_cards words.entry cards.now ≡ Ok (layout_seen layout)) }
@@ -120,13 +120,13 @@ fn layout_by_cards(alloc: Global, words: DeckWords, cards: &[DeckCard]) -> Resul
     }
 }
 
-/// The layout of the records of a deck's file.
+/// Returns the layout of the records of a deck's file.
 ///
-/// P and B may stand in 43 of its I cards. Else its cards must be as rpg2 reads them; other cards must only have characters.
+/// Its I cards may have P or B in column 43; otherwise its cards must be readable by rpg2. Other cards must only have characters.
 ///
 /// # Errors
 ///
-/// The first card that is refused; or there is no such file, or memory ran out.
+/// The first card that is rejected; or there is no such file, or memory ran out.
 pub fn layout_of(alloc: Global, source: &[u8], words: DeckWords) -> Result<Layout, DeckFault>
     ensures layout { IfOk result (λ layout. layout_by words.entry source.now ≡ Ok (layout_seen layout)) }
     ensures fault { IfErr result (IsDeckFaultOf (layout_by words.entry source.now)) }

@@ -1,4 +1,5 @@
-//! The deck that leads a conversion of records: the layout of its file's records, and the deck that reads their lines.
+//! The deck that controls a conversion of records: the layout of its file's records, and the deck that reads their
+//! lines.
 #![tactic(auto)]
 
 mod columns;

@@ -1,4 +1,4 @@
-//! The record types of a file, by its I cards.
+//! The record types of a file, from its I cards.
 
 ghost use Rattle.std.specs.Prelude.{◌≡◌, ◌≤◌, ◌++◌, ◌∷◌, ℕ, List, IfErr, IfOk, Ok, OnOk, Some, codes, false, map, option_map};
 ghost use Rattle.std.specs.Option.{option_to_list};
@@ -30,7 +30,7 @@ fn is_input_card(card: &Card) -> bool
     columns(card, 6, 6) == b"I".as_slice()
 }
 
-/// Whether an I card is one of the file of this name, where the I card before is one or not.
+/// Whether an I card belongs to the file with this name, given whether the previous I card does.
 fn is_of_file(card: &Card, name: &[u8], before: bool) -> bool
     ensures { result ≡ is_of_file name.now before card.now }
 {
@@ -43,7 +43,7 @@ fn is_of_file(card: &Card, name: &[u8], before: bool) -> bool
     }
 }
 
-/// How the bytes of a card's field stand; none where they are characters.
+/// Returns the format of a packed or binary field's bytes; None for characters.
 fn form_of(card: &Card) -> Option<NumberForm>
     ensures { result ≡ number_form_on card.now }
 {
@@ -57,7 +57,7 @@ fn form_of(card: &Card) -> Option<NumberForm>
     }
 }
 
-/// What an I card says, by its number.
+/// Reads an I card, given its number.
 fn read_input(number: u16, card: &Card) -> Result<InputSpec, DeckFault>
     ensures { result ≡ at_card number (or_columns (input_card.reading card.now)) }
 {
@@ -67,7 +67,7 @@ fn read_input(number: u16, card: &Card) -> Result<InputSpec, DeckFault>
     }
 }
 
-/// What an I card says, where P or B may stand in 43.
+/// Reads an I card, which may have P or B in column 43.
 fn input_of(alloc: Global, card: &DeckCard) -> Result<InputSpec, DeckFault>
     ensures input { IfOk result (λ spec. at_card card.now.number (input_spec_of card.now.card) ≡ Ok spec) }
     ensures fault { IfErr result (IsDeckFaultOf (at_card card.now.number (input_spec_of card.now.card))) }
@@ -81,7 +81,7 @@ fn input_of(alloc: Global, card: &DeckCard) -> Result<InputSpec, DeckFault>
 
 // ---- a type
 
-/// A record type, as far as its cards are read.
+/// A record type, from the cards read so far.
 #[derive(Drop)]
 pub(crate) struct TypeCards {
     pub card: u16,
@@ -90,7 +90,7 @@ pub(crate) struct TypeCards {
     pub numbers: Vec<NumberField>,
 }
 
-/// A type that begins at this card.
+/// Begins a type at this card.
 fn new_type(alloc: Global, card: u16) -> TypeCards
     ensures { type_read result ≡ new_type card }
 {
@@ -141,7 +141,7 @@ fn add_codes(
     add_code(number, length, codes, three.third)
 }
 
-/// A type with the codes of a card.
+/// Adds the codes of a card to a type.
 fn with_codes(
     number: u16,
     length: u16,
@@ -155,7 +155,7 @@ fn with_codes(
     Ok(kind)
 }
 
-/// A type with the columns of one more field.
+/// Adds the columns of a field to a type.
 fn with_columns_of(
     number: u16,
     mut kind: TypeCards,
@@ -172,7 +172,7 @@ fn with_columns_of(
     Ok(kind)
 }
 
-/// A type with one more packed or binary field.
+/// Adds a packed or binary field to a type.
 #[tactic(auto, using(crate::proofs::TypeLemmas::numbers_more))]
 fn with_number(
     number: u16,
@@ -195,7 +195,7 @@ fn with_number(
     Ok(more)
 }
 
-/// A type with one more field.
+/// Adds a field to a type.
 fn with_field(number: u16, kind: TypeCards, field: FieldColumns) -> Result<TypeCards, DeckFault>
     requires counted { 1 ≤ field.first }
     requires ordered { field.first ≤ field.last }
@@ -210,7 +210,7 @@ fn with_field(number: u16, kind: TypeCards, field: FieldColumns) -> Result<TypeC
 
 // ---- all types
 
-/// The type that a field's card goes on with.
+/// Returns the type that a field's card continues.
 fn field_type(
     length: u16,
     now: Option<TypeCards>,
@@ -230,14 +230,14 @@ fn field_type(
     }
 }
 
-/// A card that goes on with a type where there is none; the columns to 16 should say one.
+/// Returns the fault of a card that continues a type when there is none: its columns to 16 should begin one.
 fn orphan(number: u16, first: u8) -> DeckFault
     ensures { result ≡ faults.Card number (card_faults.Columns first 16) }
 {
     DeckFault::at(number, CardFault::Columns { first, last: 16 })
 }
 
-/// The type that a card begins, or goes on with.
+/// Returns the type that a card begins or continues.
 fn type_after(
     alloc: Global,
     length: u16,
@@ -261,16 +261,16 @@ fn type_after(
     }
 }
 
-/// The types of a file's cards, as far as they are read.
+/// The types of a file's cards, as far as they were read.
 #[derive(Drop)]
 pub(crate) struct Types {
     done: Vec<TypeCards>,
-    /// The last one, which further cards go on with.
+    /// The last one, which further cards continue.
     now: Option<TypeCards>,
 }
 
 impl Types {
-    /// With the last type done, if this card begins another one.
+    /// Completes the last type, if this card begins another one.
     #[tactic(auto, using(crate::proofs::TypeLemmas::types_more))]
     fn ended(self, spec: &InputSpec) -> Result<Self, AllocError>
         ensures done { IfOk result (λ types. types_done types ≡ types_done self ++ type_before (type_now self) spec.now) }
@@ -289,7 +289,7 @@ impl Types {
         }
     }
 
-    /// With what one more card of the file says.
+    /// Takes one more card of the file.
     #[tactic(auto, using(crate::proofs::TypeLemmas::card_read, crate::proofs::TypeLemmas::card_refused, crate::proofs::TypeLemmas::type_refused))]
     fn with_card(self, alloc: Global, length: u16, card: &DeckCard) -> Result<Self, DeckFault>
         ensures types { IfOk result (λ types. (cs : List DeckCard) → all_types length types cs ≡ all_types length self (card.now ∷ cs)) }
@@ -304,7 +304,7 @@ impl Types {
         })
     }
 
-    /// All of them.
+    /// Returns all types.
     #[tactic(auto, using(crate::proofs::TypeLemmas::types_more))]
     fn finish(self) -> Result<Vec<TypeCards>, AllocError>
         ensures { IfOk result (λ types. map type_read types.items ≡ types_done self ++ option_to_list (type_now self)) }
@@ -320,7 +320,7 @@ impl Types {
     }
 }
 
-/// The types of the file of this name, whose records have so many bytes.
+/// Reads the types of the file with this name, whose records have `length` bytes.
 #[tactic(auto, using(crate::proofs::TypeLemmas::cards_other, crate::proofs::TypeLemmas::cards_left_out, crate::proofs::TypeLemmas::cards_next))]
 pub(crate) fn read_types(
     alloc: Global,

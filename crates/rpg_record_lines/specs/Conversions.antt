@@ -16,7 +16,7 @@ use Rattle.rpg_record_lines.specs.declared.frames.FrameFault.TheVariants as fram
 use Rattle.rpg_record_lines.specs.declared.frames.Framing.{Framing}
 use Rattle.rpg_record_lines.specs.declared.input.InputFault.TheVariants as inputs
 
--- what a record brings: a text, or none where it is left out; or why it is refused
+-- what a record brings: a text, or none if it is left out; or why it is refused
 abbrev pub Made : Type 0
 Made = Result (Option (List ℕ)) RecordFault
 
@@ -43,7 +43,7 @@ abbrev pub counts_after : Counts → Option (List ℕ) → Counts
 counts_after c (Some text) = record { records = c.records + 1; dropped = c.dropped }
 counts_after c None = record { records = c.records; dropped = c.dropped + 1 }
 
--- after a record that takes so many bytes
+-- after a record that takes this many bytes
 abbrev pub input_place_after : InputPlace → ℕ → Option (List ℕ) → InputPlace
 input_place_after p used text = record { counts = counts_after p.counts text; offset = counted (p.offset + used) }
 
@@ -76,7 +76,7 @@ at_made p (Err fault) next = refused_at p fault
 
 -- ---- all records
 
--- from a place on, where so many records may follow: one more is refused, and so is the first that brings nothing
+-- from a place on, where this many records may follow: one more is refused, and so is the first that brings nothing
 unfoldable pub conversion_from : ConversionSettings → ℕ → InputPlace → List ℕ → Conversion
 conversion_from way zero p input = at_cut p (next_cut way.framing way.most input) (λ used r. refused_at p faults.TooMany)
 conversion_from way (suc left) p input =
@@ -109,7 +109,7 @@ HasConverted way input before after result = IfSome input (λ bytes. IsConversio
 
 -- ---- steps
 
--- why a conversion stops where there is no further record
+-- why a conversion stops if there is no further record
 abbrev pub frame_stop : InputPlace → FrameFault → ConversionFault
 frame_stop p (frames.Record fault) = conversion_fault p fault
 frame_stop p (frames.Input inputs.Device) = stops.Read
@@ -120,7 +120,7 @@ abbrev pub line_stop : InputPlace → LineFault → ConversionFault
 line_stop p (lines.Record fault) = conversion_fault p fault
 line_stop p lines.NoMemory = stops.NoMemory
 
--- With a place before these bytes, a step wrote the text of a record, and so many counts and these bytes are left.
+-- With a place before these bytes, a step wrote the text of a record, and these counts and bytes are left.
 abbrev pub WritesStep : ConversionSettings → InputPlace → Option (List ℕ) → InputPlace → Option (List ℕ) → Option (List ℕ) → List ℕ → Type 0
 WritesStep way p new q before after input =
     (text : List ℕ) × (rest : List ℕ) × (new ≡ Some rest) × Appends before after text
@@ -136,7 +136,7 @@ TakesStep way p old new offset before after (Ok (Some counts)) = IfSome old (Wri
 TakesStep way p old new offset before after (Ok None) = IfSome old (EndsStep way p before after (Ok p.counts))
 TakesStep way p old new offset before after (Err fault) = IfSome old (EndsStep way p before after (Err fault))
 
--- with a place before known bytes, where no record may follow
+-- with a place before known bytes, if no record may follow
 abbrev pub EndsFull : Framing → ℕ → InputPlace → Option (List ℕ) → Result Counts ConversionFault → Type 0
 EndsFull framing most p old result =
     IfSome old (λ input. (way : ConversionSettings) → way.framing ≡ framing → way.most ≡ most → (u : Option (List ℕ)) → IsConversion (conversion_from way 0 p input) u u result)

@@ -15,7 +15,7 @@ use Rattle.rpg_record_lines.specs.declared.input.Input.{Input}
 abbrev pub not_given : {R : Type 0} → Input R → List ℕ
 not_given input = slice_range input.buf.items input.start input.end
 
--- those, and then what the reader has left, where its bytes are known
+-- those, and then what the reader has left, if its bytes are known
 abbrev pub remaining_in : {R : Type 0} → (R → Option (List ℕ)) → Input R → Option (List ℕ)
 remaining_in remaining input = prepend_known (not_given input) (remaining input.reader)
 

@@ -11,7 +11,7 @@ use Rattle.rpg_record_lines.specs.declared.conversion.Counts.{Counts}
 abbrev pub no_counts : Counts
 no_counts = record { records = 0; dropped = 0 }
 
--- These are the counts and the texts of some records, in order: each brings its text, or none where it is left out.
+-- These are the counts and the texts of some records, in order: each brings its text, or none if it is left out.
 pub data AreTexts (text_of : List ℕ → Made) : Counts → List ℕ → Type 0 where
   NoTexts : AreTexts text_of no_counts []
   OneMore : (counts : Counts) (text r : List ℕ) (brought : Option (List ℕ)) → AreTexts text_of counts text → text_of r ≡ Ok brought
@@ -49,7 +49,7 @@ WritesOne text_of before after counts more =
 abbrev pub BeginsOne : (List ℕ → Made) → Option (List ℕ) → Option (List ℕ) → Type 0
 BeginsOne text_of before after = (r : List ℕ) × (text : List ℕ) × (text_of r ≡ Ok (Some text)) × AppendsPrefix before after text
 
--- after so many records, the next one was written, or nothing
+-- after this many records, the next one was written, or nothing
 abbrev pub WritesNext : (List ℕ → Made) → Option (List ℕ) → Option (List ℕ) → Counts → Result (Option Counts) ConversionFault → Type 0
 WritesNext text_of before after counts (Ok (Some more)) = WritesOne text_of before after counts more
 WritesNext text_of before after counts (Ok None) = Appends before after []
@@ -58,7 +58,7 @@ WritesNext text_of before after counts (Err stops.Read) = Appends before after [
 WritesNext text_of before after counts (Err stops.Write) = BeginsOne text_of before after
 WritesNext text_of before after counts (Err stops.NoMemory) = Appends before after []
 
--- after so many records nothing more was written
+-- after this many records nothing more was written
 abbrev pub EndsAfter : Counts → Result Counts ConversionFault → Type 0
 EndsAfter counts (Ok all) = all ≡ counts
 EndsAfter counts (Err (stops.Record number offset fault)) = number ≡ next_number counts

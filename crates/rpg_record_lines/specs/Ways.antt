@@ -84,7 +84,7 @@ text_by_parts (makings.Records framing) = record_text framing
 abbrev pub text_by : Maker → List ℕ → Made
 text_by m = text_by_parts m.making (page_of_records m.converter) (is_low_blank_of m.converter) (converter_types m.converter) (converter_length m.converter)
 
--- how it converts records that stand so and have at most so many bytes
+-- how it converts records with these delimiters and of at most this many bytes
 abbrev pub way_by : Framing → ℕ → Maker → ConversionSettings
 way_by framing most maker = record { framing = framing; most = most; text_of = text_by maker }
 

@@ -1,4 +1,4 @@
-//! All records of an input as lines, and all lines as records.
+//! Converts all records of an input to lines, and all lines to records.
 
 ghost use Rattle.std.specs.Prelude.{◌≡◌, ◌+◌, ◌<◌, ◌≤◌, List, IfOk, IfSome};
 ghost use Rattle.rpg_record_lines.specs.Conversions.{EndsFull, HasConverted, counts_after, conversion_fault, frame_stop, line_stop};
@@ -19,18 +19,18 @@ use std::io::{Read, Write};
 /// The most records of a file.
 const MOST_RECORDS: u64 = 10_000_000;
 
-/// How records stand in their file.
+/// The format of records in their file.
 #[derive(Clone, Copy)]
 pub struct RecordFormat {
     pub page: Page,
     pub framing: Framing,
-    /// The byte 0 is a blank.
+    /// Whether a byte 0 is a blank.
     pub low_blank: bool,
-    /// Records that begin with this byte are left out.
+    /// The first byte of records that are left out.
     pub dropped: Option<u8>,
 }
 
-/// How many records were written, and how many left out.
+/// How many records were written, and how many were left out.
 #[derive(Clone, Copy)]
 pub struct Counts {
     pub records: u64,
@@ -40,7 +40,7 @@ pub struct Counts {
 impl Counts {
     ghost use Rattle.std.specs.Prelude.{Some, None, ℕ};
 
-    /// The number of the next record, from 1.
+    /// Returns the number of the next record, from 1.
     fn next_number(&self) -> u64
         requires { self.now.records + self.now.dropped ≤ 10000000 }
         ensures { result ≡ self.now.records + self.now.dropped + 1 }
@@ -48,7 +48,7 @@ impl Counts {
         self.records + self.dropped + 1
     }
 
-    /// With one more that is left out.
+    /// Counts one more that is left out.
     fn with_dropped(self) -> Self
         requires { self.records + self.dropped ≤ 10000000 }
         ensures { result ≡ counts_after self None }
@@ -59,7 +59,7 @@ impl Counts {
         }
     }
 
-    /// With one more that is written.
+    /// Counts one more that is written.
     fn with_written(self) -> Self
         requires { self.records + self.dropped ≤ 10000000 }
         ensures { (text : List ℕ) → result ≡ counts_after self (Some text) }
@@ -74,7 +74,7 @@ impl Counts {
 /// Why a conversion ended early.
 #[derive(Clone, Copy)]
 pub enum ConversionFault {
-    /// A record, or a line, is refused. Records are numbered from 1, bytes of the input from 0.
+    /// A record or a line is rejected. Records are numbered from 1, bytes of the input from 0.
     Record {
         number: u64,
         offset: u64,
@@ -130,7 +130,7 @@ fn line_fault(counts: Counts, offset: u64, fault: LineFault) -> ConversionFault
     }
 }
 
-/// Writes what the next record brings. There are no counts at the end.
+/// Converts and writes the next record. Returns the new counts, or None at the end.
 #[tactic(auto, using(crate::proofs::StepLemmas::taken_end, crate::proofs::StepLemmas::fault_taken, crate::proofs::StepLemmas::refused_taken, crate::proofs::StepLemmas::dropped_taken, crate::proofs::StepLemmas::taken_part, crate::proofs::StepLemmas::text_taken))]
 fn convert_next<R: Read + Drop, W: Write>(
     maker: &Maker<'_>,
@@ -163,7 +163,7 @@ fn convert_next<R: Read + Drop, W: Write>(
     }
 }
 
-/// Ends a file that has as many records as it may.
+/// Ends a file that has as many records as allowed: another one is a fault.
 #[tactic(auto, using(crate::proofs::StepLemmas::last_end, crate::proofs::StepLemmas::full_record, crate::proofs::StepLemmas::full_fault))]
 fn end_full_file<R: Read + Drop>(
     frames: &mut Frames<R>,
@@ -182,7 +182,7 @@ fn end_full_file<R: Read + Drop>(
     }
 }
 
-/// Writes what all records bring.
+/// Converts and writes all records.
 #[tactic(auto, using(crate::proofs::StepLemmas::reached_start, crate::proofs::StepLemmas::reached_next, crate::proofs::StepLemmas::reached_last, crate::proofs::StepLemmas::reached_stop, crate::proofs::StepLemmas::reached_all, crate::proofs::TextLemmas::none_written, crate::proofs::TextLemmas::one_written, crate::proofs::TextLemmas::ended_all))]
 fn convert_all<R: Read + Drop, W: Write>(
     maker: &Maker<'_>,
@@ -207,7 +207,7 @@ fn convert_all<R: Read + Drop, W: Write>(
     end_full_file(frames, room, counts)
 }
 
-/// Converts all records of a reader, which have at most so many bytes.
+/// Converts all records of a reader, each of at most `most` bytes.
 #[tactic(auto, using(crate::proofs::StepLemmas::unread, crate::proofs::TextLemmas::unwritten))]
 fn convert<R: Read + Drop, W: Write>(
     alloc: Global,
@@ -229,7 +229,8 @@ fn convert<R: Read + Drop, W: Write>(
     convert_all(maker, &mut frames, &mut room, writer)
 }
 
-/// Writes a line for each record of a reader. Memory is taken for one record, for one line and for a piece of the input, however many records there are.
+/// Writes a line for each record of a reader. Memory use doesn't grow with the number of records: it holds one record, one line and a piece
+/// of the input.
 pub fn records_to_lines<R: Read + Drop, W: Write>(
     alloc: Global,
     layout: &Layout,
@@ -237,9 +238,9 @@ pub fn records_to_lines<R: Read + Drop, W: Write>(
     reader: R,
     writer: &mut W,
 ) -> Result<Counts, ConversionFault>
-    // However reads are cut: what is written, the counts and the first record that is refused are those of the definition.
+    // However short the reads are, the output, the counts and the first rejected record are those of the definition.
     ensures known { HasConverted (to_lines layout.now format) (R.remaining reader) (W.contents writer.old) (W.contents writer.new) result }
-    // Of any reader: whole lines were written, each of which is that of some record.
+    // With any reader, complete lines were written, each of which is that of some record.
     ensures any { WritesTexts (to_lines layout.now format).text_of (W.contents writer.old) (W.contents writer.new) result }
 {
     let maker = Maker {
@@ -260,9 +261,9 @@ pub fn lines_to_records<R: Read + Drop, W: Write>(
     reader: R,
     writer: &mut W,
 ) -> Result<Counts, ConversionFault>
-    // However reads are cut: what is written, the count and the first line that is refused are those of the definition.
+    // However short the reads are, the output, the count and the first rejected line are those of the definition.
     ensures known { HasConverted (to_records layout.now format) (R.remaining reader) (W.contents writer.old) (W.contents writer.new) result }
-    // Of any reader: whole records were written, as they stand in a file, each of which is that of some line.
+    // With any reader, complete records were written, as in a file, each of which is that of some line.
     ensures any { WritesTexts (to_records layout.now format).text_of (W.contents writer.old) (W.contents writer.new) result }
 {
     let maker = Maker {

@@ -1,4 +1,4 @@
-//! Why a record has no line, or a line no record.
+//! Why a record has no line, or a line has no record.
 
 pub use rpg_records::NumberFault;
 use std::alloc::AllocError;
@@ -14,7 +14,7 @@ impl FieldBytes {
     ghost use Rattle.std.specs.Prelude.{◌≡◌};
     ghost use Rattle.rpg_record_lines.specs.Numbers.{field_bytes};
 
-    /// The first 8 bytes at most.
+    /// Keeps the first 8 bytes at most.
     pub(crate) fn new(given: &[u8]) -> Self
         ensures { result ≡ field_bytes given.now }
     {
@@ -29,14 +29,14 @@ impl FieldBytes {
     }
 }
 
-/// What is wrong with a record, or with a line.
+/// What is wrong with a record or a line.
 #[derive(Clone, Copy)]
 pub enum RecordFault {
-    /// The input ends after so many of its bytes.
+    /// The input ends inside it, after this many bytes.
     Cut {
         bytes: usize,
     },
-    /// There is no record descriptor.
+    /// There is no record descriptor word.
     NoDescriptor {
         bytes: [u8; 4],
     },
@@ -44,18 +44,18 @@ pub enum RecordFault {
     TooLong {
         bytes: usize,
     },
-    /// A line has more than the most bytes that it can have.
+    /// The line is longer than it can be.
     LongLine {
         most: usize,
     },
-    /// It is of no type.
+    /// It belongs to no type.
     NoType,
-    /// A byte is no character. Columns are counted from 1.
+    /// A byte isn't a character. Columns are counted from 1.
     NoCharacter {
         column: usize,
         byte: u8,
     },
-    /// The bytes of a packed or binary field aren't a number, or one of too many digits.
+    /// The bytes of a packed or binary field aren't a number, or one with too many digits.
     BadNumber {
         card: u16,
         first: u16,
@@ -63,12 +63,12 @@ pub enum RecordFault {
         bytes: FieldBytes,
         fault: NumberFault,
     },
-    /// By its bytes a record is of the type of one card, by its line of that of another, or of none.
+    /// A record is of one card's type by its bytes, and of another card's or of none by its line.
     OtherLine {
         card: u16,
         other: Option<u16>,
     },
-    /// By its columns a line is of the type of one card, by its bytes of that of another, or of none.
+    /// A line is of one card's type by its columns, and of another card's or of none by its bytes.
     OtherRecord {
         card: u16,
         other: Option<u16>,
@@ -83,7 +83,7 @@ pub enum RecordFault {
     TooMany,
 }
 
-/// Why there is no line of a record.
+/// Why a record has no line.
 #[derive(Clone, Copy)]
 pub enum LineFault {
     Record(RecordFault),

@@ -1,4 +1,4 @@
-//! The records of an input, one after the other.
+//! The records of an input, one after another.
 
 ghost use Rattle.std.specs.Prelude.{◌≡◌, ◌<◌, ℕ, List, length, IfErr, IfOk};
 ghost use Rattle.std.specs.Io.BufRead.{ends_with_byte, strip_last};
@@ -10,25 +10,25 @@ use crate::input::{Input, InputFault};
 use std::alloc::{AllocError, Global};
 use std::io::Read;
 
-/// How records stand in a file.
+/// How records are delimited in a file.
 #[derive(Clone, Copy, PartialEq, Eq)]
 pub enum Framing {
     /// All of one length, with nothing between them.
     EndToEnd,
-    /// Each after a record descriptor word: four bytes, of which the first two are the length of both.
+    /// Each follows a record descriptor word: four bytes, the first two of which are their common length.
     Descriptors,
-    /// A line each.
+    /// One a line.
     Lines,
 }
 
-/// What stands next in an input.
+/// What comes next in an input.
 #[derive(Clone, Copy)]
 pub(crate) enum Next {
     Record,
     End,
 }
 
-/// Why there is no further record.
+/// Why there are no more records.
 #[derive(Clone, Copy)]
 pub(crate) enum FrameFault {
     Record(RecordFault),
@@ -55,7 +55,7 @@ pub(crate) struct Frames<R> {
     most: usize,
 }
 
-/// How many bytes the record after a descriptor word has.
+/// Returns the length of the record after a descriptor word.
 #[tactic(auto, using(crate::proofs::FrameLemmas::four_bytes))]
 fn described_length(word: &[u8], most: usize) -> Result<usize, RecordFault>
     requires { length word.now ≡ 4 }
@@ -76,7 +76,7 @@ fn described_length(word: &[u8], most: usize) -> Result<usize, RecordFault>
     Ok(length)
 }
 
-/// Cuts the last byte off if it is this one, and returns whether it was.
+/// Removes the last byte if it is this one. Returns whether it was.
 fn cut_last(bytes: &mut Vec<u8>, byte: u8) -> bool
     ensures bytes { bytes.new.items ≡ strip_last byte bytes.old.items }
     ensures was { result ≡ ends_with_byte byte bytes.old.items }
@@ -89,7 +89,7 @@ fn cut_last(bytes: &mut Vec<u8>, byte: u8) -> bool
     true
 }
 
-/// Cuts the line feed off the end of a line, and a carriage return before it.
+/// Removes the line feed at the end of a line, and a carriage return before it.
 fn cut_line_end(line: &mut Vec<u8>)
     ensures { line.new.items ≡ unterminated line.old.items }
 {
@@ -114,14 +114,14 @@ impl<R: Read + Drop> Frames<R> {
         })
     }
 
-    /// Where the next record begins in the input.
+    /// Returns where the next record begins in the input.
     pub fn position(&self) -> u64
         ensures { result ≡ offset_of self.now }
     {
         self.input.given()
     }
 
-    /// Reads the next record in the place of what is there: with fewer bytes than the cards say, if it has no more.
+    /// Reads the next record, which replaces the bytes in `room`. Near the end it may have fewer bytes than the cards say.
     pub fn next(&mut self, room: &mut Vec<u8>) -> Result<Next, FrameFault>
         ensures framing { framing_of self.new ≡ framing_of self.old }
         ensures most { most_of self.new ≡ most_of self.old }
@@ -134,7 +134,7 @@ impl<R: Read + Drop> Frames<R> {
         }
     }
 
-    /// Reads a record that has the length of all.
+    /// Reads a record of the fixed length.
     #[tactic(auto, using(crate::proofs::FrameLemmas::of_length_whole, crate::proofs::FrameLemmas::of_length_end, crate::proofs::FrameLemmas::of_length_cut))]
     fn next_of_length(&mut self, room: &mut Vec<u8>) -> Result<Next, FrameFault>
         ensures framing { framing_of self.new ≡ framing_of self.old }
@@ -179,7 +179,7 @@ impl<R: Read + Drop> Frames<R> {
         Ok(Next::Record)
     }
 
-    /// Reads a line, of which a line feed, and a carriage return before it, are no bytes.
+    /// Reads a line, without its line feed and a carriage return before it.
     #[tactic(auto, using(crate::proofs::FrameLemmas::line_end, crate::proofs::FrameLemmas::line_long, crate::proofs::FrameLemmas::line_read))]
     fn next_line(&mut self, room: &mut Vec<u8>) -> Result<Next, FrameFault>
         ensures framing { framing_of self.new ≡ framing_of self.old }

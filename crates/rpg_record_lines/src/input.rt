@@ -1,4 +1,4 @@
-//! The bytes of a reader, as they are given.
+//! A buffered reader.
 
 ghost use Rattle.std.specs.Prelude.{◌≡◌, ◌==◌, ◌^◌, ◌<◌, ◌≤◌, ◌++◌, length, position, take, true, false, vec_len, IfOk, OnOk};
 ghost use Rattle.std.specs.Io.BufRead.{take_through};
@@ -9,10 +9,10 @@ use rpg_files::most_tries;
 use std::alloc::{AllocError, Global};
 use std::io::{ErrorKind, Read};
 
-/// Each read has room for this many bytes.
+/// The room for each read, in bytes.
 const READ_ROOM: usize = 65_536;
 
-/// Why no more bytes can be given.
+/// Why no more bytes can be read.
 #[derive(Clone, Copy)]
 pub(crate) enum InputFault {
     Device,
@@ -25,14 +25,14 @@ impl From<AllocError> for InputFault {
     }
 }
 
-/// A reader, with the bytes `buf[start..end]`, which were read and not yet given.
+/// A reader, with the bytes `buf[start..end]`, which were read but not yet consumed.
 #[derive(Drop)]
 pub(crate) struct Input<R> {
     reader: R,
     buf: Vec<u8>,
     start: usize,
     end: usize,
-    /// How many bytes were given.
+    /// How many bytes were consumed.
     given: u64,
     ghost ordered: { start ≤ end },
     ghost in_bounds: { end ≤ vec_len buf },
@@ -40,7 +40,7 @@ pub(crate) struct Input<R> {
     ghost in_range: { given < 2 ^ 64 },
 }
 
-/// Reads some bytes; none where the input ends, or where there is no room.
+/// Reads into `room`. Returns how many bytes, 0 at the end of the input or if there is no room.
 fn read_some<R: Read>(reader: &mut R, room: &mut [u8]) -> Result<usize, InputFault>
     ensures within { IfOk result (λ n. n ≤ length room.new) }
     ensures bytes { ReadConsumes (R.remaining reader.old) (R.remaining reader.new) result room.new }
@@ -58,7 +58,7 @@ fn read_some<R: Read>(reader: &mut R, room: &mut [u8]) -> Result<usize, InputFau
     Err(InputFault::Device)
 }
 
-/// The first bytes, at most so many.
+/// Returns the first bytes, at most `most`.
 fn front(bytes: &[u8], most: usize) -> &[u8]
     ensures { result.now ≡ take most bytes.now }
 {
@@ -72,7 +72,7 @@ struct FirstLine<'a> {
     is_ended: bool,
 }
 
-/// Where the first line feed is.
+/// Returns the place of the first line feed.
 fn line_feed_in(bytes: &[u8]) -> Option<usize>
     ensures { result ≡ position (λ b. b == 10) bytes.now }
 {
@@ -117,7 +117,7 @@ impl<R: Read> Input<R> {
         })
     }
 
-    /// How many bytes were given.
+    /// Returns how many bytes were consumed.
     pub fn given(&self) -> u64
         ensures { result ≡ given_of self.now }
     {
@@ -131,7 +131,7 @@ impl<R: Read> Input<R> {
         &all[self.start..self.end]
     }
 
-    /// Reads some bytes if all were given, and returns whether there are any; there are none where the input ends.
+    /// Reads if the buffer is empty. Returns whether it has bytes now; it has none at the end of the input.
     #[tactic(auto, using(crate::proofs::InputLemmas::filled, crate::proofs::InputLemmas::filled_end, crate::proofs::InputLemmas::unchanged))]
     fn fill(&mut self) -> Result<bool, InputFault>
         ensures kept { OnOk result (Keeps (remaining_in R.remaining self.old) (remaining_in R.remaining self.new)) }
@@ -148,7 +148,7 @@ impl<R: Read> Input<R> {
         Ok(n > 0)
     }
 
-    /// Takes the first bytes away.
+    /// Consumes the first bytes.
     #[tactic(auto, using(crate::proofs::InputLemmas::given_bytes))]
     fn consume(&mut self, n: usize)
         requires { n ≤ length (not_given self.old) }
@@ -158,7 +158,7 @@ impl<R: Read> Input<R> {
         self.given = self.given.saturating_add(n as u64);
     }
 
-    /// Appends bytes that were read, at most so many.
+    /// Appends buffered bytes, at most `most`.
     #[tactic(auto, using(crate::proofs::InputLemmas::piece_front))]
     fn append(&mut self, most: usize, bytes: &mut Vec<u8>) -> Result<(), InputFault>
         ensures appended { OnOk result (bytes.new.items ≡ bytes.old.items ++ take most (not_given self.old)) }
@@ -171,7 +171,7 @@ impl<R: Read> Input<R> {
         Ok(())
     }
 
-    /// Appends bytes that were read, at most so many, up to a line feed, and returns whether it is there.
+    /// Appends buffered bytes, at most `most`, up to a line feed. Returns whether that was found.
     #[tactic(auto, using(crate::proofs::InputLemmas::line_front, crate::proofs::InputLemmas::line_shorter))]
     fn append_line(&mut self, most: usize, line: &mut Vec<u8>) -> Result<bool, InputFault>
         ensures appended { OnOk result (line.new.items ≡ line.old.items ++ take_through 10 (take most (not_given self.old))) }
@@ -185,7 +185,7 @@ impl<R: Read> Input<R> {
         Ok(is_ended)
     }
 
-    /// Reads until there are so many bytes, or the input ends, in the place of what is there.
+    /// Reads `n` bytes, or up to the end of the input, which replace the bytes there.
     #[tactic(auto, using(crate::proofs::InputLemmas::read_start, crate::proofs::InputLemmas::given_start, crate::proofs::InputLemmas::read_more, crate::proofs::InputLemmas::given_more, crate::proofs::InputLemmas::front_full, crate::proofs::InputLemmas::front_ended))]
     pub fn read_up_to(&mut self, n: usize, bytes: &mut Vec<u8>) -> Result<(), InputFault>
         ensures front { OnOk result (GivesFirst (take n) R.remaining self.old self.new bytes.new.items) }
@@ -201,7 +201,7 @@ impl<R: Read> Input<R> {
         Ok(())
     }
 
-    /// Reads up to a line feed, until there are so many bytes, or the input ends, in the place of what is there.
+    /// Reads up to a line feed, to `n` bytes, or to the end of the input, which replaces the bytes there.
     #[tactic(auto, using(crate::proofs::InputLemmas::line_start, crate::proofs::InputLemmas::given_start, crate::proofs::InputLemmas::line_more, crate::proofs::InputLemmas::given_more, crate::proofs::InputLemmas::line_found, crate::proofs::InputLemmas::line_ended, crate::proofs::InputLemmas::so_far_full, crate::proofs::InputLemmas::so_far_start, crate::proofs::InputLemmas::line_within, crate::proofs::InputLemmas::line_grows))]
     pub fn read_line(&mut self, n: usize, line: &mut Vec<u8>) -> Result<(), InputFault>
         ensures front { OnOk result (GivesFirst (λ input. take_through 10 (take n input)) R.remaining self.old self.new line.new.items) }

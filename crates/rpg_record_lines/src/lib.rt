@@ -1,4 +1,4 @@
-//! Records of a layout as lines that rpg2 reads, and lines as such records.
+//! Converts records of a layout to lines that rpg2 reads, and lines to such records.
 #![tactic(auto)]
 
 mod conversion;

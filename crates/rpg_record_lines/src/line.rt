@@ -1,4 +1,4 @@
-//! A record as a line.
+//! Converts a record to a line.
 
 ghost use Rattle.std.specs.Prelude.{◌≡◌, ◌==◌, false, true, length, position, Err, IfErr, IfSome, Ok, OnOk, option_map};
 ghost use Rattle.std.specs.List.{list_all};
@@ -13,7 +13,7 @@ use crate::numbers::append_all_digits;
 use rpg_records::{Code, Column, Layout, Page, RecordType, Translation};
 use rpg_text::trimmed;
 
-/// The character at a place of a record, 0 where there is none.
+/// Returns the character at a place of a record, 0 if there is none.
 fn character_at(translation: &Translation, bytes: &[u8], place: usize) -> u8
     ensures { result ≡ character_at (page_of translation.now) (is_low_blank translation.now) bytes.now place }
 {
@@ -23,7 +23,7 @@ fn character_at(translation: &Translation, bytes: &[u8], place: usize) -> u8
     }
 }
 
-/// Whether a code holds of a record.
+/// Whether a record satisfies a code.
 fn code_holds(translation: &Translation, bytes: &[u8], code: &Code) -> bool
     ensures { result ≡ code_fits_record (page_of translation.now) (is_low_blank translation.now) bytes.now code.now }
 {
@@ -31,7 +31,7 @@ fn code_holds(translation: &Translation, bytes: &[u8], code: &Code) -> bool
     if code.is_negated { !stands } else { stands }
 }
 
-/// Whether all codes hold of a record.
+/// Whether a record satisfies all codes.
 fn codes_hold(translation: &Translation, bytes: &[u8], codes: &[Code]) -> bool
     ensures { result ≡ list_all (code_fits_record (page_of translation.now) (is_low_blank translation.now) bytes.now) codes.now }
 {
@@ -43,7 +43,7 @@ fn codes_hold(translation: &Translation, bytes: &[u8], codes: &[Code]) -> bool
     true
 }
 
-/// Whether a record is of a type: it has its length, and all codes hold.
+/// Whether a record is of a type: it has its length, and satisfies all codes.
 fn is_of(translation: &Translation, bytes: &[u8], kind: &RecordType) -> bool
     ensures value { result ≡ fits_type (page_of translation.now) (is_low_blank translation.now) bytes.now kind.now }
     ensures length { result ≡ true → length kind.now.columns.items ≡ length bytes.now }
@@ -51,7 +51,7 @@ fn is_of(translation: &Translation, bytes: &[u8], kind: &RecordType) -> bool
     kind.columns.len() == bytes.len() && codes_hold(translation, bytes, kind.codes.as_slice())
 }
 
-/// The first type that a record is of.
+/// Returns the first type that a record belongs to.
 pub(crate) fn first_type<'a>(
     translation: &Translation,
     bytes: &[u8],
@@ -68,7 +68,7 @@ pub(crate) fn first_type<'a>(
     None
 }
 
-/// The card of a type.
+/// Returns the card of a type.
 pub(crate) fn card_of(kind: Option<&RecordType>) -> Option<u16>
     ensures { result ≡ option_map (λ kind. card_of_type kind.now) kind.entry }
 {
@@ -78,7 +78,7 @@ pub(crate) fn card_of(kind: Option<&RecordType>) -> Option<u16>
     }
 }
 
-/// Whether a type is that of a card.
+/// Whether a type is on this card.
 pub(crate) fn is_card(card: u16, kind: Option<&RecordType>) -> bool
     ensures { result ≡ is_card card (option_map (λ kind. kind.now) kind.entry) }
 {
@@ -88,14 +88,14 @@ pub(crate) fn is_card(card: u16, kind: Option<&RecordType>) -> bool
     }
 }
 
-/// The first column without a character.
+/// Returns the first column without a character.
 fn missing_in(columns: &[u8]) -> Option<usize>
     ensures { result ≡ position (λ c. c == 0) columns.now }
 {
     columns.iter().position(|character| *character == 0)
 }
 
-/// The first byte that is no character of its column: there its character is 0.
+/// Rejects the first byte that isn't a character of its column: its character is 0 there.
 #[tactic(auto, using(crate::proofs::LineLemmas::place_within))]
 fn bad_character(bytes: &[u8], columns: &[u8]) -> Result<(), RecordFault>
     requires { length bytes.now ≡ length columns.now }
@@ -111,12 +111,12 @@ fn bad_character(bytes: &[u8], columns: &[u8]) -> Result<(), RecordFault>
     }
 }
 
-/// Makes lines of records of a layout.
+/// Converts records of a layout to lines.
 #[derive(Drop)]
 pub struct Converter<'a> {
     layout: &'a Layout,
     records: Translation,
-    /// That of lines, whose characters are as they are.
+    /// The translation of lines, whose characters are unchanged.
     lines: Translation,
     ghost plain: { page_of lines ≡ pages.Ascii },
     ghost strict: { is_low_blank lines ≡ false },
@@ -128,7 +128,7 @@ impl<'a> Converter<'a> {
     ghost use Rattle.rpg_records.specs.Columns.{page_byte};
     ghost use Rattle.rpg_record_lines.specs.Converters.{characters_by, is_low_blank_of, converter_length, line_by, page_of_records, type_again, record_type_of, converter_types, whole_line_by};
 
-    /// With `low_blank` the byte 0 of a record is a blank.
+    /// With `low_blank`, a byte 0 of a record is a blank.
     pub fn new(layout: &'a Layout, page: Page, low_blank: bool) -> Self
         ensures types { converter_types result ≡ layout.now.types.items }
         ensures length { converter_length result ≡ layout.now.length }
@@ -142,14 +142,14 @@ impl<'a> Converter<'a> {
         }
     }
 
-    /// How many bytes a record has.
+    /// Returns the length of a record.
     pub(crate) fn length(&self) -> usize
         ensures { result ≡ converter_length self.now }
     {
         usize::from(self.layout.length)
     }
 
-    /// The byte of a character in a record.
+    /// Returns the byte of a character in a record.
     pub fn byte_of(&self, character: u8) -> u8
         requires { IsTrue (is_character character) }
         ensures { result ≡ page_byte (page_of_records self.now) character }
@@ -157,7 +157,7 @@ impl<'a> Converter<'a> {
         self.records.byte_of(character)
     }
 
-    /// The type that a record is of.
+    /// Returns the type that a record belongs to.
     pub(crate) fn type_of_record(&self, bytes: &[u8]) -> Option<&RecordType>
         ensures value { option_map (λ kind. kind.now) result ≡ record_type_of self.now bytes.now }
         ensures length { IfSome result (λ kind. length kind.now.columns.items ≡ length bytes.now) }
@@ -165,7 +165,7 @@ impl<'a> Converter<'a> {
         first_type(&self.records, bytes, self.types())
     }
 
-    /// The type that a line is of by its first columns.
+    /// Returns the type that a line belongs to, by its first columns.
     pub(crate) fn type_of_line(&self, columns: &[u8]) -> Option<&RecordType>
         ensures value { option_map (λ kind. kind.now) result ≡ type_again self.now columns.now }
         ensures length { IfSome result (λ kind. length kind.now.columns.items ≡ length columns.now) }
@@ -205,7 +205,7 @@ impl<'a> Converter<'a> {
         }
     }
 
-    /// Tests that the characters of a record's columns are of its type once more.
+    /// Checks that a record's characters give the same type again.
     fn check_type(&self, kind: &RecordType, columns: &[u8]) -> Result<(), RecordFault>
         ensures same { OnOk result (is_card kind.now.card (type_again self.now columns.now) ≡ true) }
         ensures other { IfErr result (λ fault. (is_card kind.now.card (type_again self.now columns.now) ≡ false)
@@ -221,7 +221,7 @@ impl<'a> Converter<'a> {
         })
     }
 
-    /// Writes the line of a record of a type, with the blanks at its end.
+    /// Writes the line of a record of a type, including trailing blanks.
     fn write_whole_line(
         &self,
         kind: &RecordType,
@@ -239,7 +239,7 @@ impl<'a> Converter<'a> {
         append_all_digits(kind.numbers.as_slice(), bytes, line)
     }
 
-    /// Writes the line of a record in the place of what a text has, without a line feed.
+    /// Replaces a text by the line of a record, without a line feed.
     ///
     /// # Errors
     ///

@@ -1,4 +1,4 @@
-//! What is written for a record, or for a line.
+//! Converts a record or a line to what is written for it.
 
 ghost use Rattle.std.specs.Prelude.{◌≡◌, ◌-◌, ◌++◌, replicate, vec_len, Some, None, Ok, IfErr, IfOk, OnOk, if◌then◌else◌};
 ghost use Rattle.rpg_records.specs.Columns.{page_byte};
@@ -11,23 +11,23 @@ use crate::frames::Framing;
 use crate::line::Converter;
 use std::alloc::AllocError;
 
-/// What is made.
+/// The direction of a conversion.
 #[derive(Clone, Copy)]
 pub(crate) enum Making {
-    /// Lines of records, but for those that begin with this byte.
+    /// Records to lines, except for those that begin with this byte.
     Lines { dropped: Option<u8> },
-    /// Records that stand so in their file.
+    /// Lines to records, delimited this way.
     Records { framing: Framing },
 }
 
-/// Makes lines of records, or records of lines.
+/// Converts records to lines, or lines to records.
 #[derive(Drop)]
 pub(crate) struct Maker<'a> {
     pub converter: Converter<'a>,
     pub making: Making,
 }
 
-/// Room for one record and one line, however many there are.
+/// Buffers for one record and one line, however many there are.
 #[derive(Drop)]
 pub(crate) struct Room {
     /// What was read.
@@ -38,7 +38,7 @@ pub(crate) struct Room {
     pub made: Vec<u8>,
 }
 
-/// Whether a record is left out.
+/// Whether a record is to be left out.
 fn is_dropped(dropped: Option<u8>, bytes: &[u8]) -> bool
     ensures { result ≡ is_dropped dropped bytes.now }
 {
@@ -48,7 +48,7 @@ fn is_dropped(dropped: Option<u8>, bytes: &[u8]) -> bool
     }
 }
 
-/// Fills a record up to so many bytes.
+/// Pads a record to `length` bytes.
 fn pad(bytes: &mut Vec<u8>, length: usize, blank: u8) -> Result<(), AllocError>
     ensures { OnOk result (bytes.new.items ≡ bytes.old.items ++ replicate (length - vec_len bytes.old) blank) }
 {
@@ -58,7 +58,7 @@ fn pad(bytes: &mut Vec<u8>, length: usize, blank: u8) -> Result<(), AllocError>
     Ok(())
 }
 
-/// Gives a record what stands around it in its file.
+/// Writes a record with its delimiters.
 fn put_in_frame(framing: Framing, bytes: &[u8], framed: &mut Vec<u8>) -> Result<(), AllocError>
     ensures { OnOk result (framed.new.items ≡ frame framing bytes.now) }
 {
@@ -81,7 +81,7 @@ fn put_in_frame(framing: Framing, bytes: &[u8], framed: &mut Vec<u8>) -> Result<
 impl<'a> Maker<'a> {
     ghost use Rattle.rpg_record_lines.specs.Ways.{line_text_by, record_text_by, text_by};
 
-    /// Makes the line of a record, with its line feed.
+    /// Converts a record to a line, with its line feed.
     fn make_line(&self, room: &mut Room) -> Result<(), LineFault>
         ensures text { OnOk result (line_text_by self.now.converter room.old.given.items ≡ Ok (Some room.new.made.items)) }
         ensures fault { IfErr result (IsLineFaultOf (line_text_by self.now.converter room.old.given.items)) }
@@ -94,7 +94,7 @@ impl<'a> Maker<'a> {
         Ok(())
     }
 
-    /// Makes the record of a line, as it stands in its file.
+    /// Converts a line to a record, with its delimiters.
     fn make_record(&self, framing: Framing, room: &mut Room) -> Result<(), LineFault>
         ensures text { OnOk result (record_text_by framing self.now.converter room.old.given.items ≡ Ok (Some room.new.made.items)) }
         ensures fault { IfErr result (IsLineFaultOf (record_text_by framing self.now.converter room.old.given.items)) }
@@ -105,7 +105,7 @@ impl<'a> Maker<'a> {
         Ok(())
     }
 
-    /// Makes what is to be written for what was read, and returns whether there is anything.
+    /// Converts what was read. Returns whether there is anything to write.
     pub fn make(&self, room: &mut Room) -> Result<bool, LineFault>
         ensures text { IfOk result (λ is_made. text_by self.now room.old.given.items ≡ Ok (if is_made then Some room.new.made.items else None)) }
         ensures fault { IfErr result (IsLineFaultOf (text_by self.now room.old.given.items)) }

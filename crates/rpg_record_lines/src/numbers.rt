@@ -1,4 +1,4 @@
-//! The digits of a record's packed and binary fields, and the bytes of such digits.
+//! Converts a record's packed and binary fields to digits, and digits to such fields.
 
 ghost use Rattle.std.specs.Prelude.{◌≡◌, ◌++◌, length, None, Some, Ok, Err, IfErr, OnErr, OnOk, drop, replicate, take};
 ghost use Rattle.rpg_records.specs.Sizes.{field_digits, field_size};
@@ -10,7 +10,7 @@ use rpg_records::{
     NumberField, NumberForm, binary_to_zoned, packed_to_zoned, zoned_to_binary, zoned_to_packed,
 };
 
-/// Writes the digits of a field's bytes.
+/// Writes the digits of a field, given its bytes.
 fn write_digits(field: &NumberField, bytes: &[u8], digits: &mut [u8]) -> Result<(), NumberFault>
     requires bytes { length bytes.now ≡ field_size field.now }
     requires digits { length digits.old ≡ field_digits field.now }
@@ -64,7 +64,7 @@ pub(crate) fn append_all_digits(
     Ok(())
 }
 
-/// Writes the bytes of a field's digits.
+/// Writes the bytes of a field, given its digits.
 fn write_bytes(field: &NumberField, digits: &[u8], bytes: &mut [u8]) -> Result<(), NumberFault>
     requires bytes { length bytes.old ≡ field_size field.now }
     requires digits { length digits.now ≡ field_digits field.now }
@@ -77,7 +77,7 @@ fn write_bytes(field: &NumberField, digits: &[u8], bytes: &mut [u8]) -> Result<(
     }
 }
 
-/// Writes a text at the front of blanks.
+/// Writes a text, padded with blanks.
 #[tactic(auto, using(crate::proofs::DigitLemmas::filled_front))]
 fn fill(text: &[u8], room: &mut [u8])
     requires { room.old ≡ replicate (length room.old) 32 }
@@ -87,7 +87,7 @@ fn fill(text: &[u8], room: &mut [u8])
     room[..n].copy_from_slice(&text[..n]);
 }
 
-/// What a line has from a place on.
+/// Returns a line from a place on.
 #[tactic(auto, using(crate::proofs::DigitLemmas::beyond))]
 fn from_place(line: &[u8], place: usize) -> &[u8]
     ensures { result.now ≡ drop place line.now }
@@ -99,7 +99,7 @@ fn from_place(line: &[u8], place: usize) -> &[u8]
     }
 }
 
-/// Writes the bytes of a line's digits into a record. The digits stand at a place, counted from 0; blanks follow the line's end.
+/// Writes the bytes of a line's digits into a record. The digits are at a place counted from 0; after the line's end they are blanks.
 #[tactic(auto, using(crate::proofs::DigitLemmas::blank_room))]
 fn write_number(
     field: &NumberField,
@@ -127,7 +127,7 @@ fn write_number(
     Ok(())
 }
 
-/// Writes the bytes of all digits of a line into a record. The digits stand after its columns, and nothing after them.
+/// Writes the bytes of all digits of a line into a record. The digits follow its columns, and nothing follows them.
 pub(crate) fn write_numbers(
     fields: &[NumberField],
     line: &[u8],

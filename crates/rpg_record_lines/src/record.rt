@@ -1,4 +1,4 @@
-//! A line as a record.
+//! Converts a line to a record.
 
 ghost use Rattle.std.specs.Prelude.{◌≡◌, ◌≤◌, length, Ok, Err, IfErr, OnOk};
 ghost use Rattle.rpg_record_lines.specs.Outcomes.{IsLineFaultOf};
@@ -14,7 +14,7 @@ use std::alloc::AllocError;
 impl<'a> Converter<'a> {
     ghost use Rattle.rpg_record_lines.specs.Converters.{checked_by, page_of_records, record_by, typed_by};
 
-    /// Writes the bytes of a line's first columns. A blank is one too.
+    /// Writes the bytes of a line's first columns, blanks included.
     #[tactic(auto, using(crate::proofs::DigitLemmas::joined_empty, crate::proofs::DigitLemmas::joined_nothing, crate::proofs::RecordLemmas::bytes_next, crate::proofs::RecordLemmas::bytes_bad))]
     fn write_characters(&self, columns: &[u8], bytes: &mut [u8]) -> Result<(), RecordFault>
         requires { length columns.now ≡ length bytes.old }
@@ -33,7 +33,7 @@ impl<'a> Converter<'a> {
         Ok(())
     }
 
-    /// Tests that a record is of the type of its line.
+    /// Checks that a record is of the type of its line.
     fn check_record(&self, kind: &RecordType, bytes: &[u8]) -> Result<(), RecordFault>
         ensures same { OnOk result (checked_by self.now kind.now bytes.now ≡ Ok bytes.now) }
         ensures other { IfErr result (λ fault. checked_by self.now kind.now bytes.now ≡ Err fault) }
@@ -48,7 +48,7 @@ impl<'a> Converter<'a> {
         })
     }
 
-    /// Writes the record of a line of a type, which has all columns of a record.
+    /// Writes the record of a line of a type. The line has all columns of a record.
     fn write_typed_record(
         &self,
         kind: &RecordType,
@@ -65,7 +65,7 @@ impl<'a> Converter<'a> {
         self.check_record(kind, bytes)
     }
 
-    /// Writes the record of a line in the place of what is there. The line gets blanks up to the record's columns.
+    /// Replaces `bytes` by the record of a line, which is padded with blanks to the record's columns.
     ///
     /// # Errors
     ///
@@ -89,7 +89,7 @@ impl<'a> Converter<'a> {
     }
 }
 
-/// Gives a line blanks up to so many columns.
+/// Pads a line with blanks to `columns` columns.
 fn widen(line: &mut Vec<u8>, columns: usize) -> Result<(), AllocError>
     ensures line { OnOk result (line.new.items ≡ widened columns line.old.items) }
     ensures long { OnOk result (columns ≤ length line.new.items) }

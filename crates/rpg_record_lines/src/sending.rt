@@ -1,4 +1,4 @@
-//! All bytes of a text to a writer.
+//! Writes all bytes of a text to a writer.
 
 ghost use Rattle.std.specs.Prelude.{◌≡◌, ◌<◌, ◌≤◌, length, IfOk, OnErr, OnOk};
 ghost use Rattle.std.specs.Io.KnownBytes.{Appends, WriteAppends};
@@ -11,7 +11,7 @@ use std::io::{ErrorKind, Write};
 #[derive(Clone, Copy)]
 pub(crate) struct WriteFault;
 
-/// Writes some bytes, at least one if there are any: a write of 0 bytes is a fault.
+/// Writes bytes. Returns how many, at least one if there are any: a write of 0 bytes is a fault.
 fn write_some<W: Write>(writer: &mut W, bytes: &[u8]) -> Result<usize, WriteFault>
     ensures within { IfOk result (λ n. n ≤ length bytes.now) }
     ensures some { IfOk result (λ n. 0 < length bytes.now → 0 < n) }
@@ -31,7 +31,7 @@ fn write_some<W: Write>(writer: &mut W, bytes: &[u8]) -> Result<usize, WriteFaul
     Err(WriteFault)
 }
 
-/// Writes all bytes, or a first part of them.
+/// Writes all bytes, or some of them if it fails.
 pub(crate) fn send<W: Write>(writer: &mut W, bytes: &[u8]) -> Result<(), WriteFault>
     ensures all { OnOk result (Appends (W.contents writer.old) (W.contents writer.new) bytes.now) }
     ensures part { OnErr result (AppendsPrefix (W.contents writer.old) (W.contents writer.new) bytes.now) }

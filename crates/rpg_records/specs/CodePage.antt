@@ -5,7 +5,7 @@ use Rattle.rpg_text.specs.Texts.{is_character}
 use Rattle.rpg_decimal_words.specs.Order.{collating_sequence}
 use Rattle.rpg_decimal_words.specs.Zoned.{minus_letter}
 
--- so many bytes without a character
+-- this many bytes without a character
 abbrev pub gap : ℕ → List ℕ
 gap n = replicate n 0
 

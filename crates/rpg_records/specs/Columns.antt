@@ -17,7 +17,7 @@ abbrev pub last_place_character : Page → ℕ → ℕ
 last_place_character pages.Ebcdic b = last_place_of b
 last_place_character pages.Ascii b = page_character pages.Ascii b
 
--- a blank where a byte stands for no character
+-- a blank if a byte stands for no character
 abbrev pub blank_for_none : ℕ → ℕ
 blank_for_none c = if c == 0 then 32 else c
 
@@ -28,7 +28,7 @@ kind_character page columns.LastPlace b = last_place_character page b
 kind_character page columns.Number b = 32
 kind_character page columns.Unnamed b = blank_for_none (page_character page b)
 
--- the same where the byte 0 may be a blank
+-- the same if the byte 0 may be a blank
 abbrev pub column_character : Page → Bool → Column → ℕ → ℕ
 column_character page low_blank kind b = if low_blank && b == 0 then 32 else kind_character page kind b
 

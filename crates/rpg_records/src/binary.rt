@@ -1,9 +1,9 @@
-//! Binary numbers: two's complement, the highest byte first.
+//! Binary numbers: two's complement, big-endian.
 
 ghost use Rattle.std.specs.Prelude.{◌≡◌, ◌*◌, ◌^◌, ◌<◌, ◌≤◌, length, pos, unsigned_abs};
 ghost use Rattle.rpg_records.specs.Binary as binary;
 
-/// The size of bytes, each by its place.
+/// Returns the unsigned value of big-endian bytes.
 fn byte_value(bytes: &[u8]) -> u64
     requires { length bytes.now ≤ 4 }
     ensures value { result ≡ binary.byte_value bytes.now }
@@ -16,7 +16,7 @@ fn byte_value(bytes: &[u8]) -> u64
     size
 }
 
-/// How many sizes so many bytes can have.
+/// Returns how many values this many bytes can have.
 fn power_of_256(bytes: usize) -> u64
     requires { bytes ≤ 4 }
     ensures value { result ≡ 256 ^ bytes }
@@ -31,7 +31,7 @@ fn power_of_256(bytes: usize) -> u64
     }
 }
 
-/// The number of bytes that are one, at most four.
+/// Returns the number in two's complement bytes, at most four.
 pub fn read_binary(bytes: &[u8]) -> i64
     requires { length bytes.now ≤ 4 }
     ensures { result ≡ binary.binary_number bytes.now }
@@ -45,7 +45,7 @@ pub fn read_binary(bytes: &[u8]) -> i64
     }
 }
 
-/// Writes the lowest bytes of a size, as many as there are.
+/// Writes the lowest bytes of an unsigned value, as many as there is room for.
 fn write_lowest_bytes(size: u64, bytes: &mut [u8])
     ensures { bytes.new ≡ binary.lowest_bytes (length bytes.old) size }
 {
@@ -58,7 +58,7 @@ fn write_lowest_bytes(size: u64, bytes: &mut [u8])
     }
 }
 
-/// The size of a number's bytes.
+/// Returns a number in two's complement, as an unsigned value.
 fn twos_complement(n: i64, bytes: usize) -> u64
     requires few { bytes ≤ 4 }
     requires fits { 2 * unsigned_abs n < 256 ^ bytes }
@@ -71,7 +71,7 @@ fn twos_complement(n: i64, bytes: usize) -> u64
     }
 }
 
-/// Writes a number in as many bytes as there are.
+/// Writes a number in two's complement, filling the bytes.
 pub fn write_binary(n: i64, bytes: &mut [u8])
     requires high { length bytes.old ≤ 4 }
     requires fits { 2 * unsigned_abs n < 256 ^ length bytes.old }

@@ -1,23 +1,23 @@
-//! What stands in a column of a record.
+//! The contents of a record's column.
 
 ghost use Rattle.std.specs.Prelude.{◌≡◌};
 ghost use Rattle.rpg_records.specs.Columns.{column_kind_number};
 
-/// What stands in a column of a record, which settles the character of its byte.
+/// The contents of a record's column, which determine the character of its byte.
 #[derive(Clone, Copy)]
 pub enum Column {
     /// A character.
     Text,
     /// The last digit of a zoned number, with its sign.
     LastPlace,
-    /// A byte of a packed or binary number: its digits stand elsewhere.
+    /// A byte of a packed or binary number, whose digits are elsewhere.
     Number,
-    /// Anything: what is no character is a blank.
+    /// Anything: a byte that isn't a character counts as a blank.
     Unnamed,
 }
 
 impl Column {
-    /// Its row in a translation's table.
+    /// Returns its row in a translation's table.
     #[inline(always)]
     pub(crate) fn row(self) -> usize
         ensures { result ≡ column_kind_number self }

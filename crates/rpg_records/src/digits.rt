@@ -1,4 +1,4 @@
-//! Numbers of packed and binary bytes as zoned texts, which rpg2 reads, and back.
+//! Converts packed and binary numbers to zoned text, which rpg2 reads, and back.
 
 ghost use Rattle.std.specs.Prelude.{◌≡◌, ◌-◌, ◌*◌, ◌^◌, ◌≤◌, length, None, Some, IfErr, OnErr, OnOk};
 ghost use Rattle.rpg_decimal_words.specs.Zoned.{number_in};
@@ -10,18 +10,18 @@ use crate::binary::{read_binary, write_binary};
 use crate::packed::{read_packed, write_packed};
 use rpg_decimal::{read_zoned, write_zoned};
 
-/// Why bytes have no digits, or digits no bytes.
+/// Why a number can't be converted.
 #[derive(Clone, Copy)]
 pub enum NumberFault {
-    /// The bytes are no packed number.
+    /// The bytes aren't a packed number.
     NotPacked,
-    /// The digits are no number.
+    /// The digits aren't a number.
     NotZoned,
     /// The number has more digits than there is room for.
     TooLarge,
 }
 
-/// Writes the digits of packed bytes.
+/// Writes the digits of a packed number.
 pub fn packed_to_zoned(bytes: &[u8], digits: &mut [u8]) -> Result<(), NumberFault>
     requires low { 1 ≤ length bytes.now }
     requires high { length bytes.now ≤ 8 }
@@ -40,7 +40,7 @@ pub fn packed_to_zoned(bytes: &[u8], digits: &mut [u8]) -> Result<(), NumberFaul
     }
 }
 
-/// Writes the packed bytes of digits.
+/// Writes digits as a packed number.
 pub fn zoned_to_packed(digits: &[u8], bytes: &mut [u8]) -> Result<(), NumberFault>
     requires low { 1 ≤ length bytes.old }
     requires high { length bytes.old ≤ 8 }
@@ -76,7 +76,7 @@ fn power_of_ten(exponent: usize) -> u64
     }
 }
 
-/// Writes the digits of binary bytes.
+/// Writes the digits of a binary number.
 pub fn binary_to_zoned(bytes: &[u8], digits: &mut [u8]) -> Result<(), NumberFault>
     requires few { length bytes.now ≤ 4 }
     requires low { 1 ≤ length digits.old }
@@ -94,7 +94,7 @@ pub fn binary_to_zoned(bytes: &[u8], digits: &mut [u8]) -> Result<(), NumberFaul
     Ok(())
 }
 
-/// Writes the binary bytes of digits.
+/// Writes digits as a binary number.
 pub fn zoned_to_binary(digits: &[u8], bytes: &mut [u8]) -> Result<(), NumberFault>
     requires few { length bytes.old ≤ 4 }
     requires low { 1 ≤ length digits.now }

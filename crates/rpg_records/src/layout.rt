@@ -1,11 +1,11 @@
-//! What is known of a file's records.
+//! The layout of a file's records.
 
 ghost use Rattle.std.specs.Prelude.{◌≡◌, ◌+◌, ◌-◌, ◌≤◌, IsTrue};
 ghost use Rattle.rpg_records.specs.Fields.{digit_count, is_field_size};
 
 use crate::column::Column;
 
-/// How the bytes of a number stand.
+/// The format of a number's bytes.
 #[derive(Clone, Copy)]
 pub enum NumberForm {
     Packed,
@@ -13,7 +13,7 @@ pub enum NumberForm {
 }
 
 impl NumberForm {
-    /// Whether a field may have so many bytes: 1 to 8 packed ones, 2 or 4 binary ones.
+    /// Whether a field may have this size: 1 to 8 bytes if packed, 2 or 4 if binary.
     pub fn allows(self, bytes: u16) -> bool
         ensures { result ≡ is_field_size self bytes }
     {
@@ -24,7 +24,7 @@ impl NumberForm {
     }
 }
 
-/// A field of packed or binary bytes. Columns are counted from 1.
+/// A packed or binary field. Columns are counted from 1.
 #[derive(Clone, Copy)]
 pub struct NumberField {
     /// Its card.
@@ -40,7 +40,7 @@ pub struct NumberField {
 impl NumberField {
     ghost use Rattle.rpg_records.specs.Sizes.{field_digits, field_size};
 
-    /// How many bytes it has: 1 to 8.
+    /// Returns its size in bytes, 1 to 8.
     pub fn size(&self) -> usize
         ensures value { result ≡ field_size self.now }
         ensures low { 1 ≤ result }
@@ -49,7 +49,7 @@ impl NumberField {
         usize::from(self.last - self.first) + 1
     }
 
-    /// How many digits its number has: 1 to 15.
+    /// Returns how many digits its number has, 1 to 15.
     pub fn digit_count(&self) -> usize
         ensures value { result ≡ field_digits self.now }
         ensures low { 1 ≤ result }
@@ -63,7 +63,7 @@ impl NumberField {
     }
 }
 
-/// A character that stands at a place of a record, counted from 0, or that doesn't where it is negated.
+/// A character that a place of a record, counted from 0, must have or, if negated, must not have.
 #[derive(Clone, Copy)]
 pub struct Code {
     pub place: usize,
@@ -71,7 +71,7 @@ pub struct Code {
     pub character: u8,
 }
 
-/// A record type: its card, its codes, what stands in each of its columns, and its packed and binary fields.
+/// A record type: its card, its codes, the contents of its columns, and its packed and binary fields.
 #[derive(Drop)]
 pub struct RecordType {
     pub card: u16,
@@ -83,7 +83,7 @@ pub struct RecordType {
 impl RecordType {
     ghost use Rattle.rpg_records.specs.Sizes.{digits_after};
 
-    /// How many digits stand after the record's columns.
+    /// Returns how many digits follow the record's columns.
     pub fn digit_count(&self) -> usize
         ensures { result ≡ digits_after self.now }
     {
@@ -100,16 +100,16 @@ impl RecordType {
 pub struct Layout {
     /// The card that describes the file.
     pub card: u16,
-    /// How many bytes a record has: 1 to 9,999.
+    /// The length of a record in bytes, 1 to 9,999.
     pub length: u16,
-    /// A record is of the first of these all of whose codes hold.
+    /// The types. A record belongs to the first one all of whose codes hold.
     pub types: Vec<RecordType>,
 }
 
 impl Layout {
     ghost use Rattle.rpg_records.specs.Sizes.{longest_line};
 
-    /// How many columns the longest line has.
+    /// Returns how many columns the longest line has.
     pub fn columns(&self) -> usize
         ensures { result ≡ longest_line self.now }
     {

@@ -1,4 +1,5 @@
-//! Records of other machines: code page 037, packed and binary numbers, a record's columns as characters, and the layout of a file's records.
+//! Records of other machines: code page 037, packed and binary numbers, the characters of a record's columns, and the layout of a file's
+//! records.
 #![tactic(auto)]
 
 mod binary;

@@ -1,18 +1,18 @@
-//! Packed numbers: two digits a byte, and in the last half of the last byte the sign.
+//! Packed numbers: two digits a byte, with the sign in the low half of the last byte.
 
 ghost use Rattle.std.specs.Prelude.{◌≡◌, ◌+◌, ◌-◌, ◌*◌, ◌/◌, ◌%◌, ◌^◌, ◌<◌, ◌≤◌, unsigned_abs, pos, neg_ℤ, if◌then◌else◌, true, false, length, Some, IfSome, IfNone};
 ghost use Rattle.std.specs.List.{list_all};
 ghost use Rattle.rpg_decimal_words.specs.Place.{place_value};
 ghost use Rattle.rpg_records.specs.Packed as packs;
 
-/// Whether the last half of a number is a minus sign.
+/// Whether the low half of the last byte is a minus sign.
 fn is_minus_sign(half: u8) -> bool
     ensures { result ≡ packs.is_minus_sign half }
 {
     matches!(half, 11 | 13)
 }
 
-/// The number of bytes of two digits each, if they are such.
+/// Returns the value of bytes with two digits each, if they have such.
 fn value_of_pairs(bytes: &[u8]) -> Option<u64>
     requires { length bytes.now ≤ 7 }
     ensures value { IfSome result (λ size. (size ≡ place_value (packs.halves bytes.now)) × (list_all packs.is_figure (packs.halves bytes.now) ≡ true)) }
@@ -30,7 +30,7 @@ fn value_of_pairs(bytes: &[u8]) -> Option<u64>
     Some(size)
 }
 
-/// A size under a sign.
+/// Returns a value with this sign.
 fn signed(is_minus: bool, size: u64) -> i64
     requires { size < 10 ^ 15 }
     ensures { result ≡ (if is_minus then neg_ℤ (pos size) else pos size) }
@@ -42,7 +42,7 @@ fn signed(is_minus: bool, size: u64) -> i64
     }
 }
 
-/// The number that bytes are, if they are one: a packed number.
+/// Returns the number in packed bytes, if they are one.
 pub fn read_packed(bytes: &[u8]) -> Option<i64>
     requires low { 1 ≤ length bytes.now }
     requires high { length bytes.now ≤ 8 }
@@ -61,14 +61,14 @@ pub fn read_packed(bytes: &[u8]) -> Option<i64>
     Some(signed(is_minus_sign(sign), front * 10 + u64::from(digit)))
 }
 
-/// The lowest two digits of a number in a byte.
+/// Returns the lowest two digits of a number in a byte.
 fn pair_byte(n: u64) -> u8
     ensures { result ≡ packs.pair_byte n }
 {
     (n / 10 % 10 * 16 + n % 10) as u8
 }
 
-/// Writes the lowest pairs of digits of a number, as many as there are bytes.
+/// Writes the lowest pairs of digits of a number, filling the bytes.
 fn write_pairs(size: u64, bytes: &mut [u8])
     ensures { bytes.new ≡ packs.lowest_pairs (length bytes.old) size }
 {
@@ -81,7 +81,7 @@ fn write_pairs(size: u64, bytes: &mut [u8])
     }
 }
 
-/// Writes the digits of a number and its sign.
+/// Writes the digits of a number, then its sign.
 fn write_signed_digits(n: i64, bytes: &mut [u8])
     requires { 1 ≤ length bytes.old }
     ensures { bytes.new ≡ packs.packed_bytes (length bytes.old) n }
@@ -93,7 +93,7 @@ fn write_signed_digits(n: i64, bytes: &mut [u8])
     bytes[end] = (size % 10) as u8 * 16 + sign;
 }
 
-/// Writes a number in as many bytes as there are.
+/// Writes a packed number, filling the bytes.
 pub fn write_packed(n: i64, bytes: &mut [u8])
     requires low { 1 ≤ length bytes.old }
     requires fits { unsigned_abs n < 10 ^ (2 * length bytes.old - 1) }

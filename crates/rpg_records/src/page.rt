@@ -4,7 +4,7 @@ ghost use Rattle.std.specs.Prelude.{◌≡◌, ◌<◌, IsTrue};
 ghost use Rattle.rpg_records.specs.CodePage as codes;
 ghost use Rattle.rpg_text.specs.Texts.{is_character};
 
-/// The characters of the bytes, 0 for none.
+/// The character of each byte, 0 for none.
 static PAGE: [u8; 256] = [
     0, 0, 0, 0, 0, 0, 0, 0, 0, 0, 0, 0, 0, 0, 0, 0, 0, 0, 0, 0, 0, 0, 0, 0, 0, 0, 0, 0, 0, 0, 0, 0,
     0, 0, 0, 0, 0, 0, 0, 0, 0, 0, 0, 0, 0, 0, 0, 0, 0, 0, 0, 0, 0, 0, 0, 0, 0, 0, 0, 0, 0, 0, 0, 0,
@@ -18,7 +18,7 @@ static PAGE: [u8; 256] = [
     53, 54, 55, 56, 57, 0, 0, 0, 0, 0, 0,
 ];
 
-/// The bytes of the characters, from the blank on.
+/// The byte of each character, from the blank on.
 static BYTES: [u8; 95] = [
     64, 90, 127, 123, 91, 108, 80, 125, 77, 93, 92, 78, 107, 96, 75, 97, 240, 241, 242, 243, 244,
     245, 246, 247, 248, 249, 122, 94, 76, 126, 110, 111, 124, 193, 194, 195, 196, 197, 198, 199,
@@ -27,7 +27,7 @@ static BYTES: [u8; 95] = [
     149, 150, 151, 152, 153, 162, 163, 164, 165, 166, 167, 168, 169, 192, 79, 208, 161,
 ];
 
-/// The character of a byte, 0 for none.
+/// Returns the character of a byte, 0 for none.
 #[inline(always)]
 pub fn character_of(byte: u8) -> u8
     ensures { result ≡ codes.character_of byte }
@@ -35,7 +35,7 @@ pub fn character_of(byte: u8) -> u8
     PAGE[usize::from(byte)]
 }
 
-/// The byte of a character.
+/// Returns the byte of a character.
 #[inline(always)]
 pub fn byte_of(character: u8) -> u8
     requires { IsTrue (is_character character) }
@@ -44,7 +44,8 @@ pub fn byte_of(character: u8) -> u8
     BYTES[usize::from(character - b' ')]
 }
 
-/// The last place of a number as a character, 0 for none: zones A and E are plus and B is minus, as C, F and D are by the page.
+/// Returns the last digit of a zoned number as a character, 0 for none: zones A and E are plus and B is minus, as C, F and D
+/// are by the page.
 pub fn last_place_of(byte: u8) -> u8
     ensures { result ≡ codes.last_place_of byte }
 {

@@ -1,4 +1,4 @@
-//! The characters of a record's bytes, by what stands in their columns, and the bytes of characters.
+//! Translates a record's bytes to characters, by the contents of their columns, and characters to bytes.
 
 ghost use Rattle.std.specs.Prelude.{◌≡◌, ◌<◌, ◌≤◌, IsTrue, length, not, ◌==◌};
 ghost use Rattle.std.specs.List.{list_any};
@@ -9,7 +9,7 @@ use crate::column::Column;
 use crate::page::{byte_of, character_of, last_place_of};
 use rpg_text::is_character;
 
-/// In which code the characters of records are.
+/// The encoding of the records' characters.
 #[derive(Clone, Copy)]
 pub enum Page {
     /// Code page 037.
@@ -17,7 +17,7 @@ pub enum Page {
     Ascii,
 }
 
-/// The characters of all bytes in each kind of column, in a table: 0 is none.
+/// The character of each byte in each kind of column, as a table: 0 is none.
 #[derive(Clone, Copy)]
 pub struct Translation {
     page: Page,
@@ -26,7 +26,7 @@ pub struct Translation {
     ghost holds: { HoldsCharacters page low_blank table },
 }
 
-/// The character of a byte, 0 for none.
+/// Returns the character of a byte, 0 for none.
 fn page_character(page: Page, byte: u8) -> u8
     ensures { result ≡ page_character page byte }
 {
@@ -37,7 +37,7 @@ fn page_character(page: Page, byte: u8) -> u8
     }
 }
 
-/// The last place of a zoned number, 0 for none.
+/// Returns the last digit of a zoned number as a character, 0 for none.
 fn last_place_character(page: Page, byte: u8) -> u8
     ensures { result ≡ last_place_character page byte }
 {
@@ -47,7 +47,7 @@ fn last_place_character(page: Page, byte: u8) -> u8
     }
 }
 
-/// The character of a byte by what stands in its column, 0 for none.
+/// Returns the character of a byte by the contents of its column, 0 for none.
 fn kind_character(page: Page, column: Column, byte: u8) -> u8
     ensures { result ≡ kind_character page column byte }
 {
@@ -62,7 +62,7 @@ fn kind_character(page: Page, column: Column, byte: u8) -> u8
     }
 }
 
-/// The same where the byte 0 may be a blank.
+/// Like `kind_character`, but byte 0 may be a blank.
 fn column_character(page: Page, low_blank: bool, column: Column, byte: u8) -> u8
     ensures { result ≡ column_character page low_blank column byte }
 {
@@ -73,7 +73,7 @@ fn column_character(page: Page, low_blank: bool, column: Column, byte: u8) -> u8
     }
 }
 
-/// The column of a row of the table.
+/// Returns the contents of a column that a row of the table is for.
 fn column_at(row: u16) -> Column
     ensures { result ≡ column_at row }
 {
@@ -85,7 +85,7 @@ fn column_at(row: u16) -> Column
     }
 }
 
-/// The characters of all bytes, row by row.
+/// Returns the characters of all bytes, row by row.
 fn table_of(page: Page, low_blank: bool) -> [u8; 1024]
     ensures { HoldsCharacters page low_blank result }
 {
@@ -100,7 +100,7 @@ fn table_of(page: Page, low_blank: bool) -> [u8; 1024]
 impl Translation {
     ghost use Rattle.rpg_records.specs.Translations.{is_low_blank, page_of};
 
-    /// With `low_blank` the byte 0 is a blank in each column.
+    /// With `low_blank`, byte 0 is a blank in each column.
     pub fn new(page: Page, low_blank: bool) -> Self
         ensures page { page_of result ≡ page }
         ensures low_blank { is_low_blank result ≡ low_blank }
@@ -112,7 +112,7 @@ impl Translation {
         }
     }
 
-    /// The character of a byte in a column, 0 for none.
+    /// Returns the character of a byte in a column, 0 for none.
     #[inline(always)]
     pub fn character_in(&self, column: Column, byte: u8) -> u8
         ensures { result ≡ column_character (page_of self.now) (is_low_blank self.now) column byte }

@@ -27,11 +27,11 @@ cause_in p (rules.Line r) row = cause_of_row (line_cause r p) (slice_get p.lines
 cause_in p (rules.Place r) row = cause_of_row (place_cause r p) (placed_at p row)
 cause_in p (rules.Subroutine r) row = subroutine_cause r p row
 
--- what in a row breaks a rule; nothing where the row doesn't break it
+-- what in a row breaks a rule; nothing if the row doesn't break it
 abbrev pub refusal_cause_of : Object → Rule → ℕ → Option RefusalCause
 refusal_cause_of p r row = if row_breaks p r row then cause_in p r row else None
 
--- the least broken rule, its first row, and what in that row breaks it
+-- the lowest-numbered broken rule, its first row, and what in that row breaks it
 pub record IsRefusalOf (p : Object) (r : Refusal) : Type 0 where
   pub least : IsLeastBroken p r.broken
   pub what : refusal_cause_of p r.broken.rule r.broken.row ≡ Some r.cause

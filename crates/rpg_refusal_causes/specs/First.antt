@@ -2,7 +2,7 @@
 use Rattle.std.specs.Prelude.{ℕ, ◌+◌, Bool, List, [], ◌∷◌, Option, None, Some, if◌then◌else◌}
 use Rattle.std.specs.Option.{option_or}
 
--- a cause, where it is one
+-- a cause, if it is one
 abbrev pub cause_if : {C : Type 0} → Bool → C → Option C
 cause_if b c = if b then Some c else None
 

@@ -77,12 +77,12 @@ instruction_operand_cause breaks r =
 
 -- ---- indicators
 
--- factor 2, where it isn't in ascending sequence
+-- factor 2, if it isn't in ascending sequence
 abbrev pub unordered_cause : Object → Marks → Option (Use (Operand ℕ)) → Option RefusalCause
 unordered_cause p m None = None
 unordered_cause p m (Some u) = cause_if (not (is_ascending p u)) (causes.Unordered m u)
 
--- indicators; where these may stand, factor 2, which is searched by them
+-- indicators; if these may stand, factor 2, which is searched by them
 abbrev pub marked_cause : Object → Marks → Option (Use (Operand ℕ)) → Option RefusalCause
 marked_cause p m factor2 = option_or (cause_if (not (are_marked m && not (is_two_sided m))) (causes.Marked m)) (unordered_cause p m factor2)
 
@@ -110,7 +110,7 @@ abbrev pub short_cause : Object → ℕ → Option (Use (Operand ℕ)) → Optio
 short_cause p n None = None
 short_cause p n (Some u) = cause_if (not (nat_le n (entries_named p u))) (causes.Short u n)
 
--- what is searched has so many entries: its index can't hold their number, or the result has fewer
+-- what is searched has this many entries: its index can't hold their number, or the result has fewer
 abbrev pub entries_cause : Object → Option (Use (Operand ℕ)) → Use (Operand ℕ) → ℕ → Option RefusalCause
 entries_cause p to u n = option_or (cause_if (not (can_hold (form_at p.fields) u.operand.index n)) (causes.Index u n)) (short_cause p n to)
 

@@ -41,7 +41,7 @@ match_cause len cs n c = option_or (cause_if (not (is_control_in len c)) (causes
 
 -- ---- joined lengths
 
--- a level of so many columns, where the first type with it has others: too many, or other ones
+-- a level of this many columns, if the first type with it has others: too many, or other ones
 abbrev pub level_length_cause : ℕ → ℕ → ℕ → RefusalCause
 level_length_cause level n first = if nat_le n 256 then causes.OtherLevel level n first else causes.LongLevel level n
 
@@ -63,7 +63,7 @@ matches_cause widths cs =
     let n = sum (joined_widths cs) in
     option_or (cause_if (not (nat_le n 256)) (causes.LongMatches n)) (widths_cause 1 widths cs)
 
--- what in a type that breaks a rule breaks it; joined lengths, where no single field does
+-- what in a type that breaks a rule breaks it; joined lengths, if no single field does
 unfoldable pub type_cause : TypeRule → Object → TypeRow ℕ → Option RefusalCause
 type_cause V3 p t = first_cause (code_cause (input_length p t.file)) 0 t.codes
 type_cause V4 p t = option_map causes.TurnedOn t.indicator

@@ -1,4 +1,4 @@
-//! What in a row breaks a rule, as a value.
+//! Describes what in a row breaks a rule.
 
 use rpg_program::condition::Conditions;
 use rpg_program::input::{ControlField, InputField};
@@ -16,7 +16,7 @@ pub enum Column {
     Result,
 }
 
-/// What in a row breaks a rule. Rows, and what a row has of one kind, are counted from 0.
+/// What in a row breaks a rule. Rows, and a row's parts of one kind, are counted from 0.
 #[derive(Clone, Copy)]
 pub enum RefusalCause {
     /// V1: the overflow indicator of a program without a printer.
@@ -25,7 +25,7 @@ pub enum RefusalCause {
     },
     /// V2: the line's file, which the program doesn't have.
     NoFile,
-    /// V3: the first code at a position outside the record, which has so many columns.
+    /// V3: the first code with a position outside the record, which has this length.
     Code {
         at: usize,
         position: u16,
@@ -35,51 +35,51 @@ pub enum RefusalCause {
     TurnedOn {
         indicator: u8,
     },
-    /// V5: the first control field that isn't columns of the record.
+    /// V5: the first control field that isn't within the record.
     Control {
         at: usize,
         field: ControlField,
         columns: u16,
     },
-    /// V26: the first match field that isn't columns of the record.
+    /// V26: the first match field that isn't within the record.
     Match {
         at: usize,
         field: ControlField,
         columns: u16,
     },
-    /// V26: the first match field of a level that one before it has.
+    /// V26: the first match field whose level an earlier one has.
     Twice {
         at: usize,
         level: u8,
     },
-    /// V5: the joined length of the first level whose control fields have over 256 columns together.
+    /// V5: the joined length of the first level whose control fields have more than 256 columns together.
     LongLevel {
         level: u8,
         columns: u128,
     },
-    /// V5: the joined length of the first level that isn't as long as in the first type with that level.
+    /// V5: the joined length of the first level that differs from the first type with that level.
     OtherLevel {
         level: u8,
         columns: u128,
         first: u128,
     },
-    /// V26: the length of all match fields, which is over 256 columns.
+    /// V26: the length of all match fields, more than 256 columns.
     LongMatches {
         columns: u128,
     },
-    /// V26: the joined length of the first level that isn't as long as in the first type with match fields.
+    /// V26: the joined length of the first level that differs from the first type with match fields.
     OtherMatches {
         level: u8,
         columns: u128,
         first: u128,
     },
-    /// V6: the first input field that isn't columns of the record, or not as many as its field is long.
+    /// V6: the first input field that isn't within the record, or not as long as its field.
     Input {
         at: usize,
         input: InputField<u16>,
         columns: u16,
     },
-    /// V7: the first input field with an indicator that it can't have.
+    /// V7: the first input field with an indicator that isn't allowed.
     Shown {
         at: usize,
         input: InputField<u16>,
@@ -90,7 +90,7 @@ pub enum RefusalCause {
     Movements {
         spacing: Spacing,
     },
-    /// V9: the first alternative that asks an indicator that it may not.
+    /// V9: the first alternative that tests an indicator that isn't allowed.
     Alternative {
         at: usize,
     },
@@ -99,7 +99,7 @@ pub enum RefusalCause {
         at: usize,
         field: LineField<u16>,
     },
-    /// V16 to V18: the first operand that breaks the rule; V20: the one that is no table.
+    /// V16 to V18: the first operand that breaks the rule; V20: the one that isn't a table.
     Operand {
         column: Column,
         used: Use<Operand<u16>>,
@@ -112,7 +112,7 @@ pub enum RefusalCause {
     Marked {
         marks: Marks,
     },
-    /// V19: factor 2, which is searched for the next one and isn't in ascending sequence.
+    /// V19: factor 2, which is searched for the next entry but isn't in ascending sequence.
     Unordered {
         marks: Marks,
         used: Use<Operand<u16>>,
@@ -122,18 +122,18 @@ pub enum RefusalCause {
         used: Use<Operand<u16>>,
         entries: u16,
     },
-    /// V20: the result, a table of fewer entries than factor 2.
+    /// V20: the result, a table with fewer entries than factor 2.
     Short {
         used: Use<Operand<u16>>,
         entries: u16,
     },
-    /// V21: where the branch leads, with the first place of its section and its end.
+    /// V21: the target of the branch, with the first place of its section and its end.
     Target {
         target: u16,
         first: usize,
         end: usize,
     },
-    /// V22: the subroutine that is called, with its level if it is there.
+    /// V22: the subroutine that is called, with its level if it exists.
     Called {
         subroutine: u16,
         level: Option<u16>,
@@ -147,7 +147,7 @@ pub enum RefusalCause {
         at: usize,
         subroutine: u16,
     },
-    /// V23: the subroutine's last instruction, which is no RET.
+    /// V23: the subroutine's last instruction, which isn't RET.
     Unended,
     /// V24: the subroutine's level.
     Level {
@@ -155,7 +155,7 @@ pub enum RefusalCause {
     },
 }
 
-/// The least rule that a program breaks, its first row that breaks it, and what in that row does.
+/// The lowest-numbered rule that a program breaks, its first row that breaks it, and what in that row does.
 #[derive(Clone, Copy)]
 pub struct Refusal {
     pub broken: BrokenRule,

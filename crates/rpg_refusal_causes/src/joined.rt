@@ -1,4 +1,4 @@
-//! V5 and V26: control fields and match fields that are joined to other lengths, or to long ones.
+//! V5 and V26: control fields and match fields whose joined lengths differ or are too long.
 
 ghost use Rattle.std.specs.Prelude.{◌≡◌};
 ghost use Rattle.rpg_refusal_causes.specs.TypeCauses as words;
@@ -22,7 +22,7 @@ fn level_cause(level: u8, columns: u128, first: u128) -> RefusalCause
     }
 }
 
-/// The first level whose joined length isn't that of the first type with it, or is over 256.
+/// Returns the first level whose joined length differs from the first type with it, or is over 256.
 pub(crate) fn levels_cause(measures: &[u128; 9], fields: &[ControlField]) -> Option<RefusalCause>
     ensures { result ≡ words.levels_cause 1 measures.now fields.now }
 {
@@ -37,7 +37,7 @@ pub(crate) fn levels_cause(measures: &[u128; 9], fields: &[ControlField]) -> Opt
     None
 }
 
-/// The first level whose match fields haven't that joined length.
+/// Returns the first level whose match fields don't have this joined length.
 fn widths_cause(widths: &[u128; 9], fields: &[ControlField]) -> Option<RefusalCause>
     ensures { result ≡ words.widths_cause 1 widths.now fields.now }
 {
@@ -56,7 +56,8 @@ fn widths_cause(widths: &[u128; 9], fields: &[ControlField]) -> Option<RefusalCa
     None
 }
 
-/// Match fields of over 256 columns together, or a level of another joined length than in the first type with match fields.
+/// Returns match fields of more than 256 columns together, or a level whose joined length differs from the first type with
+/// match fields.
 pub(crate) fn matches_cause(widths: &[u128; 9], fields: &[ControlField]) -> Option<RefusalCause>
     ensures { result ≡ words.matches_cause widths.now fields.now }
 {

@@ -1,4 +1,4 @@
-//! When a row has a cause.
+//! Which rows have a cause.
 
 ghost use Rattle.std.specs.Prelude.{ℕ, ◌↔◌, IsSome};
 ghost use Rattle.rpg_program.specs.Object.{Object};

@@ -1,4 +1,4 @@
-//! What in an object program's row breaks a rule of the verifier, as a value.
+//! Describes what in a row of an object program breaks a rule of the verifier.
 #![tactic(auto)]
 
 mod cause;

@@ -16,7 +16,7 @@ use rpg_verify_rules::lines::{
     lacks_word,
 };
 
-/// What in the line of a row breaks a rule, if it breaks it.
+/// Returns what in a row's line breaks a rule, if it does.
 #[tactic(auto, using(crate::proofs::AtRows::row_seen))]
 pub(crate) fn line_cause(rule: LineRule, rows: &Rows, row: usize) -> Option<RefusalCause>
     requires { IsProgram (seen rows.now) }

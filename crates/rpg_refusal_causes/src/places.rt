@@ -1,4 +1,4 @@
-//! Which instruction stands at a place, and what in it breaks V16 to V19, V21 and V22.
+//! The instruction at a place, and what in it breaks V16 to V19, V21 and V22.
 
 ghost use Rattle.std.specs.Prelude.{◌≡◌, ◌+◌, length, map, slice_get};
 ghost use Rattle.rpg_program.specs.Kept.{IsProgram};
@@ -96,7 +96,7 @@ fn at_place(rows: &Rows, place: usize) -> Option<Placed>
     }
 }
 
-/// The instruction at a place, counted through the whole program, with its section.
+/// Returns the instruction at a place, counted through the whole program, with its section.
 pub fn placed_at(program: &Program, place: usize) -> Option<Placed>
     ensures { result ≡ words.placed_at program.now place }
 {
@@ -139,7 +139,7 @@ fn column_cause(
     }
 }
 
-/// The first of these operands of an instruction that breaks the rule.
+/// Returns the first of these operands of an instruction that breaks the rule.
 fn operand_cause(
     rule: PlaceRule,
     rows: &Rows,
@@ -153,9 +153,9 @@ fn operand_cause(
         .or(column_cause(rule, rows, instruction, Column::Result, row.result))
 }
 
-// ---- indicators, and where control goes
+// ---- indicators, and transfers of control
 
-/// The conditions that a branch asks.
+/// Returns the conditions that a branch tests.
 fn asked_by(instruction: Instruction<u16>) -> Option<Conditions>
     ensures { result ≡ words.asked_by instruction }
 {
@@ -226,7 +226,7 @@ fn cause_at(rule: PlaceRule, rows: &Rows, placed: Placed) -> Option<RefusalCause
     }
 }
 
-/// What in the instruction at a place breaks a rule, if it breaks it.
+/// Returns what in the instruction at a place breaks a rule, if it does.
 pub(crate) fn place_cause(rule: PlaceRule, rows: &Rows, place: usize) -> Option<RefusalCause>
     requires { IsProgram (seen rows.now) }
     ensures { result ≡ cause_of_row (words.place_cause rule (seen rows.now)) (words.placed_at (seen rows.now) place) }

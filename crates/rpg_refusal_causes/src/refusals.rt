@@ -1,4 +1,4 @@
-//! The least broken rule with its cause.
+//! The lowest-numbered broken rule, with its cause.
 
 ghost use Rattle.std.specs.Prelude.{◌≡◌, MatchOption};
 ghost use Rattle.rpg_program.specs.Kept.{IsProgram};
@@ -32,7 +32,7 @@ fn cause_in(rows: &Rows, broken: BrokenRule) -> Option<RefusalCause>
     }
 }
 
-/// The refusal of a program by its least broken rule.
+/// Returns the refusal of a program by its lowest-numbered broken rule.
 fn refusal_by(rows: &Rows, broken: BrokenRule) -> Option<Refusal>
     requires program { IsProgram (seen rows.now) }
     requires broken { IsLeastBroken (seen rows.now) broken }
@@ -54,8 +54,8 @@ fn refusal_of(rows: &Rows) -> Option<Refusal>
     }
 }
 
-/// The least rule that a program breaks, with its first row and what in that row breaks it; nothing if no row breaks a rule. It
-/// takes no memory.
+/// Returns the lowest-numbered rule that a program breaks, with its first row and what in that row breaks it; None if no row
+/// breaks a rule. Allocates nothing.
 pub fn refusal(program: &Program) -> Option<Refusal>
     ensures { MatchOption result (IsAccepted program.now) (λ r. IsRefusalOf program.now r) }
 {

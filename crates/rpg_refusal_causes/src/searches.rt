@@ -31,7 +31,7 @@ fn unordered_cause(
     }
 }
 
-/// The indicators of an operation; where these may stand, factor 2, which is searched by them.
+/// Returns the indicators of an operation or, if these are allowed, factor 2, which is searched by them.
 pub(crate) fn shows_cause(rows: &Rows, instruction: Instruction<u16>) -> Option<RefusalCause>
     ensures { result ≡ words.shows_cause (seen rows.now) instruction }
 {
@@ -45,7 +45,7 @@ pub(crate) fn shows_cause(rows: &Rows, instruction: Instruction<u16>) -> Option<
 
 // ---- V20
 
-/// Whether the index of what is searched can hold the number of its entries.
+/// Whether the index of the searched operand can hold the number of its entries.
 #[tactic(auto, unfolding(rpg_program::specs::Rows::holds_positions))]
 fn can_hold(rows: &Rows, used: Use<Operand<u16>>) -> bool
     requires { rows_words.is_searched (forms.form_at rows.now.fields.items) used.shape ≡ true }
@@ -71,7 +71,7 @@ fn short_cause(rows: &Rows, entries: u16, to: Option<Use<Operand<u16>>>) -> Opti
     }
 }
 
-/// What is searched by an index that can't hold the number of its entries, or the result that has fewer.
+/// Returns the searched operand whose index can't hold the number of its entries, or the result that has fewer.
 pub(crate) fn found_cause(rows: &Rows, row: Row<Operand<u16>>) -> Option<RefusalCause>
     ensures { result ≡ words.found_cause (seen rows.now) row.result row.factor2 }
 {

@@ -12,7 +12,7 @@ use rpg_program::rows::{Rows, Subroutine};
 use rpg_verify_rules::SubroutineRule;
 use rpg_verify_rules::subroutines::is_return;
 
-/// The first RET of calculations outside subroutines, whose first place this is.
+/// Returns the first RET of calculations outside subroutines that begin at this place.
 fn return_cause(first: usize, code: &[Instruction<u16>]) -> Option<RefusalCause>
     requires { first + length code.now ≤ 8192 }
     ensures { result ≡ first_cause words.return_cause first code.now }
@@ -27,7 +27,7 @@ fn return_cause(first: usize, code: &[Instruction<u16>]) -> Option<RefusalCause>
     None
 }
 
-/// The first RET outside subroutines, which counts for row 0.
+/// Returns the first RET outside subroutines, which counts for row 0.
 fn stray_cause(rows: &Rows, row: usize) -> Option<RefusalCause>
     requires { IsProgram (seen rows.now) }
     ensures { result ≡ (if row == 0 then words.stray_return_cause (seen rows.now) else None) }
@@ -75,7 +75,7 @@ fn level_cause(rows: &Rows, row: usize) -> Option<RefusalCause>
     })
 }
 
-/// What in the subroutine of a row breaks a rule, if it breaks it; RET outside subroutines counts for row 0.
+/// Returns what in a row's subroutine breaks a rule, if it does; a RET outside subroutines counts for row 0.
 #[tactic(auto, unfolding(crate::specs::SubroutineCauses::subroutine_cause))]
 pub(crate) fn subroutine_cause(
     rule: SubroutineRule,

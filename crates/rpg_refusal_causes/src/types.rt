@@ -13,7 +13,7 @@ use rpg_verify_rules::TypeRule;
 use rpg_verify_rules::matches::{first_widths, has_level};
 use rpg_verify_rules::types::{is_code_in, is_control_in, is_input_in, measures, shows_wrongly};
 
-/// What in the record type of a row breaks a rule, if it breaks it.
+/// Returns what in a row's record type breaks a rule, if it does.
 #[tactic(auto, using(crate::proofs::AtRows::row_seen))]
 pub(crate) fn type_cause(rule: TypeRule, rows: &Rows, row: usize) -> Option<RefusalCause>
     ensures { result ≡ cause_of_row (words.type_cause rule (seen rows.now)) (slice_get (map type_row rows.now.types.items) row) }

@@ -45,7 +45,7 @@ has_sheet_fault earlier line S4 = option_map_or (λ f. list_any (λ e. comes_aft
 has_sheet_fault earlier line S5 = option_map_or (λ f. has_bad_column f (card_of line)) (sheet_after earlier line) false
 has_sheet_fault earlier line S6 = nat_le 2000 (length earlier)
 
--- the least code of a line
+-- the lowest code of a line
 abbrev pub line_code : List (List ℕ) → List ℕ → Option SheetCode
 line_code earlier line = find (has_sheet_fault earlier line) (S1 ∷ S2 ∷ S3 ∷ S4 ∷ S5 ∷ S6 ∷ [])
 
@@ -71,7 +71,7 @@ fault_after earlier (line ∷ more) = option_or (option_map (fault_under earlier
 abbrev pub first_sheet_fault : List (List ℕ) → Option SheetFault
 first_sheet_fault all = fault_after [] all
 
--- what a refusal states about a source: nothing where memory ran out
+-- what a refusal states about a source: nothing if memory ran out
 abbrev pub IsSheetRefusal : SheetFault → List ℕ → Type 0
 IsSheetRefusal NoMemory text = Unit {0}
 IsSheetRefusal (At card code columns) text = first_sheet_fault (source text) ≡ Some (At card code columns)

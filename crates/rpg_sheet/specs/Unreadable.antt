@@ -12,7 +12,7 @@ use Rattle.rpg_sheet_specs.specs.Cards.{card_of}
 abbrev pub unreadable_by : List (List ℕ) → List ℕ → SheetCode → UnreadableCard
 unreadable_by earlier line code = record { card = length earlier + 1; code = code; columns = sheet_fault_columns (has_begun_data earlier) (card_of line) code }
 
--- a line that follows others, where it has a fault: with its least code
+-- a line that follows others, if it has a fault: with its lowest code
 abbrev pub unreadable_at : List (List ℕ) → List ℕ → List UnreadableCard
 unreadable_at earlier line = option_to_list (option_map (unreadable_by earlier line) (line_code earlier line))
 

@@ -32,7 +32,7 @@ pub(crate) fn calculation_card(card: &Card) -> Result<CalculationSpec, ColumnFau
     )
 }
 
-/// The calculation of these factors, with the columns after them.
+/// Reads the rest of a calculation with these factors.
 fn calculation_with(
     card: &Card,
     control_level: ControlLevel,
@@ -68,7 +68,7 @@ fn calculation_with(
 }
 
 impl Card {
-    /// A C card, or the least first column of its bad values.
+    /// Reads a C card, or returns the leftmost of its bad values.
     pub fn c(&self) -> Result<CalculationSpec, ColumnFault>
         ensures value { result ≡ tables.calculation_card.reading self.now }
         ensures good { OnOk result (tables.calculation_card.bad self.now ≡ []) }

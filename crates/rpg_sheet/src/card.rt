@@ -11,7 +11,7 @@ use crate::columns::Read;
 use rpg_sheet_specs::{CardColumns, ColumnFault};
 use std::marker::Model;
 
-/// A card: its 80 columns, each with a character.
+/// A card: 80 columns of one character each.
 #[derive(Drop)]
 pub struct Card {
     characters: [u8; 80],
@@ -30,7 +30,7 @@ impl Model for Card {
 }
 
 impl Card {
-    /// A line, padded with blanks.
+    /// Makes a card of a line, padded with blanks.
     pub fn new(line: &[u8]) -> Self
         requires fits { length line.now ≤ 80 }
         requires characters { IsTrue (list_all is_character line.now) }
@@ -41,7 +41,7 @@ impl Card {
         }
     }
 
-    /// A card of these columns.
+    /// Makes a card of these columns.
     pub(crate) fn of(characters: &[u8; 80]) -> Self
         requires { IsTrue (list_all is_character characters.now) }
         ensures { result ≡ characters.now }
@@ -65,7 +65,7 @@ impl Card {
         &self.characters
     }
 
-    /// What stands in columns.
+    /// Returns the text in columns.
     pub(crate) fn columns<const WIDTH: usize>(&self, columns: CardColumns<WIDTH>) -> &[u8]
         ensures value { result.now ≡ cols_from columns.entry.first WIDTH self.now }
         ensures len { length result.now ≡ WIDTH }
@@ -75,7 +75,7 @@ impl Card {
         &self.characters[start..start + WIDTH]
     }
 
-    /// Columns that must be blank. An error is the first column that is filled.
+    /// Checks that columns are blank. The error is the first column that isn't.
     #[inline(always)]
     pub(crate) fn blank<const WIDTH: usize>(&self, columns: CardColumns<WIDTH>) -> Read<()>
         ensures { result ≡ fault_if_some columns.entry.first (position is_filled (cols_from columns.entry.first WIDTH self.now)) }
@@ -99,7 +99,7 @@ fn first_filled(text: &[u8]) -> Option<usize>
     text.iter().position(|c| *c != b' ')
 }
 
-/// Whether a text has nothing but blanks. No character ends the loop early, so that many are tested at a time.
+/// Whether a text has only blanks. No character ends the loop early, so that many are tested at a time.
 #[inline(always)]
 pub(crate) fn has_only_blanks(text: &[u8]) -> bool
     ensures { result ≡ all_blank text.now }
@@ -111,7 +111,7 @@ pub(crate) fn has_only_blanks(text: &[u8]) -> bool
     are_all
 }
 
-/// The columns of a line's card: what a longer line has after them is left out.
+/// Returns the columns of a line's card, without what a longer line has after them.
 #[tactic(auto, using(crate::proofs::Padding::laid))]
 pub(crate) fn columns_of(line: &[u8]) -> [u8; 80]
     ensures { result ≡ card_of line.now }

@@ -1,4 +1,4 @@
-//! What ranges of columns hold, each range read by one call. An error names the range's first column.
+//! Reads the values of column ranges, each with one call. An error names the range's first column.
 #![tactic(auto, unfolding(rpg_sheet_specs::specs::Columns::values, rpg_sheet_specs::specs::Columns::at_with, rpg_sheet_specs::specs::Columns::also, rpg_sheet_specs::specs::Values::blank_or, rpg_sheet_specs::specs::Tables::conditions, rpg_sheet_specs::specs::Tables::three_indicators))]
 
 ghost use Rattle.std.specs.Prelude.{◌≡◌, ◌≤◌, None, Some, ok_or, option_map, if◌then◌else◌};
@@ -15,17 +15,17 @@ use rpg_sheet_specs::{
 };
 use rpg_text::is_blank;
 
-/// What columns mean, or that they have a bad value.
+/// The value of columns, or the fault that it is bad.
 pub(crate) type Read<T> = Result<T, ColumnFault>;
 
-/// The value of columns.
+/// Returns the value of columns, or their fault if there is none.
 pub(crate) fn at<T, const WIDTH: usize>(columns: CardColumns<WIDTH>, value: Option<T>) -> Read<T>
     ensures { result ≡ ok_or value (column_fault_from columns.entry.first WIDTH) }
 {
     value.ok_or(columns.fault())
 }
 
-/// Blank, or the value of the text in these columns.
+/// Reads blanks as None, else the value of the text in these columns.
 #[inline(always)]
 pub(crate) fn optional<T: Drop, const WIDTH: usize>(
     columns: CardColumns<WIDTH>,
@@ -38,14 +38,14 @@ pub(crate) fn optional<T: Drop, const WIDTH: usize>(
 }
 
 impl Card {
-    /// A name of at most `N` characters.
+    /// Reads a name of at most `N` characters.
     pub(crate) fn name<const N: usize>(&self, columns: CardColumns<N>) -> Read<Word<N>>
         ensures { result ≡ (line_from columns.entry.first N (values.name N)).reading self.now }
     {
         at(columns, rpg_sheet_values::name(self.columns(columns)))
     }
 
-    /// Blank or a name.
+    /// Reads blanks as None, else a name.
     pub(crate) fn optional_name(&self, columns: CardColumns<8>) -> Read<Option<Word<8>>>
         ensures { result ≡ (line_from columns.first 8 (values.blank_or (values.name 8))).reading self.now }
     {
@@ -56,7 +56,7 @@ impl Card {
         Ok(Some(at(columns, rpg_sheet_values::name(text))?))
     }
 
-    /// Blank or a factor.
+    /// Reads blanks as None, else a factor.
     pub(crate) fn optional_factor(&self, columns: CardColumns<10>) -> Read<Option<Factor>>
         ensures { result ≡ (line_from columns.first 10 (values.blank_or values.factor)).reading self.now }
     {
@@ -67,7 +67,7 @@ impl Card {
         Ok(Some(at(columns, rpg_sheet_values::factor_of(text))?))
     }
 
-    /// Right-aligned digits after blanks.
+    /// Reads right-aligned digits after blanks.
     pub(crate) fn number<const WIDTH: usize>(&self, columns: CardColumns<WIDTH>) -> Read<u16>
         requires short { WIDTH ≤ 4 }
         ensures { result ≡ (line_from columns.entry.first WIDTH values.number).reading self.now }
@@ -75,7 +75,7 @@ impl Card {
         at(columns, rpg_sheet_values::number(self.columns(columns)))
     }
 
-    /// Blank or a number.
+    /// Reads blanks as None, else a number.
     pub(crate) fn optional_number(&self, columns: CardColumns<3>) -> Read<Option<u16>>
         ensures { result ≡ (line_from columns.first 3 (values.blank_or values.number)).reading self.now }
     {
@@ -83,7 +83,7 @@ impl Card {
         optional(columns, text, rpg_sheet_values::number(text))
     }
 
-    /// Blank or a digit.
+    /// Reads blanks as None, else a digit.
     pub(crate) fn optional_digit(&self, columns: CardColumns<1>) -> Read<Option<u8>>
         ensures { result ≡ (line_from columns.first 1 (values.blank_or values.digits)).reading self.now }
     {
@@ -91,7 +91,7 @@ impl Card {
         optional(columns, text, rpg_sheet_values::digit(text))
     }
 
-    /// Blank or this character.
+    /// Reads blanks or this character.
     pub(crate) fn mark(&self, columns: CardColumns<1>, character: &[u8]) -> Read<bool>
         ensures { result ≡ (line_from columns.first 1 (values.marked character.now)).reading self.now }
     {
@@ -99,7 +99,7 @@ impl Card {
         at(columns, value)
     }
 
-    /// Blank or an indicator.
+    /// Reads blanks as None, else an indicator.
     pub(crate) fn optional_indicator(&self, columns: CardColumns<2>) -> Read<Option<Indicator>>
         ensures { result ≡ (line_from columns.first 2 (values.blank_or values.indicator)).reading self.now }
     {
@@ -107,7 +107,7 @@ impl Card {
         optional(columns, text, rpg_sheet_values::indicator(text))
     }
 
-    /// Blank or a condition.
+    /// Reads blanks as None, else a condition.
     pub(crate) fn optional_condition(&self, columns: CardColumns<3>) -> Read<Option<ConditionSpec>>
         ensures { result ≡ (line_from columns.first 3 (values.blank_or values.condition)).reading self.now }
     {
@@ -115,7 +115,7 @@ impl Card {
         optional(columns, text, rpg_sheet_values::condition(text))
     }
 
-    /// Blank or an operation.
+    /// Reads blanks as None, else an operation.
     pub(crate) fn optional_operation(&self, columns: CardColumns<5>) -> Read<Option<Operation>>
         ensures { result ≡ (line_from columns.first 5 (values.blank_or tables.operation)).reading self.now }
     {
@@ -123,7 +123,7 @@ impl Card {
         optional(columns, text, rpg_sheet_values::operation(text))
     }
 
-    /// Blank or an entry.
+    /// Reads blanks as None, else an entry.
     pub(crate) fn optional_entry(&self, columns: CardColumns<6>) -> Read<Option<Entry>>
         ensures { result ≡ (line_from columns.first 6 (values.blank_or values.entry)).reading self.now }
     {
@@ -134,7 +134,7 @@ impl Card {
         Ok(Some(at(columns, rpg_sheet_values::entry(text))?))
     }
 
-    /// Blank or a level after its letter.
+    /// Reads blanks as None, else a level after its letter.
     pub(crate) fn optional_level(
         &self,
         letter: u8,
@@ -146,7 +146,7 @@ impl Card {
         optional(columns, text, rpg_sheet_values::level(letter, text))
     }
 
-    /// Blank or a record code.
+    /// Reads blanks as None, else a record code.
     pub(crate) fn optional_record_code(&self, columns: CardColumns<7>) -> Read<Option<RecordCode>>
         ensures { result ≡ (line_from columns.first 7 (values.blank_or values.record_code)).reading self.now }
     {
@@ -154,7 +154,7 @@ impl Card {
         optional(columns, text, rpg_sheet_values::record_code(text))
     }
 
-    /// Blank or how many lines the form spaces.
+    /// Reads blanks as None, else how many lines the form spaces.
     pub(crate) fn optional_space(&self, columns: CardColumns<1>) -> Read<Option<Within<0, 3>>>
         ensures { result ≡ (line_from columns.first 1 (values.blank_or tables.space)).reading self.now }
     {
@@ -162,7 +162,7 @@ impl Card {
         optional(columns, text, rpg_sheet_values::space(text))
     }
 
-    /// Blank or the line that the form skips to.
+    /// Reads blanks as None, else the line that the form skips to.
     pub(crate) fn optional_skip(&self, columns: CardColumns<2>) -> Read<Option<Within<1, 66>>>
         ensures { result ≡ (line_from columns.first 2 (values.blank_or tables.skip)).reading self.now }
     {
@@ -170,7 +170,7 @@ impl Card {
         optional(columns, text, rpg_sheet_values::skip(text))
     }
 
-    /// Blank or a text.
+    /// Reads blanks as None, else a text.
     pub(crate) fn optional_text(&self, columns: CardColumns<26>) -> Read<Option<TextLiteral<24>>>
         ensures { result ≡ (line_from columns.first 26 (values.blank_or values.quoted)).reading self.now }
     {
@@ -182,7 +182,7 @@ impl Card {
     }
 }
 
-/// Three conditions.
+/// Reads three conditions.
 pub(crate) fn conditions(card: &Card, columns: CardColumns<9>) -> Read<Three<Option<ConditionSpec>>>
     ensures { result ≡ (conditions_from columns.first).reading card.now }
 {
@@ -200,7 +200,7 @@ pub(crate) fn conditions(card: &Card, columns: CardColumns<9>) -> Read<Three<Opt
     })
 }
 
-/// Three indicators.
+/// Reads three indicators.
 pub(crate) fn indicators(card: &Card, columns: CardColumns<6>) -> Read<Three<Option<Indicator>>>
     ensures { result ≡ (indicators_from columns.first).reading card.now }
 {

@@ -22,7 +22,7 @@ pub(crate) fn extension(card: &Card) -> Result<ExtensionSpec, ColumnFault>
     extension_with(card, name, entries_per_card, entries, length)
 }
 
-/// The table of this name and these sizes, with the columns after them.
+/// Reads the rest of an extension whose table has this name and these sizes.
 fn extension_with(
     card: &Card,
     name: Word<6>,
@@ -54,7 +54,7 @@ fn extension_with(
 }
 
 impl Card {
-    /// An E card, or the least first column of its bad values.
+    /// Reads an E card, or returns the leftmost of its bad values.
     pub fn e(&self) -> Result<ExtensionSpec, ColumnFault>
         ensures value { result ≡ tables.extension.reading self.now }
         ensures good { OnOk result (tables.extension.bad self.now ≡ []) }

@@ -27,7 +27,7 @@ pub(crate) fn file(card: &Card) -> Result<FileSpec, ColumnFault>
     file_with(card, name, role, ends_job, ascending)
 }
 
-/// The file of this name and role, with the columns after them.
+/// Reads the rest of a file with this name and role.
 fn file_with(
     card: &Card,
     name: Word<8>,
@@ -65,7 +65,7 @@ fn file_overflow(card: &Card) -> Result<Option<Within<112, 119>>, ColumnFault>
     Ok(overflow)
 }
 
-/// With O the indicator of a full page.
+/// Reads the indicator of a full page, which only an output file has.
 fn overflow(card: &Card) -> Result<Option<Within<112, 119>>, ColumnFault>
     ensures { result ≡ tables.overflow.reading card.now }
 {
@@ -80,7 +80,7 @@ fn overflow(card: &Card) -> Result<Option<Within<112, 119>>, ColumnFault>
 }
 
 impl Card {
-    /// An F card, or the least first column of its bad values.
+    /// Reads an F card, or returns the leftmost of its bad values.
     pub fn f(&self) -> Result<FileSpec, ColumnFault>
         ensures value { result ≡ tables.file.reading self.now }
         ensures good { OnOk result (tables.file.bad self.now ≡ []) }
@@ -90,7 +90,7 @@ impl Card {
     }
 }
 
-/// P or S with I, blank with O.
+/// Reads P or S after I, blank after O.
 fn role(card: &Card) -> Option<FileRole>
     ensures { result ≡ tables.role card.now (cols 16 16 card.now) }
 {
@@ -98,7 +98,7 @@ fn role(card: &Card) -> Option<FileRole>
     role_by(is_read, card.columns(ranges::FILE_ROLE))
 }
 
-/// The role that this spelling gives a file that is read, or one that isn't.
+/// Returns the role with these letters, of an input or an output file.
 fn role_by(is_read: bool, text: &[u8]) -> Option<FileRole>
     ensures { result ≡ values.one_of (if is_read then (codes "P", roles.Primary) ∷ (codes "S", roles.Secondary) ∷ [] else (codes " ", roles.Output) ∷ []) text.now }
 {

@@ -1,4 +1,4 @@
-//! The sheets of a source, and which of them a card is on: by any 80 bytes, or by a card.
+//! The sheets of a source, and which of them a card belongs to: from any 80 bytes, or from a card.
 
 ghost use Rattle.std.specs.Prelude.{◌≡◌};
 ghost use Rattle.rpg_sheet_specs.specs.Cards as cards;
@@ -25,7 +25,8 @@ fn is_skipped(card: &[u8; 80]) -> bool
     is_empty(card) || &card[6..7] == b"*".as_slice()
 }
 
-/// Whether no column is filled. Nearly every card has a form type in column 6, so that column is tested first.
+/// Whether all columns are blank. Nearly every card has a form type in column 6, so that column is tested
+/// first.
 #[inline(always)]
 #[tactic(auto, using(std::proofs::lemmas::List::Folds::list_all_at))]
 fn is_empty(card: &[u8; 80]) -> bool
@@ -81,7 +82,7 @@ impl Card {
         is_skipped(self.as_array())
     }
 
-    /// Whether it must have a form type. `data_begun` says whether a card before it begins data.
+    /// Whether it must have a form type. `data_begun` says whether an earlier card begins data.
     pub fn is_sheet(&self, data_begun: bool) -> bool
         ensures { result ≡ cards.is_sheet data_begun self.now }
     {
@@ -94,7 +95,7 @@ impl Card {
         form_type(self.as_array())
     }
 
-    /// The sheet that the card is on: none where it is data or skipped, or ends the source.
+    /// Returns the sheet of the card; None if it is data, is skipped, or ends the source.
     pub fn sheet(&self, data_begun: bool) -> Option<FormType>
         ensures { result ≡ cards.sheet_of data_begun self.now }
     {

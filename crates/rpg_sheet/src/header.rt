@@ -17,7 +17,7 @@ pub(crate) fn header(card: &Card) -> Result<HeaderSpec, ColumnFault>
 }
 
 impl Card {
-    /// An H card, or the least first column of its bad values.
+    /// Reads an H card, or returns the leftmost of its bad values.
     pub fn h(&self) -> Result<HeaderSpec, ColumnFault>
         ensures value { result ≡ tables.header.reading self.now }
         ensures good { OnOk result (tables.header.bad self.now ≡ []) }

@@ -25,7 +25,7 @@ pub(crate) fn input_card(card: &Card) -> Result<InputSpec, ColumnFault>
 }
 
 impl Card {
-    /// An I card, or the least first column of its bad values.
+    /// Reads an I card, or returns the leftmost of its bad values.
     pub fn i(&self) -> Result<InputSpec, ColumnFault>
         ensures value { result ≡ tables.input_card.reading self.now }
         ensures good { OnOk result (tables.input_card.bad self.now ≡ []) }
@@ -45,7 +45,7 @@ fn type_or_field_card(card: &Card) -> Result<InputSpec, ColumnFault>
     }
 }
 
-/// AND in 14-16, and nothing before it.
+/// Whether it has AND in columns 14 to 16, and nothing before.
 pub(crate) fn is_and_card(card: &Card) -> bool
     ensures { result ≡ tables.is_and_card card.now }
 {
@@ -86,7 +86,7 @@ fn type_and_card(card: &Card) -> Result<Three<Option<RecordCode>>, ColumnFault>
     Ok(codes)
 }
 
-/// At least one code.
+/// Reads codes, at least one.
 fn further_codes(card: &Card) -> Result<Three<Option<RecordCode>>, ColumnFault>
     ensures { result ≡ tables.and_codes.reading card.now }
 {
@@ -121,7 +121,7 @@ fn field_card(card: &Card) -> Result<InputFieldSpec, ColumnFault>
     field_with(card, from, to, decimals, name)
 }
 
-/// The field with these columns and this name, and the columns after them.
+/// Reads the rest of a field with these columns and this name.
 fn field_with(
     card: &Card,
     from: u16,

@@ -1,4 +1,4 @@
-//! From a source's bytes to what its cards mean, or the fault of the first card that has one.
+//! Reads the bytes of a source to the meaning of its cards, or to the first card with a fault.
 #![tactic(auto)]
 
 mod calculation;

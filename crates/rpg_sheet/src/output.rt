@@ -23,7 +23,7 @@ pub(crate) fn output_card(card: &Card) -> Result<OutputSpec, ColumnFault>
 }
 
 impl Card {
-    /// An O card, or the least first column of its bad values.
+    /// Reads an O card, or returns the leftmost of its bad values.
     pub fn o(&self) -> Result<OutputSpec, ColumnFault>
         ensures value { result ≡ tables.output_card.reading self.now }
         ensures good { OnOk result (tables.output_card.bad self.now ≡ []) }
@@ -33,7 +33,7 @@ impl Card {
     }
 }
 
-/// OR in 14-15, and nothing before it.
+/// Whether it has OR in columns 14 and 15, and nothing before.
 fn is_or_card(card: &Card) -> bool
     ensures { result ≡ tables.is_or_card card.now }
 {
@@ -95,7 +95,7 @@ fn movement(card: &Card) -> Result<Movement, ColumnFault>
     })
 }
 
-/// Further conditions of a line.
+/// Reads further conditions of a line.
 fn line_conditions(card: &Card) -> Result<Three<Option<ConditionSpec>>, ColumnFault>
     ensures { result ≡ tables.line_conditions.reading card.now }
 {

@@ -14,7 +14,7 @@ use rpg_sheet_specs::{ColumnFault, DataCard, DataSpec, FormType, Spec};
 use std::alloc::AllocFailed;
 use std::marker::Model;
 
-/// A sheet's place among the sheets of a source.
+/// Returns a sheet's place in the order of the sheets.
 pub fn sheet_place(sheet: FormType) -> u8
     ensures value { result ≡ cards.sheet_place sheet }
     ensures few { result ≤ 5 }
@@ -34,11 +34,11 @@ pub fn sheet_place(sheet: FormType) -> u8
 pub enum SheetCode {
     /// The card has more than 80 characters.
     S1 = 1,
-    /// It has a byte that is no character.
+    /// It has a byte that isn't a character.
     S2 = 2,
     /// Its form type is unknown.
     S3 = 3,
-    /// Its form type is earlier than one before.
+    /// Its form type comes before that of an earlier card.
     S4 = 4,
     /// Some columns have a bad value.
     S5 = 5,
@@ -53,7 +53,7 @@ impl SheetCode {
         self as u8
     }
 
-    /// The letter S and the number.
+    /// Returns the letter S and the number.
     pub const fn text(self) -> &'static str
         ensures value { result.now ≡ codes.sheet_code_text self }
         ensures len { length result.now ≤ 4 }
@@ -68,7 +68,7 @@ impl SheetCode {
         }
     }
 
-    /// What is wrong, as a person reads it.
+    /// Returns what is wrong, in words.
     pub const fn sentence(self) -> &'static str {
         match self {
             SheetCode::S1 => "the card has more than 80 characters",
@@ -83,7 +83,7 @@ impl SheetCode {
     }
 }
 
-/// What is wrong with a card, and with S5 in which columns.
+/// What is wrong with a card, with S5 also in which columns.
 #[derive(Clone, Copy)]
 pub(crate) struct CardFault {
     pub code: SheetCode,
@@ -112,7 +112,7 @@ impl From<ColumnFault> for CardFault {
 /// Why a source has no cards.
 #[derive(Clone, Copy)]
 pub enum SheetFault {
-    /// Cards are numbered from 1. The columns are those of the leftmost bad value, only with S5.
+    /// Cards are numbered from 1. The columns are those of the leftmost bad value, with S5 only.
     At {
         card: u16,
         code: SheetCode,
@@ -129,7 +129,7 @@ impl<T: Drop> From<AllocFailed<T>> for SheetFault {
     }
 }
 
-/// What the cards of a source without faults mean: card n at place n - 1. A skipped card and the one that ends the source mean nothing.
+/// The meaning of each card of a source without faults: card n at place n - 1. A skipped card and the one that ends the source have none.
 #[derive(Drop)]
 pub struct Cards {
     specs: Vec<Option<Spec>>,
@@ -162,7 +162,8 @@ impl Cards {
     }
 }
 
-/// What a card means after a sheet at place `latest`, or what is wrong with its form type and its columns. `data_begun` says whether data has begun.
+/// Reads a card after a sheet at place `latest`, or returns the fault of its form type or columns. `data_begun` says whether data has
+/// begun.
 pub(crate) fn read(card: &Card, latest: u8, data_begun: bool) -> Result<Option<Spec>, CardFault>
     ensures ok { IfOk result (λ spec. (spec ≡ spec_of data_begun card.now) × (sheet_code latest data_begun card.now ≡ None)) }
     ensures err { IfErr result (λ fault. (sheet_code latest data_begun card.now ≡ Some fault.code) × (fault.columns ≡ sheet_fault_columns data_begun card.now fault.code)) }
@@ -179,7 +180,7 @@ pub(crate) fn read(card: &Card, latest: u8, data_begun: bool) -> Result<Option<S
     Ok(Some(card.read(sheet)?))
 }
 
-/// What a card that is on no sheet means.
+/// Returns the meaning of a card that belongs to no sheet.
 fn data(card: &Card, data_begun: bool) -> Option<DataSpec>
     ensures { result ≡ data_spec_of data_begun card.now }
 {

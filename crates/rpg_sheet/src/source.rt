@@ -1,4 +1,4 @@
-//! From the bytes of a source to what its cards mean.
+//! Reads the bytes of a source to the meaning of its cards.
 
 ghost use Rattle.std.specs.Prelude.{◌≡◌, ℕ, ◌≤◌, ◌||◌, ◌∷◌, ◌++◌, List, [], None, Some, map, nat_lt, OnOk, IfOk, IfErr};
 ghost use Rattle.std.specs.Option.{option_or};
@@ -15,10 +15,10 @@ use rpg_sheet_specs::Spec;
 use rpg_text::{first_line, has_only_characters};
 use std::alloc::Global;
 
-/// How many cards a source has at most.
+/// The most cards of a source.
 pub(crate) const CARDS: u16 = 2000;
 
-/// The lines before a line: how many they are, the place of the latest sheet, and whether data has begun.
+/// The state after the earlier lines: their number, the place of the latest sheet, and whether data has begun.
 #[derive(Clone, Copy)]
 pub(crate) struct Earlier {
     pub count: u16,
@@ -26,7 +26,7 @@ pub(crate) struct Earlier {
     pub data_begun: bool,
 }
 
-/// No lines.
+/// The state before the first line.
 pub(crate) const NO_LINES: Earlier = Earlier {
     count: 0,
     latest: 0,
@@ -34,7 +34,7 @@ pub(crate) const NO_LINES: Earlier = Earlier {
 };
 
 impl Earlier {
-    /// The same with one more line, which has these columns.
+    /// Returns the state after a line with these columns.
     pub(crate) fn with(self, columns: &[u8; 80]) -> Self
         requires { self.count ≤ 2000 }
         ensures { (lines : List (List ℕ)) → (line : List ℕ) → columns.now ≡ card_of line → AreLinesSeen lines self.count self.latest self.data_begun → AreLinesSeen (lines ++ line ∷ []) result.count result.latest result.data_begun }
@@ -47,7 +47,7 @@ impl Earlier {
     }
 }
 
-/// The place of the latest sheet, with a card of these columns.
+/// Returns the place of the latest sheet after a card with these columns.
 fn latest_with(latest: u8, columns: &[u8; 80]) -> u8
     ensures { (n : ℕ) → nat_lt n result ≡ (nat_lt n latest || sheets.comes_after n columns.now) }
 {
@@ -57,8 +57,8 @@ fn latest_with(latest: u8, columns: &[u8; 80]) -> u8
     }
 }
 
-/// What the cards of a source mean, or the first card that has a fault, with its least code. Nothing is read after the card `/*`.
-/// `NoMemory` is returned if memory ran out, in place of any fault after that.
+/// Reads the cards of a source, or returns the first card that has a fault, with its lowest code. Nothing is read after the card `/*`. If
+/// memory ran out, `NoMemory` is returned instead of any later fault.
 pub fn cards(alloc: Global, text: &[u8]) -> Result<Cards, SheetFault>
     ensures cards { IfOk result (λ cards. cards ≡ specs_of (map card_of (sheets.source text.now))) }
     ensures faultless { OnOk result (sheets.first_sheet_fault (sheets.source text.now) ≡ None) }
@@ -91,12 +91,12 @@ pub fn cards(alloc: Global, text: &[u8]) -> Result<Cards, SheetFault>
     Ok(Cards::new(specs))
 }
 
-/// For how many cards there is room at once: cards of 40 characters need no more. A card takes 240 bytes there, so moving them costs.
+/// Returns the initial capacity, enough for cards of 40 characters or more. A card takes 240 bytes there, so moving them is costly.
 fn room_for(text: &[u8]) -> usize {
     (text.len() / 40).min(usize::from(CARDS))
 }
 
-/// What the card of a line with these columns means, after others, or what is wrong with it.
+/// Reads a line with these columns after earlier ones, or returns its fault.
 pub(crate) fn checked(
     earlier: Earlier,
     line: &[u8],
@@ -121,7 +121,7 @@ pub(crate) fn checked(
     read(&card, earlier.latest, earlier.data_begun)
 }
 
-/// What is wrong with card 2,001: that it is that card, unless it can't be read.
+/// Returns the fault of card 2,001: that it is one too many, unless it can't be read.
 fn past_last(card: &Card, latest: u8, data_begun: bool) -> CardFault
     ensures code { Some result.code ≡ option_or (sheet_code latest data_begun card.now) (Some S6) }
     ensures columns { result.columns ≡ sheets.sheet_fault_columns data_begun card.now result.code }

@@ -1,4 +1,4 @@
-//! What a card means.
+//! The meaning of a card.
 
 ghost use Rattle.std.specs.Prelude.{◌≡◌, [], OnOk, IfErr};
 ghost use Rattle.rpg_sheet_specs.specs.Columns.{IsLeastColumn};
@@ -8,7 +8,7 @@ use crate::card::Card;
 use rpg_sheet_specs::{ColumnFault, FormType, Spec};
 
 impl Card {
-    /// What a card on this sheet means, or the least first column of its bad values.
+    /// Reads a card of this sheet, or returns the leftmost of its bad values.
     #[tactic(auto, unfolding(rpg_sheet_specs::specs::Columns::values, rpg_sheet_specs::specs::Columns::also))]
     pub fn read(&self, sheet: FormType) -> Result<Spec, ColumnFault>
         ensures value { result ≡ (card_on sheet).reading self.now }

@@ -20,12 +20,12 @@ use std::alloc::{AllocError, Global};
 pub struct UnreadableCard {
     pub card: u16,
     pub code: SheetCode,
-    /// The columns of the leftmost bad value, only with S5.
+    /// The columns of the leftmost bad value, with S5 only.
     pub columns: Option<ColumnFault>,
 }
 
-/// All cards of a source that can't be read, each with its least code, in their order. Nothing is read after the card `/*` or after card
-/// 2,001. It fails only when memory runs out.
+/// Returns all cards of a source that can't be read, in order, each with its lowest code. Nothing is read after the card `/*` or after card
+/// 2,001. Fails only if memory runs out.
 #[tactic(auto, using(crate::proofs::UnreadableLemmas::cut_short))]
 pub fn unreadable_cards(alloc: Global, text: &[u8]) -> Result<Vec<UnreadableCard>, AllocError>
     ensures { IfOk result (λ cards. cards.items ≡ every.unreadable_cards (sheets.source text.now)) }
@@ -49,7 +49,7 @@ pub fn unreadable_cards(alloc: Global, text: &[u8]) -> Result<Vec<UnreadableCard
     Ok(found)
 }
 
-/// Appends a line that can't be read. It has these columns.
+/// Appends a line with these columns if it can't be read.
 fn put_if_unreadable(
     found: &mut Vec<UnreadableCard>,
     earlier: Earlier,
@@ -73,7 +73,7 @@ fn put_if_unreadable(
     }
 }
 
-/// A law: of the cards that can't be read, the first is the one that a refusal reports, and there is none where nothing is refused.
+/// A law: the first of the cards that can't be read is the one that `cards` reports, and there is none if it reports none.
 pub fn refusal_tells_the_first(text: &[u8])
     ensures { sheets.first_sheet_fault (sheets.source text.now) ≡ option_map every.reported_fault (slice_get (every.unreadable_cards (sheets.source text.now)) 0) }
 {}

@@ -9,7 +9,7 @@ use Rattle.rpg_text.specs.Texts.{all_blank}
 
 -- ---- cards: a line of the source, padded with blanks
 
--- a line as a card of 80 columns, filled up with blanks
+-- a line as a card of 80 columns, padded with blanks
 abbrev pub card_of : List ℕ → List ℕ
 card_of line = take 80 line ++ replicate (80 - length line) 32
 

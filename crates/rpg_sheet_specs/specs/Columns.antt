@@ -11,7 +11,7 @@ cols a b card = slice_range card (a - 1) b
 abbrev pub column_fault : ℕ → ℕ → ColumnFault
 column_fault a b = record { column = a; last = b }
 
--- a bad value in so many columns from the first on
+-- a bad value in this many columns, from the first on
 abbrev pub column_fault_from : ℕ → ℕ → ColumnFault
 column_fault_from first width = column_fault first (first + (width - 1))
 
@@ -32,12 +32,12 @@ pub record Columns (X : Type 0) : Type 1 where
 unfoldable pub values : {X : Type 0} → X → Columns X
 values x = record { reading = λ card. Ok x; bad = λ card. [] }
 
--- the column, where its range has no value
+-- the column, if its range has no value
 abbrev pub bad_if_none : {X : Type 0} → ℕ → Option X → List ℕ
 bad_if_none a None = a ∷ []
 bad_if_none a (Some x) = []
 
--- Columns a to b, where a rule takes their text to its meaning. The rule may look at the whole card too.
+-- Columns a to b, if a rule takes their text to its meaning. The rule may look at the whole card too.
 unfoldable pub at_with : {X : Type 0} → ℕ → ℕ → (List ℕ → List ℕ → Option X) → Columns X
 at_with a b rule = record {
   reading = λ card. ok_or (rule card (cols a b card)) (column_fault a b);
@@ -57,7 +57,7 @@ abbrev pub filled_from : ℕ → List ℕ → List ℕ
 filled_from a [] = []
 filled_from a (c ∷ cs) = if is_filled c then a ∷ filled_from (a + 1) cs else filled_from (a + 1) cs
 
--- a fault at one column, where there is one
+-- a fault at one column, if there is one
 abbrev pub fault_if_some : ℕ → Option ℕ → Result (Unit {0}) ColumnFault
 fault_if_some a None = Ok tt
 fault_if_some a (Some i) = Err (column_fault (a + i) (a + i))

@@ -1,5 +1,5 @@
 -- The cards, one line for each range of columns: `⊛` a range that gives the next member of the spec, `⊘` one that only has to be good.
--- 1-5 and 75-80 are free on every card, and further columns where a sheet's headline says so.
+-- 1-5 and 75-80 are free on every card, and further columns if a sheet's headline says so.
 use Rattle.std.specs.Prelude.{ℕ, List, [], ◌∷◌, Bool, Option, None, Some, if◌then◌else◌, ◌&&◌, codes, map}
 use Rattle.std.specs.Str.{bytes_eq}
 use Rattle.std.specs.Option.{option_map, option_or}
@@ -109,7 +109,7 @@ file = values file_spec
 abbrev pub table_spec : List ℕ → ℕ → Option ℕ → Bool → TableSpec
 table_spec n l d a = record { name = n; length = l; decimals = d; ascending = a }
 
--- the alternating table, where there is a name
+-- the alternating table, if there is a name
 unfoldable pub alternating_table : Columns TableSpec
 alternating_table = values table_spec
     ⊛ at 46 51 (name 6)
@@ -283,7 +283,7 @@ calculation_card = values calculation_spec
 
 -- ---- O; free: 71-74
 
--- when a line is put out, by its letter
+-- when a line is output, by its letter
 unfoldable pub line_time : List ℕ → Option LineTime
 line_time = one_of ((codes "H", time.Heading) ∷ (codes "D", time.Detail) ∷ (codes "T", time.Total) ∷ (codes "E", time.Exception) ∷ [])
 

@@ -25,7 +25,7 @@ use Rattle.rpg_text.specs.Texts.{is_between, is_blank, all_blank, trimmed}
 abbrev pub right_part : List ℕ → List ℕ
 right_part text = drop (prefix_len is_blank text) text
 
--- a value where a test holds
+-- a value if a test holds
 abbrev pub when : {X : Type 0} → Bool → X → Option X
 when b x = if b then Some x else None
 
@@ -72,16 +72,16 @@ is_letter c = is_ascii_uppercase c || (c == 36) || (c == 35) || (c == 64)
 abbrev pub is_name_character : ℕ → Bool
 is_name_character c = is_letter c || is_ascii_digit c
 
--- a letter, `$`, `#` or `@`, then letters, digits or these, at most so many
+-- a letter, `$`, `#` or `@`, then letters, digits or these, up to a limit
 abbrev pub is_name : ℕ → List ℕ → Bool
 is_name most [] = false
 is_name most (c ∷ cs) = is_letter c && list_all is_name_character cs && nat_le (length cs + 1) most
 
--- a text that is a name of at most so many characters
+-- a text that is a name of at most this many characters
 abbrev pub name_of : ℕ → List ℕ → Option (List ℕ)
 name_of most text = when (is_name most text) text
 
--- a name of at most so many characters, from the first column on
+-- a name of at most this many characters, from the first column on
 unfoldable pub name : ℕ → List ℕ → Option (List ℕ)
 name most text = name_of most (trimmed text)
 

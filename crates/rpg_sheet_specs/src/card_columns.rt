@@ -17,7 +17,7 @@ impl<const WIDTH: usize> CardColumns<WIDTH> {
     ghost use Rattle.std.specs.Prelude.{◌≡◌};
     ghost use Rattle.rpg_sheet_specs.specs.Columns.{column_fault_from};
 
-    /// These columns, as a fault points at them.
+    /// Returns these columns as a fault points at them.
     pub const fn fault(self) -> ColumnFault
         ensures { result ≡ column_fault_from self.entry.first WIDTH }
     {

@@ -1,6 +1,6 @@
-//! Columns whose values are bad.
+//! Columns with bad values.
 
-/// A range of columns whose value is bad. Columns are counted from 1 to 80.
+/// A range of columns with a bad value. Columns are counted from 1 to 80.
 #[derive(Clone, Copy, Debug, PartialEq, Eq)]
 pub struct ColumnFault {
     /// The first one.

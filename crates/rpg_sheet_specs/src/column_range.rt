@@ -82,7 +82,7 @@ pub enum ColumnRange {
 }
 
 impl ColumnRange {
-    /// Its first and last column.
+    /// Returns its first and last column.
     #[tactic(auto, unfolding(crate::specs::Ranges::columns_of))]
     pub fn columns(self) -> ColumnFault
         ensures { result ≡ table.columns_of self }

@@ -1,14 +1,14 @@
-//! Lists of at most two.
+//! Lists of at most two items.
 
 ghost use Rattle.std.specs.Prelude.{◌≡◌, ◌≤◌, ◌<◌, [], ◌∷◌, ◌++◌, length};
 ghost use Rattle.std.specs.Option.{option_to_list};
 
 use std::marker::Model;
 
-/// What a card has at most two of: constants, or definitions of names.
+/// At most two items of a card: constants, or definitions of names.
 #[derive(Drop)]
 pub struct Few<T> {
-    /// Those after the first `length` are of no meaning.
+    /// Items after the first `length` are meaningless.
     items: [T; 2],
     length: usize,
 }
@@ -33,7 +33,7 @@ impl<T: Default + Drop> Few<T> {
         }
     }
 
-    /// A list of that, if there is something.
+    /// Returns a list of the item, if there is one.
     pub fn of(item: Option<T>) -> Self
         ensures { result ≡ option_to_list item }
     {

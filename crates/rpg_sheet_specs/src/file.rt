@@ -3,18 +3,18 @@
 use crate::within::Within;
 use crate::word::Word;
 
-/// What a file is to the job.
+/// What a file is for the job.
 #[derive(Clone, Copy, PartialEq, Eq)]
 pub enum FileRole {
     /// Records are read from it.
     Primary,
     /// Records are read from it along with those of the primary file.
     Secondary,
-    /// Lines are put out on it.
+    /// Lines or records are written to it.
     Output,
 }
 
-/// The device of a file. All devices but the printer are one.
+/// The device of a file. Any device but the printer counts as the same.
 #[derive(Clone, Copy, PartialEq, Eq)]
 pub enum Device {
     Printer,
@@ -26,7 +26,7 @@ pub enum Device {
 pub struct FileSpec {
     pub name: Word<8>,
     pub role: FileRole,
-    /// E: the job ends once the file is at its end.
+    /// E: the job ends at the end of this file.
     pub ends_job: bool,
     pub ascending: bool,
     pub record_length: u16,

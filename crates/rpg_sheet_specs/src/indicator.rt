@@ -42,7 +42,7 @@ impl Indicator {
     }
 }
 
-/// An indicator that must be on, or off where it is negated.
+/// An indicator that must be on, or off if it is negated.
 #[derive(Clone, Copy)]
 pub struct ConditionSpec {
     pub negated: bool,
@@ -67,7 +67,7 @@ impl<T: Copy> Three<Option<T>> {
     ghost use Rattle.std.specs.Prelude.{◌≡◌, ◌≤◌, None};
     ghost use Rattle.rpg_sheet_specs.specs.Three.{filled_count};
 
-    /// None of them.
+    /// Returns three empty places.
     pub const fn none() -> Self
         ensures { result ≡ record { first = None; second = None; third = None } }
     {
@@ -78,7 +78,7 @@ impl<T: Copy> Three<Option<T>> {
         }
     }
 
-    /// How many are there.
+    /// Returns how many places are filled.
     pub fn filled(self) -> u64
         ensures value { result ≡ filled_count self }
         ensures few { result ≤ 3 }

@@ -1,4 +1,4 @@
-//! Literals: numbers and texts on the card itself.
+//! Literals: numbers and texts on the card.
 
 ghost use Rattle.std.specs.Prelude.{◌≡◌, ◌^◌, ◌≤◌, ◌<◌, length, unsigned_abs, IsTrue};
 ghost use Rattle.std.specs.List.{list_all};
@@ -30,7 +30,8 @@ impl Model for NumericLiteral {
 }
 
 impl NumericLiteral {
-    /// The number of this value without its point, written with so many digits.
+    /// Returns the number with this value, ignoring its decimal point, written with `digits`
+    /// digits.
     pub fn new(value: i64, digits: u8, decimals: u8) -> Self
         requires { IsNumeral value digits decimals }
         ensures { result ≡ record { value = value; length = digits; decimals = decimals } }
@@ -42,7 +43,7 @@ impl NumericLiteral {
         }
     }
 
-    /// The number without its point: 125 for `1.25`.
+    /// Returns the number without its decimal point: 125 for `1.25`.
     pub fn value(self) -> i64
         ensures value { result ≡ self.value }
         ensures fits { unsigned_abs result < 10 ^ self.length }
@@ -50,7 +51,7 @@ impl NumericLiteral {
         self.value
     }
 
-    /// How many digits it is written with, zeros at the front too.
+    /// Returns how many digits it is written with, including leading zeros.
     pub fn length(self) -> u8
         ensures value { result ≡ self.length }
         ensures least { 1 ≤ result }
@@ -59,7 +60,7 @@ impl NumericLiteral {
         self.digits
     }
 
-    /// How many of its digits follow the point.
+    /// Returns how many of its digits follow the decimal point.
     pub fn decimals(self) -> u8
         ensures value { result ≡ self.decimals }
         ensures within { result ≤ self.length }
@@ -112,7 +113,7 @@ pub enum Literal {
     Text(TextLiteral<8>),
 }
 
-/// What a calculation works with.
+/// An operand of a calculation.
 #[derive(Drop)]
 pub enum Factor {
     Entry(Entry),

@@ -1,17 +1,17 @@
-//! What operations have on their cards.
+//! The columns that operations use on their cards.
 
 ghost use Rattle.std.specs.Prelude.{◌≡◌};
 ghost use Rattle.rpg_sheet_specs.specs.Operations as operations;
 
 use crate::calculation::Operation;
 
-/// What stands in a column of a calculation card.
+/// What a column of a calculation card holds.
 #[derive(Clone, Copy)]
 pub enum Content {
     /// A plain field, a constant, an array entry or a current table entry.
     Value,
     WholeArray,
-    /// A table, an array, or an entry of one from which on it is searched.
+    /// A table, an array, or an entry of an array at which the search begins.
     Searched,
     Table,
     Label,
@@ -32,7 +32,7 @@ pub enum Shown {
     Unused,
     Any,
     Some,
-    /// One or two, but not high with low.
+    /// One or two, but not both high and low.
     Search,
 }
 
@@ -40,12 +40,12 @@ pub enum Shown {
 #[derive(Clone, Copy)]
 pub enum Kinds {
     Numbers,
-    /// Factors 1 and 2 are numbers both, or texts both.
+    /// Factors 1 and 2 are both numbers, or both texts.
     Alike,
     Any,
 }
 
-/// What an operation has on its card.
+/// The columns that an operation uses on its card.
 #[derive(Clone, Copy)]
 pub struct OperationColumns {
     pub factor_1: Column,

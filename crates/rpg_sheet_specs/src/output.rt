@@ -7,7 +7,7 @@ use crate::within::Within;
 use crate::word::Word;
 use rpg_edit_marks::EditCode;
 
-/// When a line is put out.
+/// When a line is written.
 #[derive(Clone, Copy)]
 pub enum LineTime {
     Heading,
@@ -31,7 +31,7 @@ pub struct Movement {
 /// A line.
 #[derive(Drop)]
 pub struct OutputRecord {
-    /// None is the file of the line before.
+    /// None for the file of the previous line.
     pub file: Option<Word<8>>,
     pub time: LineTime,
     pub movement: Movement,
@@ -47,7 +47,7 @@ pub struct OutputField {
     pub blank_after: bool,
     /// The field's last column in the line, from 1.
     pub end: u16,
-    /// A constant where no field is named, else an edit word, or with a code the fill.
+    /// A constant if no field is named; with a code, the fill; otherwise an edit word.
     pub text: Option<TextLiteral<24>>,
 }
 
@@ -55,9 +55,9 @@ pub struct OutputField {
 #[derive(Drop)]
 pub enum OutputSpec {
     Record(OutputRecord),
-    /// Further conditions of the line above it, which must hold too.
+    /// Further conditions of the line above it, which must also hold.
     And(Three<Option<ConditionSpec>>),
-    /// Other conditions of the line above it.
+    /// Alternative conditions of the line above it.
     Or(Three<Option<ConditionSpec>>),
     Field(OutputField),
 }

@@ -65,14 +65,14 @@ pub const ALTERNATING_SEQUENCE: CardColumns<1> = CardColumns { first: 57 };
 
 // ---- I and O
 
-/// What stands before AND and OR.
+/// The columns before AND and OR.
 pub const BEFORE_WORD: CardColumns<7> = CardColumns { first: 7 };
 
 pub const AND_WORD: CardColumns<3> = CardColumns { first: 14 };
 
 pub const OR_WORD: CardColumns<2> = CardColumns { first: 14 };
 
-/// What only the card of a record type or of a line has.
+/// Columns that only the card of a record type or of a line uses.
 pub const TYPE_OR_LINE: CardColumns<10> = CardColumns { first: 7 };
 
 // ---- I
@@ -96,7 +96,7 @@ pub const THIRD_CODE: CardColumns<7> = CardColumns { first: 35 };
 
 pub const AFTER_CODES: CardColumns<33> = CardColumns { first: 42 };
 
-/// What stands before the codes of an AND card.
+/// The columns before the codes of an AND card.
 pub const BEFORE_CODES: CardColumns<4> = CardColumns { first: 17 };
 
 pub const BEFORE_FIELD: CardColumns<27> = CardColumns { first: 17 };

@@ -8,10 +8,10 @@ ghost use Rattle.std.specs.Cmp.Lexicographic.{pointwise, bytes_decides, nat_list
 use std::hash::{Hash, Hasher};
 use std::marker::Model;
 
-/// A text of at most `N` characters, as a name.
+/// A text of at most `N` characters, such as a name.
 #[derive(Drop)]
 pub struct Word<const N: usize> {
-    /// Those after the first `length` are of no meaning.
+    /// Characters after the first `length` are meaningless.
     characters: [u8; N],
     length: usize,
 }
@@ -67,7 +67,7 @@ impl<const N: usize> Eq for Word<N> {
     ghost laws = { nat_list_eq_equiv };
 }
 
-/// All characters are hashed in one write.
+/// Hashes all characters in one write.
 impl<const N: usize> Hash for Word<N> {
     ghost hash_input = { λ w. w ∷ [] };
 

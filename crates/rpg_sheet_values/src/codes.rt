@@ -9,7 +9,7 @@ use crate::marks::marked;
 use crate::numbers::number;
 use rpg_sheet_specs::{EditCode, RecordCode, Within};
 
-/// Four columns position, blank or N, C, and a character.
+/// Reads a position in four columns, blank or N, C, and a character.
 #[tactic(auto, unfolding(rpg_sheet_specs::specs::Values::record_code))]
 pub fn record_code(text: &[u8]) -> Option<RecordCode>
     requires seven { length text.now ≡ 7 }
@@ -26,7 +26,7 @@ pub fn record_code(text: &[u8]) -> Option<RecordCode>
     })
 }
 
-/// C and a character.
+/// Reads C and a character.
 fn record_character(text: &[u8]) -> Option<Within<32, 126>>
     requires { IsTrue (list_all is_character text.now) }
     ensures { result ≡ values.record_character text.now }
@@ -37,7 +37,7 @@ fn record_character(text: &[u8]) -> Option<Within<32, 126>>
     }
 }
 
-/// One character.
+/// Reads one character.
 #[tactic(auto, unfolding(rpg_sheet_specs::specs::Values::edit_code))]
 pub fn edit_code(text: &[u8]) -> Option<EditCode>
     ensures { result ≡ values.edit_code text.now }

@@ -1,4 +1,4 @@
-//! Fields and entries of arrays, from the first column of their range on.
+//! Fields and entries of arrays, from the first column of their range.
 
 ghost use Rattle.std.specs.Prelude.{◌≡◌, ◌<◌, length, position, IfSome};
 ghost use Rattle.rpg_sheet_specs.specs.Values as values;
@@ -8,7 +8,7 @@ use crate::numbers::digits;
 use rpg_sheet_specs::{Entry, EntryIndex};
 use rpg_text::trimmed;
 
-/// A name, or a name, a comma and an index.
+/// Reads a name, or a name, a comma and an index.
 #[tactic(auto, unfolding(rpg_sheet_specs::specs::Values::entry))]
 pub fn entry(text: &[u8]) -> Option<Entry>
     ensures { result ≡ values.entry text.now }
@@ -27,7 +27,7 @@ pub fn entry(text: &[u8]) -> Option<Entry>
     }
 }
 
-/// The place of the first comma.
+/// Returns the place of the first comma.
 fn comma(text: &[u8]) -> Option<usize>
     ensures place { result ≡ position values.is_comma text.now }
     ensures within { IfSome result (λ place. place < length text.now) }
@@ -35,7 +35,7 @@ fn comma(text: &[u8]) -> Option<usize>
     text.iter().position(|c| *c == b',')
 }
 
-/// At most four digits, or a name.
+/// Reads at most four digits, or a name.
 fn index(text: &[u8]) -> Option<EntryIndex>
     ensures { result ≡ values.index_spelled text.now }
 {

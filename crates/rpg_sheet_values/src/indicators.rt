@@ -6,7 +6,7 @@ ghost use Rattle.rpg_sheet_specs.specs.Values as values;
 use crate::marks::marked;
 use rpg_sheet_specs::{ConditionSpec, Indicator, Within};
 
-/// Two characters.
+/// Reads an indicator of two characters.
 #[tactic(auto, unfolding(rpg_sheet_specs::specs::Values::indicator))]
 pub fn indicator(text: &[u8]) -> Option<Indicator>
     ensures { result ≡ values.indicator text.now }
@@ -17,7 +17,7 @@ pub fn indicator(text: &[u8]) -> Option<Indicator>
     }
 }
 
-/// The indicator of two characters.
+/// Returns the indicator with these two characters.
 fn spelled(first: u8, second: u8) -> Option<Indicator>
     ensures { result ≡ values.indicator_spelled first second }
 {
@@ -35,7 +35,7 @@ fn spelled(first: u8, second: u8) -> Option<Indicator>
     }
 }
 
-/// Blank or N, and an indicator.
+/// Reads a blank or N, and an indicator.
 #[tactic(auto, unfolding(rpg_sheet_specs::specs::Values::condition))]
 pub fn condition(text: &[u8]) -> Option<ConditionSpec>
     requires { length text.now ≡ 3 }
@@ -46,7 +46,7 @@ pub fn condition(text: &[u8]) -> Option<ConditionSpec>
     Some(ConditionSpec { negated, indicator })
 }
 
-/// An indicator whose number is in these bounds.
+/// Reads an indicator whose number is within these bounds.
 #[tactic(auto, unfolding(rpg_sheet_specs::specs::Values::indicator_within))]
 pub fn indicator_within<const FIRST: u8, const LAST: u8>(text: &[u8]) -> Option<Within<FIRST, LAST>>
     ensures { result ≡ values.indicator_within FIRST LAST text.now }
@@ -59,7 +59,7 @@ pub fn indicator_within<const FIRST: u8, const LAST: u8>(text: &[u8]) -> Option<
     }
 }
 
-/// A level, from 1 to 9 after its letter.
+/// Reads a level: its letter, then 1 to 9.
 #[tactic(auto, unfolding(rpg_sheet_specs::specs::Values::level))]
 pub fn level(letter: u8, text: &[u8]) -> Option<Within<1, 9>>
     ensures { result ≡ values.level letter text.now }

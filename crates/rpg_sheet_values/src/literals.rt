@@ -1,4 +1,4 @@
-//! Literals: numbers and texts on the card itself, from the first column of their range on.
+//! Literals: numbers and texts on the card, from the first column of their range.
 
 ghost use Rattle.std.specs.Prelude.{◌≡◌, ◌≢◌, ℕ, ◌+◌, ◌-◌, ◌^◌, ◌≤◌, ◌<◌, ◌↔◌, List, [], ◌∷◌, None, length, option_map, position, IfNone, IfSome, IsTrue};
 ghost use Rattle.std.specs.List.{list_all, before_first, after_first};
@@ -34,7 +34,7 @@ fn literal_of(text: &[u8]) -> Option<Literal>
     }
 }
 
-/// A sign or none, and digits with a point or none.
+/// Reads digits, with an optional sign and decimal point.
 fn numeric_literal(text: &[u8]) -> Option<NumericLiteral>
     requires { length text.now ≤ 10 }
     ensures { result ≡ values.numeric_literal text.now }
@@ -45,7 +45,7 @@ fn numeric_literal(text: &[u8]) -> Option<NumericLiteral>
     numeral(minus, whole, following)
 }
 
-/// Whether a minus sign comes first, and what follows a sign.
+/// Strips a sign. Returns whether it is a minus sign, and the rest.
 fn without_sign(text: &[u8]) -> (bool, &[u8])
     ensures minus { result.0 ≡ starts_with_minus text.now }
     ensures rest { result.1.now ≡ without_leading_sign text.now }
@@ -58,7 +58,7 @@ fn without_sign(text: &[u8]) -> (bool, &[u8])
     }
 }
 
-/// The text before the first point, and the text after it.
+/// Splits a text at its first decimal point.
 fn around_point(text: &[u8]) -> (&[u8], &[u8])
     ensures before { result.0.now ≡ before_first values.is_point text.now }
     ensures following { result.1.now ≡ after_first values.is_point text.now }
@@ -71,7 +71,7 @@ fn around_point(text: &[u8]) -> (&[u8], &[u8])
     }
 }
 
-/// The place of the first point.
+/// Returns the place of the first decimal point.
 fn point(text: &[u8]) -> Option<usize>
     ensures place { result ≡ position values.is_point text.now }
     ensures within { IfSome result (λ point. point < length text.now) }
@@ -79,7 +79,7 @@ fn point(text: &[u8]) -> Option<usize>
     text.iter().position(|c| *c == b'.')
 }
 
-/// The number of these digits before its point and these after it.
+/// Returns the number with these digits before and after its decimal point.
 fn numeral(minus: bool, whole: &[u8], following: &[u8]) -> Option<NumericLiteral>
     requires short { length whole.now + length following.now ≤ 10 }
     requires point { length following.now ≤ 9 }
@@ -101,7 +101,7 @@ fn with_sign(minus: bool, size: u64) -> i64
     if minus { -size } else { size }
 }
 
-/// A text in apostrophes, each apostrophe in it doubled.
+/// Reads a text in apostrophes, in which each apostrophe is doubled.
 #[tactic(auto, unfolding(rpg_sheet_specs::specs::Values::quoted))]
 pub fn quoted<const N: usize>(text: &[u8]) -> Option<TextLiteral<N>>
     requires short { length text.now ≤ N + 2 }
@@ -117,14 +117,14 @@ pub fn quoted<const N: usize>(text: &[u8]) -> Option<TextLiteral<N>>
     Some(TextLiteral::new(word))
 }
 
-/// Begins and ends with an apostrophe, and has something between them.
+/// Whether it begins and ends with an apostrophe, and has something between them.
 fn is_enclosed(text: &[u8]) -> bool
     ensures { result ≡ values.is_enclosed text.now }
 {
     matches!(text, [b'\'', _, .., b'\''])
 }
 
-/// The text whose apostrophes are written twice: none if one of them is single.
+/// Reads a text whose apostrophes are doubled; None if one is single.
 fn undoubled<const N: usize>(text: &[u8]) -> Option<Word<N>>
     requires { length text.now ≤ N }
     ensures { result ≡ values.undoubled text.now }
@@ -139,7 +139,7 @@ fn undoubled<const N: usize>(text: &[u8]) -> Option<Word<N>>
     Some(word)
 }
 
-/// The first character, and what follows it: none if it is a single apostrophe.
+/// Returns the first character and the rest; None if it is a single apostrophe.
 fn first_undoubled(text: &[u8]) -> Option<(u8, &[u8])>
     requires { 0 < length text.now }
     ensures first { IfSome result (λ first. values.undoubled text.now ≡ option_map (λ t. first.0 ∷ t) (values.undoubled first.1.now)) }

@@ -1,4 +1,4 @@
-//! Texts with one meaning: a spelling, a mark, blanks.
+//! Texts with a single meaning: fixed words, marks, blanks.
 
 ghost use Rattle.std.specs.Prelude.{◌≡◌, None, Some, if◌then◌else◌, option_map};
 ghost use Rattle.rpg_sheet_specs.specs.Values as values;
@@ -6,7 +6,7 @@ ghost use Rattle.rpg_text.specs.Texts.{all_blank};
 
 use rpg_text::is_blank;
 
-/// The one spelling that is allowed.
+/// Reads the only text that is allowed.
 #[tactic(auto, unfolding(rpg_sheet_specs::specs::Values::only))]
 pub fn only(spelling: &[u8], text: &[u8]) -> Option<()>
     ensures { result ≡ values.only spelling.now text.now }
@@ -14,7 +14,7 @@ pub fn only(spelling: &[u8], text: &[u8]) -> Option<()>
     if text == spelling { Some(()) } else { None }
 }
 
-/// Blank: a value that isn't read yet.
+/// Reads blanks: these columns aren't used yet.
 #[tactic(auto, unfolding(rpg_sheet_specs::specs::Values::unused))]
 pub fn unused(text: &[u8]) -> Option<()>
     ensures { result ≡ values.unused text.now }
@@ -22,7 +22,7 @@ pub fn unused(text: &[u8]) -> Option<()>
     if is_blank(text) { Some(()) } else { None }
 }
 
-/// Blank, or the value of the text.
+/// Reads blanks as None, else the value of the text.
 pub fn blank_or<T: Drop>(text: &[u8], value: Option<T>) -> Option<Option<T>>
     ensures { result ≡ (if all_blank text.now then Some None else option_map Some value) }
 {
@@ -33,7 +33,7 @@ pub fn blank_or<T: Drop>(text: &[u8], value: Option<T>) -> Option<Option<T>>
     }
 }
 
-/// Blank or the mark.
+/// Reads blanks or the mark. Returns whether it is the mark.
 #[tactic(auto, unfolding(rpg_sheet_specs::specs::Values::marked))]
 pub fn marked(mark: &[u8], text: &[u8]) -> Option<bool>
     ensures { result ≡ values.marked mark.now text.now }

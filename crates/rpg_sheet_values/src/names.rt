@@ -36,7 +36,7 @@ fn is_name(most: usize, text: &[u8]) -> bool
     }
 }
 
-/// A name of at most `N` characters, and nothing else.
+/// Reads a name of at most `N` characters, and nothing else.
 pub(crate) fn name_of<const N: usize>(text: &[u8]) -> Option<Word<N>>
     ensures { result ≡ values.name_of N text.now }
 {
@@ -47,7 +47,7 @@ pub(crate) fn name_of<const N: usize>(text: &[u8]) -> Option<Word<N>>
     }
 }
 
-/// A name of at most `N` characters, from the first column on.
+/// Reads a name of at most `N` characters, from the first column.
 #[tactic(auto, unfolding(rpg_sheet_specs::specs::Values::name))]
 pub fn name<const N: usize>(text: &[u8]) -> Option<Word<N>>
     ensures { result ≡ values.name N text.now }
@@ -55,7 +55,7 @@ pub fn name<const N: usize>(text: &[u8]) -> Option<Word<N>>
     name_of(trimmed(text))
 }
 
-/// Letters in both columns.
+/// Reads letters in both columns.
 #[tactic(auto, unfolding(rpg_sheet_specs::specs::Values::letters))]
 pub fn letters(text: &[u8]) -> Option<Word<2>>
     requires { length text.now ≤ 2 }

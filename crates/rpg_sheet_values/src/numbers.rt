@@ -1,4 +1,4 @@
-//! Numbers as cards have them: blanks, then digits.
+//! Numbers on cards: blanks, then digits.
 
 ghost use Rattle.std.specs.Prelude.{◌≡◌, ◌-◌, ◌^◌, ◌≤◌, ◌<◌, length, IsTrue};
 ghost use Rattle.std.specs.List.{list_all};
@@ -6,7 +6,7 @@ ghost use Rattle.std.specs.Char.{is_ascii_digit};
 ghost use Rattle.std.specs.Str.Parse.{digits_value_after};
 ghost use Rattle.rpg_sheet_specs.specs.Values as values;
 
-/// A text without the blanks at its front.
+/// Returns a text without its leading blanks.
 fn right_part(text: &[u8]) -> &[u8]
     ensures { result.now ≡ values.right_part text.now }
 {
@@ -23,7 +23,7 @@ pub(crate) fn has_only_digits(text: &[u8]) -> bool
     text.iter().all(|c| c.is_ascii_digit())
 }
 
-/// The number that digits write after those of `before`.
+/// Returns the number that these digits make after those of `before`.
 pub(crate) fn value_after(before: u64, digits: &[u8]) -> u64
     requires digits { IsTrue (list_all is_ascii_digit digits.now) }
     requires short { length digits.now ≤ 10 }
@@ -37,7 +37,7 @@ pub(crate) fn value_after(before: u64, digits: &[u8]) -> u64
     value
 }
 
-/// Digits in every column, four at most.
+/// Reads digits in every column, four at most.
 #[tactic(auto, unfolding(rpg_sheet_specs::specs::Values::digits))]
 pub(crate) fn digits(text: &[u8]) -> Option<u16>
     requires { length text.now ≤ 4 }
@@ -50,7 +50,7 @@ pub(crate) fn digits(text: &[u8]) -> Option<u16>
     }
 }
 
-/// Right-aligned digits after blanks, in four columns at most.
+/// Reads right-aligned digits after blanks, in four columns at most.
 #[tactic(auto, unfolding(rpg_sheet_specs::specs::Values::number))]
 pub fn number(text: &[u8]) -> Option<u16>
     requires { length text.now ≤ 4 }
@@ -59,7 +59,7 @@ pub fn number(text: &[u8]) -> Option<u16>
     digits(right_part(text))
 }
 
-/// One digit.
+/// Reads one digit.
 #[tactic(auto, unfolding(rpg_sheet_specs::specs::Values::digits))]
 pub fn digit(text: &[u8]) -> Option<u8>
     requires { length text.now ≡ 1 }

@@ -1,4 +1,4 @@
-//! Words that mean one of a few things.
+//! Words that each mean one of a few things.
 
 ghost use Rattle.std.specs.Prelude.{◌≡◌, length, Some};
 ghost use Rattle.std.specs.Str.{bytes_eq};
@@ -16,7 +16,7 @@ pub fn is(text: &[u8], word: &[u8]) -> bool
     text == word
 }
 
-/// A form type, in column 6 of a card.
+/// Reads a form type, in column 6 of a card.
 pub fn form_type_of(text: &[u8]) -> Option<FormType>
     ensures { result ≡ cards.form_type_of text.now }
 {
@@ -31,7 +31,7 @@ pub fn form_type_of(text: &[u8]) -> Option<FormType>
     }
 }
 
-/// I or O.
+/// Reads I or O.
 #[tactic(auto, unfolding(rpg_sheet_specs::specs::Tables::direction))]
 pub fn direction(text: &[u8]) -> Option<()>
     ensures { result ≡ tables.direction text.now }
@@ -42,7 +42,7 @@ pub fn direction(text: &[u8]) -> Option<()>
     }
 }
 
-/// A device: all but the printer are one.
+/// Reads a device. Any but the printer counts as the same.
 #[tactic(auto, unfolding(rpg_sheet_specs::specs::Tables::device_named))]
 pub fn device(text: &[u8]) -> Device
     ensures { Some result ≡ tables.device_named text.now }
@@ -54,7 +54,7 @@ pub fn device(text: &[u8]) -> Device
     }
 }
 
-/// An operation.
+/// Reads an operation.
 #[tactic(auto, unfolding(rpg_sheet_specs::specs::Tables::operation))]
 pub fn operation(text: &[u8]) -> Option<Operation>
     ensures { result ≡ tables.operation text.now }
@@ -67,7 +67,7 @@ pub fn operation(text: &[u8]) -> Option<Operation>
     None
 }
 
-/// When a calculation is done.
+/// Reads when a calculation is done.
 #[tactic(auto, unfolding(rpg_sheet_specs::specs::Tables::control_level_in))]
 pub fn control_level(text: &[u8]) -> Option<ControlLevel>
     ensures { result ≡ tables.control_level_in text.now }
@@ -85,7 +85,7 @@ pub fn control_level(text: &[u8]) -> Option<ControlLevel>
     }
 }
 
-/// When a line is put out.
+/// Reads when a line is written.
 #[tactic(auto, unfolding(rpg_sheet_specs::specs::Tables::line_time))]
 pub fn line_time(text: &[u8]) -> Option<LineTime>
     ensures { result ≡ tables.line_time text.now }
@@ -99,7 +99,7 @@ pub fn line_time(text: &[u8]) -> Option<LineTime>
     }
 }
 
-/// How many lines the form spaces.
+/// Reads how many lines the form spaces.
 #[tactic(auto, unfolding(rpg_sheet_specs::specs::Tables::space))]
 pub fn space(text: &[u8]) -> Option<Within<0, 3>>
     ensures { result ≡ tables.space text.now }
@@ -110,7 +110,7 @@ pub fn space(text: &[u8]) -> Option<Within<0, 3>>
     }
 }
 
-/// The line that the form skips to.
+/// Reads the line that the form skips to.
 #[tactic(auto, unfolding(rpg_sheet_specs::specs::Tables::skip))]
 pub fn skip(text: &[u8]) -> Option<Within<1, 66>>
     requires { length text.now ≡ 2 }

@@ -1,4 +1,4 @@
-//! What a run returns and puts out, as a text.
+//! What a run returns and outputs, as text.
 
 use rpg_cli_text::TextWriter;
 use rpg_cycle::CycleEnd;
@@ -50,7 +50,7 @@ fn file_name(file: OutputFile) -> &'static str {
     }
 }
 
-/// Writes that a writer failed, and how many bytes it had taken.
+/// Writes that a writer failed, and how many bytes it had accepted.
 fn write_loss(out: &mut TextWriter, file: &str, sent: u128) {
     let sent = u64::try_from(sent).unwrap_or(u64::MAX);
     out.fill("output failed, {} bytes of {}", &[sent.into(), file.into()]);
@@ -66,7 +66,7 @@ fn write_fault(out: &mut TextWriter, fault: RunFault) {
     }
 }
 
-/// Writes the line of `rpg2 run` for what a run returns, with the bytes that a writer that failed had taken.
+/// Writes the line of `rpg2 run` for a run's result, with the bytes that a failed writer had accepted.
 pub fn write_answer(out: &mut TextWriter, told: &Result<Report, RunFault>) {
     match told {
         Ok(report) => {
@@ -82,7 +82,7 @@ pub fn write_bytes(out: &mut TextWriter, bytes: &[u8]) {
     out.write_str(str::from_utf8(bytes).unwrap_or("no characters"));
 }
 
-/// Writes what was put out.
+/// Writes the output.
 pub fn write_outputs(out: &mut TextWriter, print: &[u8], disk: &[u8]) {
     out.write_str("\nprint\n");
     write_bytes(out, print);

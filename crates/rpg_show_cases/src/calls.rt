@@ -1,5 +1,5 @@
-//! What no command shows of numbers and texts: places of bad digits, remainders of 18 decimals, texts with bytes that are no characters, and
-//! what errors say.
+//! Properties of numbers and texts that no command shows: places of bad digits, remainders of 18 decimals, texts with bytes that aren't
+//! characters, and error messages.
 
 use rpg_cli_text::TextWriter;
 use rpg_decimal::{
@@ -12,7 +12,7 @@ use rpg_sheet::SheetCode;
 use rpg_symbols::{DefineFault, LevelFault};
 use std::cmp::Ordering;
 
-/// Refusals of sources.
+/// Rejections of sources.
 const REFUSALS: [SourceFault; 3] = [
     SourceFault::At {
         card: 5,
@@ -30,7 +30,7 @@ const REFUSALS: [SourceFault; 3] = [
 /// The greatest number of 15 digits.
 const NINES: i64 = 999_999_999_999_999;
 
-/// Writes the places of bad digits, counted in what is read or moved, the first being 0.
+/// Writes the places of bad digits, counted from 0 in what is read or moved.
 fn write_places(out: &mut TextWriter) {
     let numbers: [Result<i64, BadDigit>; 9] = [
         read_zoned(b"1-2"),
@@ -51,7 +51,7 @@ fn write_places(out: &mut TextWriter) {
     }
 }
 
-/// Writes what is left of numbers once their quotients have nine decimals, without the point.
+/// Writes the remainders of numbers whose quotients have nine decimals, without the decimal point.
 fn write_rests(out: &mut TextWriter) {
     let rests = [
         remainder(
@@ -85,7 +85,7 @@ fn write_rests(out: &mut TextWriter) {
     }
 }
 
-/// Writes the order of texts of which one is shorter, or has a byte that is no character.
+/// Writes the order of texts of which one is shorter, or has a byte that isn't a character.
 fn write_orders(out: &mut TextWriter) {
     let orders = [
         compare_text(b"", b""),
@@ -110,7 +110,7 @@ fn write_errors(out: &mut TextWriter) {
     write!(out, "{cycle}\n");
 }
 
-/// Writes a line for each.
+/// Writes a line for each of these.
 pub fn write_calls(out: &mut TextWriter) {
     for fault in &REFUSALS {
         write!(out, "{fault}\n");

@@ -1,4 +1,4 @@
-//! Jobs cycle by cycle, and past their end.
+//! Jobs cycle by cycle, and after their end.
 
 use crate::answers::{write_end, write_outputs};
 use crate::row::{Row, bytes_of};
@@ -9,7 +9,7 @@ use rpg_store::Store;
 use rpg_verify::Verified;
 use std::alloc::{AllocError, Global};
 
-/// Writes whether the job needs a record, of either file.
+/// Writes whether the job needs a record, for either file.
 fn write_need<S: Store + Drop>(out: &mut TextWriter, job: &Job<'_, S>) {
     let need = job.needs();
     if need.primary {
@@ -20,7 +20,8 @@ fn write_need<S: Store + Drop>(out: &mut TextWriter, job: &Job<'_, S>) {
     }
 }
 
-/// Writes how a cycle ended, its steps unless the job had ended before, and how many bytes it prints.
+/// Writes how a cycle ended, its steps unless the job had already ended, and how many bytes it
+/// prints.
 fn write_cycle<S: Store + Drop>(
     out: &mut TextWriter,
     job: &Job<'_, S>,
@@ -39,7 +40,7 @@ fn write_cycle<S: Store + Drop>(
     }
 }
 
-/// The record of a turn: `-` is none.
+/// Returns the record of a turn; `-` is none.
 fn record_of(alloc: Global, hex: &str) -> Result<Option<Vec<u8>>, AllocError> {
     if hex == "-" {
         return Ok(None);
@@ -76,7 +77,7 @@ fn write_cycles<S: Store + Drop>(
     Ok(())
 }
 
-/// Writes what a job does cycle by cycle, by the store in one area of bytes.
+/// Writes what a job does cycle by cycle, with the store in one area of bytes.
 pub fn run_cycles(
     alloc: Global,
     out: &mut TextWriter,

@@ -1,4 +1,4 @@
-//! Readers and writers that give and take little, interrupt, or fail.
+//! Readers and writers with short, interrupted and failing calls.
 
 ghost use Rattle.std.specs.Prelude.{Some};
 
@@ -9,7 +9,7 @@ use std::io::{self, Write};
 /// What a reader or a writer does.
 #[derive(Clone, Copy)]
 pub struct Device {
-    /// How many bytes it gives or takes at once, at most. A writer of none takes nothing, and doesn't fail.
+    /// The most bytes of one read or write. A writer with 0 accepts nothing, without failing.
     pieces: usize,
     /// After how many bytes it fails.
     until_fault: usize,
@@ -17,14 +17,14 @@ pub struct Device {
     times: usize,
 }
 
-/// A device that does all that it is asked.
+/// A device without limits or failures.
 const WHOLE: Device = Device {
     pieces: usize::MAX,
     until_fault: usize::MAX,
     times: 0,
 };
 
-/// The device of three numbers; `-` is without limit.
+/// Parses a device of three numbers; `-` is without limit.
 pub fn device_of(column: &str) -> Device {
     let mut numbers = [usize::MAX; 3];
     for (number, text) in numbers.iter_mut().zip(column.split(' ')) {
@@ -41,7 +41,7 @@ pub fn device_of(column: &str) -> Device {
 /// The readers of both inputs, and the writers of the print and the disk file.
 pub type Devices = [Device; 4];
 
-/// Devices that do all that they are asked.
+/// Devices without limits or failures.
 pub const ALL_WHOLE: Devices = [WHOLE; 4];
 
 pub fn devices_of(column: &str) -> Devices {
@@ -64,14 +64,14 @@ pub fn reader(device: Device, left: &[u8]) -> Interrupting<ShortReader<'_>> {
     }
 }
 
-/// A writer that interrupts and fails, or takes nothing and doesn't fail.
+/// A writer that interrupts and fails, or accepts nothing without failing.
 #[derive(Drop)]
 pub struct CaseWriter {
     device: Interrupting<ShortWriter>,
 }
 
 impl CaseWriter {
-    /// What it has taken.
+    /// Returns what it has accepted.
     pub fn written(&self) -> &[u8] {
         &self.device.device.written
     }

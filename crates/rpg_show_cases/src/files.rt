@@ -1,4 +1,4 @@
-//! Single calls of rpg_files: the records of a reader, and the bytes that a writer takes.
+//! Single calls of rpg_files: the records of a reader, and the bytes that a writer accepts.
 
 ghost use Rattle.std.specs.Prelude.{◌≡◌, ◌+◌, ◌-◌, ◌^◌, ◌<◌, ◌≤◌};
 ghost use Rattle.rpg_files.specs.Counting.{faults_of};
@@ -22,7 +22,7 @@ fn word_of(answer: Result<Next, ReadFault>) -> &'static str {
     }
 }
 
-/// The next answer, where so many calls were made before.
+/// Returns the next result, after this many calls.
 fn next_of<R: Read>(reader: &mut RecordReader<'_, R>, calls: u64) -> Result<Next, ReadFault>
     requires few { calls < 2 ^ 32 }
     requires faults { faults_of (reader_of reader.old) ≤ calls }
@@ -31,7 +31,7 @@ fn next_of<R: Read>(reader: &mut RecordReader<'_, R>, calls: u64) -> Result<Next
     reader.next()
 }
 
-/// Writes each record, if they are shown, with a bar after it, how many records there are, and twice the answer after them.
+/// Writes each record, if they are shown, followed by a bar; then the number of records, and twice the result after them.
 fn write_records<R: Read>(out: &mut TextWriter, reader: &mut RecordReader<'_, R>, are_shown: bool)
     requires { faults_of (reader_of reader.old) ≡ 0 }
 {
@@ -53,7 +53,7 @@ fn write_records<R: Read>(out: &mut TextWriter, reader: &mut RecordReader<'_, R>
     }
 }
 
-/// Reads the records of the row's input. If the input stands there many times, they aren't shown.
+/// Reads the records of the row's input. If the input is repeated many times, they aren't shown.
 pub fn read_records(alloc: Global, out: &mut TextWriter, row: &Row<'_>) -> Result<(), AllocError> {
     let times = row.secondary.parse().unwrap_or(1);
     let input = bytes_of(alloc, row.input)?.repeat(alloc, times)?;

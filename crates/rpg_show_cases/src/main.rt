@@ -1,6 +1,7 @@
-//! What only calls of the library show: does each row of the files that are named, and prints whether it gave what it must.
+//! Tests of what only calls of the library show: does each row of the named files, and prints whether it gave the expected
+//! result.
 //!
-//! README.md says what the rows show, and tests/lay_out.py writes them.
+//! README.md describes what the rows show, and tests/lay_out.py writes them.
 #![tactic(auto)]
 
 mod answers;
@@ -24,7 +25,7 @@ use std::alloc::{AllocError, Global};
 use std::io::{self, Write};
 use std::{env, fs};
 
-/// Does what a row asks of an accepted program.
+/// Does the task of a row with an accepted program.
 fn do_program(
     alloc: Global,
     out: &mut TextWriter,
@@ -43,7 +44,7 @@ fn do_program(
     }
 }
 
-/// Does what a row asks of an object. Nothing is reported of a program that isn't accepted.
+/// Does the task of a row with an object. Nothing is reported for a program that isn't accepted.
 fn do_object(
     alloc: Global,
     out: &mut TextWriter,
@@ -62,7 +63,7 @@ fn do_object(
     }
 }
 
-/// Does what a row asks.
+/// Does the task of a row.
 fn do_row(
     alloc: Global,
     out: &mut TextWriter,
@@ -76,7 +77,7 @@ fn do_row(
     }
 }
 
-/// The report of a row.
+/// Returns the report of a row.
 fn report_of(alloc: Global, object: &[u8], row: &Row<'_>) -> Result<Vec<u8>, AllocError> {
     let mut out = TextWriter::new(alloc);
     do_row(alloc, &mut out, object, row)?;
@@ -85,7 +86,7 @@ fn report_of(alloc: Global, object: &[u8], row: &Row<'_>) -> Result<Vec<u8>, All
     report(alloc, row.name, told.as_bytes(), &wanted)
 }
 
-/// Does the rows of a file. An object stays for the rows after it.
+/// Does the rows of a file. An object stays loaded for the rows after it.
 fn do_rows<W: Write>(alloc: Global, out: &mut W, text: &str) -> io::Result<()> {
     let mut object = Vec::new(alloc);
     for line in text.lines() {

@@ -1,11 +1,11 @@
-//! Whether a row gave what it must.
+//! Whether a row gave the expected result.
 
 ghost use Rattle.std.specs.Prelude.{◌≡◌, ◌↔◌, [], ◌∷◌, ◌++◌, IfOk};
 ghost use Rattle.rpg_show_cases.specs.Outcome.{IsOkLine};
 
 use std::alloc::{AllocError, Global};
 
-/// The word, the row's name and what is reported of it, with a line feed.
+/// Returns the word, the row's name and its report, with a line feed.
 fn line_of(alloc: Global, word: &[u8], name: &str, told: &[u8]) -> Result<Vec<u8>, AllocError>
     ensures { IfOk result (λ line. line.items ≡ word.now ++ name.now ++ (58 ∷ 32 ∷ []) ++ told.now ++ (10 ∷ [])) }
 {
@@ -18,7 +18,8 @@ fn line_of(alloc: Global, word: &[u8], name: &str, told: &[u8]) -> Result<Vec<u8
     Ok(line)
 }
 
-/// The line of a row: it begins with `ok: ` exactly if the row gave what it must, and has what it gave.
+/// Returns the line of a row: it begins with `ok: ` exactly if the row gave the expected result, and includes
+/// what it gave.
 pub fn report(alloc: Global, name: &str, told: &[u8], wanted: &[u8]) -> Result<Vec<u8>, AllocError>
     ensures { IfOk result (λ line. IsOkLine line.items ↔ (told.now ≡ wanted.now)) }
 {

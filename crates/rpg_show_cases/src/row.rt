@@ -1,13 +1,13 @@
-//! A row of the file: what is called, and with what.
+//! A row of the file: what to call, and with which arguments.
 
 use std::alloc::{AllocError, Global};
 
-/// A row, by its columns; tests/README.md says what each task has in them.
+/// A row, by its columns; tests/README.md describes them for each task.
 #[derive(Clone, Copy)]
 pub struct Row<'a> {
     pub task: &'a str,
     pub name: &'a str,
-    /// What the task must give, in hex.
+    /// The expected result of the task, in hex.
     pub wanted: &'a str,
     pub date: &'a str,
     /// Bytes in hex, or those of each record after a comma.
@@ -16,12 +16,12 @@ pub struct Row<'a> {
     pub devices: &'a str,
 }
 
-/// A column of a line, empty if it hasn't so many.
+/// Returns a column of a line, empty if the line has fewer.
 fn column(line: &str, place: usize) -> &str {
     line.split('\t').nth(place).unwrap_or("")
 }
 
-/// The columns of a line.
+/// Splits a line into its columns.
 pub fn row_of(line: &str) -> Row<'_> {
     Row {
         task: column(line, 0),
@@ -42,7 +42,7 @@ fn digit(byte: u8) -> u8 {
     }
 }
 
-/// The bytes that are written in hex.
+/// Decodes bytes from hex.
 pub fn bytes_of(alloc: Global, hex: &str) -> Result<Vec<u8>, AllocError> {
     let mut bytes = Vec::new(alloc);
     for pair in hex.as_bytes().chunks(2) {
@@ -53,7 +53,7 @@ pub fn bytes_of(alloc: Global, hex: &str) -> Result<Vec<u8>, AllocError> {
     Ok(bytes)
 }
 
-/// The bytes of each record; a comma stands before each.
+/// Decodes the bytes of each record, which a comma precedes.
 pub fn records_of(alloc: Global, column: &str) -> Result<Vec<Vec<u8>>, AllocError> {
     let mut records = Vec::new(alloc);
     for hex in column.split(',').skip(1) {

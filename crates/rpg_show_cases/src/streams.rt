@@ -25,7 +25,7 @@ impl<'a> Given<'a> {
     }
 }
 
-/// What `execute` answered, and what its writers took.
+/// The result of `execute`, and what its writers accepted.
 #[derive(Drop)]
 pub struct Streamed {
     pub told: Result<Report, RunFault>,

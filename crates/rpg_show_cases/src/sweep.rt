@@ -1,4 +1,5 @@
-//! Objects that are cut to each length, and have each byte changed to each other value: run, or read and spelled again.
+//! Objects that are cut to each length, and have each byte changed to each other value: run, or decoded and encoded
+//! again.
 
 use crate::answers::write_answer;
 use crate::devices::ALL_WHOLE;
@@ -16,7 +17,7 @@ enum Trial<'a> {
     Spell,
 }
 
-/// Runs an object, and takes what it puts out into the tally.
+/// Runs an object, and adds its output to the tally.
 fn run(
     alloc: Global,
     tally: &mut Tally,
@@ -38,7 +39,7 @@ fn run(
     Ok(())
 }
 
-/// Reads an object and spells it again.
+/// Decodes an object and encodes it again.
 fn spell_one(alloc: Global, tally: &mut Tally, object: &[u8]) -> Result<(), AllocError> {
     let mut line = TextWriter::new(alloc);
     spell(alloc, &mut line, object)?;
@@ -46,7 +47,7 @@ fn spell_one(alloc: Global, tally: &mut Tally, object: &[u8]) -> Result<(), Allo
     Ok(())
 }
 
-/// Puts each other value in the place of a byte.
+/// Replaces a byte by each other value.
 fn change(
     alloc: Global,
     tally: &mut Tally,
@@ -68,14 +69,14 @@ fn change(
     Ok(())
 }
 
-/// Puts a byte at a place, where there is one.
+/// Stores a byte at a place, if it exists.
 fn put(bytes: &mut [u8], place: usize, value: u8) {
     if let Some(there) = bytes.get_mut(place) {
         *there = value;
     }
 }
 
-/// Puts each other value in the place of each byte.
+/// Replaces each byte by each other value.
 fn change_all(
     alloc: Global,
     tally: &mut Tally,
@@ -89,7 +90,7 @@ fn change_all(
     Ok(())
 }
 
-/// Runs an object that is cut and changed in each place over the row's inputs.
+/// Runs an object, cut and changed in each place, over the row's inputs.
 pub fn sweep(
     alloc: Global,
     out: &mut TextWriter,
@@ -106,7 +107,7 @@ pub fn sweep(
     Ok(())
 }
 
-/// Spells an object that is changed in each place.
+/// Decodes and encodes an object that is changed in each place.
 pub fn spell_changed(alloc: Global, out: &mut TextWriter, object: &[u8]) -> Result<(), AllocError> {
     let mut tally = Tally::new();
     change_all(alloc, &mut tally, object, Trial::Spell)?;

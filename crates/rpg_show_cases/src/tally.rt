@@ -1,25 +1,25 @@
-//! What came of the objects of a sweep.
+//! The results of a sweep.
 
 use rpg_cli_text::TextWriter;
 
-/// What each kind of line begins with; a line of `refused: ` is of the kind of the code after it.
+/// The beginning of each kind of line; a line of `refused: ` is of the kind of the code after it.
 const KINDS: &str =
     "B1 ,B2 ,B3 ,B4 ,B5 ,B6 ,B7 ,V1 ,V2 ,V3 ,V4 ,V5 ,V6 ,V7 ,V8 ,V9 ,V10 ,V11 ,V12 ,V13 ,V14 ,V15 ,V16 ,V17 ,V18 ,V19 ,V20 ,V21 ,V22 ,V23 ,V24 ,V25 ,V26 ,\
     end of job,halt 1,halt 2,halt 3,halt 4,halt 5,halt 6,halt 7,halt 8,past the bound,again,other bytes,no kind";
 
-/// Where these stand among the kinds.
+/// The places of these among the kinds.
 const AGAIN: usize = 43;
 
 const OTHER_BYTES: usize = 44;
 
 const NO_KIND: usize = 45;
 
-/// What came of the objects of a sweep.
+/// The results of a sweep.
 #[derive(Drop)]
 pub struct Tally {
-    /// How many there were of each kind.
+    /// The count of each kind.
     counts: [u64; 46],
-    /// The check sum of all lines, prints and disk files (FNV-1a).
+    /// The checksum of all lines, prints and disk files (FNV-1a).
     sum: u32,
 }
 
@@ -41,7 +41,7 @@ impl Tally {
         }
     }
 
-    /// Takes what a run put out into the check sum.
+    /// Adds a run's output to the checksum.
     pub fn add_bytes(&mut self, bytes: &[u8]) {
         for byte in bytes {
             self.sum = (self.sum ^ u32::from(*byte)).wrapping_mul(16_777_619);
@@ -55,7 +55,7 @@ impl Tally {
         }
     }
 
-    /// Writes how many there were of each kind, and the check sum.
+    /// Writes the count of each kind, and the checksum.
     pub fn write(&self, out: &mut TextWriter) {
         for (kind, count) in KINDS.split(',').zip(&self.counts) {
             if *count > 0 {
@@ -65,7 +65,7 @@ impl Tally {
         out.fill("sum {}", &[u64::from(self.sum).into()]);
     }
 
-    /// Whether some bytes were spelled again, and none otherwise.
+    /// Whether some bytes were encoded again unchanged, and none differently.
     pub fn is_spelled_again(&self) -> bool {
         self.counts[AGAIN] > 0 && self.counts[OTHER_BYTES] == 0
     }

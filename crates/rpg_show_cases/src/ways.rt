@@ -1,4 +1,4 @@
-//! The ways in which an accepted program runs beside `rpg2`: over lists of records, by the store in one area of bytes and by the store
+//! Other ways than `rpg2` to run an accepted program: over lists of records, with the store in one area of bytes and with the store
 //! that keeps each value apart.
 
 use crate::answers::{write_bytes, write_counts, write_end, write_ending, write_outputs};
@@ -13,7 +13,7 @@ use rpg_store::{FlatStore, ListedStore, Store};
 use rpg_verify::{Verified, verify};
 use std::alloc::{AllocError, Global};
 
-/// The program that the bytes spell, if it keeps all rules.
+/// Decodes the program in the bytes, and returns it if it obeys all rules.
 pub fn accepted(alloc: Global, object: &[u8]) -> Option<Verified> {
     let program = decode(alloc, object).ok()?;
     verify(alloc, program).ok()
@@ -55,7 +55,7 @@ pub fn run_by_area(
     Ok(())
 }
 
-/// Runs a program by the store that keeps each value apart.
+/// Runs a program with the store that keeps each value apart.
 pub fn run_by_list(
     alloc: Global,
     out: &mut TextWriter,
@@ -74,7 +74,7 @@ pub fn run_by_list(
     }
 }
 
-/// The record of a turn, or none after the last.
+/// Returns the record of a turn, or None after the last.
 fn record_at(records: &[Vec<u8>], turn: usize) -> Option<&[u8]> {
     match records.get(turn) {
         None => None,
@@ -82,7 +82,7 @@ fn record_at(records: &[Vec<u8>], turn: usize) -> Option<&[u8]> {
     }
 }
 
-/// Does the cycles of a job up to the one that ends it.
+/// Does the cycles of a job, up to the one that ends it.
 fn run_out<S: Store + Drop>(
     alloc: Global,
     out: &mut TextWriter,

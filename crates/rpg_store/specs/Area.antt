@@ -16,11 +16,11 @@ pub record AreaPart : Type 0 where
   pub at : ℕ
   pub len : ℕ
 
--- so many characters 0
+-- this many characters 0
 abbrev pub zeros : ℕ → List ℕ
 zeros n = replicate n 48
 
--- so many bytes of the area, from a place on
+-- this many bytes of the area, from a place on
 abbrev pub bytes_at : List ℕ → ℕ → ℕ → List ℕ
 bytes_at area at len = take len (drop at area)
 
@@ -37,7 +37,7 @@ text_value kinds.Text text = Text text
 abbrev pub part_value : List ℕ → AreaPart → Value
 part_value area p = text_value p.kind (bytes_in area p)
 
--- so many entries of a field, one after another
+-- this many entries of a field, one after another
 abbrev pub field_parts : Kind → ℕ → ℕ → ℕ → List AreaPart
 field_parts k len at zero = []
 field_parts k len at (suc n) = record { kind = k; at = at; len = len } ∷ field_parts k len (at + len) n
@@ -56,7 +56,7 @@ length_in (Some r) = r.form.length
 abbrev pub start : List Slot → ℕ × ℕ → ℕ
 start slots entry = slot_start (slot_at slots entry.0) + (entry.1 - 1) * length_in (slot_at slots entry.0)
 
--- one comes before the other
+-- one precedes the other
 abbrev pub AreApart : AreaPart → AreaPart → Type 0
 AreApart a b = (a.at + a.len ≤ b.at) ⊎ (b.at + b.len ≤ a.at)
 
@@ -70,12 +70,12 @@ pub record IsArea (ps : List AreaPart) (area : List ℕ) : Type 0 where
 
 -- ---- the first area: numbers before texts
 
--- the bytes of a field's entries, where it holds numbers
+-- the bytes of a field's entries, if it holds numbers
 abbrev pub number_bytes : Kind → ℕ → ℕ
 number_bytes kinds.Number n = n
 number_bytes kinds.Text n = 0
 
--- the bytes of a text; those of numbers stand in their own part of the area
+-- the bytes of a text; numbers have their own part of the area
 abbrev pub text_bytes : Kind → ℕ → ℕ
 text_bytes kinds.Number n = 0
 text_bytes kinds.Text n = n
@@ -95,7 +95,7 @@ abbrev pub by_kind : Kind → ℕ → ℕ → ℕ
 by_kind kinds.Number a b = a
 by_kind kinds.Text a b = b
 
--- the table of these fields, where numbers go from the one place on and texts from the other
+-- the table of these fields, with numbers from one place on and texts from the other
 abbrev pub area_slots : ℕ → ℕ → List FieldForm → List Slot
 area_slots a b [] = []
 area_slots a b (f ∷ fs) = record { form = f; first = by_kind f.kind a b; current = 1 } ∷ area_slots (a + number_bytes f.kind (size_of f)) (b + text_bytes f.kind (size_of f)) fs

@@ -5,21 +5,21 @@ use Rattle.rpg_program.specs.Values.{Value}
 use Rattle.rpg_program.specs.declared.form.FieldForm.{FieldForm}
 use Rattle.rpg_store.specs.Store.{Values}
 
--- so many positions of a field, from that one on
+-- this many positions of a field, from that one on
 abbrev pub positions_from : ℕ → ℕ → ℕ → List (ℕ × ℕ)
 positions_from field position zero = []
 positions_from field position (suc n) = (field, position) ∷ positions_from field (position + 1) n
 
--- all entries, in the order of the fields and then of the positions; the first field has that number
+-- all entries, in the order of fields and positions; fields are numbered from here on
 abbrev pub entries_from : ℕ → List FieldForm → List (ℕ × ℕ)
 entries_from field [] = []
 entries_from field (f ∷ fs) = positions_from field 1 f.entries ++ entries_from (field + 1) fs
 
--- the entry is there, at that place among all entries
+-- the entry exists, at that place among all entries
 abbrev pub IsEntryAt : List FieldForm → ℕ → ℕ × ℕ → Type 0
 IsEntryAt forms n entry = slice_get (entries_from 1 forms) n ≡ Some entry
 
--- the entry is there
+-- the entry exists
 abbrev pub IsEntry : List FieldForm → ℕ × ℕ → Type 0
 IsEntry forms entry = (n : ℕ) × IsEntryAt forms n entry
 

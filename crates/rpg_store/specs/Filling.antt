@@ -16,7 +16,7 @@ abbrev pub with_field_values : Values → ℕ → List (List Value) → Values
 with_field_values m field [] = m
 with_field_values m field (vs ∷ values) = with_field_values (with_positions m field 1 vs) (field + 1) values
 
--- there is a value which may become that one: a number of so many digits, or a text as long
+-- there is a value that this one may replace: a number with this many digits, or a text of this length
 abbrev pub IsLike : Option Value → ℕ → Value → Type 0
 IsLike None len v = ⊥
 IsLike (Some (Number m)) len (Number n) = unsigned_abs n < 10 ^ len

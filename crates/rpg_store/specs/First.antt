@@ -17,11 +17,11 @@ joined_values values = flat_map (λ vs. vs) values
 abbrev pub first_contents : Object → Values
 first_contents p = by_entry p.fields (joined_values p.values)
 
--- tables, each with its first entry; the first field has that number
+-- tables, each with its first entry; fields are numbered from here on
 abbrev pub tables_from : ℕ → List FieldForm → List (ℕ × ℕ)
 tables_from field [] = []
 tables_from field (f ∷ fs) = if is_table f.class then (field, 1) ∷ tables_from (field + 1) fs else tables_from (field + 1) fs
 
--- the current entries that a program starts with: of each table the first
+-- the current entries that a program starts with: the first one of each table
 unfoldable pub first_currents : Object → Currents
 first_currents p = map.from_entries (tables_from 1 p.fields)

@@ -11,7 +11,7 @@ pub record Listed : Type 0 where
   pub slots : List Slot
   pub list : List Value
 
--- an entry by its text and its number: a number has no text
+-- an entry, from its text and its number: a number has no text
 abbrev pub one_value : List ℕ → ℤ → Value
 one_value [] n = Number n
 one_value (c ∷ t) n = Text (c ∷ t)
@@ -22,11 +22,11 @@ paired_values [] ns = []
 paired_values (t ∷ ts) [] = []
 paired_values (t ∷ ts) (n ∷ ns) = one_value t n ∷ paired_values ts ns
 
--- the number of an entry, 0 where it is a text
+-- the number of an entry, 0 if it is a text
 abbrev pub number_part : Value → ℤ
 number_part v = number_of (Some v)
 
--- the text of an entry, empty where it is a number
+-- the text of an entry, empty if it is a number
 abbrev pub text_part : Value → List ℕ
 text_part v = characters_of (Some v)
 
@@ -34,10 +34,10 @@ text_part v = characters_of (Some v)
 abbrev pub listed_contents : Listed → Values
 listed_contents s = by_entry (forms_of s.slots) s.list
 
--- bytes over the front of a text, as far as it goes
+-- a text overwritten from its start with bytes, as far as it goes
 abbrev pub laid_at_front : List ℕ → List ℕ → List ℕ
 laid_at_front text w = take (length text) (w ++ drop (length w) text)
 
--- these bytes over the text of an entry
+-- the text of an entry overwritten with these bytes
 abbrev pub listed_with_text : Listed → ℕ → ℕ → List ℕ → Listed
 listed_with_text s field position w = record s { list = slice_set s.list (spot s.slots (field, position)) (Text (laid_at_front (characters_of (slice_get s.list (spot s.slots (field, position)))) w)) }

@@ -10,7 +10,7 @@ use Rattle.rpg_store.specs.declared.slot.Slot.{Slot}
 abbrev pub forms_of : List Slot → List FieldForm
 forms_of slots = along (λ r. r.form) slots
 
--- tables with their current entries, in the order of the fields; the first field has that number
+-- tables with their current entries, in the order of the fields; fields are numbered from here on
 abbrev pub currents_from : ℕ → List Slot → List (ℕ × ℕ)
 currents_from field [] = []
 currents_from field (r ∷ rs) = if is_table r.form.class then (field, r.current) ∷ currents_from (field + 1) rs else currents_from (field + 1) rs
@@ -19,7 +19,7 @@ currents_from field (r ∷ rs) = if is_table r.form.class then (field, r.current
 unfoldable pub currents : List Slot → map.FinMap nat_cmp ℕ
 currents slots = map.from_entries (currents_from 1 slots)
 
--- each field's entries follow those of the field before; the first one's begin there
+-- each field's entries follow those of the previous field; the first one's begin here
 abbrev pub AreInOrder : ℕ → List Slot → Type 0
 AreInOrder at [] = Unit {0}
 AreInOrder at (r ∷ rs) = (r.first ≡ at) × AreInOrder (at + r.form.entries) rs
@@ -38,7 +38,7 @@ slot_start (Some r) = r.first
 abbrev pub spot : List Slot → ℕ × ℕ → ℕ
 spot slots entry = slot_start (slot_at slots entry.0) + (entry.1 - 1)
 
--- the table of these fields, their first entries current, where the first of them begins at that place among all entries
+-- the table of these fields, with their first entries current; the first field begins at that place among all entries
 abbrev pub slots_from : ℕ → List FieldForm → List Slot
 slots_from at [] = []
 slots_from at (f ∷ fs) = record { form = f; first = at; current = 1 } ∷ slots_from (at + f.entries) fs

@@ -24,6 +24,6 @@ IsText None = ⊥
 IsText (Some (Number n)) = ⊥
 IsText (Some (Text text)) = Unit {0}
 
--- each text that is as long, written over a text, is then the entry's
+-- any text of the same length, written over a text, then is the entry's
 abbrev pub WritesText : (List ℕ → Values) → Values → ℕ → ℕ → List ℕ → Type 0
 WritesText after before field position text = (w : List ℕ) → length w ≡ length text → after w ≡ map.insert before (field, position) (Text w)

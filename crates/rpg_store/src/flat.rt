@@ -1,4 +1,4 @@
-//! A store in one area of bytes.
+//! A store in a single area of bytes.
 ghost use Rattle.std.specs.Prelude.{◌≡◌, ◌+◌, ◌≤◌, All, length, map as along, slice_range, IfOk};
 ghost use Rattle.std.specs.FinMap as map;
 ghost use Rattle.rpg_program.specs.Values.{held};
@@ -20,8 +20,8 @@ use rpg_program::value::Value;
 use std::alloc::{AllocError, Global};
 use std::marker::Model;
 
-/// All entries in one area: first the numbers, each as the text that is written for it, then the texts. No number comes
-/// after a lent text, so whatever is known of the bytes written through it, all numbers stay as they are.
+/// All entries in one area: first the numbers, each as its zoned text, then the texts. No number comes after a lent text, so whatever is
+/// written through that, all numbers stay the same.
 #[derive(Drop)]
 pub struct FlatStore {
     slots: Vec<Slot>,
@@ -39,7 +39,7 @@ impl Model for FlatStore {
     ghost invariant = { λ s. IsArea (parts s.slots.items) s.area.items };
 }
 
-/// The bytes of all numbers.
+/// Returns how many bytes all numbers take.
 #[tactic(auto, using(crate::proofs::Storage::all_bytes))]
 fn digits_in(fields: &[FieldForm]) -> usize
     requires { storage_of fields.now ≤ 65535 }
@@ -55,7 +55,7 @@ fn digits_in(fields: &[FieldForm]) -> usize
     total
 }
 
-/// The bytes of all entries.
+/// Returns how many bytes all entries take.
 fn bytes_in(fields: &[FieldForm]) -> usize
     requires { storage_of fields.now ≤ 65535 }
     ensures { result ≡ storage_of fields.now }
@@ -67,7 +67,7 @@ fn bytes_in(fields: &[FieldForm]) -> usize
     total
 }
 
-/// The table of these fields, the numbers before the texts.
+/// Returns the table of these fields, with numbers before texts.
 #[tactic(auto, using(crate::proofs::Storage::all_bytes))]
 fn area_slots_of(
     alloc: Global,
@@ -108,7 +108,7 @@ fn area_slots_of(
     Ok(slots)
 }
 
-/// A store of these fields in which each byte is a zero.
+/// Returns a store of these fields in which each byte is a zero.
 fn zeroed(alloc: Global, fields: &[FieldForm]) -> Result<FlatStore, AllocError>
     requires rows { All IsFieldRow fields.now }
     requires few { storage_of fields.now ≤ 65535 }
@@ -121,7 +121,7 @@ fn zeroed(alloc: Global, fields: &[FieldForm]) -> Result<FlatStore, AllocError>
     Ok(FlatStore { slots, area })
 }
 
-/// Puts a value into an entry.
+/// Stores a value in an entry.
 fn put(store: &mut FlatStore, field: u16, position: u16, value: &Value)
     requires { MayTake (forms_of store.old.slots) (flat_contents store.old) field position (held value.now) }
     ensures contents { flat_contents store.new ≡ map.insert (flat_contents store.old) (field, position) (held value.now) }
@@ -134,7 +134,7 @@ fn put(store: &mut FlatStore, field: u16, position: u16, value: &Value)
     }
 }
 
-/// Puts values into the positions of a field.
+/// Stores values in the positions of a field.
 fn put_field(store: &mut FlatStore, field: u16, values: &[Value])
     requires { MayTakeAll (forms_of store.old.slots) (flat_contents store.old) field (along held values.now) }
     ensures contents { flat_contents store.new ≡ with_positions (flat_contents store.old) field 1 (along held values.now) }
@@ -148,7 +148,7 @@ fn put_field(store: &mut FlatStore, field: u16, values: &[Value])
     }
 }
 
-/// Puts values into all fields.
+/// Stores values in all fields.
 fn put_all(store: &mut FlatStore, values: &[Vec<Value>])
     requires few { length values.now ≤ 4000 }
     requires like { MayTakeFields (forms_of store.old.slots) (flat_contents store.old) (along (λ vs. along held vs.items) values.now) }
@@ -164,7 +164,7 @@ fn put_all(store: &mut FlatStore, values: &[Vec<Value>])
 }
 
 impl FlatStore {
-    /// The first values of a program, and the first entry of each table current.
+    /// Returns a store with the first values of a program, and the first entry of each table current.
     pub fn new(alloc: Global, program: &Program) -> Result<FlatStore, AllocError>
         ensures forms { IfOk result (λ s. forms_of s.slots ≡ program.now.fields) }
         ensures contents { IfOk result (λ s. flat_contents s ≡ first_contents program.now) }
@@ -176,7 +176,7 @@ impl FlatStore {
         Ok(store)
     }
 
-    /// The bytes of all entries: the numbers, and then the texts.
+    /// Returns the bytes of all entries: the numbers, then the texts.
     pub fn bytes(&self) -> &[u8]
         ensures { result.now ≡ self.now.area }
     {
@@ -184,7 +184,7 @@ impl FlatStore {
     }
 }
 
-/// Where the bytes of an entry begin, and where they end.
+/// Returns where the bytes of an entry begin and end.
 fn part_of(slots: &[Slot], field: u16, position: u16) -> (usize, usize)
     requires { IsEntry (forms_of slots.now) (field, position) }
     ensures from { result.0 ≡ start slots.now (field, position) }
@@ -196,7 +196,7 @@ fn part_of(slots: &[Slot], field: u16, position: u16) -> (usize, usize)
     (from, from + length)
 }
 
-/// The bytes from there to there.
+/// Returns the bytes of a range.
 fn bytes_between(area: &[u8], from: usize, to: usize) -> &[u8]
     requires low { from ≤ to }
     requires high { to ≤ length area.now }

@@ -1,4 +1,4 @@
-//! The values of a program's fields, however they are kept.
+//! The values of a program's fields, in different representations.
 #![tactic(auto)]
 
 mod flat;

@@ -13,8 +13,8 @@ use rpg_program::value::Value;
 use std::alloc::{AllocError, Global};
 use std::marker::Model;
 
-/// The number and the text of each entry, in the order of the fields and of the entries of each. An entry is a number where its text is
-/// empty, since each text has a character at least; the number of a text is 0.
+/// The number and the text of each entry, in the order of fields and entries. An entry is a number if its text is empty, since each text
+/// has at least one character; the number of a text is 0.
 #[derive(Drop)]
 pub struct ListedStore {
     slots: Vec<Slot>,
@@ -34,7 +34,7 @@ impl Model for ListedStore {
     ghost invariant = { λ s. AreInOrder 0 s.slots.items };
 }
 
-/// The number of a value, 0 where it is a text.
+/// Returns the number of a value, 0 for a text.
 fn number_of(value: &Value) -> i64
     ensures { result ≡ number_part (held value.now) }
 {
@@ -44,7 +44,7 @@ fn number_of(value: &Value) -> i64
     }
 }
 
-/// The text of a value, empty where it is a number.
+/// Returns the text of a value, empty for a number.
 fn text_of(alloc: Global, value: &Value) -> Result<Vec<u8>, AllocError>
     ensures { IfOk result (λ t. t.items ≡ text_part (held value.now)) }
 {
@@ -73,7 +73,7 @@ fn add_texts(alloc: Global, values: &[Value], texts: &mut Vec<Vec<u8>>) -> Resul
     Ok(())
 }
 
-/// The numbers of all fields, one after another.
+/// Returns the numbers of all fields, one after another.
 fn numbers_of(alloc: Global, count: usize, values: &[Vec<Value>]) -> Result<Vec<i64>, AllocError>
     ensures { IfOk result (λ ns. ns.items ≡ flat_map (λ us. along number_part (along held us.items)) values.now) }
 {
@@ -84,7 +84,7 @@ fn numbers_of(alloc: Global, count: usize, values: &[Vec<Value>]) -> Result<Vec<
     Ok(numbers)
 }
 
-/// The texts of all fields, one after another.
+/// Returns the texts of all fields, one after another.
 fn texts_of(alloc: Global, count: usize, values: &[Vec<Value>]) -> Result<Vec<Vec<u8>>, AllocError>
     ensures { IfOk result (λ ts. along (λ t. t.items) ts.items ≡ flat_map (λ us. along text_part (along held us.items)) values.now) }
 {
@@ -95,7 +95,7 @@ fn texts_of(alloc: Global, count: usize, values: &[Vec<Value>]) -> Result<Vec<Ve
     Ok(texts)
 }
 
-/// How many entries all fields have.
+/// Returns how many entries all fields have.
 fn entries_count(slots: &[Slot]) -> usize
     requires { AreInOrder 0 slots.now }
     ensures { result ≡ entries_count (forms_of slots.now) }
@@ -107,7 +107,7 @@ fn entries_count(slots: &[Slot]) -> usize
 }
 
 impl ListedStore {
-    /// The first values of a program, and the first entry of each table current.
+    /// Returns a store with the first values of a program, and the first entry of each table current.
     pub fn new(alloc: Global, program: &Program) -> Result<ListedStore, AllocError>
         ensures forms { IfOk result (λ s. forms_of s.slots ≡ program.now.fields) }
         ensures contents { IfOk result (λ s. listed_contents s ≡ first_contents program.now) }

@@ -1,4 +1,4 @@
-//! The places of entries among all entries of a program, for those that are found once.
+//! The places of entries among all entries of a program, for precomputed ones.
 ghost use Rattle.std.specs.Prelude.{◌≡◌, IfOk};
 ghost use Rattle.rpg_program.specs.Kept.{IsProgram};
 ghost use Rattle.rpg_program.specs.Object.{seen};
@@ -28,7 +28,8 @@ impl Model for EntryPlaces {
 }
 
 impl EntryPlaces {
-    /// Of the fields of a program. Linear in the fields; takes memory once.
+    /// Computes the places for the fields of a program. Linear in the fields; allocates
+    /// once.
     pub fn new(alloc: Global, rows: &Rows) -> Result<EntryPlaces, AllocError>
         requires { IsProgram (seen rows.now) }
         ensures { IfOk result (λ p. p ≡ rows.now.fields.items) }
@@ -37,7 +38,7 @@ impl EntryPlaces {
         Ok(EntryPlaces { slots })
     }
 
-    /// The place of an entry; the first one's is 0.
+    /// Returns the place of an entry, counted from 0.
     pub fn place_of(&self, field: u16, position: u16) -> usize
         requires { IsEntry self.now (field, position) }
         ensures { IsEntryAt self.now result (field, position) }

@@ -6,7 +6,8 @@ ghost use Rattle.rpg_store.specs.Slots.{entries_count, forms_of, slots_from, spo
 use rpg_program::form::FieldForm;
 use std::alloc::{AllocError, Global};
 
-/// A field, with the place of its first entry (the others follow it) and, of a table, its current entry.
+/// A field, with the place of its first entry (the others follow it) and, for a table, its current
+/// entry.
 #[derive(Clone, Copy)]
 pub struct Slot {
     pub form: FieldForm,
@@ -14,7 +15,7 @@ pub struct Slot {
     pub current: u16,
 }
 
-/// The place of an entry among all entries.
+/// Returns the place of an entry among all entries.
 pub fn place(slots: &[Slot], field: u16, position: u16) -> usize
     requires { IsEntry (forms_of slots.now) (field, position) }
     ensures { result ≡ spot slots.now (field, position) }
@@ -23,7 +24,7 @@ pub fn place(slots: &[Slot], field: u16, position: u16) -> usize
     slot.first as usize + (position as usize - 1)
 }
 
-/// The table of these fields by the order of their entries.
+/// Returns the table of these fields, in the order of their entries.
 pub fn slots_of(alloc: Global, fields: &[FieldForm]) -> Result<Vec<Slot>, AllocError>
     requires { entries_count fields.now ≤ 65535 }
     ensures { IfOk result (λ slots. slots.items ≡ slots_from 0 fields.now) }

@@ -8,8 +8,8 @@ ghost use Rattle.rpg_program.specs.declared.form.FieldForm.{FieldForm};
 ghost use Rattle.rpg_store.specs.Contents.{IsEntryAt};
 ghost use Rattle.rpg_store.specs.Store.{Values, Currents, IsNumber, IsText, WritesText};
 
-/// The values of fields, and the current entry of each table. Fields and positions count from 1; a field that is no array and
-/// no table has only position 1.
+/// The values of fields, and the current entry of each table. Fields and positions count from 1; a field that is neither an array nor a
+/// table has only position 1.
 pub trait Store {
     /// The forms of its fields, which never change.
     ghost forms: { Self → List FieldForm };
@@ -17,7 +17,7 @@ pub trait Store {
     ghost contents: { Self → Values };
 
     ghost currents: { Self → Currents };
-    /// The store in which these bytes were written over the text at a position.
+    /// The store after these bytes overwrote the text at a position.
     ghost written: { Self → ℕ → ℕ → List ℕ → Self };
 
     fn number(&self, field: u16, position: u16) -> i64
@@ -31,7 +31,7 @@ pub trait Store {
         ensures currents { currents self.new ≡ currents self.old }
         ensures forms { forms self.new ≡ forms self.old };
 
-    /// The same number, where the place of its entry is known.
+    /// Like `number`, given the place of its entry.
     fn number_in(&self, place: usize, field: u16, position: u16) -> i64
         requires there { IsNumber (map.get (contents self.now) (field, position)) }
         requires place { IsEntryAt (forms self.now) place (field, position) }
@@ -49,13 +49,13 @@ pub trait Store {
         requires { IsText (map.get (contents self.now) (field, position)) }
         ensures { map.get (contents self.now) (field, position) ≡ Some (Text result.now) };
 
-    /// The same text, where the place of its entry is known.
+    /// Like `text`, given the place of its entry.
     fn text_in(&self, place: usize, field: u16, position: u16) -> &[u8]
         requires there { IsText (map.get (contents self.now) (field, position)) }
         requires place { IsEntryAt (forms self.now) place (field, position) }
         ensures { map.get (contents self.now) (field, position) ≡ Some (Text result.now) };
 
-    /// Lends the characters there, to be written over with any bytes.
+    /// Lends the characters at a position, which may be overwritten with any bytes.
     fn text_mut(&mut self, field: u16, position: u16) -> &mut [u8]
         requires { IsText (map.get (contents self.old) (field, position)) }
         ensures* writes_back { sem 𝓛 (Lends Self.row (Array byte 0) self.entry result (written self.old field position)) }
@@ -64,7 +64,7 @@ pub trait Store {
         ensures currents { (w : List ℕ) → currents (written self.old field position w) ≡ currents self.old }
         ensures forms { (w : List ℕ) → forms (written self.old field position w) ≡ forms self.old };
 
-    /// Lends the same characters, where the place of the entry is known.
+    /// Like `text_mut`, given the place of the entry.
     fn text_mut_in(&mut self, place: usize, field: u16, position: u16) -> &mut [u8]
         requires there { IsText (map.get (contents self.old) (field, position)) }
         requires place { IsEntryAt (forms self.old) place (field, position) }
@@ -74,7 +74,7 @@ pub trait Store {
         ensures currents { (w : List ℕ) → currents (written self.old field position w) ≡ currents self.old }
         ensures forms { (w : List ℕ) → forms (written self.old field position w) ≡ forms self.old };
 
-    /// The current entry of a table.
+    /// Returns the current entry of a table.
     fn current(&self, table: u16) -> u16
         requires { is_table_form (form_at (forms self.now) table) ≡ true }
         ensures { result ≡ unwrap_or (map.get (currents self.now) table) 1 };
@@ -88,7 +88,7 @@ pub trait Store {
         ensures forms { forms self.new ≡ forms self.old };
 }
 
-/// Writes over a text with one that is as long.
+/// Overwrites a text with one of the same length.
 pub fn set_text<S: Store>(store: &mut S, field: u16, position: u16, text: &[u8])
     requires { (old : List ℕ) × (map.get (S.contents store.old) (field, position) ≡ Some (Text old)) × (length text.now ≡ length old) }
     ensures contents { S.contents store.new ≡ map.insert (S.contents store.old) (field, position) (Text text.now) }
@@ -98,7 +98,7 @@ pub fn set_text<S: Store>(store: &mut S, field: u16, position: u16, text: &[u8])
     store.text_mut(field, position).copy_from_slice(text);
 }
 
-/// The same, where the place of the entry is known.
+/// Like `set_text`, given the place of the entry.
 #[inline(always)]
 pub fn set_text_in<S: Store>(store: &mut S, place: usize, field: u16, position: u16, text: &[u8])
     requires there { (old : List ℕ) × (map.get (S.contents store.old) (field, position) ≡ Some (Text old)) × (length text.now ≡ length old) }

@@ -1,10 +1,10 @@
-//! Numbers read from texts that were written for them: no character is tested for being a digit.
+//! Reads numbers from zoned texts that were written for them, without checking their characters.
 ghost use Rattle.std.specs.Prelude.{◌≡◌, ◌<◌, ◌≤◌, ◌^◌, All, length, map};
 ghost use Rattle.rpg_decimal_words.specs.Place.{place_value};
 ghost use Rattle.rpg_decimal_words.specs.Zoned.{digit_of, spelled_number};
 ghost use Rattle.rpg_store.specs.Written.{IsDigit, IsLastWritten, IsWritten};
 
-/// The number of these digits.
+/// Returns the number with these digits.
 fn value_of(digits: &[u8]) -> u64
     requires few { length digits.now ≤ 14 }
     requires digits { All IsDigit digits.now }
@@ -18,7 +18,7 @@ fn value_of(digits: &[u8]) -> u64
     size
 }
 
-/// The digit in the last place.
+/// Returns the digit in the last place.
 fn last_digit(c: u8) -> u8
     requires { IsLastWritten c }
     ensures digit { result ≡ digit_of c }
@@ -33,7 +33,7 @@ fn last_digit(c: u8) -> u8
     }
 }
 
-/// The number that a text was written for.
+/// Returns the number for which a text was written.
 #[tactic(auto, using(crate::proofs::Reading::front_digits, crate::proofs::Reading::last_written))]
 pub fn read_written(text: &[u8]) -> i64
     requires low { 1 ≤ length text.now }

@@ -19,7 +19,7 @@ use Rattle.rpg_symbols.specs.declared.symbols.DefineFault.TheVariants.{Other, Fu
 abbrev pub NamedForms : Type 0
 NamedForms = List (List ℕ × FieldForm)
 
--- a number of so many digits, without decimals
+-- a number with this many digits and no decimals
 abbrev pub number_form : Class → ℕ → FieldForm
 number_form c n = record { kind = kind.Number; class = c; length = n; decimals = 0; is_ascending = false; entries = 1 }
 

@@ -12,16 +12,16 @@ use std::alloc::{AllocFailed, Global};
 use std::marker::Model;
 use thiserror::Error;
 
-/// A name of a field, an array or a table.
+/// The name of a field, an array or a table.
 pub type Name = Word<6>;
 
-/// How many fields a program has at most.
+/// The most fields of a program.
 const FIELDS: usize = 4000;
 
-/// How many bytes they take at most.
+/// The most bytes that they take.
 const STORAGE: u64 = 65535;
 
-/// Why a name isn't defined.
+/// Why a name can't be defined.
 #[derive(Clone, Copy, Debug, PartialEq, Eq, Error)]
 pub enum DefineFault {
     #[error("defined before in another form")]
@@ -40,7 +40,7 @@ impl<T: Drop> From<AllocFailed<T>> for DefineFault {
     }
 }
 
-/// Names in the order of their first definitions. A name's number is its place, counted from 1.
+/// Names in order of first definition. A name's number is its place, counted from 1.
 #[derive(Drop)]
 pub struct Symbols {
     fields: IndexMap<Name, FieldForm>,
@@ -59,7 +59,7 @@ impl Model for Symbols {
 }
 
 impl Symbols {
-    /// The fields that every program has: UDATE, the job's date, and PAGE, the page number.
+    /// Returns the fields that every program has: UDATE, the job's date, and PAGE, the page number.
     pub fn new(alloc: Global) -> Result<Self, DefineFault>
         ensures given { IfOk result (λ symbols. symbols ≡ given) }
         ensures fault { IfErr result (λ fault. fault ≡ NoMemory) }
@@ -70,7 +70,7 @@ impl Symbols {
         Ok(Symbols { fields, bytes: 10 })
     }
 
-    /// The number of a name.
+    /// Returns the number of a name.
     pub fn look(&self, name: &Name) -> Option<u16>
         ensures { result ≡ number_of_name self.now name.now }
     {
@@ -80,7 +80,7 @@ impl Symbols {
         }
     }
 
-    /// The form of the name with this number.
+    /// Returns the form of the name with this number.
     pub fn form(&self, number: u16) -> FieldForm
         requires first { 1 ≤ number }
         requires last { number ≤ length self.now }
@@ -92,7 +92,7 @@ impl Symbols {
         }
     }
 
-    /// Defines a name, or finds it defined so before. After a fault nothing has changed.
+    /// Defines a name, or finds it already defined with this form. A fault changes nothing.
     pub fn define(&mut self, name: Name, form: FieldForm) -> Result<u16, DefineFault>
         ensures ok { IfOk result (λ n. IsKnown self.old name form self.new n ⊎ IsAdded self.old name form self.new n) }
         ensures err { IfErr result (λ fault. Refuses fault self.old name form) }
@@ -108,7 +108,7 @@ impl Symbols {
         }
     }
 
-    /// Defines a name for the first time. After a fault nothing has changed.
+    /// Defines a new name. A fault changes nothing.
     fn add(&mut self, name: Name, form: FieldForm) -> Result<u16, DefineFault>
         requires { defined_form self.old name ≡ None }
         ensures ok { IfOk result (λ n. IsAdded self.old name form self.new n) }
@@ -125,7 +125,7 @@ impl Symbols {
     }
 }
 
-/// A number of these digits, without decimals.
+/// Returns the form of a number with this many digits and no decimals.
 pub const fn number_form(class: Class, length: u16) -> FieldForm
     ensures { result ≡ number_form class length }
 {

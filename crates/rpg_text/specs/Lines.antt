@@ -25,7 +25,7 @@ unless_empty [] = []
 unless_empty (b ∷ bytes) = (b ∷ bytes) ∷ []
 
 -- Parts, each with its line feed, and then one without: the lines are the parts, each without the one carriage return at its
--- end, and the last one as it is, where it isn't empty. Every text is such parts.
+-- end, and the last one as it is, if it isn't empty. Every text is such parts.
 abbrev pub LinesEndAtLineFeeds : Type 0
 LinesEndAtLineFeeds = (parts : List (List ℕ)) (rest : List ℕ) → list_all is_line parts ≡ true → is_line rest ≡ true
     → lines (flat_map with_line_feed parts ++ rest) ≡ map strip_carriage_return parts ++ unless_empty rest

@@ -6,14 +6,14 @@ ghost use Rattle.rpg_text.specs.Texts.{all_blank, is_blank, trimmed};
 
 const EIGHT_BLANKS: &[u8] = b"        ";
 
-/// Whether a text has nothing but blanks.
+/// Whether a text has only blanks.
 pub fn is_blank(text: &[u8]) -> bool
     ensures { result ≡ all_blank text.now }
 {
     text.iter().all(|c| *c == b' ')
 }
 
-/// A text without the blanks at its end.
+/// Returns a text without its trailing blanks.
 pub fn trimmed(text: &[u8]) -> &[u8]
     ensures { result.now ≡ trimmed text.now }
 {
@@ -24,7 +24,7 @@ pub fn trimmed(text: &[u8]) -> &[u8]
     &text[..end]
 }
 
-/// Where what is left ends once blanks are cut off eight by eight.
+/// Returns the end of a text after blanks are cut off eight at a time.
 fn end_by_eight(text: &[u8]) -> usize
     ensures within { result ≤ length text.now }
     ensures following { suffix_len is_blank text.now ≡ length text.now - result + suffix_len is_blank (take result text.now) }

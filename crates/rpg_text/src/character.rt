@@ -12,7 +12,7 @@ pub fn is_character(byte: u8) -> bool
     b' ' <= byte && byte <= b'~'
 }
 
-/// How a byte of foreign text is shown: a character as it is, all else as a question mark.
+/// Returns how a byte of foreign text is shown: a character unchanged, anything else as a question mark.
 pub fn shown(byte: u8) -> u8
     ensures { result ≡ printable byte }
 {

@@ -5,7 +5,7 @@ ghost use Rattle.std.specs.List.{prefix_len};
 ghost use Rattle.std.specs.Str.Lines.{lines, strip_carriage_return};
 ghost use Rattle.rpg_text.specs.Lines.{is_line, is_line_feed, is_no_line_feed, LinesEndAtLineFeeds};
 
-/// The first line of a text, and what follows it. A line feed ends a line, and one carriage return before it is dropped.
+/// Splits a text after its first line. A line feed ends a line, and one carriage return before it is dropped.
 pub fn first_line(text: &[u8]) -> (&[u8], &[u8])
     requires { 0 < length text.now }
     ensures cut { lines text.now ≡ result.0.now ∷ lines result.1.now }
@@ -17,7 +17,7 @@ pub fn first_line(text: &[u8]) -> (&[u8], &[u8])
     }
 }
 
-/// The place of the first line feed.
+/// Returns the place of the first line feed.
 fn line_feed(text: &[u8]) -> Option<usize>
     ensures place { result ≡ position is_line_feed text.now }
     ensures within { IfSome result (λ end. end < length text.now) }
@@ -29,7 +29,7 @@ fn line_feed(text: &[u8]) -> Option<usize>
     }
 }
 
-/// The same, byte by byte.
+/// Like `line_feed`, byte by byte.
 fn line_feed_one_by_one(text: &[u8]) -> Option<usize>
     ensures place { result ≡ position is_line_feed text.now }
     ensures within { IfSome result (λ end. end < length text.now) }
@@ -37,7 +37,7 @@ fn line_feed_one_by_one(text: &[u8]) -> Option<usize>
     text.iter().position(|b| *b == b'\n')
 }
 
-/// How many bytes come before the first sixteen that have a line feed.
+/// Returns how many bytes precede the first sixteen with a line feed.
 fn before_line_feed(text: &[u8]) -> usize
     ensures within { result ≤ length text.now }
     ensures before { prefix_len is_no_line_feed text.now ≡ result + prefix_len is_no_line_feed (drop result text.now) }
@@ -61,7 +61,7 @@ fn has_no_line_feed(text: &[u8]) -> bool
     has_none
 }
 
-/// A line without the one carriage return at its end.
+/// Returns a line without one carriage return at its end.
 fn without_return(line: &[u8]) -> &[u8]
     ensures { result.now ≡ strip_carriage_return line.now }
 {
@@ -71,7 +71,7 @@ fn without_return(line: &[u8]) -> &[u8]
     }
 }
 
-/// A law of the definition: lines end at line feeds. It does nothing.
+/// A law of the definition: lines end at line feeds. Does nothing.
 pub fn lines_end_at_line_feeds()
     ensures { LinesEndAtLineFeeds }
 {}

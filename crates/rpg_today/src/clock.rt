@@ -10,19 +10,19 @@ use std::io::Read;
 use std::rt::{Clock, Env, Files};
 use std::{env, fs};
 
-/// Where zones have their files.
+/// The folder of the zones' files.
 const ZONES: &str = "/usr/share/zoneinfo/";
 
 /// The most bytes of a zone's file.
 const MOST_BYTES: u64 = 1_048_576;
 
-/// A zone's file, if there is one of this name.
+/// Opens the file of a zone, if there is one with this name.
 fn zone_file<R: Files + AllocGlobal>(rt: &R, name: &str) -> Option<R::File> {
     let path = format!(in rt.alloc(); "{ZONES}{name}").ok()?;
     fs::open(rt, path.as_str()).ok()
 }
 
-/// The bytes of a zone's file, if there is one of this name.
+/// Reads the file of a zone, if there is one with this name.
 fn zone_bytes<R: Files + AllocGlobal>(rt: &R, name: &str) -> Option<Vec<u8>> {
     let file = zone_file(rt, name)?;
     let mut bytes = Vec::new(rt.alloc());
@@ -30,7 +30,7 @@ fn zone_bytes<R: Files + AllocGlobal>(rt: &R, name: &str) -> Option<Vec<u8>> {
     Some(bytes)
 }
 
-/// A database with the zone that the variable TZ names, if it names one.
+/// Returns a database with the zone that the variable TZ names, if it names one.
 fn zones<R: Env + Files + AllocGlobal>(rt: &R) -> TimeZoneDatabase {
     let mut zones = TimeZoneDatabase::new(rt.alloc());
     if let Ok(name) = env::var(rt, "TZ") {
@@ -43,7 +43,7 @@ fn zones<R: Env + Files + AllocGlobal>(rt: &R) -> TimeZoneDatabase {
     zones
 }
 
-/// The part of a date that is below 100.
+/// Returns the last two digits of a part of a date.
 fn below_hundred(part: i16) -> u8
     ensures { result < 100 }
 {
@@ -62,12 +62,12 @@ fn day_of(date: Date) -> Day
     }
 }
 
-/// The date of the clock in a zone.
+/// Returns the date of the clock in a zone.
 fn date_in(instant: Timestamp, zone: TimeZone<'_>) -> Date {
     zone.to_datetime(instant).date()
 }
 
-/// The date of the clock in the system's zone; in UTC, if the system has no zone.
+/// Returns the date of the clock in the system's zone, or in UTC if the system has no zone.
 fn system_date<R: Env + Files + AllocGlobal>(rt: &R, instant: Timestamp) -> Date {
     let zones = zones(rt);
     if let Ok(system) = SystemTimeZone::read(rt) {
@@ -78,7 +78,8 @@ fn system_date<R: Env + Files + AllocGlobal>(rt: &R, instant: Timestamp) -> Date
     date_in(instant, TimeZone::UTC)
 }
 
-/// The day of the system's clock in the system's zone; in UTC, if the system has no zone. None if the clock can't be read.
+/// Returns the day of the system's clock in the system's zone, or in UTC if the system has no zone. None if the clock
+/// can't be read.
 pub fn today<R: Clock + Env + Files + AllocGlobal>(rt: &R) -> Option<Day>
     ensures year { IfSome result (λ day. day.year < 100) }
     ensures month { IfSome result (λ day. day.month < 100) }

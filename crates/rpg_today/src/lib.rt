@@ -1,4 +1,4 @@
-//! The day on which a job is run.
+//! The day on which a job runs.
 #![tactic(auto)]
 
 mod clock;

@@ -9,14 +9,14 @@ use Rattle.rpg_verify.specs.Bound.{bound, costs}
 use Rattle.rpg_verify.specs.declared.verified.VerifyFault.{VerifyFault}
 use Rattle.rpg_verify.specs.declared.verified.VerifyFault.TheVariants.{Refused, NoMemory}
 
--- it keeps all rules, and its costs and its bound are stored
+-- it obeys all rules, and its costs and its bound are stored
 pub record IsVerified (p : Object) (stored : List ℕ) (most_steps : ℕ) : Type 0 where
   pub program : IsProgram p
   pub accepted : IsAccepted p
   pub costs : stored ≡ costs p
   pub bound : most_steps ≡ bound p
 
--- the least broken rule and its first row; memory runs out only for accepted programs
+-- the lowest-numbered broken rule and its first row; memory runs out only for accepted programs
 abbrev pub IsRefusal : Object → VerifyFault → Type 0
 IsRefusal p (Refused rule row) = IsLeast rule_number (broken p) rule row
 IsRefusal p NoMemory = IsAccepted p

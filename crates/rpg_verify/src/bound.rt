@@ -12,17 +12,17 @@ use rpg_program::operation::Instruction;
 use rpg_program::rows::Rows;
 use std::alloc::{AllocError, Global};
 
-/// The costs of places one after another.
+/// The costs of consecutive places.
 #[derive(Drop)]
 struct Costs {
     places: Vec<u64>,
-    /// The greatest that a spend leads to.
+    /// The greatest cost that a spend leads to.
     most: u64,
-    /// What is passed once in a cycle: the costs of first places.
+    /// The cost that a cycle pays once: that of the first places.
     once: u64,
 }
 
-/// The cost of a place of a section that begins at `first`, 0 at its end and of any other.
+/// The cost of a place of a section that begins at `first`; 0 at its end and for any other.
 fn cost_of(first: usize, costs: &[u64], place: usize) -> u64
     ensures { result ≡ words.cost_in first costs.now place }
 {
@@ -33,7 +33,7 @@ fn cost_of(first: usize, costs: &[u64], place: usize) -> u64
     }
 }
 
-/// The cost of a branch's target that isn't later than the branch, which spends.
+/// The cost of a branch's target if it isn't later than the branch, which then spends.
 fn back_cost(first: usize, costs: &[u64], place: usize, instruction: Instruction<u16>) -> u64
     ensures { result ≡ words.back_cost first costs.now place instruction }
 {
@@ -107,7 +107,7 @@ fn section_costs(
     Ok(Costs { places, most, once })
 }
 
-/// The costs of a subroutine, to which calls lead.
+/// The costs of a subroutine, whose first place is reached by calls.
 fn subroutine_costs(
     alloc: Global,
     rows: &Rows,
@@ -131,7 +131,7 @@ fn subroutine_costs(
     })
 }
 
-/// Puts the costs of a section after those of the sections before it.
+/// Appends the costs of a section to those of the sections before it.
 fn append(costs: &mut Costs, more: &Costs) -> Result<(), AllocError>
     ensures places { OnOk result (costs.new.places.items ≡ costs.old.places.items ++ more.now.places.items) }
     ensures most { OnOk result (costs.new.most ≡ max costs.old.most more.now.most) }
@@ -177,7 +177,7 @@ fn all_costs(alloc: Global, rows: &Rows, exceptions: u64) -> Result<Costs, Alloc
     Ok(costs)
 }
 
-/// The bound, where all places have these costs.
+/// Returns the bound, given the costs of all places.
 fn bound_of(rows: &Rows, lines: LineWeights, costs: &Costs) -> u64
     requires program { IsProgram (seen rows.now) }
     requires lines { lines.others ≡ overflow_weight (lines_of (seen rows.now)) }
@@ -196,7 +196,7 @@ fn bound_of(rows: &Rows, lines: LineWeights, costs: &Costs) -> u64
     bound
 }
 
-/// The most steps that a cycle can take, and the costs of all places, which give it.
+/// The most steps that a cycle can take, and the costs of all places, from which it follows.
 #[derive(Drop)]
 pub(crate) struct Measured {
     pub costs: Vec<u64>,

@@ -13,14 +13,14 @@ use rpg_program::operation::Instruction;
 use rpg_program::rows::Rows;
 use std::alloc::{AllocError, Global};
 
-/// JUMP without conditions.
+/// Whether it is a JUMP without conditions.
 fn always_goes(is_taken_where: bool, conditions: Conditions) -> bool
     ensures { result ≡ control.always_goes is_taken_where conditions }
 {
     is_taken_where && !has_conditions(conditions)
 }
 
-/// The cost at an index, 0 after the end.
+/// Returns the cost at an index, 0 after the end.
 pub(crate) fn cost_in(costs: &[u64], k: usize) -> u64
     ensures { result ≡ slice_index costs.now k }
 {
@@ -30,7 +30,7 @@ pub(crate) fn cost_in(costs: &[u64], k: usize) -> u64
     }
 }
 
-/// The cost of a later place, from the costs after a place; 0 of one that isn't later.
+/// Returns the cost of a later place, given the costs after `place`; 0 if it isn't later.
 fn cost_ahead(place: usize, following: &[u64], next: usize) -> u64
     requires { place ≤ 8192 }
     ensures { result ≡ paths.cost_ahead place following.now next }
@@ -42,14 +42,14 @@ fn cost_ahead(place: usize, following: &[u64], next: usize) -> u64
     }
 }
 
-/// The cost of the next place, if a branch can be passed.
+/// Returns the cost of the next place, if control can fall through a branch.
 fn cost_passed(always: bool, following: &[u64]) -> u64
     ensures { result ≡ paths.cost_passed always following.now }
 {
     if always { 0 } else { cost_in(following, 0) }
 }
 
-/// The greatest cost of what can come right after a place.
+/// Returns the greatest cost of what can come right after a place.
 fn cost_onward(place: usize, instruction: Instruction<u16>, following: &[u64]) -> u64
     requires { place ≤ 8192 }
     ensures { result ≡ paths.cost_onward place instruction following.now }
@@ -70,7 +70,7 @@ fn cost_onward(place: usize, instruction: Instruction<u16>, following: &[u64]) -
     }
 }
 
-/// The cost of a place, from those after it.
+/// Returns the cost of a place, given those after it.
 #[tactic(auto, using(crate::proofs::Sizes::onward_under))]
 fn cost_at(
     rows: &Rows,
@@ -94,7 +94,7 @@ fn following(costs: &[u64], n: usize) -> &[u64]
     &costs[n..]
 }
 
-/// The costs of the places of a section that begins at `first`, found from the last place down.
+/// Returns the costs of the places of a section that begins at `first`, computed from the last place down.
 pub(crate) fn costs_of(
     alloc: Global,
     rows: &Rows,

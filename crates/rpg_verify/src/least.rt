@@ -1,4 +1,4 @@
-//! The least rule that is broken, with its first row.
+//! The lowest-numbered rule that is broken, and its first row.
 
 ghost use Rattle.std.specs.Prelude.{◌≡◌, MatchOption, option_map};
 ghost use Rattle.rpg_program.specs.Kept.{IsProgram};
@@ -13,7 +13,7 @@ use crate::tables::{first_line, first_subroutine, first_type};
 use rpg_program::rows::Rows;
 use rpg_verify_rules::{BrokenRule, LineRule, PlaceRule, Rule, SubroutineRule, TypeRule};
 
-/// All rules in the order of their numbers.
+/// All rules, in numeric order.
 pub const RULES: [Rule; 26] = [
     Rule::Overflow,
     Rule::Line(LineRule::V2),
@@ -43,7 +43,7 @@ pub const RULES: [Rule; 26] = [
     Rule::Type(TypeRule::V26),
 ];
 
-/// The least broken rule, with its first row, where a rule is broken. It takes no memory.
+/// Returns the lowest-numbered broken rule, with its first row, if any rule is broken. Allocates nothing.
 pub fn first_broken(rows: &Rows) -> Option<BrokenRule>
     requires { IsProgram (seen rows.now) }
     ensures { MatchOption result (IsAccepted (seen rows.now)) (λ b. IsLeastBroken (seen rows.now) b) }

@@ -1,4 +1,4 @@
-//! Object programs that may be run: they keep all rules, and a cycle of one takes a bounded number of steps.
+//! Object programs that may run: they obey all rules, and one cycle takes a bounded number of steps.
 #![tactic(auto)]
 
 mod bound;

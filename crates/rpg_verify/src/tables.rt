@@ -18,7 +18,7 @@ use rpg_verify_rules::subroutines::{has_return, is_body};
 use rpg_verify_rules::types::measures;
 use rpg_verify_rules::{LineRule, SubroutineRule, TypeRule, lines, types};
 
-/// The first record type that breaks a rule.
+/// Returns the first record type that breaks a rule.
 #[tactic(auto, using(rpg_verify_rules::proofs::Lists::position_seen), unfolding(rpg_verify_rules::specs::Rules::broken))]
 pub(crate) fn first_type(rule: TypeRule, rows: &Rows) -> Option<usize>
     ensures { result ≡ first_true 0 (rules.broken (seen rows.now) (rule_names.Type rule)) }
@@ -43,7 +43,7 @@ fn first_type_by(
         .position(|t| types::breaks(rule, rows, measures, widths, t))
 }
 
-/// The first line that breaks a rule.
+/// Returns the first line that breaks a rule.
 #[tactic(auto, using(rpg_verify_rules::proofs::Lists::position_seen), unfolding(rpg_verify_rules::specs::Rules::broken))]
 pub(crate) fn first_line(rule: LineRule, rows: &Rows) -> Option<usize>
     requires { IsProgram (seen rows.now) }
@@ -59,7 +59,7 @@ fn first_line_by(rule: LineRule, rows: &Rows) -> Option<usize>
     rows.lines.iter().position(|l| lines::breaks(rule, rows, l))
 }
 
-/// The first subroutine that breaks a rule, 0 where detail or total calculations do.
+/// Returns the first subroutine that breaks a rule, 0 if detail or total calculations do.
 #[tactic(auto, using(rpg_verify_rules::proofs::Lists::levels), unfolding(rpg_verify_rules::specs::Rules::broken))]
 pub(crate) fn first_subroutine(rule: SubroutineRule, rows: &Rows) -> Option<usize>
     requires { IsProgram (seen rows.now) }

@@ -1,4 +1,4 @@
-//! Programs that may be run.
+//! Programs that may run.
 
 ghost use Rattle.std.specs.Prelude.{◌≡◌, ◌<◌, ◌≤◌, ◌^◌, IfErr, IfOk};
 ghost use Rattle.rpg_program.specs.ObjectInstructions.{weight};
@@ -19,7 +19,7 @@ use rpg_verify_rules::Rule;
 use std::alloc::Global;
 use std::marker::Model;
 
-/// A program that keeps all rules, with the costs of its places and its bound. Only `verify` makes one.
+/// A program that obeys all rules, with the costs of its places and its bound. Only `verify` makes one.
 #[derive(Drop)]
 pub struct Verified {
     program: Program,
@@ -41,13 +41,14 @@ impl Model for Verified {
 /// Why a program isn't verified.
 #[derive(Clone, Copy)]
 pub enum VerifyFault {
-    /// The least rule that a row breaks, and the first such row. Rows are counted from 0 in the rule's table.
+    /// The lowest-numbered rule that a row breaks, and the first such row, counted from 0 in the rule's table.
     Refused { rule: Rule, row: usize },
-    /// There was no memory for the costs of an accepted program.
+    /// Memory ran out for the costs of an accepted program.
     NoMemory,
 }
 
-/// The program, where it keeps all rules; else the program as it was, with the least rule that it breaks.
+/// Returns the program if it obeys all rules; otherwise gives it back unchanged, with the lowest-numbered rule
+/// that it breaks.
 pub fn verify(alloc: Global, program: Program) -> Result<Verified, (Program, VerifyFault)>
     ensures accepted { IfOk result (λ v. v ≡ program) }
     ensures unchanged { IfErr result (λ e. e.0 ≡ program) }
@@ -71,7 +72,7 @@ pub fn verify(alloc: Global, program: Program) -> Result<Verified, (Program, Ver
 }
 
 impl Verified {
-    /// The program, as it was handed in.
+    /// Returns the program, unchanged.
     pub fn program(&self) -> &Program
         ensures same { result.now ≡ self.now }
         ensures program { IsProgram self.now }
@@ -80,7 +81,7 @@ impl Verified {
         &self.program
     }
 
-    /// The most steps that a cycle can take.
+    /// Returns the most steps that a cycle can take.
     pub fn bound(&self) -> u64
         ensures bound { result ≡ words.bound self.now }
         ensures few { result < 2 ^ 48 }
@@ -88,7 +89,7 @@ impl Verified {
         self.bound
     }
 
-    /// The greatest sum of weights along a forward path from a place that has an instruction.
+    /// Returns the greatest sum of weights along a forward path from a place that has an instruction.
     pub fn path_cost(&self, place: Place) -> u64
         requires first { first_place self.now place.section ≤ place.number }
         requires last { place.number < place_after self.now place.section }
@@ -98,7 +99,8 @@ impl Verified {
         self.costs[usize::from(place.number)]
     }
 
-    /// What the rules give: no operand, line or input field is wrong, and control goes where it may.
+    /// What follows from the rules: no operand, line or input field is wrong, and control goes only where it
+    /// may.
     pub fn is_sound(&self)
         ensures { IsSound self.now }
     {

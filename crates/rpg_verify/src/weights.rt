@@ -1,4 +1,4 @@
-//! What instructions, lines and record types weigh.
+//! The weights of instructions, lines and record types.
 
 ghost use Rattle.std.specs.Prelude.{◌≡◌, ◌≤◌, map};
 ghost use Rattle.rpg_program.specs.Forms.{form_at};
@@ -23,7 +23,7 @@ fn goes_through(shape: Shape) -> bool
     }
 }
 
-/// What is gone through weighs its entries.
+/// The weight of an operand: its entries, if the operation goes through them.
 fn use_weight(rows: &Rows, used: Option<Use<Operand<u16>>>) -> u64
     ensures value { result ≡ words.use_weight (form_at rows.now.fields.items) used }
     ensures few { result ≤ 65535 }
@@ -38,7 +38,7 @@ fn use_weight(rows: &Rows, used: Option<Use<Operand<u16>>>) -> u64
     }
 }
 
-/// What EXCPT weighs besides itself.
+/// The weight of EXCPT besides its own step.
 fn exceptions_of(exceptions: u64, instruction: Instruction<u16>) -> u64
     ensures value { result ≡ words.exceptions_of exceptions instruction }
     ensures few { result ≤ exceptions }
@@ -52,7 +52,7 @@ fn exceptions_of(exceptions: u64, instruction: Instruction<u16>) -> u64
     }
 }
 
-/// The weight of an instruction, where all exception lines weigh so much.
+/// The weight of an instruction, given the weight of all exception lines.
 #[tactic(auto, unfolding(rpg_program::specs::Weights::instruction_weight, rpg_program::specs::Weights::row_weight))]
 pub(crate) fn weight_of(rows: &Rows, exceptions: u64, instruction: Instruction<u16>) -> u64
     requires { exceptions ≤ 201000 }
@@ -65,7 +65,7 @@ pub(crate) fn weight_of(rows: &Rows, exceptions: u64, instruction: Instruction<u
 
 // ---- lines
 
-/// What the lines weigh: all exception lines, and all others.
+/// The weights of the lines: of all exception lines, and of all others.
 #[derive(Clone, Copy)]
 pub(crate) struct LineWeights {
     pub exceptions: u64,
@@ -100,7 +100,7 @@ pub(crate) fn line_weights(rows: &Rows) -> LineWeights
     LineWeights { exceptions, others }
 }
 
-/// All H, D and T lines, once more where there is an overflow indicator.
+/// The weight of all H, D and T lines, doubled if there is an overflow indicator.
 pub(crate) fn output_weight(rows: &Rows, lines: LineWeights) -> u64
     requires lines { lines.others ≡ words.overflow_weight (lines_of (seen rows.now)) }
     requires few { lines.others ≤ 201000 }

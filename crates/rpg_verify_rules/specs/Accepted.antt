@@ -8,6 +8,6 @@ use Rattle.rpg_verify_rules.specs.declared.rule.BrokenRule.{BrokenRule}
 abbrev pub IsAccepted : Object → Type 0
 IsAccepted p = IsFaultless rule_number (broken p)
 
--- the least broken rule, and its first row
+-- the lowest-numbered broken rule, and its first row
 abbrev pub IsLeastBroken : Object → BrokenRule → Type 0
 IsLeastBroken p b = IsLeast rule_number (broken p) b.rule b.row

@@ -21,7 +21,7 @@ use Rattle.rpg_verify_rules.specs.Indicators.{all_asked, may_be_asked}
 use Rattle.rpg_verify_rules.specs.declared.rule.LineRule.{LineRule}
 use Rattle.rpg_verify_rules.specs.declared.rule.LineRule.TheVariants.{V2, V8, V9, V10, V11, V12, V13, V14, V15}
 
--- the form of the field that is put out
+-- the form of the field that is output
 abbrev pub form_put_out : Object → LineField ℕ → Option FieldForm
 form_put_out p f = form_at p.fields f.operand.field
 

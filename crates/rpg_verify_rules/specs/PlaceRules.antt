@@ -28,7 +28,7 @@ use Rattle.rpg_verify_rules.specs.declared.rule.PlaceRule.TheVariants.{V16, V17,
 
 -- ---- indicators
 
--- indicators that may be set, at least one where one is required
+-- indicators that may be set, at least one if one is required
 abbrev pub are_marked : Marks → Bool
 are_marked Unmarked = true
 are_marked (Shown s) = are_settable s
@@ -65,7 +65,7 @@ abbrev pub stays_inside : Object → Section → Instruction ℕ → Bool
 stays_inside p s (Branch is_taken_where cs target) = is_place p (record { section = s; number = target })
 stays_inside p s i = true
 
--- a call leads to a subroutine of a higher level; where there is none of that number the level is 0, which no section is below
+-- a call leads to a subroutine of a higher level; if there is none of that number the level is 0, which no section is below
 abbrev pub calls_higher : Object → Section → Instruction ℕ → Bool
 calls_higher p s (Call n) = nat_lt (level_of p s) (level_of p (Subroutine n))
 calls_higher p s i = true
@@ -87,7 +87,7 @@ compares (Act (Compare a b s)) = true
 compares (Act (LookUp a b r s)) = true
 compares i = false
 
--- the required kinds are known: where factors are compared, factor 1 is good
+-- the required kinds are known: if factors are compared, factor 1 is good
 abbrev pub knows_kinds : Object → Instruction ℕ → Bool
 knows_kinds p i = not (compares i) || all_used (is_good_operand (form_at p.fields)) (columns p i).factor1
 
@@ -131,20 +131,20 @@ place_breaks V20 p s i = not (holds_found p (written_columns p i))
 place_breaks V21 p s i = not (stays_inside p s i)
 place_breaks V22 p s i = not (calls_higher p s i)
 
--- of each place of a section
+-- for each place of a section
 abbrev pub section_judged : PlaceRule → Object → Section → List Bool
 section_judged r p s = map (place_breaks r p s) (section_instructions p s)
 
--- of each place of the subroutines from a number on
+-- for each place of the subroutines from a number on
 abbrev pub subroutines_judged : PlaceRule → Object → ℕ → List SubroutineRow → List Bool
 subroutines_judged r p n [] = []
 subroutines_judged r p n (s ∷ ss) = map (place_breaks r p (Subroutine n)) s.instructions ++ subroutines_judged r p (n + 1) ss
 
--- of each place after detail calculations
+-- for each place after detail calculations
 abbrev pub judged_after_detail : PlaceRule → Object → List Bool
 judged_after_detail r p = section_judged r p Total ++ subroutines_judged r p 0 p.subroutines
 
--- of each place of the program, in order
+-- for each place of the program, in order
 abbrev pub places_judged : PlaceRule → Object → List Bool
 places_judged r p = section_judged r p Detail ++ judged_after_detail r p
 
@@ -173,7 +173,7 @@ ends_in_return code = is_return_if_any (slice_get code (length code - 1))
 abbrev pub is_body : ℕ → List (Instruction ℕ) → Bool
 is_body number code = list_all (is_own number) code && ends_in_return code
 
--- of each subroutine from a number on, whether it breaks this
+-- for each subroutine from a number on, whether it breaks this
 abbrev pub bodies_judged : ℕ → List SubroutineRow → List Bool
 bodies_judged n [] = []
 bodies_judged n (s ∷ ss) = not (is_body n s.instructions) ∷ bodies_judged (n + 1) ss

@@ -1,5 +1,5 @@
 -- The rules: for each, which rows of its table break it. Rows are counted from 0 in the table of the rule's kind. A rule doesn't
--- apply to an operand, a line's field or an input field that a smaller rule refuses. The least broken rule is returned, and a
+-- apply to an operand, a line's field or an input field that a smaller rule refuses. The lowest-numbered broken rule is returned, and a
 -- program is accepted if no rule is broken.
 use Rattle.std.specs.Prelude.{ℕ, Bool, ◌&&◌, ◌==◌, List, [], ◌∷◌, ◌++◌, map, is_some, codes, decimal}
 use Rattle.rpg_program.specs.Object.{Object}
@@ -23,7 +23,7 @@ abbrev pub subroutines_broken : SubroutineRule → Object → List Bool
 subroutines_broken V23 p = with_first (has_stray_return p) (bodies_judged 0 p.subroutines)
 subroutines_broken V24 p = map is_off_level p.subroutines
 
--- of each row of a rule's table, whether it breaks the rule
+-- for each row of a rule's table, whether it breaks the rule
 unfoldable pub broken : Object → Rule → List Bool
 broken p rules.Overflow = lacks_printer p ∷ []
 broken p (rules.Type r) = map (type_breaks r p) p.types

@@ -17,7 +17,7 @@ use Rattle.rpg_verify_rules.specs.declared.rule.TypeRule.TheVariants.{V3, V4, V5
 abbrev pub is_code_in : ℕ → RecordCode → Bool
 is_code_in len c = is_between 1 len c.position
 
--- its columns are those of a record of that length, and not turned around
+-- its columns are those of a record of that length, and not reversed
 abbrev pub is_control_in : ℕ → ControlField → Bool
 is_control_in len c = nat_le 1 c.from && (nat_le c.from c.to && nat_le c.to len)
 
@@ -27,12 +27,12 @@ is_control_in len c = nat_le 1 c.from && (nat_le c.from c.to && nat_le c.to len)
 abbrev pub columns_at : ℕ → ControlField → ℕ
 columns_at level c = if c.level == level then c.to + 1 - c.from else 0
 
--- the columns of all of that level; 0 where it has none
+-- the columns of all of that level; 0 if it has none
 abbrev pub joined_width : ℕ → List ControlField → ℕ
 joined_width level [] = 0
 joined_width level (c ∷ cs) = columns_at level c + joined_width level cs
 
--- the joined length in the first type that has the level; 0 where none has
+-- the joined length in the first type that has the level; 0 if none has
 abbrev pub measure : ℕ → List (TypeRow ℕ) → ℕ
 measure level [] = 0
 measure level (t ∷ ts) = if joined_width level t.levels == 0 then measure level ts else joined_width level t.levels
@@ -82,7 +82,7 @@ abbrev pub are_once : List ControlField → Bool
 are_once [] = true
 are_once (c ∷ cs) = not (list_any (is_of_level c.level) cs) && are_once cs
 
--- those of the first type that has some; none where no type has any
+-- those of the first type that has some; none if no type has any
 abbrev pub first_matches : List (TypeRow ℕ) → List ControlField
 first_matches [] = []
 first_matches (t ∷ ts) = if length t.matches == 0 then first_matches ts else t.matches

@@ -22,7 +22,7 @@ fn is_settable_if_any(indicator: Option<u8>) -> bool
     }
 }
 
-/// All but L0, 1P and MR.
+/// Whether they may be set: all but L0, 1P and MR.
 pub(crate) fn are_settable(shows: Shows) -> bool
     ensures { result ≡ marks.are_settable shows }
 {
@@ -30,7 +30,7 @@ pub(crate) fn are_settable(shows: Shows) -> bool
         && (is_settable_if_any(shows.minus) && is_settable_if_any(shows.zero))
 }
 
-/// What a record type may turn on.
+/// Whether a record type may turn it on.
 pub(crate) fn is_of_type(indicator: Option<u8>) -> bool
     ensures { result ≡ marks.if_any marks.is_of_type indicator }
 {

@@ -1,4 +1,4 @@
-//! The rules that an object program keeps before it is run.
+//! The rules that an object program must obey before it runs.
 #![tactic(auto)]
 
 mod indicators;

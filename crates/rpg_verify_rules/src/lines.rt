@@ -80,7 +80,7 @@ fn are_alternatives_asked(version: Version, alternatives: &[Vec<Condition>]) -> 
     are_each_asked(version, alternatives)
 }
 
-// ---- whether fields are there, and may be blanked
+// ---- whether fields exist, and may be blanked
 
 fn is_source_of(source: Source, form: Option<FieldForm>) -> bool
     ensures { result ≡ faults.fits_source source form }
@@ -149,7 +149,7 @@ fn lack_editing(rows: &Rows, fields: &[LineField<u16>]) -> bool
 
 // ---- edit words
 
-/// The digits of a number, 0 where there is no field.
+/// The digits of a number, 0 if there is no field.
 fn digits_of(rows: &Rows, field: u16) -> u8
     requires program { IsProgram (seen rows.now) }
     requires number { forms.same_kind (forms.kind_of (forms.form_at rows.now.fields.items field)) Kind.Number ≡ true }
@@ -186,7 +186,7 @@ fn lack_words(rows: &Rows, fields: &[LineField<u16>]) -> bool
 
 // ---- room
 
-/// Whether the edit word, where there is one, is a text constant.
+/// Whether the edit word, if there is one, is a text constant.
 fn names_text(rows: &Rows, editing: Editing<u16>) -> bool
     ensures { result ≡ words.names_text (seen rows.now) editing }
 {
@@ -223,7 +223,7 @@ fn field_width(rows: &Rows, form: FieldForm, editing: Editing<u16>, fill: Fill) 
     }
 }
 
-/// Whether a field of a line of that length begins and ends inside it.
+/// Whether a field begins and ends inside a line of this length.
 fn has_room(rows: &Rows, length: u16, field: &LineField<u16>) -> bool
     requires program { IsProgram (seen rows.now) }
     requires width { words.may_have_width (seen rows.now) field.now ≡ true }
@@ -238,7 +238,7 @@ fn has_room(rows: &Rows, length: u16, field: &LineField<u16>) -> bool
     }
 }
 
-/// Whether there is such a field and it is edited well, by a word that is a text constant: whether the word fits is left open.
+/// Whether the field exists and its editing is valid, with any edit word a text constant. Doesn't test whether the word fits.
 fn may_have_width(rows: &Rows, field: &LineField<u16>) -> bool
     requires { IsProgram (seen rows.now) }
     ensures { result ≡ words.may_have_width (seen rows.now) field.now }
@@ -246,7 +246,7 @@ fn may_have_width(rows: &Rows, field: &LineField<u16>) -> bool
     is_field_there(rows, field) && (is_field_edited(rows, field) && names_text(rows, field.editing))
 }
 
-/// Tests last whether a word fits, so only for a field without room.
+/// Whether an otherwise valid field has no room in its line. Tests last, and only for such a field, whether its word fits.
 pub fn lacks_room(rows: &Rows, length: u16, field: &LineField<u16>) -> bool
     requires { IsProgram (seen rows.now) }
     ensures { result ≡ words.lacks_room (seen rows.now) length field.now }
@@ -261,7 +261,7 @@ fn lack_room(rows: &Rows, length: u16, fields: &[LineField<u16>]) -> bool
     fields.iter().any(|f| lacks_room(rows, length, f))
 }
 
-// ---- what is required of fields that fit
+// ---- requirements on fields that fit
 
 fn has_width(rows: &Rows, field: &LineField<u16>) -> bool
     requires { IsProgram (seen rows.now) }
@@ -270,7 +270,7 @@ fn has_width(rows: &Rows, field: &LineField<u16>) -> bool
     is_field_there(rows, field) && (is_field_edited(rows, field) && is_field_worded(rows, field))
 }
 
-/// Whether V10 to V13 allow a field of a line of that length.
+/// Whether V10 to V13 allow a field in a line of this length.
 fn fits_line(rows: &Rows, length: u16, field: &LineField<u16>) -> bool
     requires { IsProgram (seen rows.now) }
     ensures { result ≡ words.fits_line (seen rows.now) length field.now }

@@ -41,7 +41,7 @@ pub fn joined_in_all(fields: &[ControlField]) -> u128
         + joined(9, fields)
 }
 
-/// The joined lengths of the first type that has match fields.
+/// The joined lengths in the first type that has match fields.
 pub fn first_widths(types: &[RecordType]) -> [u128; 9]
     ensures { result ≡ words.joined_widths (words.first_matches (map type_row types.now)) }
 {
@@ -59,7 +59,7 @@ pub fn has_level(level: u8, fields: &[ControlField]) -> bool
     fields.iter().any(|f| f.level == level)
 }
 
-/// Whether no level appears twice.
+/// Whether each level appears once at most.
 fn are_once(fields: &[ControlField]) -> bool
     ensures { result ≡ words.are_once fields.now }
 {
@@ -73,14 +73,14 @@ fn are_once(fields: &[ControlField]) -> bool
     true
 }
 
-/// Whether there are none, or their levels have these joined lengths.
+/// Whether there are no match fields, or their levels have these joined lengths.
 fn are_joined_as(widths: &[u128; 9], fields: &[ControlField]) -> bool
     ensures { result ≡ words.are_joined_as widths.now fields.now }
 {
     fields.is_empty() || joined_widths(fields) == *widths
 }
 
-/// Whether a type has these match fields of a record of that length, given the joined lengths of the first type that has some.
+/// Whether match fields are valid in a record of this length, given the joined lengths of the first type that has some.
 pub(crate) fn are_matches(length: u16, widths: &[u128; 9], fields: &[ControlField]) -> bool
     ensures { result ≡ words.are_matches length widths.now fields.now }
 {

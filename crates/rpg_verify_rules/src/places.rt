@@ -51,7 +51,7 @@ pub fn breaks(rule: PlaceRule, rows: &Rows, span: Span, instruction: Instruction
 
 // ---- operands
 
-/// Whether factor 2 is to be of the kind of factor 1.
+/// Whether factor 2 must be of the same kind as factor 1.
 fn compares(instruction: Instruction<u16>) -> bool
     ensures { result ≡ words.compares instruction }
 {
@@ -81,16 +81,16 @@ pub fn has_known_kind(rows: &Rows, instruction: Instruction<u16>, used: Use<Oper
     !knows_kinds(rows, instruction) || has_kind(rows, used)
 }
 
-/// A test of an operand where it is used.
+/// A test of an operand of an instruction.
 #[derive(Clone, Copy)]
 pub enum OperandTest {
-    /// It is there, with an index that it may have.
+    /// It exists, with an index that it may have.
     Good,
     /// It is of the kind that the instruction requires.
     Known(Instruction<u16>),
-    /// It may be written where it is.
+    /// It may be written at that place.
     Writable,
-    /// It is a table if it becomes current.
+    /// If it is to become current, it is a table.
     Current,
 }
 
@@ -127,7 +127,7 @@ fn holds_found(rows: &Rows, row: Row<Operand<u16>>) -> bool
     all_pass(rows, OperandTest::Current, row) && holds_positions(rows, row)
 }
 
-// ---- operands that no smaller rule refuses
+// ---- operands that no lower-numbered rule rejects
 
 fn passing(
     rows: &Rows,
@@ -159,7 +159,7 @@ fn those_passing(rows: &Rows, test: OperandTest, row: Row<Operand<u16>>) -> Row<
     }
 }
 
-/// The operands that V16 and V17 allow.
+/// The operands that pass V16 and V17.
 pub fn columns_of_kind(rows: &Rows, instruction: Instruction<u16>) -> Row<Operand<u16>>
     ensures { result ≡ words.columns_of_kind (seen rows.now) instruction }
 {
@@ -167,7 +167,7 @@ pub fn columns_of_kind(rows: &Rows, instruction: Instruction<u16>) -> Row<Operan
     those_passing(rows, OperandTest::Known(instruction), good)
 }
 
-/// The operands that V16 to V18 allow.
+/// The operands that pass V16 to V18.
 pub fn written_columns(rows: &Rows, instruction: Instruction<u16>) -> Row<Operand<u16>>
     ensures { result ≡ words.written_columns (seen rows.now) instruction }
 {
@@ -240,14 +240,14 @@ pub fn is_ascending_if_any(rows: &Rows, used: Option<Use<Operand<u16>>>) -> bool
     }
 }
 
-/// Not high and low together, and each of these only through what is in ascending sequence.
+/// Whether it doesn't seek both high and low, and seeks either only in ascending sequence.
 fn is_searched_well(rows: &Rows, row: Row<Operand<u16>>) -> bool
     ensures { result ≡ words.is_searched_well (seen rows.now) row }
 {
     !is_two_sided(row.marks) && (!is_ordered(row.marks) || is_ascending_if_any(rows, row.factor2))
 }
 
-// ---- where control goes
+// ---- transfer of control
 
 fn stays_inside(rows: &Rows, span: Span, instruction: Instruction<u16>) -> bool
     requires { IsSpan (seen rows.now) span }

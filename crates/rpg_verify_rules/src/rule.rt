@@ -13,13 +13,14 @@ pub enum TypeRule {
     V4,
     /// Control fields are in the record, and a level's are as long as in the first type that has it, 256 at most.
     V5,
-    /// As many columns of the record are moved as the field has.
+    /// As many columns of the record are moved as the field is long.
     V6,
-    /// Indicators of moves can be set, and a text has one only for blanks.
+    /// Indicators of moves can be set, and a text field has one only for blanks.
     V7,
     /// The program has the type's file.
     V25,
-    /// Match fields are in the record, each of another level, with the joined lengths of the first type that has some, 256 at most in all.
+    /// Match fields are in the record, each of a different level, with the joined lengths of the first type that has some, 256 at most in
+    /// all.
     V26,
 }
 
@@ -32,15 +33,15 @@ pub enum LineRule {
     V8,
     /// Alternatives aren't conditioned by MR in version 1; version 2 allows it.
     V9,
-    /// What is put out is there.
+    /// Output fields exist.
     V10,
-    /// What is edited is a number that the code fits, and a fill is where it may be.
+    /// What is edited is a number that suits the code, and a fill is used only where allowed.
     V11,
     /// An edit word is a text constant of 1 to 24 characters that fits the number.
     V12,
     /// The text ends inside the line, and begins there.
     V13,
-    /// What is blanked afterwards may be written.
+    /// What is blanked after output may be written.
     V14,
     /// Fields aren't conditioned by MR in version 1; version 2 allows it.
     V15,
@@ -49,15 +50,15 @@ pub enum LineRule {
 /// A rule of instructions.
 #[derive(Clone, Copy)]
 pub enum PlaceRule {
-    /// Operands are there, with an index that they may have.
+    /// Operands exist, with an index that they may have.
     V16,
     /// Operands are of the kinds that the table of operations requires.
     V17,
     /// Results may be written.
     V18,
-    /// Indicators are there where they must be, and are those that may be.
+    /// Indicators are given where required, and may be set.
     V19,
-    /// What a search makes current is there, and its index holds what is found.
+    /// What a search makes current exists, and its index can hold what is found.
     V20,
     /// Branches stay in their section.
     V21,
@@ -68,7 +69,7 @@ pub enum PlaceRule {
 /// A rule of subroutines.
 #[derive(Clone, Copy)]
 pub enum SubroutineRule {
-    /// A subroutine ends in its own return, and has no other's; detail and total calculations have none.
+    /// A subroutine ends in its own return, and contains no other's; detail and total calculations contain none.
     V23,
     /// Levels are 1 to 100.
     V24,
@@ -204,7 +205,7 @@ impl Rule {
             Rule::Type(TypeRule::V26) => 26,
         }
     }
-    /// How a row breaks the rule, as a person reads it.
+    /// How a row breaks the rule, in words.
     pub const fn sentence(self) -> &'static str {
         match self {
             Rule::Overflow => "there is an overflow indicator, but no printer",

@@ -19,7 +19,7 @@ pub fn is_return(instruction: Instruction<u16>) -> bool
     }
 }
 
-/// Whether an instruction is RET, which only subroutines have.
+/// Whether any instruction is RET, which only subroutines have.
 pub fn has_return(code: &[Instruction<u16>]) -> bool
     ensures { result ≡ list_any words.is_return code.now }
 {
@@ -53,7 +53,7 @@ fn ends_in_return(code: &[Instruction<u16>]) -> bool
     }
 }
 
-/// Whether a subroutine has no RET of another, and ends in its own.
+/// Whether a subroutine ends in its own RET and contains no other's.
 pub fn is_body(number: usize, code: &[Instruction<u16>]) -> bool
     ensures { result ≡ words.is_body number code.now }
 {

@@ -15,7 +15,7 @@ use rpg_program::input::{ControlField, InputField, RecordCode};
 use rpg_program::operation::Shows;
 use rpg_program::rows::{RecordType, Rows};
 
-/// Whether a record type breaks a rule, given the lengths of levels and of match fields in the first types that have some.
+/// Whether a record type breaks a rule, given the joined lengths of the first types that have each level or match fields.
 #[tactic(auto, unfolding(crate::specs::TypeRules::type_breaks))]
 pub fn breaks(
     rule: TypeRule,
@@ -43,7 +43,7 @@ pub fn breaks(
     }
 }
 
-/// The columns of a control field of a level; none where they are turned around.
+/// The columns of a control field if it is of this level; 0 if their order is reversed.
 fn columns_at(level: u8, field: &ControlField) -> u128
     ensures value { result ≡ words.columns_at level field.now }
     ensures few { result ≤ 65536 }
@@ -158,7 +158,7 @@ fn are_inputs_in(rows: &Rows, length: u16, fields: &[InputField<u16>]) -> bool
     fields.iter().all(|f| is_input_in(rows, length, f))
 }
 
-/// Of a text only blanks are shown.
+/// Whether the indicators suit the kind: a text shows only blanks.
 fn fits_shows(kind: Kind, shows: Shows) -> bool
     ensures { result ≡ inputs.fits_shows kind shows }
 {

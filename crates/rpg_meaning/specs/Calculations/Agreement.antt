@@ -57,7 +57,7 @@ module _ (p : Object) (source : Source) (number : Key → ℕ) where
     pub world : Agree source.forms number s.world d.world
     pub allowance : d.allowance ≡ s.allowance
 
-  -- what the machine does where the cards do this; return cells stay as they are
+  -- what the machine does if the cards do this; return cells stay as they are
   abbrev pub MachineFollows : Config → MeantOutcome → Type 0
   MachineFollows d (On t o) = (e : Config) × Comes p d e o × AgreeAt t e × (e.cells ≡ d.cells)
   MachineFollows d (Stops k t o) = (e : Config) × ((j : ℕ) × (run p j d ≡ Stop (Halt k) e o)) × AgreeEnded t e

@@ -52,7 +52,7 @@ pub record State : Type 0 where
   pub back : List (Part × ℕ)
   pub allowance : ℕ
 
--- they go on, halt, or have nothing to go on with; with what was put out
+-- they go on, halt, or have nothing to go on with; with what was output
 pub data MeantOutcome : Type 0 where
   On : State → Output → MeantOutcome
   Stops : ℕ → State → Output → MeantOutcome
@@ -72,7 +72,7 @@ after_effect other s w o = Over
 abbrev pub affected : State → Effect key_cmp → MeantOutcome
 affected s e = after_effect e.ending s e.world (record { lines = e.lines; records = e.records })
 
--- one of the allowance is spent; halt 5 where none is left
+-- one of the allowance is spent; halt 5 if none is left
 abbrev pub spending : State → State → MeantOutcome
 spending s t = if s.allowance == 0 then Stops 5 s no_output else On (record t { allowance = s.allowance - 1 }) no_output
 
@@ -97,7 +97,7 @@ module _ (source : Source) where
   deed_done s (Executes name) = spending s (record s { part = InSubroutine name; next = 0; back = (s.part, s.next + 1) ∷ s.back })
   deed_done s (Ends l) = come_back s s.back
 
-  -- one calculation: what it does where its conditions hold, and then the next one
+  -- one calculation: what it does if its conditions hold, and then the next one
   abbrev pub calculation_done : State → Option (Calculation Key) → MeantOutcome
   calculation_done s None = Over
   calculation_done s (Some g) = if is_done s.world.data.on g then deed_done s g.deed else On (at_next s (s.next + 1)) no_output
@@ -118,7 +118,7 @@ part_has_end (InSubroutine name) = false
 abbrev pub is_finished : Sections Key → State → Bool
 is_finished c s = part_has_end s.part && nat_le (length (calculations_in c s.part)) s.next
 
--- what is done after what was put out before
+-- what is done after what was output before
 abbrev pub told_before : Output → MeantOutcome → MeantOutcome
 told_before o (On t more) = On t (with_more o more)
 told_before o (Stops k t more) = Stops k t (with_more o more)

@@ -58,7 +58,7 @@ those_in (InSubroutine name) es = after_begsr name (filter (λ e. is_subroutine 
 abbrev pub card_number : List SpecCard → Part → ℕ → Option ℕ
 card_number cards part n = option_map (λ e. e.0) (slice_get (those_in part (numbered_from None cards)) n)
 
--- none where no card of the part is left
+-- none if no card of the part is left
 abbrev pub next_card : List SpecCard → State → Option ℕ
 next_card cards s = card_number cards s.part s.next
 

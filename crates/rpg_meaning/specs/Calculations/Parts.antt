@@ -10,7 +10,7 @@ pub data Part : Type 0 where
   InTotal : Part
   InSubroutine : Option Name → Part  -- as EXSR names it
 
--- the subroutine of a name; nothing where there is none
+-- the subroutine of a name; nothing if there is none
 abbrev pub body_named : Option Name → List (Subroutine Key) → List (Calculation Key)
 body_named name [] = []
 body_named name (s ∷ ss) = if is_same_name name s.name then s.body else body_named name ss

@@ -28,7 +28,7 @@ pub record EndsChain (ps : List Pair) (s n : ℕ) : Type 0 where
   pub chain : IsChainAmong ps s callers
   pub count : length callers + 1 ≡ n
 
--- the longest chain of at most so many calls that ends in s has n subroutines
+-- the longest chain of at most this many calls that ends in s has n subroutines
 pub record IsLongestWithin (most : ℕ) (ps : List Pair) (s n : ℕ) : Type 0 where
   pub chain : EndsChain ps s n
   pub few : n ≤ most + 1

@@ -43,7 +43,7 @@ module _ (job : Job) where
   meant_last_bytes level [] = None
   meant_last_bytes level (s ∷ ss) = or_before (meant_last_bytes level ss) (level_bytes (levels_at s.type) s.text level)
 
-  -- the highest level that a record breaks, 0 where it breaks none
+  -- the highest level that a record breaks, 0 if it breaks none
   abbrev pub meant_broken_level : List Selected → Selected → ℕ
   meant_broken_level earlier s = highest_broken (λ level. differs (meant_last_bytes level earlier) (level_bytes (levels_at s.type) s.text level)) 9
 
@@ -86,11 +86,11 @@ module _ (job : Job) where
 
   -- ---- 2 halt 6 where a halt indicator is on
 
-  -- halt 6 where a halt indicator is on
+  -- halt 6 if a halt indicator is on
   abbrev pub meant_halt_where_asked : MeantPhase
   meant_halt_where_asked = meant_does (λ s. (if any_on_in halt_indicators s then Halt 6 else GoesOn, s))
 
-  -- ---- 3 the indicators of record types but LR, L1 to L9 and 1P go off
+  -- ---- 3 the indicators of record types but LR, L1 to L9 and 1P turn off
 
   -- the indicators of record types, but for LR
   abbrev pub type_indicators : List (TypeRow Key) → List ℕ
@@ -100,9 +100,9 @@ module _ (job : Job) where
   abbrev pub meant_set_off : MeantPhase
   meant_set_off = meant_does (λ s. (GoesOn, with_turned (type_indicators job.types ++ (level_indicators ++ first_page ∷ [])) false s))
 
-  -- ---- 4 records are taken in, and one is selected
+  -- ---- 4 records are read, and one is selected
 
-  -- the length of a file's records, 0 where there is no such file
+  -- the length of a file's records, 0 if there is no such file
   abbrev pub record_length_in : InputFile → ℕ
   record_length_in Primary = job.record_length
   record_length_in Secondary = job.secondary_length
@@ -131,17 +131,17 @@ module _ (job : Job) where
   type_taken earlier f text None s = (Halt 3, s)
   type_taken earlier f text (Some type) s = meant_match_up earlier f (record { type = type; text = text }) s
 
-  -- a bad record is halt 7; where there is none the file is at its end
+  -- a bad record is halt 7; if there is none the file is at its end
   abbrev pub read : List Selected → InputFile → Option (List ℕ) → JobState → PhaseEnd × JobState
   read earlier f None s = (GoesOn, record s { inputs = with_file_over f s.inputs })
   read earlier f (Some text) s =
       if is_good_text f text then type_taken earlier f (meant_padded f text) (type_of_text f (meant_padded f text) 0 job.types) s else (Halt 7, s)
 
-  -- a file that is there, not at its end and without a waiting record takes one in
+  -- a file that exists, isn't at its end and has no waiting record reads one
   abbrev pub meant_takes_in : Inputs → InputFile → Bool
   meant_takes_in i f = not (record_length_in f == 0) && (not (input_at i f).is_over && is_none (waiting_in i f))
 
-  -- the next record of a file, where one is to be taken in
+  -- the next record of a file, if one is to be read
   abbrev pub meant_take_in : List Selected → InputFile → Option (List ℕ) → MeantPhase
   meant_take_in earlier f next = meant_does (λ s. if meant_takes_in s.inputs f then read earlier f next s else (GoesOn, s))
 
@@ -161,7 +161,7 @@ module _ (job : Job) where
   meant_chosen None (Some r) = Some Secondary
   meant_chosen (Some q) (Some r) = Some (first_of (meant_match_value q) (meant_match_value r))
 
-  -- where no record waits, LR and L1 to L9 go on
+  -- if no record waits, LR and L1 to L9 go on
   abbrev pub meant_select_from : List Selected → Option InputFile → JobState → JobState
   meant_select_from earlier None s = with_turned (last_record ∷ level_indicators) true s
   meant_select_from earlier (Some f) s = meant_select_waiting earlier f (waiting_in s.inputs f) s
@@ -170,7 +170,7 @@ module _ (job : Job) where
   abbrev pub meant_select_one : List Selected → MeantPhase
   meant_select_one earlier = meant_does (λ s. (GoesOn, meant_select_from earlier (meant_chosen (waiting_in s.inputs Primary) (waiting_in s.inputs Secondary)) s))
 
-  -- where LR is on no record is taken in, and L1 to L9 go on
+  -- if LR is on no record is read, and L1 to L9 go on
   abbrev pub meant_select_record : List Selected → Option (List ℕ) → Option (List ℕ) → MeantPhase
   meant_select_record earlier primary secondary s =
       meant_either (is_on_in last_record s) (meant_does (λ s. (GoesOn, with_turned level_indicators true s)))
@@ -190,13 +190,13 @@ module _ (job : Job) where
 
   -- ---- 6 the job ends where LR is on, or where no record was selected
 
-  -- the job ends where LR is on, or no record is left
+  -- the job ends if LR is on, or no record is left
   abbrev pub meant_end_where_last : MeantPhase
   meant_end_where_last = meant_does (λ s. (if is_on_in last_record s || is_none s.selected then EndOfJob else GoesOn, s))
 
   -- ---- 7 all lines of a new page, where the overflow indicator asks for one
 
-  -- the lines for overflow, where its indicator is on
+  -- the lines for overflow, if its indicator is on
   abbrev pub meant_overflow_lines : MeantPhase
   meant_overflow_lines =
       meant_unless (λ s. not (option_map_or (λ n. is_on_in n s) job.source.overflow false))
@@ -204,7 +204,7 @@ module _ (job : Job) where
 
   -- ---- 8 MR shows whether the record has a match, and its columns become values of fields
 
-  -- a record of the other file that was taken in, selected earlier or waiting, has its match value
+  -- a record of the other file that was read, selected earlier or waiting, has its match value
   abbrev pub meant_has_match : List Selected → Inputs → Selected → Bool
   meant_has_match earlier i r =
       meant_any_agrees (other_file (meant_file_at r.type)) (meant_match_value r) (with_record (waiting_in i (other_file (meant_file_at r.type))) earlier)

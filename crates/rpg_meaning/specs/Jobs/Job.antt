@@ -7,7 +7,7 @@ use Rattle.rpg_meaning.specs.Calculations.Meaning.{Source}
 use Rattle.rpg_cycle_records.specs.Earlier.{Selected}
 use Rattle.rpg_cycle_records.specs.Waiting.{Inputs}
 
--- fields, lines and calculations, the record types, the lengths of the records of both files, 0 where there is no secondary file, and what a
+-- fields, lines and calculations, the record types, the lengths of the records of both files, 0 if there is no secondary file, and what a
 -- cycle may spend
 pub record Job : Type 0 where
   pub source : Source

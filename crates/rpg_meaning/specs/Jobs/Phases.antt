@@ -14,7 +14,7 @@ use Rattle.rpg_meaning.specs.Calculations.Laws as calculations
 use Rattle.rpg_meaning.specs.Calculations.Meaning.{CardsCome, MeantOutcome, On, Over, Source, Stops}
 use Rattle.rpg_meaning.specs.Calculations.Parts.{Part}
 
--- A phase leads from one state to another; it goes on or ends the job, and it puts something out.
+-- A phase leads from one state to another; it goes on or ends the job, and it outputs something.
 abbrev pub MeantPhase : Type 1
 MeantPhase = JobState → PhaseEnd → JobState → Output → Type 0
 
@@ -27,13 +27,13 @@ meant_from_there Q other m put e t out = ⊥
 
 -- the one phase and then the other
 infixr 5 ◌andthen◌
--- one phase after the other; the second is left out where the first ends the job
+-- one phase after the other; the second is left out if the first ends the job
 abbrev pub ◌andthen◌ : MeantPhase → MeantPhase → MeantPhase
 (P andthen Q) s e t out = (f : PhaseEnd) × (m : JobState) × (put : Output) × P s f m put × meant_from_there Q f m put e t out
 
 -- ---- kinds of phases
 
--- puts nothing out
+-- outputs nothing
 abbrev pub meant_does : (JobState → PhaseEnd × JobState) → MeantPhase
 meant_does f s e t out = (e ≡ (f s).0) × (t ≡ (f s).1) × (out ≡ no_output)
 

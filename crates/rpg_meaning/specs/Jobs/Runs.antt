@@ -1,4 +1,4 @@
--- Whole runs by cards: cycles, each with the records that are next in the files that take one in, until one ends the job.
+-- Whole runs by cards: cycles, each with the records that are next in the files that read one, until one ends the job.
 use Rattle.std.specs.Prelude.{◌≡◌, ℕ, ◌+◌, Bool, not, ◌&&◌, ◌||◌, List, [], Option, None}
 use Rattle.rpg_cards.specs.Keys.{key_cmp}
 use Rattle.rpg_cycle.specs.Ends.{PhaseEnd, GoesOn, EndOfJob, Halt}
@@ -15,7 +15,7 @@ use Rattle.rpg_machine.specs.Config.{Output, with_more}
 use Rattle.rpg_cycle_records.specs.Earlier.{Selected, with_record}
 use Rattle.rpg_cycle_records.specs.Waiting.{Inputs, unread}
 
--- how a run ended, in how many cycles, and what was put out
+-- how a run ended, in how many cycles, and what was output
 pub record MeantCourse : Type 0 where
   pub ending : PhaseEnd
   pub cycles : ℕ
@@ -25,7 +25,7 @@ pub record MeantCourse : Type 0 where
 abbrev pub meant_begun : Job → World key_cmp → Inputs → JobState
 meant_begun job w i = record { world = w; allowance = job.allowance; inputs = i; selected = None }
 
--- a file takes a record in at the next cycle, which none does where LR or one of H1 to H9 is on
+-- a file reads a record at the next cycle, which none does if LR or one of H1 to H9 is on
 abbrev pub meant_needs : Job → JobState → InputFile → Bool
 meant_needs job s f = not (is_on_in last_record s || any_on_in halt_indicators s) && meant_takes_in job s.inputs f
 
@@ -37,7 +37,7 @@ meant_next job s f rs = next_of (meant_needs job s f) rs
 abbrev pub meant_left : Job → JobState → Records → Records
 meant_left job s rs = record { primary = rest_where_needed (meant_needs job s Primary) rs.primary; secondary = rest_where_needed (meant_needs job s Secondary) rs.secondary }
 
--- the next cycle from a state before it, with the record that is next in each file that takes one in
+-- the next cycle from a state before it, with the record that is next in each file that reads one
 abbrev pub NextCycle : Job → List Selected → Records → World key_cmp → Inputs → PhaseEnd → JobState → Output → Type 0
 NextCycle job earlier rs w i =
     MeantCycle job earlier (meant_next job (meant_begun job w i) Primary rs.primary) (meant_next job (meant_begun job w i) Secondary rs.secondary) (meant_begun job w i)

@@ -12,7 +12,7 @@ use Rattle.rpg_program.specs.Kept.{IsProgram}
 use Rattle.rpg_program.specs.Object.{Object}
 use Rattle.rpg_meaning.specs.Sources.Printing.{OnlyRun, PrintsAsMeant, SendsPartsAsMeant}
 
--- of each text with the program that it compiles to, on each day
+-- for each text with the program that it compiles to, on each day
 abbrev pub OfCompiled : (List ℕ → ℕ → Object → ℤ → Type 0) → Type 0
 OfCompiled Said = (text : List ℕ) (allowance : ℕ) (p : Object) → IsProgram p → Compiles text allowance p → (digits : List ℕ) (day : ℤ) → date_in digits ≡ Some day → Said text allowance p day
 
