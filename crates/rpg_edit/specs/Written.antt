@@ -1,6 +1,7 @@
 -- Numbers written from the last mark to the first.
 use Rattle.std.specs.Prelude.{◌≡◌, ℕ, ℤ, zero, suc, ◌+◌, ◌-◌, ◌%◌, ◌<◌, ◌≤◌, Bool, false, true, ◌||◌, nat_le, nat_lt, IsTrue, List, [], ◌∷◌, ◌++◌, length, replicate, take, drop, unsigned_abs}
 use Rattle.std.specs.Int.{is_negative}
+use Rattle.std.specs.List.{list_all}
 use Rattle.rpg_edit_marks.specs.declared.mark.Mark.{Mark}
 use Rattle.rpg_edit_marks.specs.declared.mark.Mark.TheVariants.{Digit, Insert, Always, Sign}
 use Rattle.rpg_edit.specs.declared.suppression.Pass.{Pass}
@@ -98,6 +99,13 @@ is_digit_last (m ∷ n ∷ rest) = is_digit_last (n ∷ rest)
 pub record IsUsedUp (p : Pass) : Type 0 where
   pub rest : p.rest ≡ 0
   pub kept : p.suppression.kept ≤ p.after
+
+-- marks of this count, this many of them digits, that all print the fill before what is written once the number is used up
+pub record AreSuppressed (count digits : ℕ) (pass : Pass) (marks : List Mark) : Type 0 where
+  pub count_is : length marks ≡ count
+  pub digits_are : places marks ≡ digits
+  pub each : list_all is_suppressed marks ≡ true
+  pub last : (nat_lt pass.suppression.kept pass.after || is_digit_last marks) ≡ true
 
 -- digits are written, at most as many as allowed; if fewer, no more are printed
 pub record WritesShown (digits written : ℕ) (old : Pass) (before : List ℕ) (new : Pass) (now : List ℕ) : Type 0 where

@@ -3,10 +3,9 @@
 //! A number is written from its last mark to the first: what a mark prints depends on the digits before those that follow it, and these are
 //! what is left of the number after it is divided by ten for each digit written.
 
-ghost use Rattle.std.specs.Prelude.{◌≡◌, ◌+◌, ◌-◌, ◌/◌, ◌%◌, ◌^◌, ◌<◌, ◌≤◌, List, ◌==◌, ◌||◌, [], ◌∷◌, IsTrue, length, nat_le, nat_lt, not, replicate, true, unsigned_abs};
-ghost use Rattle.std.specs.List.{list_all};
-ghost use Rattle.rpg_edit_marks.specs.Edited.{character, digit_character, is_begun, places};
-ghost use Rattle.rpg_edit.specs.Written.{are_clear, is_clear, is_digit_last, is_suppressed, AreFewLeft, Begins, HasRoom, IsUsedUp, PassesDigit, Writes, WritesLast, WritesShown, WritesThrees, WritesTo};
+ghost use Rattle.std.specs.Prelude.{◌≡◌, ◌+◌, ◌-◌, ◌/◌, ◌%◌, ◌^◌, ◌<◌, ◌≤◌, List, ◌==◌, [], ◌∷◌, length, nat_le, not, replicate, true, unsigned_abs};
+ghost use Rattle.rpg_edit_marks.specs.Edited.{character, digit_character, is_begun};
+ghost use Rattle.rpg_edit.specs.Written.{are_clear, is_clear, AreFewLeft, AreSuppressed, Begins, HasRoom, IsUsedUp, PassesDigit, Writes, WritesLast, WritesShown, WritesThrees, WritesTo};
 
 use crate::suppression::{Number, Pass};
 use rpg_decimal::pair_of;
@@ -69,8 +68,7 @@ impl Pass {
         requires some { 0 < digits }
         requires digits { digits ≤ marks }
         requires room { HasRoom marks self.old out.old }
-        ensures { (ms : List Mark) → length ms ≡ marks → places ms ≡ digits → list_all is_suppressed ms ≡ true
-            → (nat_lt self.old.suppression.kept self.old.after || is_digit_last ms) ≡ true → Writes ms self.old out.old self.new out.new }
+        ensures { (ms : List Mark) → AreSuppressed marks digits self.old ms → Writes ms self.old out.old self.new out.new }
     {
         let start = self.start - marks;
         fill(self.suppression.fill, &mut out[start..self.start]);

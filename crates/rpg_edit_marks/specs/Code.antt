@@ -1,5 +1,5 @@
 -- Edit codes.
-use Rattle.std.specs.Prelude.{◌≡◌, find, option_map, ℕ, zero, suc, codes, nat_eq, ◌+◌, ◌-◌, ◌%◌, max, Bool, true, false, not, ◌&&◌, List, [], ◌∷◌, ◌++◌, replicate, ℤ, Option, None, Some, if◌then◌else◌, nat_lt, ◌==◌, unsigned_abs}
+use Rattle.std.specs.Prelude.{find, option_map, ℕ, zero, suc, codes, nat_eq, ◌+◌, ◌-◌, ◌%◌, max, Bool, true, false, not, ◌&&◌, List, [], ◌∷◌, ◌++◌, replicate, ℤ, Option, None, Some, if◌then◌else◌, nat_lt, ◌==◌, unsigned_abs}
 use Rattle.std.specs.Cmp.Lexicographic.{pointwise}
 use Rattle.rpg_edit_marks.specs.declared.mark.Mark.{Mark}
 use Rattle.rpg_edit_marks.specs.declared.mark.Mark.TheVariants.{Digit, Insert, Sign}
@@ -71,13 +71,6 @@ dollar_in Dollar text = with_dollar text
 abbrev pub coded : ℤ → ℕ → ℕ → EditCode → Fill → List ℕ
 coded n len dec code fill = dollar_in fill (marked_text n (kept_digits code len dec (unsigned_abs n)) (fill_of fill) (code_marks code fill len dec))
 
--- Y edits six digits without decimals, and X, Y and Z take no fill
-abbrev pub IsFitCode : ℕ → ℕ → EditCode → Fill → Type 0
-IsFitCode len dec (Combination _ _ _) fill = Unit {0}
-IsFitCode len dec X fill = fill ≡ Blank
-IsFitCode len dec Y fill = (len ≡ 6) × (dec ≡ 0) × (fill ≡ Blank)
-IsFitCode len dec Z fill = fill ≡ Blank
-
 -- blanks fill
 abbrev pub is_blank_fill : Fill → Bool
 is_blank_fill Blank = true
@@ -90,7 +83,7 @@ takes_fill X fill = is_blank_fill fill
 takes_fill Y fill = is_blank_fill fill
 takes_fill Z fill = is_blank_fill fill
 
--- Y edits six digits without decimals, and X, Y and Z take no fill, as a test
+-- Y edits six digits without decimals, and X, Y and Z take no fill
 abbrev pub fits_code : ℕ → ℕ → EditCode → Fill → Bool
 fits_code len dec (Combination commas zeros ending) fill = true
 fits_code len dec X fill = is_blank_fill fill

@@ -1,10 +1,10 @@
 -- How a number is edited; an edit word is its characters.
-use Rattle.std.specs.Prelude.{◌≡◌, ℕ, List, length, ℤ, unsigned_abs}
+use Rattle.std.specs.Prelude.{◌≡◌, ℕ, List, length, ℤ, true, unsigned_abs}
 use Rattle.rpg_edit_marks.specs.declared.how.How.{How}
 use Rattle.rpg_edit_marks.specs.declared.how.How.TheVariants.{Plain, Code, Word}
 use Rattle.rpg_edit_marks.specs.Edited.{IsTextOf}
 use Rattle.rpg_decimal_words.specs.Zoned.{zoned_text}
-use Rattle.rpg_edit_marks.specs.Code.{code_marks, coded, kept_digits, fill_of, dollar_in, IsFitCode}
+use Rattle.rpg_edit_marks.specs.Code.{code_marks, coded, kept_digits, fill_of, dollar_in, fits_code}
 use Rattle.rpg_edit_marks.specs.Word.{word_marks, worded, digits_after_stop, word_fill, IsWordFor}
 
 -- the characters that a number of `len` digits with `dec` decimals takes
@@ -28,5 +28,5 @@ IsEdited n len dec (Word word) text = IsTextOf n (digits_after_stop word) (word_
 -- what a number of `len` digits with `dec` decimals may be edited by
 abbrev pub IsFit : ℕ → ℕ → How (List ℕ) → Type 0
 IsFit len dec Plain = Unit {0}
-IsFit len dec (Code code fill) = IsFitCode len dec code fill
+IsFit len dec (Code code fill) = fits_code len dec code fill ≡ true
 IsFit len dec (Word word) = IsWordFor len word

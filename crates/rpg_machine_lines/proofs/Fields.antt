@@ -1,14 +1,9 @@
 -- Fields with nothing wrong.
 use Rattle.std.proofs.Common.{◌≡◌, ℕ, ℤ, ◌≤◌, Bool, true, false, not, ◌&&◌, cond, nat_le, eqb, eqb-true, leb-true, List, ◌++◌, Option, None, Some, refl, sym, ap, ◌∙◌, subst, arith, length, drop, take, ◌-◌, ◌+◌, length-append, length-take-le}
 use Rattle.std.proofs.lemmas.List.{take-take}
-use Rattle.rpg_edit_marks.specs.Code.{IsFitCode, fits_code, is_blank_fill}
 use Rattle.rpg_edit_marks.specs.Edited.{places}
 use Rattle.rpg_edit_marks.specs.How.{edited, width_of}
 use Rattle.rpg_edit_marks.specs.Word.{has_dollar_at_stop, word_marks, IsWordFor}
-use Rattle.rpg_edit_marks.specs.declared.code.EditCode.{EditCode}
-use Rattle.rpg_edit_marks.specs.declared.code.EditCode.TheVariants as codes
-use Rattle.rpg_edit_marks.specs.declared.code.Fill.{Fill}
-use Rattle.rpg_edit_marks.specs.declared.code.Fill.TheVariants as fills
 use Rattle.rpg_edit_marks.specs.declared.how.How.{How}
 use Rattle.rpg_program.specs.LineFaults.{field_fault, field_width, fits_editing, fits_word, has_kinds, has_room, has_storage, has_word, may_change}
 use Rattle.rpg_program.specs.Lines.{laid_over}
@@ -38,20 +33,6 @@ right forms words len f h =
     let l = and_true (fits_editing forms words (forms f.operand.field) f.editing f.fill) _ k.1 in
     record { there = b.0; width = leb-true _ _ room.0; end = leb-true _ _ room.1; index = k.0; editing = l.0; source = l.1 }
 
-no_fill : (fill : Fill) → is_blank_fill fill ≡ true → fill ≡ fills.Blank
-no_fill fills.Blank h = refl
-no_fill fills.Star h = cc
-no_fill fills.Dollar h = cc
-
-pub code_fits : (len dec : ℕ) (code : EditCode) (fill : Fill) → fits_code len dec code fill ≡ true → IsFitCode len dec code fill
-code_fits len dec (codes.Combination commas zeros ending) fill h = tt
-code_fits len dec codes.X fill h = no_fill fill h
-code_fits len dec codes.Y fill h =
-    let a = and_true (eqb len 6) _ h in
-    let b = and_true (eqb dec 0) (is_blank_fill fill) a.1 in
-    (eqb-true _ _ a.0, eqb-true _ _ b.0, no_fill fill b.1)
-code_fits len dec codes.Z fill h = no_fill fill h
-
 not_true : (b : Bool) → not b ≡ true → b ≡ false
 not_true true h = cc
 not_true false h = refl
@@ -67,7 +48,7 @@ word_low len word h = leb-true _ _ (and_true (nat_le 1 (length word)) _ (and_tru
 pub word_high : (len : ℕ) (word : List ℕ) → fits_word len word ≡ true → length word ≤ 24
 word_high len word h = leb-true _ _ (and_true (nat_le 1 (length word)) (nat_le (length word) 24) (and_true _ _ h).0).1
 
-pub ruleset fitting = (code_fits, word_fits, word_low, word_high)
+pub ruleset fitting = (word_fits, word_low, word_high)
 
 -- a text written to the end of a part that ends at a place is laid over the line there
 pub laid_at_end : (text out part : List ℕ) (end width : ℕ) → end ≤ length text → width ≤ end → length out ≡ length (take end text) →

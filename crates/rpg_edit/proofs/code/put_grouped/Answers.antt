@@ -31,6 +31,10 @@ returns-then-written-digits c =
     let so_far = shown.ensures in
     let many = before_commas written c.args.digits c.args.pass.now.start shown.new.pass.start so_far.most c.requires.room.room so_far.writes.start in
     writes_before true written c.args.digits _ _ _ _ _ _ so_far.most so_far.writes
-    (c.put_fill.ensures (marks_before true written more) (omega (arith, many)) (before_places true written more) (before_hidden true written more)
-    (commas_over written more c.args.pass.now.after _ _ (omega (arith, c.requires.kept, ap (λ s. s.kept) so_far.writes.suppression))
-    (omega (arith, so_far.writes.after, whole_places true written))))
+    (c.put_fill.ensures (marks_before true written more) (record {
+      count_is = omega (arith, many);
+      digits_are = before_places true written more;
+      each = before_hidden true written more;
+      last = commas_over written more c.args.pass.now.after _ _ (omega (arith, c.requires.kept, ap (λ s. s.kept) so_far.writes.suppression))
+          (omega (arith, so_far.writes.after, whole_places true written));
+    }))

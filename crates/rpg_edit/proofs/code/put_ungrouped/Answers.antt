@@ -29,8 +29,12 @@ returns-then-written-digits c =
     let same = plain_digits written in
     let before = subst (λ ms. Writes ms c.args.pass.now c.args.out.now shown.new.self shown.new.out) same so_far.writes in
     writes_before false written c.args.digits _ _ _ _ _ _ so_far.most before
-    (c.put_fill.ensures (marks_before false written more) (omega (arith, before_plain written c.args.digits so_far.most)) (before_places false written more) (before_hidden false written more)
-    (plain_over written more _ _))
+    (c.put_fill.ensures (marks_before false written more) (record {
+      count_is = omega (arith, before_plain written c.args.digits so_far.most);
+      digits_are = before_places false written more;
+      each = before_hidden false written more;
+      last = plain_over written more _ _;
+    }))
 
 pub returns-else-written-digits : goal.returns-else-written-digits
 returns-else-written-digits c =

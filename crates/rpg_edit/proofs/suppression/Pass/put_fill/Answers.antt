@@ -20,5 +20,5 @@ returns c =
     let at = self.start - c.args.marks in
     let filled : c.fill.new.text ≡ replicate c.args.marks self.suppression.fill =
     c.fill.ensures ∙ ap (λ n. replicate n self.suppression.fill) (length-mid out c.args.marks self.start c.requires.room.room c.requires.room.within) in
-    λ ms are_marks are_digits are last. writes_fill ms c.args.marks self _ out _ c.requires.used_up c.requires.room.room c.requires.room.within are_marks are last refl
-    (ap (λ n. self.after + n) (sym are_digits)) refl refl (ap (put_mid at (self.start - at) out) filled)
+    λ ms are. writes_fill ms c.args.marks self _ out _ c.requires.used_up c.requires.room.room c.requires.room.within are.count_is are.each are.last refl
+    (ap (λ n. self.after + n) (sym are.digits_are)) refl refl (ap (put_mid at (self.start - at) out) filled)
