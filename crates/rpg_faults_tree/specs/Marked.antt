@@ -1,5 +1,5 @@
 -- What the rules of a tree find, as sets of cards.
-use Rattle.std.specs.Prelude.{◌≡◌, ℕ, List, ◌∷◌, ◌++◌, Bool, false, ◌||◌, get_or, nat_eq}
+use Rattle.std.specs.Prelude.{◌≡◌, ◌≤◌, ℕ, List, ◌∷◌, ◌++◌, Bool, false, ◌||◌, get_or, length, nat_eq}
 use Rattle.std.specs.List.{list_any}
 use Rattle.rpg_cards.specs.Cards.{Numbered}
 use Rattle.rpg_cards.specs.declared.spec_card.SpecCard.{SpecCard}
@@ -27,6 +27,12 @@ pub record IsFoundInTree (t : Tree) (f : Found) : Type 0 where
   pub leaving : AreMarked f.leaving (leaving_cards t)
   pub recursive : AreMarked f.recursive (recursive_cards t)
   pub wrongly_rounding : AreMarked f.wrongly_rounding (wrongly_rounding_cards t)
+
+-- numbered, in the order of the sheets, and at most 2,000, as a source's cards are
+pub record AreOrdered (cards : List SpecCard) : Type 0 where
+  pub numbered : Numbered 1 cards
+  pub ordered : IsInOrder 0 cards
+  pub few : length cards ≤ 2000
 
 -- the cards of a source are in order, and for each rule exactly those that break it are found
 pub record IsFoundIn (cards : List SpecCard) (f : Found) : Type 0 where

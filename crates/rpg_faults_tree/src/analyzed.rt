@@ -1,11 +1,11 @@
 //! The cards of a source, with the faults that the rules on their tree find.
 
-ghost use Rattle.std.specs.Prelude.{◌≡◌, ◌≤◌, length, IfOk, IfSome};
+ghost use Rattle.std.specs.Prelude.{◌≡◌, ◌≤◌, ◌↔◌, length, IfOk, IfSome, IsSome};
 ghost use Rattle.rpg_cards.specs.Cards.{Numbered};
 ghost use Rattle.rpg_deck.specs.Flat.{IsInOrder};
 ghost use Rattle.rpg_faults_flow.specs.Rounding.{bad_rounding};
 ghost use Rattle.rpg_faults_tree.specs.Marked as marked;
-ghost use Rattle.rpg_faults_tree.specs.Marked.{IsFoundIn, TellsBreach};
+ghost use Rattle.rpg_faults_tree.specs.Marked.{AreOrdered, IsFoundIn, TellsBreach};
 ghost use Rattle.rpg_faults_tree.specs.Props.{IsFoundIn-prop};
 
 use crate::found::Found;
@@ -42,7 +42,8 @@ impl<'a> AnalyzedCards<'a> {
         alloc: Global,
         cards: &'a IndexedCards<'a>,
     ) -> Result<Option<Self>, AllocError>
-        ensures { IfOk result (λ found. IfSome found (λ analyzed. analyzed.cards.now ≡ cards.now)) }
+        ensures same { IfOk result (λ found. IfSome found (λ analyzed. analyzed.cards.now ≡ cards.now)) }
+        ensures ordered { IfOk result (λ found. IsSome found ↔ AreOrdered cards.now) }
     {
         let listed = cards.as_slice();
         if listed.len() > MOST_CARDS || !are_in_order(listed) {

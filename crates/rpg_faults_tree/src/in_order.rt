@@ -1,6 +1,6 @@
 //! The order of cards.
 
-ghost use Rattle.std.specs.Prelude.{◌≡◌, true};
+ghost use Rattle.std.specs.Prelude.{◌≡◌, ◌↔◌, IsTrue};
 ghost use Rattle.rpg_cards.specs.Cards.{Numbered};
 ghost use Rattle.rpg_deck.specs.Flat as flat;
 ghost use Rattle.rpg_deck.specs.Flat.{IsInOrder};
@@ -11,8 +11,7 @@ use rpg_sheet_specs::Spec;
 /// Whether cards are numbered in ascending order, and are in the order of the
 /// sheets.
 pub(crate) fn are_in_order(cards: &[SpecCard]) -> bool
-    ensures numbered { result ≡ true → Numbered 1 cards.now }
-    ensures ordered { result ≡ true → IsInOrder 0 cards.now }
+    ensures { IsTrue result ↔ (Numbered 1 cards.now × IsInOrder 0 cards.now) }
 {
     let mut number = 0;
     let mut place = 0;
