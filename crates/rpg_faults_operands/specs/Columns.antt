@@ -25,7 +25,7 @@ searches shown.Search = true
 abbrev pub lacks_sequence : FieldForm → Bool
 lacks_sequence form = (is_array form.class || is_table form.class) && not form.is_ascending
 
--- a search for high or low requires entries in ascending sequence
+-- a search for high or low through entries that aren't in ascending sequence
 abbrev pub is_unordered : List SpecCard → CalculationSpec → OperationColumns → Bool
 is_unordered cards k t =
     searches t.indicators && (is_some k.resulting_indicators.first || is_some k.resulting_indicators.second)

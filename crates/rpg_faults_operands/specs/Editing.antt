@@ -57,7 +57,7 @@ if_suited form how = if suits form how then Some how else None
 abbrev pub fitting_how : FieldForm → OutputField → Option (How (List ℕ))
 fitting_how form f = option_and_then (if_suited form) (output_how f)
 
--- of a field without a form only the fill is known
+-- all that is tested for a field without a form is its fill
 abbrev pub unedited : Option FieldForm → OutputField → Bool
 unedited None f = option_map_or (λ how. not (has_fill how)) (output_how f) true
 unedited (Some form) f = is_none (fitting_how form f)
