@@ -17,7 +17,7 @@ module _ {K : Type 0} {R : K → K → Ordering} where
   abbrev pub quiet : End → World R → Effect R
   quiet e w = record { ending = e; world = w; lines = []; records = [] }
 
-  -- goes on with that world, and outputs nothing
+  -- goes on with this world, and outputs nothing
   abbrev pub Leaves : World R → Effect R
   Leaves w = quiet GoesOn w
 
@@ -31,7 +31,7 @@ module _ {K : Type 0} {R : K → K → Ordering} where
   go_on (Halt k) e go = e
   go_on (Wrong f) e go = e
 
-  -- the one and then the other, unless the one halts or is wrong
+  -- one and then the other, unless the first halts or is wrong
   abbrev pub then_go : Effect R → (World R → Effect R) → Effect R
   then_go e go = go_on e.ending e go
 
