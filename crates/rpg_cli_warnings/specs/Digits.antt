@@ -43,7 +43,7 @@ factor_digits cards f = option_and_then (λ x. whole_digits_of (form_of_factor x
 unfoldable pub result_digits : List SpecCard → Option Entry → Option ℕ
 result_digits cards r = option_and_then (λ (e : Entry). whole_digits_of (form_of_name e.name cards)) r
 
--- the greater of two, or the one that is there
+-- the greater of two, or the only one
 abbrev pub greater_of : Option ℕ → Option ℕ → Option ℕ
 greater_of (Some a) (Some b) = Some (if nat_le a b then b else a)
 greater_of (Some a) None = Some a

@@ -22,7 +22,7 @@ digits_of n =
 abbrev pub candidate : List ℕ → ℕ → ℕ → List ℕ
 candidate stem room n = cut (take (room - length (digits_of n)) stem ++ digits_of n)
 
--- a name that a card has, or that stands for something in every deck
+-- a name that a card has, or that is predefined
 abbrev pub is_taken : View → List ℕ → Bool
 is_taken view name = is_reserved name || is_name_used view name
 

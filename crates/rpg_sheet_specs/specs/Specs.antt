@@ -20,7 +20,7 @@ card_on form.Input = values spec.Input ⊛ input_card
 card_on form.Calculation = values spec.Calculation ⊛ calculation_card
 card_on form.Output = values spec.Output ⊛ output_card
 
--- what a card that is on no sheet means; `data_begun` says whether one before it begins data
+-- the meaning of a card that belongs to no sheet; `data_begun` says whether one before it begins data
 abbrev pub data_spec_of : Bool → List ℕ → Option DataSpec
 data_spec_of data_begun card =
     if ends_source card then None
