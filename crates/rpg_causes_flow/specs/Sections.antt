@@ -46,7 +46,7 @@ label_if name front c after k n =
 abbrev pub label_by : List ℕ → List SpecCard → SpecCard → List SpecCard → CalculationSpec → Option LabelOnCard
 label_by name front c after k = option_and_then (label_if name front c after k) (gives (deed_of k))
 
--- the same for any card
+-- likewise for any card
 abbrev pub label_on_card : List ℕ → List SpecCard → SpecCard → List SpecCard → Option LabelOnCard
 label_on_card name front c after = option_and_then (label_by name front c after) (card_ending c after)
 

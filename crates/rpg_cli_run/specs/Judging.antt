@@ -26,7 +26,7 @@ BreaksBound (answers.OverLimit most_steps) p most = (most < most_steps) × (most
 BreaksBound (answers.Run fault) p most = fault ≡ runs.BadDate
 BreaksBound e p most = ⊥
 
--- the same for a program that may have been rejected
+-- likewise for a program that may have been rejected
 abbrev pub BreaksLimit : Answer → Result Object ObjectFault → ℕ → Type 0
 BreaksLimit (answers.OverLimit most_steps) accepted most = (most < most_steps) × IfOk accepted (λ p. most_steps ≡ bound p)
 BreaksLimit (answers.Object fault) accepted most = accepted ≡ Err fault

@@ -33,7 +33,7 @@ pub record MovesDigitsFromLeft (k : ℕ) (n : ℤ) (len : ℕ) (old moved : ℤ)
   pub digits : (i : ℕ) → i < len → digit_at moved (len - 1 - i) ≡ (if nat_lt i k then digit_at n (k - 1 - i) else digit_at old (len - 1 - i))
   pub sign : moved ≢ pos 0 → is_negative moved ≡ (if nat_lt k len then is_negative old else is_negative n)
 
--- each character is good and has the digit of n at its place, and the last one has its sign
+-- each character is valid and has the digit of n at its place, and the last one has its sign
 pub record SpellsByPlaces (text : List ℕ) (n : ℤ) : Type 0 where
   pub good : EachIndex text (IsGoodAt text)
   pub fits : unsigned_abs n < 10 ^ length text

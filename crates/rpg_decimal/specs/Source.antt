@@ -26,7 +26,7 @@ IsFirstBadRight (Number n) len before spot = ⊥
 IsFirstBadRight (Text t) len before spot =
     (length t.now ≤ spot + len) × IsFirstBad (overlay_right t.now (zoned_text len before)) (spot + len - length t.now)
 
--- the same for MOVEL
+-- likewise for MOVEL
 abbrev pub IsFirstBadLeft : Source → ℕ → ℤ → ℕ → Type 0
 IsFirstBadLeft (Number n) len before spot = ⊥
 IsFirstBadLeft (Text t) len before spot = IsFirstBad (overlay_left t.now (zoned_text len before)) spot

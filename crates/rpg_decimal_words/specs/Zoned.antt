@@ -39,7 +39,7 @@ last_of text = slice_index text (length text - 1)
 abbrev pub spelled_number : List ℕ → ℤ
 spelled_number text = signed_number (is_minus (last_of text)) (map digit_of text)
 
--- each place is good, from left to right
+-- each place is valid, from left to right
 abbrev pub is_numeric : List ℕ → Bool
 is_numeric [] = true
 is_numeric (c ∷ cs) = may_stand (length cs == 0) c && is_numeric cs

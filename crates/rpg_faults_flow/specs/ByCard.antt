@@ -41,7 +41,7 @@ bracket_of g = if begins_subroutine g || ends g then Some (ends g) else None
 abbrev pub bracket_in : ControlLevel → CalculationSpec → Option Bool
 bracket_in level k = if is_subroutine level && is_bracket (deed_of k) then Some (is_endsr (deed_of k)) else None
 
--- the same for the card with the operation, if a group ends on the card
+-- likewise for the card with the operation, if a group ends on the card
 abbrev pub bracket_at : Option ControlLevel → SpecCard → List SpecCard → Option Bool
 bracket_at group c after = option_and_then (λ k. bracket_in (calculation_level group k) k) (card_ending c after)
 

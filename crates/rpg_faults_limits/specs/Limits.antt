@@ -180,7 +180,7 @@ passes_storage cards before c =
 abbrev pub bad_entries_of : ExtensionSpec → Bool
 bad_entries_of e = not (is_between 1 9999 e.entries)
 
--- the same for a card, if it is an E card
+-- likewise for a card, if it is an E card
 abbrev pub bad_entries : SpecCard → Bool
 bad_entries c = option_map_or bad_entries_of (extension_on c.spec) false
 

@@ -18,26 +18,26 @@ pub record IsGoodOperand (cards : List SpecCard) (o : Option Operand) : Type 0 w
   pub name : option_map_or (names_nothing cards) o false ≡ false
   pub index : option_map_or (bad_index_of cards) o false ≡ false
 
--- an operand is good, and its form is known
+-- an operand is valid, and its form is known
 pub record IsGoodForm (cards : List SpecCard) (o : Option Operand) (known found : Option FieldForm) : Type 0 where
   pub operand : IsGoodOperand cards o
   pub form : found ≡ known
 
--- the factor in such a column is good, and this is its form
+-- the factor in such a column is valid, and this is its form
 abbrev pub IsGoodFactor : List SpecCard → Column → Option Factor → Option FieldForm → Type 0
 IsGoodFactor cards column f found = IsGoodForm cards (operand_in column (option_and_then factor_entry f)) (factor_form cards column f) found
 
--- the result field is good, and this is its form
+-- the result field is valid, and this is its form
 abbrev pub IsGoodResult : List SpecCard → Column → Option Entry → Option FieldForm → Type 0
 IsGoodResult cards column e found = IsGoodForm cards (operand_in column e) (result_form cards column e) found
 
--- all operands of a calculation are good
+-- all operands of a calculation are valid
 pub record IsGoodCalculation (cards : List SpecCard) (k : CalculationSpec) : Type 0 where
   pub names : list_any (names_nothing cards) (operands_listed (operands_of k)) ≡ false
   pub kinds : wrong_in_calculation cards k ≡ false
   pub indexes : list_any (bad_index_of cards) (operands_listed (operands_of k)) ≡ false
 
--- all operands of a card are good
+-- all operands of a card are valid
 pub record HasGoodOperands (cards : List SpecCard) (c : SpecCard) (after : List SpecCard) : Type 0 where
   pub names : lacks_name cards c after ≡ false
   pub kinds : wrong_operand cards c after ≡ false

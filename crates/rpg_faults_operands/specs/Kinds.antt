@@ -28,7 +28,7 @@ is_wrong_class Table form = not (is_table form.class)
 is_wrong_class Label form = false
 is_wrong_class Subroutine form = false
 
--- the same for the contents of a column
+-- likewise for the contents of a column
 abbrev pub has_wrong_class : Option Content → Option FieldForm → Bool
 has_wrong_class None form = false
 has_wrong_class (Some c) form = option_map_or (is_wrong_class c) form false

@@ -85,7 +85,7 @@ operands_ending c after = option_map_or operands_of (card_ending c after) no_ope
 abbrev pub output_operand : OutputField → Option Operand
 output_operand f = option_map (operand_with Value) f.operand
 
--- the same for a card, if it has an output field
+-- likewise for a card, if it has an output field
 abbrev pub output_operand_on : SpecCard → Option Operand
 output_operand_on c = option_and_then output_operand (output_field_on c.spec)
 

@@ -144,15 +144,15 @@ module _ (source : Source) (s : State) (k : CalculationSpec) where
   abbrev pub assigning : MeantOutcome → MeantOutcome
   assigning = unless_out_of_range (factor_2 ∷ result ∷ [])
 
-  -- the same for the result field alone
+  -- likewise for the result field alone
   abbrev pub taking : MeantOutcome → MeantOutcome
   taking = unless_out_of_range (result ∷ [])
 
-  -- the same for both factors
+  -- likewise for both factors
   abbrev pub comparing : MeantOutcome → MeantOutcome
   comparing = unless_out_of_range (factor_1 ∷ factor_2 ∷ [])
 
-  -- the same for both factors and the table
+  -- likewise for both factors and the table
   abbrev pub searching : MeantOutcome → MeantOutcome
   searching = unless_out_of_range (factor_1 ∷ factor_2 ∷ option_to_list table_operand)
 

@@ -16,11 +16,11 @@ module _ {K : Type 0} {R : K → K → Ordering} where
   abbrev pub ends_with : End → Data R → Ended R
   ends_with e d = record { ending = e; «data» = d }
 
-  -- goes on with that data
+  -- continues with that data
   abbrev pub Gives : Data R → Ended R
   Gives d = ends_with GoesOn d
 
-  -- what goes on is followed by what comes next
+  -- what continues is followed by what comes next
   abbrev pub followed_if : End → Ended R → (Data R → Ended R) → Ended R
   followed_if GoesOn o go = go o.data
   followed_if (Halt k) o go = o

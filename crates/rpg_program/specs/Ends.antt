@@ -12,7 +12,7 @@ pub data Fault : Type 0 where
   Kind : Fault
   Return : Fault
 
--- It goes on, halts the job with a number, or is wrong.
+-- It continues, halts the job with a number, or is wrong.
 pub data End : Type 0 where
   GoesOn : End
   Halt : ℕ → End

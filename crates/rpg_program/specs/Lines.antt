@@ -173,7 +173,7 @@ module _ {K : Type 0} {R : K → K → Ordering} where
   unless_faulty None d e = e
   unless_faulty (Some f) d e = drafted (Wrong f) d
 
-  -- a draft that goes on is passed to what follows
+  -- a draft that continues is passed to what follows
   abbrev pub go_on_with : End → Drafted R → (Draft R → Drafted R) → Drafted R
   go_on_with GoesOn d go = go d.draft
   go_on_with (Halt k) d go = d

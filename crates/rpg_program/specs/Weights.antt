@@ -65,7 +65,7 @@ exceptions_weight lines = lines_weight is_exception lines
 
 -- ---- types
 
--- each code, control field, input field and match field of a type weighs one
+-- each code, control field, input field and match field of a type has weight one
 abbrev pub type_weight : {K : Type 0} → TypeRow K → ℕ
 type_weight t = length t.codes + length t.levels + length t.inputs + length t.matches
 
@@ -93,10 +93,10 @@ module _ {K : Type 0} (forms : K → Option FieldForm) where
   use_weight None = 0
   use_weight (Some u) = if goes_through u.shape then entries_of (forms u.operand.field) else 0
 
-  -- an operation weighs one, plus the entries that it goes through
+  -- an operation has weight one, plus the entries that it goes through
   unfoldable pub row_weight : Row (Operand K) → ℕ
   row_weight r = 1 + use_weight r.factor2
 
-  -- an instruction weighs one; LOKUP and XFOOT add entries, EXCPT the weight of all exception lines
+  -- an instruction has weight one; LOKUP and XFOOT add entries, EXCPT the weight of all exception lines
   unfoldable pub instruction_weight : ℕ → Instruction K → ℕ
   instruction_weight exceptions i = row_weight (instruction_columns forms i) + exceptions_of exceptions i

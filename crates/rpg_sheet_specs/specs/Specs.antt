@@ -28,7 +28,7 @@ data_spec_of data_begun card =
     else if data_begun then Some (data_spec.Card card)
     else None
 
--- what a card means: nothing where a column is bad, where it is skipped and where it ends the source
+-- what a card means: nothing if a column is bad, if it is skipped or if it ends the source
 abbrev pub spec_of : Bool → List ℕ → Option Spec
 spec_of data_begun card =
     if is_sheet data_begun card then option_and_then (λ sheet. result_ok ((card_on sheet).reading card)) (form_type card)

@@ -130,5 +130,5 @@ pub data CardsCome (source : Source) : State → MeantOutcome → Type 0 where
   AtEnd : (s : State) → is_finished source.sections s ≡ true → CardsCome source s (On s no_output)
   -- one calculation halts
   AtHalt : (s t : State) (o : Output) (k : ℕ) → is_finished source.sections s ≡ false → cards_step source s ≡ Stops k t o → CardsCome source s (Stops k t o)
-  -- one calculation goes on, and the rest follows
+  -- one calculation continues, and the rest follows
   Then : (s t : State) (o : Output) (rest : MeantOutcome) → is_finished source.sections s ≡ false → cards_step source s ≡ On t o → CardsCome source t rest → CardsCome source s (told_before o rest)

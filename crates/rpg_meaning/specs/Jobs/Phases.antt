@@ -14,7 +14,7 @@ use Rattle.rpg_meaning.specs.Calculations.Laws as calculations
 use Rattle.rpg_meaning.specs.Calculations.Meaning.{CardsCome, MeantOutcome, On, Over, Source, Stops}
 use Rattle.rpg_meaning.specs.Calculations.Parts.{Part}
 
--- A phase leads from one state to another; it goes on or ends the job, and it outputs something.
+-- A phase leads from one state to another; it continues or ends the job, and it outputs something.
 abbrev pub MeantPhase : Type 1
 MeantPhase = JobState → PhaseEnd → JobState → Output → Type 0
 

@@ -58,7 +58,7 @@ pub data MeantRuns (job : Job) : List Selected → Records → World key_cmp →
   -- a cycle halts
   AtHalt : (earlier : List Selected) (rs : Records) (w : World key_cmp) (i : Inputs) (k : ℕ) (t : JobState) (out : Output)
       → NextCycle job earlier rs w i (Halt k) t out → MeantRuns job earlier rs w i (meant_last_cycle (Halt k) out)
-  -- a cycle goes on, and the rest follows
+  -- a cycle continues, and the rest follows
   Then : (earlier : List Selected) (rs : Records) (w : World key_cmp) (i : Inputs) (t : JobState) (out : Output) (rest : MeantCourse)
       → NextCycle job earlier rs w i GoesOn t out → MeantRuns job (with_record t.selected earlier) (meant_left job (meant_begun job w i) rs) t.world t.inputs rest
       → MeantRuns job earlier rs w i (with_meant_cycle out rest)
