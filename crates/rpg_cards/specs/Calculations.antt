@@ -1,4 +1,4 @@
--- The calculations of cards: a C card with the AN and OR cards right after it is one, which ends on the last of them.
+-- The calculations of cards: a C card with the AN and OR cards right after it is one calculation, which ends on the last of them.
 use Rattle.std.specs.Prelude.{ℕ, ◌==◌, ◌++◌, Bool, true, false, List, [], ◌∷◌, Option, None, Some, unwrap_or, map, slice_get, if◌then◌else◌}
 use Rattle.std.specs.List.{filter_map, last_or}
 use Rattle.std.specs.Option.{option_map, option_map_or, option_to_list}
@@ -31,7 +31,7 @@ awaited_level control.Or = None
 abbrev pub condition_of : sheet.ConditionSpec → Condition
 condition_of c = record { indicator = c.indicator; is_negated = c.negated }
 
--- those that stand, in the order of the columns, from the first place on
+-- those that are filled, in the order of the columns, from the first place on
 abbrev pub standing : Three (Option sheet.ConditionSpec) → List Condition
 standing t = map condition_of (filter_map (λ c. c) (t.first ∷ t.second ∷ t.third ∷ []))
 
@@ -59,19 +59,19 @@ is_or control.Subroutine = false
 is_or control.And = false
 is_or control.Or = true
 
--- an AN card goes on with the alternative, an OR card begins one
+-- an AN card continues the alternative, an OR card begins one
 abbrev pub alternatives : List Conditions → List CalculationSpec → List (List Conditions)
 alternatives so_far [] = so_far ∷ []
 alternatives so_far (k ∷ ks) = if is_or k.control_level then so_far ∷ alternatives (tests_on k) ks else alternatives (so_far ++ tests_on k) ks
 
 -- ---- groups of cards
 
--- a C card with the AN and OR cards that go on with it
+-- a C card with the AN and OR cards that continue it
 pub record CalculationGroup : Type 0 where
   pub first : CalculationSpec
   pub followers : List CalculationSpec  -- its AN and OR cards
 
--- the card that has the operation: the last one
+-- the card with the operation: the last one
 abbrev pub last_card : CalculationGroup → CalculationSpec
 last_card g = unwrap_or (last_or None g.followers) g.first
 
@@ -92,27 +92,27 @@ alone k = record { first = k; followers = [] }
 abbrev pub joined_group : CalculationGroup → CalculationSpec → CalculationGroup
 joined_group g k = record { first = g.first; followers = g.followers ++ k ∷ [] }
 
--- an AN or OR card that no C card stands right before begins a group as others do
+-- an AN or OR card without a C card right before it begins a group, as other cards do
 abbrev pub group_with : Option CalculationGroup → CalculationSpec → CalculationGroup
 group_with None k = alone k
 group_with (Some g) k = if joins k.control_level then joined_group g k else alone k
 
--- ---- from the front: the group that the card right before belongs to
+-- ---- from the front: the group of the previous card
 
--- the open group once a card has been read; only C cards change it
+-- the open group after a card; only C cards change it
 abbrev pub open_with : Option CalculationGroup → Spec → Option CalculationGroup
 open_with o s = option_map (group_with o) (calculation_on s)
 
--- the open group once all these cards have been read
+-- the open group after all these cards
 abbrev pub open_after : Option CalculationGroup → List SpecCard → Option CalculationGroup
 open_after o [] = o
 open_after o (c ∷ cs) = open_after (open_with o c.spec) cs
 
--- the group that the last C card belongs to
+-- the group of the last C card
 abbrev pub open_calculation_group : List SpecCard → Option CalculationGroup
 open_calculation_group before = open_after None before
 
--- an AN or OR card comes right after
+-- the next card is an AN or OR card
 abbrev pub goes_on : List SpecCard → Bool
 goes_on [] = false
 goes_on (c ∷ cs) = option_map_or (λ k. joins k.control_level) (calculation_on c.spec) false
@@ -121,12 +121,12 @@ goes_on (c ∷ cs) = option_map_or (λ k. joins k.control_level) (calculation_on
 abbrev pub group_at : Option CalculationGroup → SpecCard → List SpecCard → Option CalculationGroup
 group_at o c after = if goes_on after then None else open_with o c.spec
 
--- the calculations that end on the cards at the front, seen with those after them
+-- the calculations that end on the first cards, given those after them
 abbrev pub calculations_from : Option CalculationGroup → List SpecCard → List SpecCard → List (Calculation Key)
 calculations_from o [] after = []
 calculations_from o (c ∷ cs) after = option_to_list (option_map calculation_of (group_at o c (cs ++ after))) ++ calculations_from (open_with o c.spec) cs after
 
--- the calculations that end on some cards, seen with those after them
+-- the calculations that end on some cards, given those after them
 abbrev pub calculations_before : List SpecCard → List SpecCard → List (Calculation Key)
 calculations_before before after = calculations_from None before after
 
@@ -136,11 +136,11 @@ calculations cards = calculations_before cards []
 
 -- ---- what ends on a card
 
--- the group that ends on a card between those before and those after it
+-- the group that ends on a card, given the cards before and after it
 abbrev pub group_ending : List SpecCard → SpecCard → List SpecCard → Option CalculationGroup
 group_ending before c after = group_at (open_calculation_group before) c after
 
--- the calculation that ends on a card between those before and those after it
+-- the calculation that ends on a card, given the cards before and after it
 abbrev pub calculation_ending : List SpecCard → SpecCard → List SpecCard → Option (Calculation Key)
 calculation_ending before c after = option_map calculation_of (group_ending before c after)
 

@@ -10,14 +10,14 @@ use Rattle.rpg_cards.specs.declared.labels.Named.{Named}
 use Rattle.rpg_cards.specs.declared.labels.Section.{Section}
 use Rattle.rpg_cards.specs.declared.labels.Section.TheVariants.{Detail, Outside, Subroutine, Total}
 
--- the number of the subroutine that a section is
+-- the number of a subroutine's section
 abbrev pub subroutine_in : Section → Option ℕ
 subroutine_in Detail = None
 subroutine_in Total = None
 subroutine_in (Subroutine n) = Some n
 subroutine_in Outside = None
 
--- the subroutine that a name calls, if it is one that the source has
+-- the subroutine that a name calls, if the source has it
 abbrev pub called_subroutine : List Label → Named → Option ℕ
 called_subroutine given n = if n.is_subroutine then option_and_then (λ (l : Label). if l.named.is_subroutine then subroutine_in l.section else None) (label_named n.name given) else None
 
@@ -25,7 +25,7 @@ called_subroutine given n = if n.is_subroutine then option_and_then (λ (l : Lab
 abbrev pub call_at : List Label → List (Calculation Key) → Calculation Key → Option (ℕ × ℕ)
 call_at given before g = option_and_then (λ caller. option_map (λ callee. (caller, callee)) (option_and_then (called_subroutine given) (wants g.deed))) (subroutine_in (section_of before g))
 
--- the calls in calculations that come after these, in their order
+-- the calls in calculations that follow these, in order
 abbrev pub calls_after : List Label → List (Calculation Key) → List (Calculation Key) → List (ℕ × ℕ)
 calls_after given before [] = []
 calls_after given before (g ∷ gs) = option_to_list (call_at given before g) ++ calls_after given (before ++ g ∷ []) gs

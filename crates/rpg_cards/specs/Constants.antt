@@ -1,4 +1,4 @@
--- The constants that stand on the cards themselves.
+-- The constants on the cards themselves.
 use Rattle.std.specs.Prelude.{◌≤◌, ◌<◌, ◌^◌, unsigned_abs, IsTrue, List, [], ◌∷◌, ◌++◌, length, Bool, false, ◌&&◌, ◌==◌, nat_eq, Option, None, Some, is_none, if◌then◌else◌}
 use Rattle.std.specs.List.{list_all}
 use Rattle.std.specs.Option.{option_and_then, option_map, option_to_list}
@@ -44,14 +44,14 @@ abbrev pub IsConstant : Constant → Type 0
 IsConstant (Number n) = (1 ≤ n.length) × (n.length ≤ 15) × (n.decimals ≤ 9) × (n.decimals ≤ n.length) × (unsigned_abs n.value < 10 ^ n.length)
 IsConstant (Text text) = (1 ≤ length text) × (length text ≤ 24) × IsTrue (list_all is_character text)
 
--- one constant stands for all of one kind, length, decimals and value
+-- one constant serves for all of the same kind, length, decimals and value
 abbrev pub is_same : Constant → Constant → Bool
 is_same (Number m) (Number n) = int_eq m.value n.value && (m.length == n.length) && (m.decimals == n.decimals)
 is_same (Number m) (Text t) = false
 is_same (Text s) (Number n) = false
 is_same (Text s) (Text t) = pointwise nat_eq s t
 
--- ---- the constants of a card: those of the factors, or the constant or edit word of an output field (the fill of a code is none)
+-- ---- the constants of a card: those of the factors, or the constant or edit word of an output field (the fill of a code isn't one)
 
 -- the constant or edit word of an output field
 abbrev pub text_constant : OutputField → Option Constant
@@ -68,16 +68,16 @@ constants_on s =
     ++ option_to_list (option_and_then (λ k. option_and_then factor_constant k.factor_2) (calculation_on s))
     ++ option_to_list (option_and_then text_constant (output_field_on s))
 
--- the constants on these cards, each as often as it stands there
+-- the constants on these cards, with duplicates
 abbrev pub constants_in : List SpecCard → List Constant
 constants_in [] = []
 constants_in (c ∷ cs) = constants_on c.spec ++ constants_in cs
 
--- equal ones once: each where it comes first
+-- without duplicates: each where it comes first
 abbrev pub constants : List SpecCard → List Constant
 constants cards = insert_all is_same [] (constants_in cards)
 
--- the form of what stands in a factor
+-- the form of a factor
 abbrev pub form_of_factor : Factor → List SpecCard → Defined
 form_of_factor (factor.Entry e) cards = form_of_name e.name cards
 form_of_factor (factor.Literal l) cards = Good (constant_form (constant_of l))

@@ -27,7 +27,7 @@ pub data Deed (K : Type 0) : Type 0 where
   Ends : Option Name → Deed K  -- ENDSR, with its label
   Nothing : Deed K  -- no operation
 
--- TAG and BEGSR become no instruction
+-- TAG and BEGSR compile to no instruction
 abbrev pub has_instruction : Deed Key → Bool
 has_instruction (Acts a) = true
 has_instruction PutsOut = true
@@ -38,8 +38,8 @@ has_instruction (Begins s) = false
 has_instruction (Ends l) = true
 has_instruction Nothing = false
 
--- A group of C cards. It is done if its level indicator is on and all conditions of one of its alternatives hold: of each alternative
--- those of its cards, one empty alternative if no card has any.
+-- A group of C cards. It is done if its level indicator is on and all conditions of one of its alternatives hold. The alternatives have the
+-- conditions of its cards; there is a single empty one if no card has any.
 pub record Calculation (K : Type 0) : Type 0 where
   pub control : ControlLevel
   pub level : Option ℕ
@@ -78,15 +78,15 @@ module _ (k : CalculationSpec) where
   abbrev pub resulting_shows : Shows
   resulting_shows = shows_of k.resulting_indicators
 
-  -- the label or subroutine that factor 1 gives
+  -- the label or subroutine that factor 1 defines
   abbrev pub given_name : Option Name
   given_name = option_and_then plain_name k.factor_1
 
-  -- the label or subroutine that factor 2 names
+  -- the label or subroutine that factor 2 refers to
   abbrev pub wanted_name : Option Name
   wanted_name = option_and_then plain_name k.factor_2
 
-  -- arithmetic on factor 1 and factor 2, where a blank factor 1 stands for the result field
+  -- arithmetic on factor 1 and factor 2, where a blank factor 1 means the result field
   abbrev pub computes : Operator → Deed Key
   computes o = Acts (Compute o k.half_adjust first_or_result factor_2_operand result_operand resulting_shows)
 

@@ -1,4 +1,4 @@
--- The files of a source, found by what they serve as or by their names.
+-- The files of a source, found by use or by name.
 use Rattle.std.specs.Prelude.{ℕ, List, Bool, true, false, not, nat_eq, Option, find}
 use Rattle.std.specs.Cmp.Lexicographic.{pointwise}
 use Rattle.std.specs.List.{filter_map}
@@ -13,7 +13,7 @@ use Rattle.rpg_sheet_specs.specs.declared.file.FileRole.{FileRole}
 use Rattle.rpg_sheet_specs.specs.declared.file.FileRole.TheVariants as role
 use Rattle.rpg_sheet_specs.specs.declared.file.FileSpec.{FileSpec}
 
--- ---- what a file serves as
+-- ---- the use of a file
 
 -- a file's use by its role and its device
 abbrev pub use_by : FileRole → Device → FileUse
@@ -51,11 +51,11 @@ is_output u = not (is_input u)
 abbrev pub files : List SpecCard → List FileSpec
 files cards = filter_map (λ c. file_on c.spec) cards
 
--- the first file of a use
+-- the first file with a use
 abbrev pub file_for : FileUse → List SpecCard → Option FileSpec
 file_for u cards = find (λ f. same_use u (file_use f)) (files cards)
 
--- the first file of that name
+-- the first file with that name
 abbrev pub file_named : List ℕ → List SpecCard → Option FileSpec
 file_named name cards = find (λ f. pointwise nat_eq name f.name) (files cards)
 

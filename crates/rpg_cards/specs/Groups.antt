@@ -16,13 +16,13 @@ use Rattle.rpg_sheet_specs.specs.declared.output.OutputSpec.TheVariants as outpu
 use Rattle.rpg_sheet_specs.specs.declared.output.OutputRecord.{OutputRecord}
 use Rattle.rpg_sheet_specs.specs.declared.spec.Spec.{Spec}
 
--- what a card is to the groups of a sheet: a heading with the file that it names, a follower, or apart from them
+-- the role of a card in the groups of a sheet: a heading with the file that it names, a follower, or neither
 pub data Role (H F : Type 0) : Type 0 where
   Heading : H → Option (List ℕ) → Role H F
   Follower : F → Role H F
   Apart : Role H F
 
--- a group belongs to the file that its heading names, else to that of the group before it
+-- a group belongs to the file that its heading names, otherwise to that of the previous group
 pub record Group (H F : Type 0) : Type 0 where
   pub heading : H
   pub followers : List F
@@ -30,24 +30,24 @@ pub record Group (H F : Type 0) : Type 0 where
 
 -- ---- from the front
 
--- the followers, once one more card stands in front of them
+-- the followers, with one more card before them
 abbrev pub followers_with : {H F : Type 0} → Role H F → List F → List F
 followers_with (Heading h name) fs = []
 followers_with (Follower f) fs = f ∷ fs
 followers_with Apart fs = fs
 
--- a heading opens a group with those that follow it, before the later groups, which are given the file
+-- a heading opens a group with its followers, before the later groups, which are given the file
 abbrev pub opening : {H F : Type 0} → Role H F → Option (List ℕ) → List F → (Option (List ℕ) → List (Group H F)) → List (Group H F)
 opening (Heading h name) file fs following = record { heading = h; followers = fs; file = option_or name file } ∷ following (option_or name file)
 opening (Follower f) file fs following = following file
 opening Apart file fs following = following file
 
--- the file of a group: the one that its heading names, or the one named last before it
+-- the file of a group: the one that its heading names, or the last one named before
 abbrev pub file_of_group : {H F : Type 0} → Option (Group H F) → Option (List ℕ)
 file_of_group o = option_and_then (λ g. g.file) o
 
 module _ {H F : Type 0} (role : Spec → Role H F) where
-  -- those at the front, up to the next heading; cards apart are passed over
+  -- the first followers, up to the next heading; other cards are skipped
   abbrev pub followers : List SpecCard → List F
   followers [] = []
   followers (c ∷ cs) = followers_with (role c.spec) (followers cs)
@@ -79,7 +79,7 @@ module _ {H F : Type 0} (role : Spec → Role H F) where
   abbrev pub open_file : List SpecCard → Option (List ℕ)
   open_file before = file_of_group (open_group before)
 
-  -- how many follow its heading
+  -- how many cards follow its heading
   abbrev pub open_followers : List SpecCard → ℕ
   open_followers before = option_map_or (λ g. length g.followers) (open_group before) 0
 
@@ -89,7 +89,7 @@ module _ {H F : Type 0} (role : Spec → Role H F) where
 abbrev pub with_followers : {H F : Type 0} → List F → Group H F → Group H F
 with_followers fs g = record { heading = g.heading; followers = g.followers ++ fs; file = g.file }
 
--- the open group once a card has been read: a heading begins one, and takes over the file if it names none
+-- the open group after a card: a heading begins one, and keeps the file if it names none
 abbrev pub with_card : {H F : Type 0} → Option (Group H F) → Role H F → Option (Group H F)
 with_card o (Heading h name) = Some (record { heading = h; followers = []; file = option_or name (file_of_group o) })
 with_card o (Follower f) = option_map (with_followers (f ∷ [])) o
@@ -97,7 +97,7 @@ with_card o Apart = o
 
 -- ---- the groups of the sheets
 
--- the part of a card on its sheet; cards of other sheets have none
+-- the role of a card on its sheet; cards of other sheets have none
 abbrev pub role_on : {X H F : Type 0} → (X → Role H F) → Option X → Role H F
 role_on role None = Apart
 role_on role (Some x) = role x
@@ -108,11 +108,11 @@ input_card_role (input.Type t) = Heading t t.file
 input_card_role (input.And codes) = Follower (input.And codes)
 input_card_role (input.Field f) = Follower (input.Field f)
 
--- the part of a card among I cards
+-- the role of a card among I cards
 abbrev pub input_role : Spec → Role RecordType InputSpec
 input_role s = role_on input_card_role (input_on s)
 
--- AN and OR cards go on with the calculation above them
+-- AN and OR cards continue the calculation above them
 abbrev pub joins : ControlLevel → Bool
 joins control.Detail = false
 joins (control.Total i) = false
@@ -127,7 +127,7 @@ output_card_role (output.And t) = Follower (output.And t)
 output_card_role (output.Or t) = Follower (output.Or t)
 output_card_role (output.Field f) = Follower (output.Field f)
 
--- the part of a card among O cards
+-- the role of a card among O cards
 abbrev pub output_role : Spec → Role OutputRecord OutputSpec
 output_role s = role_on output_card_role (output_on s)
 
@@ -136,6 +136,6 @@ abbrev pub data_card_role : DataSpec → Role (Unit {0}) (List ℕ)
 data_card_role deck.Begin = Heading tt None
 data_card_role (deck.Card text) = Follower text
 
--- the part of a card among those of table data
+-- the role of a card among those of table data
 abbrev pub data_role : Spec → Role (Unit {0}) (List ℕ)
 data_role s = role_on data_card_role (data_on s)

@@ -1,4 +1,4 @@
--- Where each name and each constant stands first.
+-- The first places of names and constants.
 use Rattle.std.specs.Prelude.{◌≡◌, ℕ, ◌+◌, Bool, List, [], ◌∷◌, nat_eq, if◌then◌else◌, Option, None, Some}
 use Rattle.std.specs.Cmp.Lexicographic.{pointwise}
 use Rattle.std.specs.Map.{lookup}
@@ -13,7 +13,7 @@ use Rattle.rpg_cards.specs.declared.names.Defined.TheVariants.{Missing}
 use Rattle.rpg_cards.specs.declared.names.Definition.{Definition}
 use Rattle.rpg_cards.specs.declared.spec_card.SpecCard.{SpecCard}
 
--- what is made of the first item that passes a test and of its place; the first item of the list stands at place i
+-- a function of the first item that passes a test and of its place; the first item of the list is at place i
 abbrev pub first_at : {X Y : Type 0} → (X → Bool) → (ℕ → X → Y) → ℕ → List X → Option Y
 first_at test made i [] = None
 first_at test made i (x ∷ xs) = if test x then Some (made i x) else first_at test made (i + 1) xs
@@ -26,15 +26,15 @@ placed_definition i d = record { place = i; form = d.form }
 abbrev pub place_of_constant : ℕ → Constant → ℕ
 place_of_constant i x = i
 
--- these definitions are noted, the first of them at place i, if their names have none before
+-- these definitions are noted, the first of them at place i, if their names are new
 abbrev pub NotesNames : ℕ → List Definition → List (List ℕ × FirstDefinition) → List (List ℕ × FirstDefinition) → Type 0
 NotesNames i ds old new = (name : List ℕ) → lookup (pointwise nat_eq name) new ≡ option_or (lookup (pointwise nat_eq name) old) (first_at (is_of name) placed_definition i ds)
 
--- these constants are noted, the first of them at place i, if they have none before
+-- these constants are noted, the first of them at place i, if they are new
 abbrev pub NotesConstants : ℕ → List Constant → List (Constant × ℕ) → List (Constant × ℕ) → Type 0
 NotesConstants i xs old new = (x : Constant) → lookup (is_same x) new ≡ option_or (lookup (is_same x) old) (first_at (is_same x) place_of_constant i xs)
 
--- the form by a name's first definition
+-- the form in a name's first definition
 abbrev pub defined_first : Option FirstDefinition → Defined
 defined_first None = Missing
 defined_first (Some d) = defined_as d.form

@@ -1,4 +1,4 @@
--- What names a value on the cards.
+-- Keys: what identifies a value on the cards.
 use Rattle.std.specs.Prelude.{ℕ, ℤ, pos, negsuc, List, [], ◌∷◌, Option, None, Some}
 use Rattle.std.specs.Option.{option_map_or}
 use Rattle.std.specs.Cmp.Lexicographic.{slice_cmp}
@@ -30,7 +30,7 @@ key_index None = index.Blank
 key_index (Some (entry.Literal n)) = index.Literal n
 key_index (Some (entry.Name x)) = index.Field (Named x)
 
--- the operand that a name with its index stands for
+-- the operand of a name with its index
 abbrev pub entry_operand : Entry → Operand Key
 entry_operand e = record { field = Named e.name; index = key_index e.index }
 
@@ -56,12 +56,12 @@ plain_name (factor.Entry e) = option_map_or (λ i. None) e.index (Some e.name)
 
 -- ---- an order of keys, by their spelling
 
--- the sign and the size of a number, in front of the rest
+-- the sign and the magnitude of a number, before the rest
 abbrev pub number_key : ℤ → List ℕ → List ℕ
 number_key (pos n) rest = 0 ∷ n ∷ rest
 number_key (negsuc n) rest = 1 ∷ n ∷ rest
 
--- a key as a list of numbers; no two keys are spelled alike
+-- a key as a list of numbers; no two keys have the same one
 abbrev pub spelled : Key → List ℕ
 spelled Nowhere = []
 spelled (Named name) = 0 ∷ name

@@ -12,7 +12,7 @@ use Rattle.rpg_cards.specs.declared.labels.Section.TheVariants.{Detail, Total, S
 use Rattle.rpg_sheet_specs.specs.declared.calculation.ControlLevel.{ControlLevel}
 use Rattle.rpg_sheet_specs.specs.declared.calculation.ControlLevel.TheVariants as control
 
--- ---- the section of a calculation, by those before it
+-- ---- the section of a calculation, given those before it
 
 -- BEGSR
 abbrev pub is_begsr : Deed Key → Bool
@@ -57,7 +57,7 @@ abbrev pub begun_count : List (Calculation Key) → ℕ
 begun_count [] = 0
 begun_count (g ∷ gs) = if begins_subroutine g then suc (begun_count gs) else begun_count gs
 
--- the section of an SR card: its own subroutine at BEGSR, else the one that has begun last and not ended
+-- the section of an SR card: its own subroutine at BEGSR, otherwise the last one that has begun and not ended
 abbrev pub subroutine_at : List (Calculation Key) → Bool → Section
 subroutine_at before true = Subroutine (begun_count before)
 subroutine_at before false = if is_inside_subroutine before then Subroutine (begun_count before - 1) else Outside
@@ -70,7 +70,7 @@ section_by before is_first control.Subroutine = subroutine_at before is_first
 section_by before is_first control.And = Outside
 section_by before is_first control.Or = Outside
 
--- the section of a calculation, by those before it
+-- the section of a calculation, given those before it
 abbrev pub section_of : List (Calculation Key) → Calculation Key → Section
 section_of before g = section_by before (begins_subroutine g) g.control
 
@@ -88,7 +88,7 @@ as_label n = named_by false n
 abbrev pub as_subroutine : Option Name → Option Named
 as_subroutine n = named_by true n
 
--- TAG, ENDSR and BEGSR give a name
+-- TAG, ENDSR and BEGSR define a name
 abbrev pub gives : Deed Key → Option Named
 gives (Marks l) = as_label l
 gives (Ends l) = as_label l
@@ -99,7 +99,7 @@ gives (GoesTo l) = None
 gives (Executes n) = None
 gives Nothing = None
 
--- GOTO and EXSR want one
+-- GOTO and EXSR refer to one
 abbrev pub wants : Deed Key → Option Named
 wants (GoesTo l) = as_label l
 wants (Executes n) = as_subroutine n
@@ -110,11 +110,11 @@ wants (Begins n) = None
 wants (Ends l) = None
 wants Nothing = None
 
--- the label or subroutine that a calculation gives, with its section
+-- the label or subroutine that a calculation defines, with its section
 abbrev pub label_at : List (Calculation Key) → Calculation Key → Option Label
 label_at before g = option_map (λ n. record { named = n; section = section_of before g }) (gives g.deed)
 
--- the labels that calculations give which come after these
+-- the labels that calculations after these define
 abbrev pub labels_after : List (Calculation Key) → List (Calculation Key) → List Label
 labels_after before [] = []
 labels_after before (g ∷ gs) = option_to_list (label_at before g) ++ labels_after (before ++ g ∷ []) gs
@@ -123,6 +123,6 @@ labels_after before (g ∷ gs) = option_to_list (label_at before g) ++ labels_af
 abbrev pub labels : List (Calculation Key) → List Label
 labels gs = labels_after [] gs
 
--- a name that is defined twice counts where it stands first
+-- a name that is defined twice counts as it was defined first
 abbrev pub label_named : Name → List Label → Option Label
 label_named name ls = find (λ (l : Label). is_same_name (Some name) (Some l.named.name)) ls

@@ -1,4 +1,4 @@
--- The fields of record types, by the control levels and match levels that they are parts of.
+-- The fields of record types, by the control levels and match levels that they belong to.
 use Rattle.std.specs.Prelude.{ℕ, ◌==◌, List, Bool, false, Option, is_some}
 use Rattle.std.specs.List.{filter, filter_map, list_any}
 use Rattle.std.specs.Option.{option_map_or}
@@ -7,7 +7,7 @@ use Rattle.rpg_cards.specs.declared.spec_card.SpecCard.{SpecCard}
 use Rattle.rpg_sheet_specs.specs.declared.input.InputFieldSpec.{InputFieldSpec}
 use Rattle.rpg_sheet_specs.specs.declared.input.InputSpec.{InputSpec}
 
--- ---- which level of a field is meant: a word of this type is a choice
+-- ---- which level of a field is meant: a function of this type chooses it
 
 -- the control level of an input field
 abbrev pub control_level : InputFieldSpec → Option ℕ
@@ -46,6 +46,6 @@ is_match_field f = is_some f.match_level
 abbrev pub is_match_card : SpecCard → Bool
 is_match_card c = option_map_or is_match_field (input_field_on c.spec) false
 
--- the source matches the records of its files
+-- the source has match fields
 abbrev pub has_match_field : List SpecCard → Bool
 has_match_field cards = list_any is_match_card cards

@@ -84,7 +84,7 @@ abbrev pub definitions : List SpecCard → List Definition
 definitions [] = []
 definitions (c ∷ cs) = definitions_on c.spec ++ definitions cs
 
--- ---- the form of a name is that of its first definition
+-- ---- a name has the form of its first definition
 
 -- a definition that has a form, or one that can have none
 abbrev pub defined_as : Option FieldForm → Defined
@@ -95,12 +95,12 @@ defined_as (Some form) = Good form
 abbrev pub is_of : List ℕ → Definition → Bool
 is_of name d = pointwise nat_eq name d.name
 
--- the form by the first definition of a name
+-- the form in the first definition of a name
 abbrev pub first_form : List ℕ → List Definition → Defined
 first_form name [] = Missing
 first_form name (d ∷ ds) = if is_of name d then defined_as d.form else first_form name ds
 
--- a form that is given counts before all others
+-- a predefined form takes precedence
 abbrev pub unless_given : Option FieldForm → Defined → Defined
 unless_given (Some form) d = Good form
 unless_given None d = d
@@ -125,13 +125,13 @@ form_in Missing = None
 form_in Bad = None
 form_in (Good form) = Some form
 
--- ---- names: the given ones, and then each with its first definition
+-- ---- names: the predefined ones, then each with its first definition
 
--- a given name as a definition
+-- a predefined name as a definition
 abbrev pub defined_field : List ℕ × FieldForm → Definition
 defined_field f = record { name = f.0; form = Some f.1 }
 
--- the names that no card defines: the date and the page number
+-- the predefined names: the date and the page number
 abbrev pub given_names : List Definition
 given_names = map defined_field given
 
@@ -139,10 +139,10 @@ given_names = map defined_field given
 abbrev pub same_name : Definition → Definition → Bool
 same_name d = is_of d.name
 
--- the names of a source: given ones first, then in the order of their first definitions
+-- the names of a source: the predefined ones, then in order of first definition
 abbrev pub names : List SpecCard → List Definition
 names cards = insert_all same_name given_names (definitions cards)
 
--- neither given nor among these definitions
+-- neither predefined nor among these definitions
 abbrev pub is_new_name : List ℕ → List Definition → Bool
 is_new_name name ds = not (list_any (is_of name) given_names || list_any (is_of name) ds)

@@ -1,4 +1,4 @@
--- What a source without a fault says of its sections: what the rules on targets, calls, returns and levels need.
+-- What holds of the sections of a source without faults: what the rules on targets, calls, returns and levels require.
 use Rattle.std.specs.Prelude.{◌≡◌, ℕ, suc, ◌≤◌, ◌⊎◌, Bool, true, false, ◌||◌, List, [], ◌∷◌, ◌++◌, length, nat_eq, Option, None, Some}
 use Rattle.std.specs.List.{list_any}
 use Rattle.rpg_cards.specs.Deeds.{Acts, Begins, Calculation, Executes, Deed, Ends, GoesTo, Marks, Nothing, PutsOut, tests}
@@ -31,7 +31,7 @@ HasGoal gs (Begins n) = Unit {0}
 HasGoal gs (Ends l) = Unit {0}
 HasGoal gs Nothing = Unit {0}
 
--- an EXSR's subroutine is there
+-- an EXSR's subroutine exists
 abbrev pub IsFound : List (Subroutine Key) → Deed Key → Type 0
 IsFound all (Executes n) = defines_subroutine n all ≡ true
 IsFound all (Acts a) = Unit {0}
@@ -42,7 +42,7 @@ IsFound all (Begins n) = Unit {0}
 IsFound all (Ends l) = Unit {0}
 IsFound all Nothing = Unit {0}
 
--- it is no ENDSR
+-- it isn't an ENDSR
 abbrev pub IsNoReturn : Deed Key → Type 0
 IsNoReturn (Ends l) = ⊥
 IsNoReturn (Acts a) = Unit {0}
@@ -94,7 +94,7 @@ abbrev pub IsCallAmong : ℕ → ℕ → List Pair → Type 0
 IsCallAmong a b [] = ⊥
 IsCallAmong a b (p ∷ ps) = ((p.0 ≡ a) × (p.1 ≡ b)) ⊎ IsCallAmong a b ps
 
--- each of the chain calls the one before it
+-- each of the chain calls the previous one
 abbrev pub IsChainAmong : List Pair → ℕ → List ℕ → Type 0
 IsChainAmong ps s [] = Unit {0}
 IsChainAmong ps s (a ∷ chain) = IsCallAmong a s ps × IsChainAmong ps a chain
@@ -118,7 +118,7 @@ pub record IsPlainBody (all : List (Subroutine Key)) (s : Subroutine Key) : Type
   pub free : tests last.alternatives ≡ 0
   -- F10, F13: a GOTO's label is in its section
   pub goals : Each (λ g. HasGoal s.body g.deed) front
-  -- F10: an EXSR's subroutine is there
+  -- F10: an EXSR's subroutine exists
   pub found : Each (λ g. IsFound all g.deed) s.body
 
 -- all these subroutines are plain
@@ -126,7 +126,7 @@ abbrev pub ArePlainBodies : List (Subroutine Key) → List (Subroutine Key) → 
 ArePlainBodies all [] = Unit {0}
 ArePlainBodies all (s ∷ ss) = IsPlainBody all s × ArePlainBodies all ss
 
--- sections that a program can be made of: jumps stay in their section, calls go to a subroutine and never lead back
+-- sections that can form a program: jumps stay in their section, calls go to a subroutine and never lead back
 pub record ArePlain (s : Sections Key) : Type 0 where
   -- F12: no ENDSR outside SR cards
   pub detail_ends : Each (λ g. IsNoReturn g.deed) s.detail

@@ -51,7 +51,7 @@ of_length u n = if is_between 1 (longest_in_file u) n then None else Some (Lengt
 abbrev pub of_rest : List SpecCard → FileSpec → Option FileCause
 of_rest before f = if ends_apart before f then Some EndsApart else of_length (file_use f) f.record_length
 
--- of an F card: the file of its name that is there, the one of its use, or what is wrong with itself
+-- for an F card: the file that has its name, the one of its use, or what is wrong with the card itself
 abbrev pub of_file : List SpecCard → FileSpec → Option FileCause
 of_file before f =
     option_or (option_map Twice (file_of_name f.name before))
@@ -94,6 +94,6 @@ with_type_file c kept = option_or (option_and_then (λ (t : RecordType). t.file)
 
 -- ---- F9 of lines
 
--- the file that a line is for: the one that it names, else that of the line before
+-- the file of a line: the one that it names, otherwise that of the previous line
 abbrev pub file_of_line : List SpecCard → List SpecCard → Option (List ℕ) → Option FileOnCard
 file_of_line cards before name = option_and_then (λ n. file_of_name n cards) (option_or name (open_file output_role before))

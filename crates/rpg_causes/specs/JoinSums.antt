@@ -1,4 +1,4 @@
--- What the cards of a record type come to: the match fields up to the next type, one by one.
+-- The match fields of a record type's cards up to the next type, one by one.
 use Rattle.std.specs.Prelude.{ℕ, ◌==◌, List, [], ◌∷◌, Bool, true, false, not, ◌&&◌, ◌||◌, Option, None, Some, sum_by, if◌then◌else◌}
 use Rattle.std.specs.List.{filter}
 use Rattle.rpg_cards.specs.Levels.{is_at, is_match_field, match_level}
@@ -16,7 +16,7 @@ abbrev pub are_some : List InputFieldSpec → Bool
 are_some [] = false
 are_some (f ∷ fs) = true
 
--- a match field without columns, or whose level stands after it
+-- a match field without columns, or whose level is repeated after it
 abbrev pub is_bad_match : InputFieldSpec → List InputFieldSpec → Bool
 is_bad_match f fs = is_match_field f && (input_columns f == 0 || repeats fs f)
 

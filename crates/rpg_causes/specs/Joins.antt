@@ -1,4 +1,4 @@
--- F16 of control fields and match fields: a level that is joined to another length, or to a long one, and a match level that stands twice.
+-- F16 of control fields and match fields: a level whose joined length differs or is too long, and a repeated match level.
 use Rattle.std.specs.Prelude.{ℕ, ◌+◌, ◌==◌, ◌&&◌, nat_le, nat_lt, List, [], ◌∷◌, Bool, Option, None, Some, is_some, option_and_then, sum_by, if◌then◌else◌}
 use Rattle.std.specs.Option.{option_map, option_or}
 use Rattle.rpg_cards.specs.Cards.{input_field_on, input_on, type_on}
@@ -49,7 +49,7 @@ of_lengths level None own = None
 of_lengths level (Some f) None = None
 of_lengths level (Some f) (Some n) = if f.length == n then None else Some (OtherLength level n f.length f.card)
 
--- a level of the type whose card stands between these
+-- a level of the type whose card is between these
 abbrev pub of_level : List SpecCard → List SpecCard → ℕ → Option JoinCause
 of_level before after level = of_lengths level (first_on level before) (level_length level (followers input_role after))
 
@@ -84,7 +84,7 @@ matched_on level (c ∷ cs) = if opens_type c then None else option_or (if_match
 abbrev pub long_matches : ℕ → ℕ → Option JoinCause
 long_matches joined n = if nat_le joined 256 && nat_lt 256 (joined + n) then Some (LongMatches (joined + n)) else None
 
--- a match level that stands before, or a field with which all match fields are too long
+-- a repeated match level, or a field that makes the match fields too long
 abbrev pub of_match : List SpecCard → InputFieldSpec → ℕ → Option JoinCause
 of_match own f level = option_or (option_map (MatchedTwice level) (matched_on level own)) (long_matches (sum_by input_columns (matched own)) (input_columns f))
 

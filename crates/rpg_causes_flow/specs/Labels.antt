@@ -30,18 +30,18 @@ name_given_on c after = option_and_then (λ k. gives (deed_of k)) (card_ending c
 abbrev pub giver_if : List ℕ → ℕ → Named → Option Giver
 giver_if name card n = if pointwise nat_eq name n.name then Some (record { card = card; is_subroutine = n.is_subroutine }) else None
 
--- the first of the cards at the front that gives the name, seen with those after it
+-- the first of the front cards that defines the name, given those after it
 abbrev pub giver : List ℕ → List SpecCard → List SpecCard → Option Giver
 giver name [] after = None
 giver name (c ∷ cs) after = option_or (option_and_then (giver_if name c.number) (name_given_on c (cs ++ after))) (giver name cs after)
 
 -- ---- F10: GOTO a label, EXSR a subroutine
 
--- given as the other of the two
+-- defined as the other of the two
 abbrev pub unless_alike : Named → Giver → Option NowhereCause
 unless_alike n g = if alike g.is_subroutine n.is_subroutine then None else Some (Other n.name g)
 
--- a name that isn't given as it is wanted
+-- a name that isn't defined as required
 abbrev pub of_wanted : List SpecCard → Named → Option NowhereCause
 of_wanted cards n = option_map_or (unless_alike n) (giver n.name cards []) (Some (Absent n))
 
@@ -63,7 +63,7 @@ if_given before c after name = option_map (Given name) (giver name before (c ∷
 abbrev pub if_names_field : List SpecCard → List ℕ → Option TwiceCause
 if_names_field cards name = if list_any (is_of name) given_names then Some (EveryProgram name) else option_map (Field name) (first_defining name cards)
 
--- a label or a subroutine whose name is given before, or is a field by then
+-- a label or a subroutine whose name is already defined, or is a field by then
 abbrev pub of_given : List SpecCard → SpecCard → List SpecCard → Named → Option TwiceCause
 of_given before c after n = option_or (if_given before c after n.name) (if_names_field (before ++ c ∷ []) n.name)
 
@@ -71,7 +71,7 @@ of_given before c after n = option_or (if_given before c after n.name) (if_names
 abbrev pub of_definition : List SpecCard → SpecCard → List SpecCard → Definition → Option TwiceCause
 of_definition before c after d = if_given before c after d.name
 
--- one of these has a name that is a label's or a subroutine's before
+-- one of these has a name that a label or a subroutine already has
 abbrev pub any_given : List SpecCard → SpecCard → List SpecCard → List Definition → Bool
 any_given before c after ds = list_any (λ (d : Definition). is_some (label_named d.name (labels (calculations_before before (c ∷ after))))) ds
 

@@ -1,4 +1,4 @@
--- F12 of calculation cards: which card stands in the wrong place, which BEGSR or ENDSR has no other, and the other card.
+-- F12 of calculation cards: which card is out of order, which BEGSR or ENDSR is unpaired, and the other card.
 use Rattle.std.specs.Prelude.{ℕ, nat_lt, List, [], ◌∷◌, ◌++◌, Bool, true, false, not, ◌&&◌, Option, None, Some, is_some, option_and_then, if◌then◌else◌}
 use Rattle.std.specs.Option.{option_map, option_map_or, option_or}
 use Rattle.rpg_cards.specs.Calculations.{card_ending, group_end, open_calculation_group}
@@ -24,7 +24,7 @@ use Rattle.rpg_sheet_specs.specs.declared.calculation.ControlLevel.{ControlLevel
 abbrev pub bracket_on : Option ControlLevel → SpecCard → List SpecCard → Option Bracket
 bracket_on group c after = option_map (λ is_end. record { card = c.number; is_end = is_end }) (bracket_at group c after)
 
--- the last one among the cards at the front
+-- the last one among the front cards
 abbrev pub last_bracket : Option ControlLevel → List SpecCard → List SpecCard → Option Bracket
 last_bracket group [] after = None
 last_bracket group (c ∷ cs) after = option_or (last_bracket (level_with group c) cs after) (bracket_on group c (cs ++ after))

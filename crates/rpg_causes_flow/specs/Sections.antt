@@ -46,11 +46,11 @@ label_if name front c after k n =
 abbrev pub label_by : List ℕ → List SpecCard → SpecCard → List SpecCard → CalculationSpec → Option LabelOnCard
 label_by name front c after k = option_and_then (label_if name front c after k) (gives (deed_of k))
 
--- the same for any card
+-- likewise for any card
 abbrev pub label_on_card : List ℕ → List SpecCard → SpecCard → List SpecCard → Option LabelOnCard
 label_on_card name front c after = option_and_then (label_by name front c after) (card_ending c after)
 
--- the first on the cards after those at the front
+-- the first on the cards after the front ones
 abbrev pub first_label_on_cards : List ℕ → List SpecCard → List SpecCard → Option LabelOnCard
 first_label_on_cards name front [] = None
 first_label_on_cards name front (c ∷ cs) = option_or (label_on_card name front c cs) (first_label_on_cards name (front ++ c ∷ []) cs)

@@ -29,7 +29,7 @@ of_index_field cards e = option_and_then (λ x. option_and_then (unless_index ca
 
 -- ---- the index of a field of that form
 
--- an index that isn't allowed: of a field that is no array, or of a whole array
+-- an index that isn't allowed: of a field that isn't an array, or of a whole array
 abbrev pub superfluous : List ℕ → FieldForm → IndexCause
 superfluous name form = if is_array form.class then Whole name else NoArray name
 
@@ -41,12 +41,12 @@ if_too_short content name form x field = if is_too_short content form field then
 abbrev pub if_out_of_range : List ℕ → FieldForm → ℕ → Option IndexCause
 if_out_of_range name form n = if is_between 1 form.entries n then None else Some (OutOfRange name form.entries n)
 
--- an index that is there, and may be: a number that no entry has, or such a field
+-- an index that is allowed, but is a number that no entry has, or such a field
 abbrev pub of_entry : Content → List ℕ → FieldForm → EntryIndex → Option FieldForm → Option IndexCause
 of_entry content name form (index.Literal n) field = if_out_of_range name form n
 of_entry content name form (index.Name x) field = option_and_then (if_too_short content name form x) field
 
--- an index that is missing, or is there and not allowed or wrong
+-- an index that is missing, not allowed, or wrong
 abbrev pub of_index : Content → List ℕ → Option EntryIndex → Option FieldForm → FieldForm → Option IndexCause
 of_index content name None field form = if needs_index content form then Some (Missing name form.entries) else None
 of_index content name (Some i) field form = if takes_index content form then of_entry content name form i field else Some (superfluous name form)

@@ -37,7 +37,7 @@ definer name cards = if list_any (is_of name) given_names then None else first_d
 abbrev pub if_undefined : List SpecCard → List ℕ → Option (List ℕ)
 if_undefined cards name = if is_undefined cards name then Some name else None
 
--- the name of an operand that no card defines: its own, else that of its index
+-- the name of an operand that no card defines: its own, otherwise that of its index
 abbrev pub undefined_in : List SpecCard → Operand → Option (List ℕ)
 undefined_in cards o = option_or (if_undefined cards o.field.name) (option_and_then (if_undefined cards) (index_name o.field))
 

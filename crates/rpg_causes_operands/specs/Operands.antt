@@ -139,7 +139,7 @@ by_columns cards k t =
 abbrev pub in_calculation : List SpecCard → CalculationSpec → Option OperandCause
 in_calculation cards k = option_and_then (λ o. by_columns cards k (card_columns o)) k.operation
 
--- a text that is edited, or else the date that is blanked
+-- a text that is edited, otherwise the date that is blanked
 abbrev pub as_output : List SpecCard → List ℕ → OutputField → FieldForm → Option OperandCause
 as_output cards name f form =
     if (is_some f.code || is_some f.text) && is_text form then Some (EditedText (text_with cards (Some name) form))

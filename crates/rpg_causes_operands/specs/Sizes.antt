@@ -12,7 +12,7 @@ use Rattle.rpg_sheet_specs.specs.declared.extension.TableSpec.{TableSpec}
 use Rattle.rpg_sheet_specs.specs.declared.input.InputFieldSpec.{InputFieldSpec}
 use Rattle.rpg_text.specs.Texts.{is_between}
 
--- of a size that is past a limit: a text's length, a number's digits, or else its decimals
+-- for a size over a limit: a text's length, a number's digits, otherwise its decimals
 abbrev pub size_past : ℕ → Option ℕ → SizeCause
 size_past len None = Length len
 size_past len (Some decimals) = if is_between 1 15 len then Decimals decimals len else Digits len
@@ -25,7 +25,7 @@ size_by len decimals = if is_none (sized_form len decimals) then Some (size_past
 abbrev pub table_size_cause : TableSpec → Option SizeCause
 table_size_cause t = size_by t.length t.decimals
 
--- that of an E card's table, else of its alternating one
+-- that of an E card's table, otherwise of its alternating one
 abbrev pub tables_size_cause : ExtensionSpec → Option SizeCause
 tables_size_cause e = option_or (table_size_cause e.table) (option_and_then table_size_cause e.alternating)
 

@@ -79,7 +79,7 @@ abbrev pub refused_deck_text : Option ℕ → List ℕ
 refused_deck_text (Some card) = codes "card " ++ decimal card ++ codes ": refused"
 refused_deck_text None = codes "refused"
 
--- the card of an old deck, and the number of the rule that refuses it
+-- the card of an old deck, and the number of the rule that rejects it
 abbrev pub refused_card_text : ℕ → ℕ → List ℕ
 refused_card_text card rule = codes "card " ++ decimal card ++ codes ": A" ++ decimal rule
 

@@ -8,7 +8,7 @@ use Rattle.rpg_cli_answers.specs.Answers.{exit_status, line_text}
 use Rattle.rpg_cli_answers.specs.declared.answer.Answer.{Answer}
 use Rattle.rpg_cli_answers.specs.declared.answer.Answer.TheVariants as answers
 
--- what stands before the value of a member
+-- the text before the value of a member
 abbrev pub member_name : List ℕ → List ℕ
 member_name name = codes ",\"" ++ name ++ codes "\":"
 

@@ -94,7 +94,7 @@ impl HaltedRecord {
         })
     }
 
-    /// Makes the record wait. Returns whether its job goes on.
+    /// Makes the record wait. Returns whether its job continues.
     fn wait(&mut self, program: &Verified) -> Result<bool, AllocError> {
         let text = text_of(&self.line);
         if !is_good(program, self.file, text) {
@@ -126,7 +126,7 @@ struct Again<R> {
 }
 
 impl<R: BufRead> Again<R> {
-    /// Reads the next record, if the file needs one. Returns whether the job goes on, or None if the file can't be read.
+    /// Reads the next record, if the file needs one. Returns whether the job continues, or None if the file can't be read.
     fn take_in(&mut self, program: &Verified) -> Option<bool> {
         let Again { reader, record } = self;
         if !record.kept.takes_in(program, record.file) {

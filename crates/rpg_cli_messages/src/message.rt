@@ -56,7 +56,7 @@ pub fn card_message(
     out.finish()
 }
 
-/// Writes faults in the order of their cards, and notes the mistakes behind them.
+/// Writes faults in the order of their cards, and notes the mistakes that caused them.
 fn write_messages(
     out: &mut TextWriter,
     slips: &mut Vec<Slip>,

@@ -1,4 +1,4 @@
--- The writers of a run that gave a report, once they are flushed.
+-- The writers of a run that gave a report, after they are flushed.
 use Rattle.std.specs.Prelude.{◌≡◌, ℕ, List, Option, Result, Ok, Err}
 use Rattle.std.specs.Io.KnownBytes.{Keeps}
 use Rattle.rpg_cli_answers.specs.declared.answer.Answer.{Answer}

@@ -20,13 +20,13 @@ abbrev pub TellsObject : Answer → List ℕ → Type 0
 TellsObject (answers.Object fault) bytes = HasObjectFault fault bytes
 TellsObject e bytes = ⊥
 
--- the bound of an accepted program is greater than what the words allow; or the date is none
+-- the bound of an accepted program is greater than the arguments allow; or the date is bad
 abbrev pub BreaksBound : Answer → Object → ℕ → Type 0
 BreaksBound (answers.OverLimit most_steps) p most = (most < most_steps) × (most_steps ≡ bound p)
 BreaksBound (answers.Run fault) p most = fault ≡ runs.BadDate
 BreaksBound e p most = ⊥
 
--- the same for a program that may have been refused
+-- likewise for a program that may have been rejected
 abbrev pub BreaksLimit : Answer → Result Object ObjectFault → ℕ → Type 0
 BreaksLimit (answers.OverLimit most_steps) accepted most = (most < most_steps) × IfOk accepted (λ p. most_steps ≡ bound p)
 BreaksLimit (answers.Object fault) accepted most = accepted ≡ Err fault
@@ -45,7 +45,7 @@ pub record IsOtherSource (text : List ℕ) (bytes : List ℕ) : Type 0 where
   pub spelled : SpellsProgram bytes program
   pub compiled : CompilesToOther text program.allowance bytes
 
--- why a source isn't that of the bytes: they spell no program, it has a fault, or it is compiled to others
+-- why a source isn't that of the bytes: they encode no program, it has a fault, or it compiles to others
 abbrev pub TellsMismatch : Answer → List ℕ → List ℕ → Type 0
 TellsMismatch (answers.Object fault) text bytes = HasObjectFault fault bytes
 TellsMismatch (answers.Source fault) text bytes = IsSourceRefusal fault text

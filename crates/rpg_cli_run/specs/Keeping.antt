@@ -1,4 +1,4 @@
--- What becomes of the files that a run writes beside their places.
+-- What happens to the files that a run writes beside their places.
 use Rattle.std.specs.Prelude.{◌≡◌, ◌⊎◌, Result, Ok, Err, IsErrAnd, ⊤}
 use Rattle.rpg_cli_answers.specs.declared.answer.Answer.{Answer}
 use Rattle.rpg_cli_answers.specs.declared.answer.Answer.TheVariants as answers
@@ -10,7 +10,7 @@ use Rattle.rpg_engine.specs.JobEnd.{JobEnd}
 use Rattle.rpg_engine.specs.JobEnd.TheVariants as endings
 use Rattle.rpg_engine.specs.declared.report.Report.{Report}
 
--- At the end of a job they are put in their places. At a halt they are left beside.
+-- At the end of a job they are moved to their places. At a halt they are left beside them.
 abbrev pub fate_at : JobEnd → Fate
 fate_at endings.EndOfJob = fates.Placed
 fate_at (endings.Halt halt) = fates.Left
@@ -31,6 +31,6 @@ abbrev pub StopsForFile : CommandStop → Type 0
 StopsForFile (stops.Answer answer) = IsOfFile answer
 StopsForFile stop = ⊥
 
--- the run's own answer; or, if its files were to be put in their places, that of a file that can't be
+-- the run's own answer; or, if its files were to be moved to their places, that of a file that can't be
 abbrev pub KeepsAnswer : (ran given : Result Report CommandStop) → Type 0
 KeepsAnswer ran given = (given ≡ ran) ⊎ ((fate_of ran ≡ fates.Placed) × IsErrAnd given StopsForFile)

@@ -10,7 +10,7 @@ pub record IsSpelled (p : Object) (bytes : List ℕ) : Type 0 where
   pub program : IsProgram p
   pub spelled : bytes ≡ spelling p
 
--- They are those of the program that a source stands for, which obeys all rules; and what is read in them is that very program.
+-- They are those of the program that a source compiles to, which obeys all rules; and they decode to exactly that program.
 abbrev pub CompilesTo : List ℕ → ℕ → List ℕ → Type 0
 CompilesTo text allowance bytes = (p : Object) × Compiles text allowance p × IsSpelled p bytes × (reading bytes ≡ Ok p)
 

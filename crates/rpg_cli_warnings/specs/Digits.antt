@@ -29,21 +29,21 @@ digits_by of_field.Text f = None
 abbrev pub whole_digits : FieldForm → Option ℕ
 whole_digits f = digits_by f.kind f
 
--- the same for a name or constant, if it has a form
+-- likewise for a name or constant, if it has a form
 abbrev pub whole_digits_of : Defined → Option ℕ
 whole_digits_of (defined.Good f) = whole_digits f
 whole_digits_of defined.Missing = None
 whole_digits_of defined.Bad = None
 
--- the same for a factor
+-- likewise for a factor
 unfoldable pub factor_digits : List SpecCard → Option Factor → Option ℕ
 factor_digits cards f = option_and_then (λ x. whole_digits_of (form_of_factor x cards)) f
 
--- the same for the result field
+-- likewise for the result field
 unfoldable pub result_digits : List SpecCard → Option Entry → Option ℕ
 result_digits cards r = option_and_then (λ (e : Entry). whole_digits_of (form_of_name e.name cards)) r
 
--- the greater of two, or the one that is there
+-- the greater of two, or the only one
 abbrev pub greater_of : Option ℕ → Option ℕ → Option ℕ
 greater_of (Some a) (Some b) = Some (if nat_le a b then b else a)
 greater_of (Some a) None = Some a

@@ -36,7 +36,7 @@ zero_columns = record { column = 58; last = 59 }
 abbrev pub halt_at : SpecCard → ColumnFault → ℕ → Warning
 halt_at c columns n = record { card = c.number; columns = columns; kind = kind.SetsHalt n }
 
--- the warning if a halt indicator stands in these columns
+-- the warning if these columns have a halt indicator
 abbrev pub halt_in : SpecCard → ColumnFault → Option ℕ → Option Warning
 halt_in c columns None = None
 halt_in c columns (Some n) = if is_halt n then Some (halt_at c columns n) else None

@@ -60,7 +60,7 @@ asked_columns n c = columns_from (conditions_begin c.spec + option_map_or (place
 
 -- ---- turning on
 
--- the indicator that stands there is that one
+-- the indicator there is that one
 abbrev pub is_number : ℕ → Option ℕ → Bool
 is_number n i = option_map_or (λ x. x == n) i false
 
@@ -134,7 +134,7 @@ is_of_cards n = nat_le n 99 || (nat_le 112 n && nat_le n 128)
 abbrev pub never_on_at : ℕ → SpecCard → Warning
 never_on_at n c = record { card = c.number; columns = asked_columns n c; kind = kind.NeverOn n }
 
--- asked and never turned on: at the first card that asks
+-- tested but never turned on: at the first card that tests it
 abbrev pub never_on : ℕ → List SpecCard → Option Warning
 never_on n cards = if is_of_cards n && not (list_any (turns_on n) cards) then option_map (never_on_at n) (find (asks n) cards) else None
 
@@ -142,7 +142,7 @@ never_on n cards = if is_of_cards n && not (list_any (turns_on n) cards) then op
 abbrev pub never_asked_at : ℕ → SpecCard → Warning
 never_asked_at n c = record { card = c.number; columns = shown_columns n c; kind = kind.NeverAsked n }
 
--- turned on for others to ask, and never asked: at the first card that turns it on
+-- turned on to be tested, but never tested: at the first card that turns it on
 abbrev pub never_asked : ℕ → List SpecCard → Option Warning
 never_asked n cards = if nat_le n 99 && not (is_some (find (asks n) cards)) then option_map (never_asked_at n) (find (shows n) cards) else None
 

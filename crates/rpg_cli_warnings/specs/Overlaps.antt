@@ -10,7 +10,7 @@ use Rattle.rpg_cli_warnings.specs.declared.overlaps.Placed.{Placed}
 use Rattle.rpg_cli_warnings.specs.declared.warning.Warning.{Warning}
 use Rattle.rpg_cli_warnings.specs.declared.warning.WarningKind.TheVariants as kind
 
--- a field with conditions may stand where another does
+-- a field with conditions may overlap another
 abbrev pub is_always_out : OutputField → Bool
 is_always_out f = is_none f.conditions.first && is_none f.conditions.second && is_none f.conditions.third
 
@@ -52,7 +52,7 @@ abbrev pub noted_beside : List Placed → Placed → Option Placed → List Plac
 noted_beside placed field None = placed ++ field ∷ []
 noted_beside placed field (Some below) = placed
 
--- these fields, and one more that lies over none of them
+-- these fields, and one more that overlaps none of them
 abbrev pub noted_field : List Placed → Placed → List Placed
 noted_field placed field = noted_beside placed field (find (meet field) placed)
 
@@ -70,7 +70,7 @@ abbrev pub noted_on : List Placed → Option Placed → List Placed
 noted_on placed None = placed
 noted_on placed (Some field) = noted_field placed field
 
--- the fields over each other on these cards, where these fields stand on the line so far
+-- the overlapping fields on these cards, given the fields of the line so far
 abbrev pub overlaps_from : List SpecCard → List Placed → List SpecCard → List Warning
 overlaps_from source placed [] = []
 overlaps_from source placed (c ∷ cards) =

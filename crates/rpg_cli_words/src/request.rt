@@ -564,7 +564,7 @@ fn bad_value(matches: &ArgMatches) -> Option<&'static str> {
     }
 }
 
-/// Returns the request of a command whose arguments need no memory. The command that isn't listed here is `go`.
+/// Returns the request of a command whose arguments allocate nothing. The command that isn't listed here is `go`.
 fn plain_request<'a>(name: &str, given: &ArgMatches<'a>) -> Request<'a> {
     match name {
         "compile" => compile_words(given),

@@ -1,4 +1,4 @@
--- Calls of subroutines by subroutines, by the numbers of names, and levels by the numbers of subroutines.
+-- Calls of subroutines by subroutines, with names by number, and levels by subroutine number.
 use Rattle.std.specs.Prelude.{ℕ, suc, List, [], ◌∷◌, ◌++◌, slice_index, Option, None, Some}
 use Rattle.std.specs.Option.{option_map}
 use Rattle.rpg_cards.specs.Deeds.{Calculation, Deed}

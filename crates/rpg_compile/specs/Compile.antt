@@ -1,4 +1,4 @@
--- What a source is compiled to.
+-- What a source compiles to.
 use Rattle.std.specs.Prelude.{◌≡◌, ℕ, List, None}
 use Rattle.rpg_faults.specs.Faults.{Faultless}
 use Rattle.rpg_program.specs.Object.{Object}
@@ -7,7 +7,8 @@ use Rattle.rpg_sheet.specs.Sheet.{first_sheet_fault, source}
 use Rattle.rpg_faults.specs.Source.{cards_in}
 use Rattle.rpg_compile_program.specs.Program.{program_of}
 
--- a source without faults, and the program that it stands for, which obeys all rules
+-- a source without faults, and the program that it compiles to, which obeys all
+-- rules
 pub record Compiles (text : List ℕ) (allowance : ℕ) (p : Object) : Type 0 where
   pub readable : first_sheet_fault (source text) ≡ None
   pub faultless : Faultless (cards_in text)

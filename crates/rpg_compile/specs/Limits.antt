@@ -1,4 +1,4 @@
--- The limits of the object format, of the program that cards stand for.
+-- The limits of the object format, for the program that cards compile to.
 use Rattle.std.specs.Prelude.{ℕ, ◌+◌, ◌≤◌, List, All, length}
 use Rattle.std.specs.Option.{ForSome, option_and_then}
 use Rattle.rpg_cards.specs.Calculations.{calculations}
@@ -18,7 +18,7 @@ use Rattle.rpg_compile_program.specs.Program.{program_of, sections}
 use Rattle.rpg_compile_program.specs.Table.{defined_fields, forms, table_of}
 use Rattle.rpg_compile_program.specs.Types.{types_on}
 
--- all that the format requires, except for first values
+-- everything that the format requires, except for first values
 pub record KeepsLimits (cards : List SpecCard) : Type 0 where
   -- ---- files
   pub shortest_record : 1 ≤ record_length_of (file_for uses.Primary cards)
@@ -33,7 +33,7 @@ pub record KeepsLimits (cards : List SpecCard) : Type 0 where
   pub fields : All IsFieldRow (forms (table_of cards))
   pub name_storage : symbols.storage (defined_fields cards) ≤ 65535
   pub storage : storage_of (forms (table_of cards)) ≤ 65535
-  -- ---- record types, and lines at the numbers of their fields
+  -- ---- record types, and lines by the numbers of their fields
   pub few_types : length (types_on cards) ≤ 200
   pub types : All IsTypeWithin (types_on cards)
   pub few_lines : length (lines_on cards) ≤ 1000

@@ -1,4 +1,4 @@
--- What instructions keep whatever is on the cards: numbers of two bytes, and indicators from 1 to 129.
+-- What holds of instructions whatever is on the cards: two-byte numbers, and indicators from 1 to 129.
 use Rattle.std.specs.Prelude.{ℕ, All}
 use Rattle.rpg_program.specs.declared.operation.Action.{Action}
 use Rattle.rpg_program.specs.declared.operation.Action.TheVariants.{Compute, Divide, Assign, TakeRemainder, CrossFoot, Compare, LookUp, Move, SetIndicators}

@@ -22,7 +22,7 @@ number_named entries (Some n) = lookup (pointwise nat_eq n) entries
 abbrev pub number_by : NameNumbers → Option Name → ℕ
 number_by t n = unwrap_or (number_named t.numbers.entries n) t.otherwise
 
--- each name keeps the number that it had, and any other has its number among more names
+-- each name keeps its number, and any other has its number among more names
 abbrev pub NumbersMore : NumberedNames → NumberedNames → NumberedNames → Type 0
 NumbersMore more old new = (n : List ℕ) → lookup (pointwise nat_eq n) new ≡ option_or (lookup (pointwise nat_eq n) old) (lookup (pointwise nat_eq n) more)
 

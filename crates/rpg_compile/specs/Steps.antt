@@ -1,4 +1,4 @@
--- What a deed becomes.
+-- What a deed compiles to.
 use Rattle.std.specs.Prelude.{ℕ, Bool, ◌+◌, ◌++◌, List, [], ◌∷◌, length, Option, None, Some}
 use Rattle.rpg_cards.specs.Calculations.{awaited_level}
 use Rattle.rpg_cards.specs.Deeds.{Acts, Begins, Deed, Ends, Executes, GoesTo, Marks, Nothing, PutsOut, factor_2_operand, first_or_result, result_operand, resulting_shows}
@@ -38,7 +38,7 @@ assigned_action is_negated k = Assign is_negated k.half_adjust (factor_2_operand
 abbrev pub moved_action : Side → CalculationSpec → Action (Operand Key)
 moved_action side k = Move side (factor_2_operand k) (result_operand k)
 
--- the instructions of a group of cards, which end in that one
+-- the instructions of a group of cards, the last of which is given
 abbrev pub code_of_group : ℕ → CalculationSpec → List SpecCard → Instruction ℕ → List (Instruction ℕ)
 code_of_group place first cards i =
     level_code (place + size_with first cards) (awaited_level first.control_level)

@@ -19,12 +19,12 @@ tests_in cards = flat_map tests_at cards
 abbrev pub begins_alternative : SpecCard → Bool
 begins_alternative c = option_map_or (λ k. is_or k.control_level) (calculation_on c.spec) false
 
--- those of further cards, after the tests so far
+-- those of the next cards, after the tests so far
 abbrev pub alternatives_from : List Conditions → List SpecCard → List (List Conditions)
 alternatives_from so_far [] = so_far ∷ []
 alternatives_from so_far (c ∷ cs) = if begins_alternative c then so_far ∷ alternatives_from (tests_at c) cs else alternatives_from (so_far ++ tests_at c) cs
 
--- the alternatives of cards that begin with the first card of a group or of an alternative
+-- the alternatives of cards, the first of which begins a group or an alternative
 abbrev pub alternatives_in : List SpecCard → List (List Conditions)
 alternatives_in [] = []
 alternatives_in (c ∷ cs) = alternatives_from (tests_at c) cs

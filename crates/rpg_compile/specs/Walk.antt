@@ -16,28 +16,28 @@ use Rattle.rpg_sheet_specs.specs.declared.calculation.ControlLevel.{ControlLevel
 
 -- ---- groups
 
--- the card in front, if it is a C card
+-- the first card, if it is a C card
 abbrev pub first_calculation : List SpecCard → Option CalculationSpec
 first_calculation [] = None
 first_calculation (c ∷ cs) = calculation_on c.spec
 
--- how many AN and OR cards there are at the front
+-- how many AN and OR cards come first
 abbrev pub joining : List SpecCard → ℕ
 joining [] = 0
 joining (c ∷ cs) = if goes_on (c ∷ cs) then suc (joining cs) else 0
 
--- the group of these cards, of which that is the first
+-- the group of these cards, with its first card
 abbrev pub group_of : CalculationSpec → List SpecCard → CalculationGroup
 group_of first cards = record { first = first; followers = calculation_specs_in (drop 1 cards) }
 
--- the first and the last card of the group at the front of these cards
+-- the first and the last card of the group that these cards begin with
 pub record IsGroup (first last : CalculationSpec) (cards : List SpecCard) : Type 0 where
   pub first_is : first_calculation cards ≡ Some first
   pub last_is : last ≡ last_card (group_of first cards)
 
 -- ---- sections
 
--- what a group of a section has in columns 7 and 8 of its first card
+-- what the first card of a section's group has in columns 7 and 8
 abbrev pub belongs : Part → ControlLevel → Bool
 belongs Detail level = is_detail level
 belongs Total level = is_total level
@@ -49,13 +49,13 @@ ends_before Detail d = false
 ends_before Total d = false
 ends_before Body d = is_begsr d
 
--- the groups of a section; of a subroutine those up to the next BEGSR
+-- the groups of a section; for a subroutine those up to the next BEGSR
 abbrev pub part_cards : Part → List (Calculation Key) → List (Calculation Key)
 part_cards Detail gs = gs
 part_cards Total gs = gs
 part_cards Body gs = up_to_begin gs
 
--- the calculations of a section, from the cards on at which it begins
+-- the calculations of a section, from the cards where it begins
 abbrev pub section_in : Part → List SpecCard → List (Calculation Key)
 section_in part cards = part_cards part (of_control (belongs part) (calculations cards))
 
@@ -65,6 +65,6 @@ subroutines_in cards = subroutines_of (of_control is_subroutine (calculations ca
 
 -- ---- sizes
 
--- how many instructions a group becomes that has one for its operation
+-- how many instructions a group compiles to, if its operation has one
 abbrev pub size_with : CalculationSpec → List SpecCard → ℕ
 size_with first cards = waits (awaited_level first.control_level) + length (tests_in cards) + 1

@@ -17,7 +17,7 @@ loaded_values name ls = lookup (pointwise nat_eq name) ls
 abbrev pub HasSameData : List Loaded → List Loaded → Type 0
 HasSameData xs ys = (name : List ℕ) → loaded_values name xs ≡ loaded_values name ys
 
--- the tables of an E card, on the deck at the front of these cards
+-- the tables of an E card, on the deck that these cards begin with
 abbrev pub tables_after : ExtensionSpec → ℕ → List SpecCard → List Loaded
 tables_after e per_card deck = tables_loaded e per_card (followers data_role deck) 0 (tables_on e)
 

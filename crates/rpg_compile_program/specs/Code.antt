@@ -22,7 +22,7 @@ waits (Some n) = 1
 unfoldable pub size : Calculation Key → ℕ
 size g = if has_instruction g.deed then waits g.level + tests g.alternatives + 1 else 0
 
--- how many instructions the groups become together
+-- how many instructions the groups compile to together
 abbrev pub sizes : List (Calculation Key) → ℕ
 sizes [] = 0
 sizes (g ∷ gs) = size g + sizes gs

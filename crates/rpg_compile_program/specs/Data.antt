@@ -31,7 +31,7 @@ first_of_kind kind.Text n = Text (replicate n 32)
 
 -- ---- the entries of a table
 
--- a number if there are decimals, else a text
+-- a number if there are decimals, otherwise a text
 abbrev pub kind_by : Option ℕ → Kind
 kind_by None = kind.Text
 kind_by (Some decimals) = kind.Number
@@ -75,7 +75,7 @@ loaded cards = all_loaded (extensions cards) (decks cards)
 
 -- ---- all fields
 
--- the data of a name, else zeros or blanks
+-- the data of a name, otherwise zeros or blanks
 abbrev pub field_values : List Loaded → List ℕ × FieldForm → List Value
 field_values from f = unwrap_or (lookup (pointwise nat_eq f.0) from) (replicate f.1.entries (first_of_kind f.1.kind f.1.length))
 

@@ -96,7 +96,7 @@ line_alternatives so_far (output.Field f ∷ os) = line_alternatives so_far os
 abbrev pub text_key : Option (List ℕ) → Key
 text_key text = option_map_or (λ t. Fixed (constant.Text t)) text Nowhere
 
--- an entry, else the constant
+-- an entry, otherwise the constant
 abbrev pub operand_put_out : OutputField → Operand Key
 operand_put_out f = unwrap_or (option_map entry_operand f.operand) (record { field = text_key f.text; index = index.Blank })
 
@@ -126,7 +126,7 @@ editing_by f None = if is_some f.operand then editing_unmarked (puts_page f) f.t
 abbrev pub editing_of : OutputField → Editing Key
 editing_of f = editing_by f f.code
 
--- the fill of an output field: the text beside its code, else blanks
+-- the fill of an output field: the text beside its code, otherwise blanks
 abbrev pub output_fill : OutputField → Fill
 output_fill f = if is_some f.code then unwrap_or (option_and_then fill_by f.text) fills.Blank else fills.Blank
 

@@ -1,4 +1,4 @@
--- The program that the cards of a source stand for, with numbers in place of their names.
+-- The program that the cards of a source compile to, with numbers instead of their names.
 use Rattle.std.specs.Prelude.{ℕ, Bool, ◌||◌, List, map, is_some, if◌then◌else◌}
 use Rattle.std.specs.Option.{option_and_then}
 use Rattle.rpg_cards.specs.Calculations.{calculations}

@@ -27,7 +27,7 @@ with_form fields name (Some form) = with_name fields name form
 abbrev pub with_definition : NamedForms → Definition → NamedForms
 with_definition fields d = with_form fields d.name d.form
 
--- those that are there already, and then the new definitions
+-- the existing ones, then the new definitions
 abbrev pub with_definitions : NamedForms → List Definition → NamedForms
 with_definitions fields ds = fold with_definition fields ds
 

@@ -1,4 +1,4 @@
--- What a cycle requires, its result, and what it leaves if it goes on.
+-- What a cycle requires, its result, and what it leaves if it continues.
 use Rattle.std.specs.Prelude.{◌≡◌, ℕ, ◌<◌, ◌≤◌, List, Option, Result, IfOk, length}
 use Rattle.std.specs.Option.{ForSome}
 use denote.Bor.{Bor}

@@ -88,7 +88,7 @@ pub record DoesAlone (P : Phase) (old : Running) (e : PhaseEnd) (new : Running) 
   pub each : (h : Beside) → DoesHolding P h old e new
 
 -- With what is kept of earlier records and of its files, and with the next record of each, a machine with a full allowance did a cycle that
--- goes on, and selected the record of that type, if one was selected.
+-- continues, and selected the record of that type, if one was selected.
 abbrev pub CycleGoesOn : Object → Kept → (primary secondary : Option (Bor (List ℕ))) → Running → Option ℕ → Kept → Running → Type 0
 CycleGoesOn p k primary secondary old t k' new =
     Does (cycle_by p k (next_text primary) (next_text secondary)) old (unselected (inputs_of k)) GoesOn new (holding_kept p k' t)

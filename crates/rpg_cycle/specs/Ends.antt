@@ -3,7 +3,7 @@ use Rattle.std.specs.Prelude.{ℕ}
 use Rattle.rpg_program.specs.Ends as effects
 use Rattle.rpg_program.specs.Ends.{Fault}
 
--- It goes on, reaches the end of the job, halts with a number, or is wrong.
+-- It continues, reaches the end of the job, halts with a number, or is wrong.
 pub data PhaseEnd : Type 0 where
   GoesOn : PhaseEnd
   EndOfJob : PhaseEnd

@@ -98,7 +98,7 @@ pub record Cycles (old : AtWork) (primary secondary : Option (List ℕ)) (new : 
   pub does : (earlier : List Selected) → old.left ≡ left_by old.program earlier → AreMergedInOrder old.program earlier old.inputs
       → (previous : Option Position) → old.last ≡ line_of previous → (e : PhaseEnd) × DoesCycle old earlier previous primary secondary e new
 
--- the next cycle reads a record from a file: the job goes on, and the file needs one
+-- the next cycle reads a record from a file: the job continues, and the file needs one
 abbrev pub job_needs_record : AtWork → InputFile → Bool
 job_needs_record j f = is_going j.stage && cycles.needs_record j.program j.config j.inputs f
 
@@ -112,7 +112,7 @@ job_taken j = record j { output = no_bytes }
 
 -- ---- what a job keeps
 
--- while it goes on its machine runs its program and is ready, what is kept is that of earlier records, and the files' waiting records are
+-- while it continues its machine runs its program and is ready, what is kept is that of earlier records, and the files' waiting records are
 -- well kept; the steps are in their bound
 pub record IsAtWork (p : Object) (machine : Running) (stage : Stage) (kept : Kept) : Type 0 where
   pub program : is_going stage ≡ true → machine.program ≡ p

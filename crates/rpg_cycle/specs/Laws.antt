@@ -15,7 +15,7 @@ use Rattle.rpg_program.specs.Object.{Object}
 
 -- ---- cycles
 
--- a cycle that goes on keeps records in their order
+-- a cycle that continues keeps records in their order
 abbrev pub CyclesKeepOrder : Type 0
 CyclesKeepOrder =
     (p : Object) (earlier : List Selected) (a b : Option (List ℕ)) (c : Config) (i : Inputs) (d : UnderWay) (out : Output)
@@ -43,7 +43,7 @@ IgnoresPrimary p =
     (earlier : List Selected) (c : Config) (i : Inputs) (now next b : Option (List ℕ)) (e : PhaseEnd) (d : UnderWay) (out : Output)
     → needs_record p c i Primary ≡ false → Cycle p earlier now b (begun p c i) e d out → Cycle p earlier next b (begun p c i) e d out
 
--- the same for the secondary file
+-- likewise for the secondary file
 abbrev pub IgnoresSecondary : Object → Type 0
 IgnoresSecondary p =
     (earlier : List Selected) (c : Config) (i : Inputs) (a now next : Option (List ℕ)) (e : PhaseEnd) (d : UnderWay) (out : Output)

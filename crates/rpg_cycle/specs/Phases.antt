@@ -28,7 +28,7 @@ pub record UnderWay : Type 0 where
   pub inputs : Inputs
   pub selected : Option Selected
 
--- A phase leads from one to another; it goes on or ends the job, and it outputs something.
+-- A phase leads from one to another; it continues or ends the job, and it outputs something.
 abbrev pub Phase : Type 1
 Phase = UnderWay → PhaseEnd → UnderWay → Output → Type 0
 
@@ -274,6 +274,6 @@ begun p c i = record { config = record c { allowance = p.allowance; steps = 0 };
 abbrev pub takes_records : Config → Bool
 takes_records c = not (is_on c last_record || any_on c halt_indicators)
 
--- for a job that goes on: whether a file reads a record in its next cycle
+-- for a job that continues: whether a file reads a record in its next cycle
 abbrev pub needs_record : Object → Config → Inputs → InputFile → Bool
 needs_record p c i f = takes_records c && takes_in p i f

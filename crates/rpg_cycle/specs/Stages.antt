@@ -54,7 +54,7 @@ stage_of progresses.Going = Going
 stage_of (progresses.Ended e) = Ended (job_end e)
 stage_of progresses.Failed = Failed
 
--- holds of a call that ended the job; says nothing about one that goes on, or that ran out
+-- holds of a call that ended the job; says nothing about one that continues, or that ran out
 -- of memory
 abbrev pub IfStops : {A : Type 0} → Result A PhaseStop → (JobEnd → Type 0) → Type 0
 IfStops (Ok x) P = Unit {0}

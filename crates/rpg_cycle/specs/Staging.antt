@@ -43,7 +43,7 @@ pub record DoesPhase (P : Phase) (n : ℕ) (old : Running) (r : Result (Unit {0}
   pub spends : UnlessNoMemory r (Spends old.program n old new)
   pub grows : OnlyGrows old.output new.output
 
--- a phase of the machine's own program was done, which costs nothing and always goes on
+-- a phase of the machine's own program was done, which costs nothing and always continues
 abbrev pub DoesFreely : (Object → Phase) → Running → Running → Type 0
 DoesFreely P old new = DoesPhase (P old.program) 0 old (Ok tt) new
 

@@ -11,7 +11,7 @@ pub enum JobEnd {
     Halt(Halt),
 }
 
-/// What a cycle led to, for its caller. `JobEnd` covers only jobs that have ended, and a caller first tests whether the job goes on.
+/// What a cycle led to, for its caller. `JobEnd` covers only jobs that have ended, and a caller first tests whether the job continues.
 #[derive(Clone, Copy)]
 pub enum CycleEnd {
     GoesOn,

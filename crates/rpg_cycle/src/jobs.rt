@@ -164,7 +164,7 @@ impl<'a, S: Store + Drop> Job<'a, S> {
         }
     }
 
-    /// Whether the job goes on, with LR and H1 to H9 all off.
+    /// Whether the job continues, with LR and H1 to H9 all off.
     fn takes_records(&self) -> bool
         ensures { result ≡ is_going self.now.stage && takes_records self.now.config }
     {
@@ -220,7 +220,7 @@ impl<'a, S: Store + Drop> Job<'a, S> {
         }
     }
 
-    /// Does a cycle of a job that goes on. The job counts as failed until the cycle is complete.
+    /// Does a cycle of a job that continues. The job counts as failed until the cycle is complete.
     pub(crate) fn cycle_on(
         &mut self,
         primary: Option<&[u8]>,

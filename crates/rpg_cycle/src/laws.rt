@@ -11,7 +11,7 @@ ghost use Rattle.rpg_program.specs.Object.{Object};
 
 use rpg_verify::Verified;
 
-/// Before the first cycle nothing is out of order, and a cycle that goes on preserves this. From there a cycle is the same whether a match
+/// Before the first cycle nothing is out of order, and a cycle that continues preserves this. From there a cycle is the same whether a match
 /// is sought among all records read so far, or in what a job keeps.
 #[tactic(auto, using(crate::proofs::Cycling::at_first))]
 pub fn cycles_keep_order()

@@ -35,7 +35,7 @@ use rpg_program::section::Section;
 use rpg_store::Store;
 use rpg_verify::Verified;
 
-/// Returns how the cycle goes on after the machine's answer.
+/// Returns how the cycle continues after the machine's answer.
 fn go_on(end: End) -> Result<(), PhaseStop>
     ensures goes { IfOk result (λ _. end ≡ End.GoesOn) }
     ensures stops { IfStops result (λ e. ends.phase_end (effects.end_of end) ≡ job_end e) }

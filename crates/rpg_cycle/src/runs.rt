@@ -81,7 +81,7 @@ fn split_needed(is_needed: bool, records: &[Vec<u8>]) -> (Option<&[u8]>, &[Vec<u
     }
 }
 
-/// Runs a job that goes on over the remaining records to its end.
+/// Runs a job that continues over the remaining records to its end.
 fn run_on<S: Store + Drop>(
     job: &mut Job<S>,
     primary: &[Vec<u8>],

@@ -14,7 +14,7 @@ use Rattle.rpg_program.specs.Object.{Object}
 abbrev pub seen_bytes : LastBytes → Option (List ℕ)
 seen_bytes l = if l.is_known then Some l.bytes.items else None
 
--- the same for each level
+-- likewise for each level
 abbrev pub seen_levels : List LastBytes → List (Option (List ℕ))
 seen_levels ls = map seen_bytes ls
 

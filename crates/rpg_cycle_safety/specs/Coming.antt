@@ -17,7 +17,7 @@ use Rattle.rpg_machine.specs.Config.{Config, Output}
 use Rattle.rpg_program.specs.Object.{Object}
 use Rattle.rpg_verify.specs.Bound.{bound}
 
--- how a cycle may end: nothing is wrong; it goes on, reaches the end of the job, or halts with a number from 1 to 8
+-- how a cycle may end: nothing is wrong; it continues, reaches the end of the job, or halts with a number from 1 to 8
 abbrev pub IsCycleEnd : PhaseEnd → Type 0
 IsCycleEnd GoesOn = Unit {0}
 IsCycleEnd EndOfJob = Unit {0}
@@ -31,7 +31,7 @@ IsJobEnd EndOfJob = Unit {0}
 IsJobEnd (Halt k) = IsCycleEnd (Halt k)
 IsJobEnd (Wrong f) = ⊥
 
--- a cycle ends with valid values, with well-kept waiting records, and within the program's bound; if the job goes on, no subroutine runs
+-- a cycle ends with valid values, with well-kept waiting records, and within the program's bound; if the job continues, no subroutine runs
 pub record CyclesWell (p : Object) (e : PhaseEnd) (d : UnderWay) : Type 0 where
   pub ending : IsCycleEnd e
   pub values : Holds p d.config.world.data

@@ -13,7 +13,7 @@ pub record Holds (p : Object) (d : Data nat_cmp) : Type 0 where
   pub fits : Fits p.fields d.fields.values d.fields.current
   pub constants : KeepsConstants p d.fields.values
 
--- nothing is wrong: it goes on, or halts at a zero divisor (1), a bad index (2) or a bad digit (4)
+-- nothing is wrong: it continues, or halts at a zero divisor (1), a bad index (2) or a bad digit (4)
 abbrev pub IsEffectEnd : End → Type 0
 IsEffectEnd GoesOn = Unit {0}
 IsEffectEnd (Halt k) = (1 ≤ k) × (k ≤ 4) × (k ≡ 3 → ⊥)
@@ -24,7 +24,7 @@ pub record KeepsData (p : Object) (e : Ended nat_cmp) : Type 0 where
   pub ending : IsEffectEnd e.ending
   pub holds : Holds p e.data
 
--- the same for an effect
+-- likewise for an effect
 pub record Keeps (p : Object) (e : Effect nat_cmp) : Type 0 where
   pub ending : IsEffectEnd e.ending
   pub holds : Holds p e.world.data

@@ -18,13 +18,13 @@ pub record IsSteady (p : Object) (c : Config) : Type 0 where
   pub values : Holds p c.world.data
   pub control : IsSafe p c
 
--- nothing is wrong: it goes on, or halts as an effect does, or at a spent allowance (5)
+-- nothing is wrong: it continues, or halts as an effect does, or at a spent allowance (5)
 abbrev pub IsNamedEnd : End → Type 0
 IsNamedEnd GoesOn = Unit {0}
 IsNamedEnd (Halt k) = (1 ≤ k) × (k ≤ 5) × (k ≡ 3 → ⊥)
 IsNamedEnd (Wrong f) = ⊥
 
--- a step goes on or halts, at such a configuration; at a section's end there is no step
+-- a step continues or halts, at such a configuration; at a section's end there is no step
 abbrev pub StepsWell : Object → Outcome → Type 0
 StepsWell p (Next d o) = IsSteady p d
 StepsWell p (Stop GoesOn d o) = ⊥

@@ -35,7 +35,7 @@ config_left (Stop e c o) = c
 abbrev pub within : Object → Section → Way
 within p s c x = (n : ℕ) × (x ≡ config_left (run p n (at_first p s c.config)))
 
--- those of a phase and, if it goes on, those of what follows
+-- those of a phase and, if it continues, those of what follows
 abbrev pub along : Phase → Way → Way → Way
 along P V W c x = V c x ⊎ ((m : UnderWay) × (out : Output) × P c GoesOn m out × W m x)
 

@@ -28,7 +28,7 @@ pub fn first_values_hold()
         Holds p d }
 {}
 
-/// An operation whose row has no fault goes on or halts, and preserves what holds of the values.
+/// An operation whose row has no fault continues or halts, and preserves what holds of the values.
 pub fn operations_keep()
     ensures { OperationsKeep }
 {}

@@ -11,7 +11,7 @@ from_right xs i = slice_index xs (length xs - 1 - i)
 abbrev pub digit_at : ℤ → ℕ → ℕ
 digit_at n i = unsigned_abs n / 10 ^ i % 10
 
--- counted from the right, a place that the source has is the source's, else the old one
+-- counted from the right, a place that the source has is the source's, otherwise the old one
 pub record MovesFromRight (source old moved : List ℕ) : Type 0 where
   pub long : length moved ≡ length old
   pub places : (i : ℕ) → i < length old → from_right moved i ≡ (if nat_lt i (length source) then from_right source i else from_right old i)
@@ -27,13 +27,13 @@ pub record MovesDigitsFromRight (k : ℕ) (n : ℤ) (len : ℕ) (old moved : ℤ
   pub digits : (i : ℕ) → i < len → digit_at moved i ≡ (if nat_lt i k then digit_at n i else digit_at old i)
   pub sign : moved ≢ pos 0 → is_negative moved ≡ is_negative n
 
--- counted from the left; the sign is the source's if it reaches the last place, else the old one
+-- counted from the left; the sign is the source's if it reaches the last place, otherwise the old one
 pub record MovesDigitsFromLeft (k : ℕ) (n : ℤ) (len : ℕ) (old moved : ℤ) : Type 0 where
   pub fits : unsigned_abs moved < 10 ^ len
   pub digits : (i : ℕ) → i < len → digit_at moved (len - 1 - i) ≡ (if nat_lt i k then digit_at n (k - 1 - i) else digit_at old (len - 1 - i))
   pub sign : moved ≢ pos 0 → is_negative moved ≡ (if nat_lt k len then is_negative old else is_negative n)
 
--- each character is good and has the digit of n at its place, and the last one has its sign
+-- each character is valid and has the digit of n at its place, and the last one has its sign
 pub record SpellsByPlaces (text : List ℕ) (n : ℤ) : Type 0 where
   pub good : EachIndex text (IsGoodAt text)
   pub fits : unsigned_abs n < 10 ^ length text

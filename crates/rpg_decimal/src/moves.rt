@@ -3,10 +3,10 @@
 ghost use Rattle.std.specs.Prelude.{◌≡◌, ◌+◌, ◌-◌, ◌<◌, ◌≤◌, ◌^◌, unsigned_abs, length, IfOk, IfErr};
 ghost use Rattle.std.specs.Result.{result_ok};
 ghost use Rattle.rpg_decimal_words.specs.Move.{overlay_right, overlay_left, number_moved_right, number_moved_left};
-ghost use Rattle.rpg_decimal_words.specs.Place.{lowest_digits, place_value};
+ghost use Rattle.rpg_decimal_words.specs.Place.{place_value};
 ghost use Rattle.rpg_decimal_words.specs.Whole.{with_sign_of};
 ghost use Rattle.rpg_decimal_words.specs.Zoned.{number_in, zoned_text, IsFirstBad};
-ghost use Rattle.rpg_decimal.specs.Source.{source_characters, moved_right, moved_left, IsFirstBadRight, IsFirstBadLeft};
+ghost use Rattle.rpg_decimal.specs.Source.{digits_of, source_characters, moved_right, moved_left, IsFirstBadRight, IsFirstBadLeft};
 
 use crate::num::Figure;
 use crate::whole::power_of_ten;
@@ -108,7 +108,7 @@ fn size_of(figure: Figure) -> u64
 
 /// Returns the first digits of the old number, followed by the source's last ones.
 fn digits_moved_right(source: Figure, before: Figure) -> u64
-    ensures value { result ≡ place_value (overlay_right (lowest_digits source.len (unsigned_abs source.value)) (lowest_digits before.len (unsigned_abs before.value))) }
+    ensures value { result ≡ place_value (overlay_right (digits_of source) (digits_of before)) }
     ensures bound { result < 10 ^ before.len }
     ensures small { result < 10 ^ 15 }
 {
@@ -118,7 +118,7 @@ fn digits_moved_right(source: Figure, before: Figure) -> u64
 
 /// Returns the source's first digits, followed by the last ones of the old number.
 fn digits_moved_left(source: Figure, before: Figure) -> u64
-    ensures value { result ≡ place_value (overlay_left (lowest_digits source.len (unsigned_abs source.value)) (lowest_digits before.len (unsigned_abs before.value))) }
+    ensures value { result ≡ place_value (overlay_left (digits_of source) (digits_of before)) }
     ensures bound { result < 10 ^ before.len }
     ensures small { result < 10 ^ 15 }
 {

@@ -16,7 +16,7 @@ abbrev pub number_moved_right : ℕ → ℤ → ℕ → ℤ → ℤ
 number_moved_right k n len before =
     signed_number (is_negative n) (overlay_right (lowest_digits k (unsigned_abs n)) (lowest_digits len (unsigned_abs before)))
 
--- MOVEL: its digits over the others, and its sign if it reaches the last place, else the old one
+-- MOVEL: its digits over the others, and its sign if it reaches the last place, otherwise the old one
 abbrev pub number_moved_left : ℕ → ℤ → ℕ → ℤ → ℤ
 number_moved_left k n len before =
     signed_number (is_negative (if nat_lt k len then before else n)) (overlay_left (lowest_digits k (unsigned_abs n)) (lowest_digits len (unsigned_abs before)))

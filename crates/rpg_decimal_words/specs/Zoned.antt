@@ -27,7 +27,7 @@ digit_of c = if is_digit c then c - 48 else (if is_letter_from 65 c then c - 64 
 abbrev pub may_stand : Bool → ℕ → Bool
 may_stand last c = c == 32 || is_digit c || (last && (is_plus c || is_minus c))
 
--- the character may stand at its place in a number
+-- the character is allowed at its place in a number
 abbrev pub IsGoodAt : List ℕ → ℕ → Type 0
 IsGoodAt text i = IsTrue (may_stand (i + 1 == length text) (slice_index text i))
 
@@ -39,7 +39,7 @@ last_of text = slice_index text (length text - 1)
 abbrev pub spelled_number : List ℕ → ℤ
 spelled_number text = signed_number (is_minus (last_of text)) (map digit_of text)
 
--- each place is good, from left to right
+-- each place is valid, from left to right
 abbrev pub is_numeric : List ℕ → Bool
 is_numeric [] = true
 is_numeric (c ∷ cs) = may_stand (length cs == 0) c && is_numeric cs

@@ -13,7 +13,7 @@ pub record Sheet (X : Type 0) : Type 0 where
   pub groups : List (GroupOfCards X)
 
 module _ {X : Type 0} (begins : X → Bool) where
-  -- the cards at the front that begin no group
+  -- the first cards, which begin no group
   abbrev pub strays : List X → List X
   strays [] = []
   strays (x ∷ xs) = if begins x then [] else x ∷ strays xs

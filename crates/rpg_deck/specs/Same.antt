@@ -36,7 +36,7 @@ pub record Filed (X : Type 0) : Type 0 where
   pub first : X
   pub followers : List X
 
--- each group with the file that its first card names, else with the file of the group before
+-- each group with the file that its first card names, otherwise with that of the previous group
 abbrev pub filed : {X : Type 0} → (X → Option (List ℕ)) → Option (List ℕ) → List (GroupOfCards (Card X)) → List (Filed X)
 filed name file [] = []
 filed name file (g ∷ gs) =

@@ -1,4 +1,4 @@
--- What a deck, a tree and steps in memory stand for.
+-- What a deck, a tree and steps in memory represent.
 use Rattle.std.specs.Borrow.{Bor}
 use Rattle.std.specs.Prelude.{◌≡◌, List, map}
 use Rattle.rpg_cards.specs.Cards.{calculation_on, data_on, extension_on, file_on, input_on, output_on}
@@ -17,7 +17,7 @@ use Rattle.rpg_sheet_specs.specs.declared.calculation.CalculationSpec.{Calculati
 
 -- ---- cards
 
--- a card in memory refers to what it stands for
+-- a card in memory refers to what it represents
 abbrev pub card_in_memory : {X : Type 0} → Card (Bor X) → Card X
 card_in_memory c = record { number = c.number; spec = c.spec.now }
 
@@ -41,15 +41,15 @@ group_in_memory g = record { first = g.first.now; followers = g.followers.now }
 abbrev pub sheet_at : {X : Type 0} → Sheet X → cut.Sheet (Card (Bor X))
 sheet_at s = record { strays = s.strays.now; groups = map group_in_memory s.groups.items }
 
--- what a group stands for
+-- what a group represents
 abbrev pub group_in : {X : Type 0} → Group X → cut.GroupOfCards (Card X)
 group_in g = record { first = card_in_memory g.first.now; followers = map card_in_memory g.followers.now }
 
--- what a sheet stands for
+-- what a sheet represents
 abbrev pub sheet_in : {X : Type 0} → Sheet X → cut.Sheet (Card X)
 sheet_in s = record { strays = map card_in_memory s.strays.now; groups = map group_in s.groups.items }
 
--- what a tree stands for
+-- what a tree represents
 abbrev pub tree_in : read.Tree → Tree
 tree_in t = record {
   headers = map card_in_memory t.headers.now;
@@ -63,10 +63,10 @@ tree_in t = record {
 
 -- ---- steps
 
--- what a place stands for
+-- what a place represents
 abbrev pub subroutine_state_of : read_place.Place → SubroutineState
 subroutine_state_of p = record { begun = p.begun; own = p.own }
 
--- what a step stands for
+-- what a step represents
 abbrev pub step_in : read_step.Step → Step
 step_in s = record { section = s.section; group = group_in s.group.now }

@@ -1,4 +1,4 @@
--- The steps of a source: each calculation with the section that it stands in.
+-- The steps of a source: each calculation with its section.
 use Rattle.std.specs.Prelude.{ℕ, suc, Bool, ◌&&◌, List, [], ◌∷◌, Option, None, Some, unwrap_or, if◌then◌else◌}
 use Rattle.std.specs.List.{filter_map, last_or}
 use Rattle.std.specs.Option.{option_and_then, option_map, option_map_or}
@@ -57,11 +57,11 @@ pub record SubroutineState : Type 0 where
 abbrev pub before_calculations : SubroutineState
 before_calculations = record { begun = 0; own = None }
 
--- SR: the subroutine that the calculation begins, else the open one
+-- SR: the subroutine that the calculation begins, otherwise the open one
 abbrev pub subroutine_section : SubroutineState → CalculationCards → Section
 subroutine_section p g = if is_begsr (group_deed g) then Subroutine p.begun else option_map_or Subroutine p.own Outside
 
--- the section by columns 7 and 8, if SR stands for that one
+-- the section by columns 7 and 8, if SR means that one
 abbrev pub section_by_level : ControlLevel → Section → Section
 section_by_level control.Detail own = Detail
 section_by_level (control.Total i) own = Total
@@ -107,7 +107,7 @@ label_of s = option_map (λ n. record { named = n; section = s.section }) (gives
 abbrev pub labels_of_steps : List Step → List Label
 labels_of_steps ss = filter_map label_of ss
 
--- the call of a step in a subroutine, as caller and callee, by the labels that are given
+-- the call of a step in a subroutine, as caller and callee, by these labels
 abbrev pub call_of : List Label → Step → Option (ℕ × ℕ)
 call_of given s = option_and_then (λ caller. option_map (λ callee. (caller, callee)) (option_and_then (called_subroutine given) (wants (deed s)))) (subroutine_in s.section)
 

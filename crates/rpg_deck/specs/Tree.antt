@@ -44,7 +44,7 @@ module _ {X : Type 0} (on : Spec → Option X) where
 abbrev pub is_type_card : Card InputSpec → Bool
 is_type_card c = is_type c.spec
 
--- the card begins a calculation: it is no AN or OR card
+-- the card begins a calculation: it isn't an AN or OR card
 abbrev pub begins_calculation : Card CalculationSpec → Bool
 begins_calculation c = is_calculation c.spec
 

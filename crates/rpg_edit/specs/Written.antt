@@ -14,7 +14,7 @@ characters_before negative size kept fill [] k = []
 characters_before negative size kept fill (m ∷ rest) k =
     character negative size kept fill m (places rest + k) ∷ characters_before negative size kept fill rest k
 
--- the characters at the marks come before what the text was so far, and nothing else changes
+-- the characters at the marks are put before the text so far, and nothing else changes
 pub record Writes (marks : List Mark) (old : Pass) (before : List ℕ) (new : Pass) (now : List ℕ) : Type 0 where
   pub text : drop new.start now ≡ characters_before old.number.negative old.number.size old.suppression.kept old.suppression.fill marks old.after ++ drop old.start before
   pub front : take new.start now ≡ take new.start before
@@ -24,7 +24,7 @@ pub record Writes (marks : List Mark) (old : Pass) (before : List ℕ) (new : Pa
   pub number : new.number ≡ old.number
   pub suppression : new.suppression ≡ old.suppression
 
--- there is room for n characters before the text so far, which stands within what it is written over
+-- there is room for n characters before the text so far, which is within its buffer
 pub record HasRoom (n : ℕ) (pass : Pass) (out : List ℕ) : Type 0 where
   pub room : n ≤ pass.start
   pub within : pass.start ≤ length out
@@ -36,7 +36,7 @@ pub record Begins (n : ℤ) (end : ℕ) (pass : Pass) : Type 0 where
   pub start : pass.start ≡ end
   pub after : pass.after ≡ 0
 
--- one more digit is passed, and so much is left of the number; nothing else changes
+-- one more digit is passed, and this much is left of the number; nothing else changes
 pub record PassesDigit (old new : Pass) (left : ℕ) : Type 0 where
   pub after : new.after ≡ old.after + 1
   pub start : new.start ≡ old.start

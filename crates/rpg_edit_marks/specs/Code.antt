@@ -31,7 +31,7 @@ ending_marks Unsigned = []
 ending_marks Credit = Sign 67 ∷ Sign 82 ∷ []
 ending_marks Minus = Sign 45 ∷ []
 
--- a floating dollar sign has a place more
+-- a floating dollar sign has an extra place
 abbrev pub dollar_marks : Fill → List Mark
 dollar_marks Blank = []
 dollar_marks Star = []
@@ -83,7 +83,7 @@ takes_fill X fill = is_blank_fill fill
 takes_fill Y fill = is_blank_fill fill
 takes_fill Z fill = is_blank_fill fill
 
--- Y edits six digits without decimals, and X, Y and Z take no fill
+-- Y edits six digits without decimals, and X, Y and Z allow no fill
 abbrev pub fits_code : ℕ → ℕ → EditCode → Fill → Bool
 fits_code len dec (Combination commas zeros ending) fill = true
 fits_code len dec X fill = is_blank_fill fill

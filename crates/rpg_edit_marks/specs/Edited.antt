@@ -26,7 +26,7 @@ abbrev pub digit_character : ℕ → ℕ → ℕ
 digit_character size k = 48 + size / 10 ^ k % 10
 
 -- the character at a mark that k digits follow, if the last `kept` digits always show: a digit, and a character
--- between digits, once a digit that isn't zero came before, or where so few digits follow, else the fill
+-- between digits, after a digit that isn't zero, or if so few digits follow, otherwise the fill
 abbrev pub character : Bool → ℕ → ℕ → ℕ → Mark → ℕ → ℕ
 character negative size kept fill Digit k = if is_begun size k || nat_lt k kept then digit_character size k else fill
 character negative size kept fill (Insert c) k = if is_begun size k || nat_le k kept then c else fill

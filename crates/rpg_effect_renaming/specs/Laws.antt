@@ -38,13 +38,13 @@ InputsAgree {K} {L} R S =
     → (text : List ℕ) (fs : List (InputField K)) (v : Data R) (w : Data S) → AgreeData old at v w
     → SameEnd old at (record_in old text fs v) (record_in new text (map (renamed_input at) fs) w)
 
--- the rules on an operation's operands refuse it by both names or by none
+-- the rules on an operation's operands reject it by both names or by neither
 abbrev pub RowsAgree : {K L : Type 0} → (K → K → Ordering) → (L → L → Ordering) → Type 0
 RowsAgree {K} {L} R S =
     (old : K → Option FieldForm) (new : L → Option FieldForm) (at : K → L) → IsRenaming R S old new at
     → (x : Action (Operand K)) → IsRightRow old (row_of (form_of old) x) ↔ IsRightRow new (row_of (form_of new) (renamed_action at x))
 
--- Where each key that has a form is found by its number, each world by numbers has a world by names that agrees with it.
+-- If each key that has a form is found by its number, each world by numbers has a world by names that agrees with it.
 abbrev pub WorldsAgree : {K : Type 0} → (K → K → Ordering) → Type 0
 WorldsAgree {K} R =
     (old : K → Option FieldForm) (new : ℕ → Option FieldForm) (at : K → ℕ) → IsRenaming R nat_cmp old new at

@@ -131,7 +131,7 @@ module _ {K L : Type 0} {R : K → K → Ordering} {S : L → L → Ordering} (o
     pub values : (k : K) → has_field (old k) ≡ true → (n : ℕ) → value_in w (at k, n) ≡ value_in v (k, n)
     pub current : (k : K) → has_field (old k) ≡ true → maps.get w.current (at k) ≡ maps.get v.current k
 
-  -- and all else of the data is the same
+  -- and all other data are the same
   pub record AgreeData (v : Data R) (w : Data S) : Type 0 where
     pub fields : AgreeFields v.fields w.fields
     pub on : w.on ≡ v.on

@@ -52,7 +52,7 @@ module _ {R S : Type 0} (remaining : R → Option (List ℕ)) (others : S → Op
       FaultsAre result (remaining (device_of old.primary)) (remaining (device_of new.primary)) (others (device_of old.secondary)) (others (device_of new.secondary))
       (device_counts old before) (device_counts new after)
 
-  -- the same for readers and writers that are lent to a call
+  -- likewise for readers and writers that are lent to a call
   abbrev pub TellsWhoseFault : {P D X : Type 0} → Lent (Readers R S) → Lent (Writers P D) → Result X RunFault → Type 0
   TellsWhoseFault readers writers result = NamesFault readers.entry.now readers.exit.now writers.entry.now writers.exit.now result
 

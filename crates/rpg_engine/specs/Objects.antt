@@ -28,7 +28,7 @@ HasObjectFault (objects.NotAnObject offset code) bytes = first_fault bytes ≡ S
 HasObjectFault (objects.Refused broken) bytes = (p : Object) × SpellsProgram bytes p × IsLeastBroken p broken
 HasObjectFault objects.NoMemory bytes = Unit {0}
 
--- the same for a program: it has no fault of bytes, and memory runs out only for accepted programs
+-- likewise for a program: it has no fault of bytes, and memory runs out only for accepted programs
 abbrev pub IsRefused : ObjectFault → Object → Type 0
 IsRefused (objects.NotAnObject offset code) p = ⊥
 IsRefused (objects.Refused broken) p = IsLeastBroken p broken

@@ -35,7 +35,7 @@ pub record IsUnbegun {R S : Type 0} (job : AtWork) (primary : RecordReader R) (s
   pub fresh_primary : IsFresh job.program.record_length primary
   pub fresh_secondary : IsFresh job.program.secondary_length secondary
 
--- the stage of a job that goes on, or that has ended so
+-- the stage of a job that continues, or that has ended so
 abbrev pub ended_stage : Option JobEnd → Stage
 ended_stage None = Going
 ended_stage (Some e) = Ended (job_end e)
@@ -69,13 +69,13 @@ pub record Asks {R : Type 0} (remaining : R → Option (List ℕ)) (is_needed : 
 abbrev pub IsSureWhereAsked : {R : Type 0} → Bool → RecordReader R → Type 0
 IsSureWhereAsked is_needed reader = is_needed ≡ true → is_sure reader ≡ true
 
--- a job did a cycle with these records, in no more steps than its program's bound, and goes on or ended so
+-- a job did a cycle with these records, in no more steps than its program's bound, and continues or ended so
 pub record CyclesTo (job : AtWork) (primary secondary : Option (List ℕ)) (ended : Option JobEnd) (job' : AtWork) : Type 0 where
   pub cycles : Cycles job primary secondary job'
   pub stage : job'.stage ≡ ended_stage ended
   pub bounded : job'.config.steps ≤ bound job'.program
 
--- a job did a cycle with what the readers of the files that need a record returned, and goes on or ended so
+-- a job did a cycle with what the readers of the files that need a record returned, and continues or ended so
 pub record TakesCycle {R S : Type 0} (remaining : R → Option (List ℕ)) (others : S → Option (List ℕ)) (job : AtWork) (primary : RecordReader R) (secondary : RecordReader S)
     (ended : Option JobEnd) (job' : AtWork) (primary' : RecordReader R) (secondary' : RecordReader S) : Type 0 where
   pub first : Next

@@ -22,7 +22,7 @@ use std::io::Read;
 /// Stands in for a bad record: no program accepts it.
 const BAD_RECORD: &[u8] = &[0];
 
-/// Does a cycle of a job that goes on. Returns how the job ended, if it did.
+/// Does a cycle of a job that continues. Returns how the job ended, if it did.
 fn cycle_with<S: Store + Drop>(
     job: &mut Job<'_, S>,
     primary: Option<&[u8]>,

@@ -1,4 +1,4 @@
--- What follows of what is kept of the cards before a card, whichever cards they are.
+-- How what is kept of the cards before a card changes, whichever cards they are.
 use Rattle.std.specs.Prelude.{◌≡◌, List, [], ◌∷◌, ◌++◌, Bool, false, Option}
 use Rattle.std.specs.Option.{option_map, option_map_or}
 use Rattle.rpg_cards.specs.Cards.{input_on}
@@ -8,11 +8,11 @@ use Rattle.rpg_sheet_specs.specs.declared.input.InputSpec.{InputSpec}
 use Rattle.rpg_sheet_specs.specs.declared.input.InputSpec.TheVariants as input
 
 module _ {X : Type 0} (Kept : List SpecCard → List SpecCard → X → Type 0) where
-  -- with the card it is what is kept of the cards with that one
+  -- with the card it becomes what is kept of the cards including that one
   abbrev pub AddsCard : SpecCard → List SpecCard → X → X → Type 0
   AddsCard c after old new = (before : List SpecCard) → Kept (before ++ c ∷ after) before old → Kept (before ++ c ∷ after) (before ++ c ∷ []) new
 
-  -- it shows whether an input card breaks a rule
+  -- it determines whether an input card breaks a rule
   abbrev pub TellsInput : (List SpecCard → List SpecCard → InputSpec → Bool) → SpecCard → List SpecCard → X → Bool → Type 0
   TellsInput breaks c after kept answer = (before : List SpecCard) → Kept (before ++ c ∷ after) before kept → answer ≡ option_map_or (breaks before after) (input_on c.spec) false
 

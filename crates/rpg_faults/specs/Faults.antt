@@ -1,4 +1,4 @@
--- The faults of a source without sheet faults, as a set of pairs, and the least of them.
+-- The faults of a source without sheet faults, as a set of pairs, and the first of them.
 use Rattle.std.specs.Prelude.{◌≡◌, ◌<◌, ◌≤◌, ◌⊎◌, true, List, [], ◌∷◌, ◌++◌, Option, None, Some, find, if◌then◌else◌}
 use Rattle.std.specs.Option.{option_map, option_or}
 use Rattle.rpg_cards.specs.declared.spec_card.SpecCard.{SpecCard}
@@ -16,26 +16,26 @@ use Rattle.rpg_faults.specs.Rules.{rule, source_rule}
 abbrev pub HasFault : List SpecCard → Fault → Type 0
 HasFault cards f = BreaksRule (rule f.code) cards f.card ⊎ ((f.card ≡ 0) × (source_rule f.code cards ≡ true))
 
--- a source without a fault
+-- a source without faults
 abbrev pub Faultless : List SpecCard → Type 0
 Faultless cards = (f : Fault) → ¬ HasFault cards f
 
--- ---- the least of them, by card and then by code
+-- ---- the first of them, by card and then by code
 
 -- faults are in order: by card, and on a card by code
 abbrev pub FaultNotAfter : Fault → Fault → Type 0
 FaultNotAfter f g = (f.card < g.card) ⊎ ((f.card ≡ g.card) × (fault_number f.code ≤ fault_number g.code))
 
--- a fault of the source, and none comes before it
+-- a fault of the source, such that no other comes before it
 pub record IsLeastFault (cards : List SpecCard) (f : Fault) : Type 0 where
   pub is : HasFault cards f
   pub least : (g : Fault) → HasFault cards g → FaultNotAfter f g
 
--- all codes, the least first
+-- all codes, in numeric order
 abbrev pub codes : List FaultCode
 codes = F1 ∷ F2 ∷ F3 ∷ F4 ∷ F5 ∷ F6 ∷ F7 ∷ F8 ∷ F9 ∷ F10 ∷ F11 ∷ F12 ∷ F13 ∷ F14 ∷ F15 ∷ F16 ∷ F17 ∷ F18 ∷ []
 
--- ---- how it is found: on the first card that breaks a rule, the lowest code; before all cards what the source as a whole breaks
+-- ---- how it is computed: on the first card that breaks a rule, the lowest code; before all cards, faults of the source as a whole
 
 -- a fault of a card
 abbrev pub fault_on : SpecCard → FaultCode → Fault

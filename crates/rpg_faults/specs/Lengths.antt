@@ -1,4 +1,4 @@
--- The joined lengths that the cards before a card come to, level by level.
+-- The joined lengths after the cards before a card, level by level.
 use Rattle.std.specs.Prelude.{◌≡◌, ℕ, ◌+◌, ◌-◌, ◌==◌, Bool, List, slice_index_or, min, map, take, sum_by, Option, None, Some, if◌then◌else◌}
 use Rattle.std.specs.List.{list_any}
 use Rattle.std.specs.Option.{option_map, option_or}
@@ -14,7 +14,7 @@ use Rattle.rpg_sheet_specs.specs.declared.input.RecordType.{RecordType}
 abbrev pub first_lengths : List SpecCard → List SpecCard → List (Option ℕ)
 first_lengths cards before = map (λ level. first_length level (take (group_count input_role before) (groups input_role cards))) levels
 
--- those of a type's fields; what is longer counts as 65,535
+-- those of a type's fields; longer ones count as 65,535
 abbrev pub lengths_of : List InputSpec → List ℕ
 lengths_of specs = map (λ level. min (joined_length level specs) 65535) levels
 
@@ -35,13 +35,13 @@ pub record AreJoinedLengths (cards before : List SpecCard) (j : JoinedLengths) :
 abbrev pub with_lengths : List (Option ℕ) → List InputSpec → List (Option ℕ)
 with_lengths first specs = map (λ level. option_or (slice_index_or first (level - 1) None) (level_length level specs)) levels
 
--- a level's length isn't that of the first type with the level
+-- a level's length differs from the first type with the level
 abbrev pub any_differs : List (Option ℕ) → List InputSpec → Bool
 any_differs first specs = list_any (λ level. lengths_differ (slice_index_or first (level - 1) None) (level_length level specs)) levels
 
 -- ---- a level's fields, one by one
 
--- a field has a column at least
+-- a field has at least one column
 abbrev pub some_length : ℕ → Option ℕ
 some_length n = if n == 0 then None else Some n
 

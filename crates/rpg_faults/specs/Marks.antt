@@ -1,4 +1,4 @@
--- Which columns of a card a fault speaks of: none if the card as a whole is meant.
+-- Which columns of a card a fault points at; none for the card as a whole.
 use Rattle.std.specs.Prelude.{◌≡◌, ℕ, ◌==◌, List, ◌∷◌, ◌++◌, Option, None, Some, if◌then◌else◌}
 use Rattle.std.specs.Option.{option_map, option_map_or, option_or}
 use Rattle.rpg_cards.specs.Cards.{extension_on, input_on, output_field_on}
@@ -26,7 +26,7 @@ use Rattle.rpg_sheet_specs.specs.declared.input.InputSpec.{InputSpec}
 use Rattle.rpg_sheet_specs.specs.declared.input.InputSpec.TheVariants as input
 use Rattle.rpg_sheet_specs.specs.declared.input.RecordCode.{RecordCode}
 
--- ---- F16: the first code that is outside; of a field the column that is wrong, or its control level or match level
+-- ---- F16: the first code that is outside; for a field its wrong column, or its control level or match level
 
 -- the columns of the first record code that is outside the record
 abbrev pub code_columns : Option FileSpec → Three (Option RecordCode) → Option ColumnRange
@@ -50,7 +50,7 @@ place_on_input file before (input.Type t) = code_columns file t.codes
 place_on_input file before (input.And codes) = code_columns file codes
 place_on_input file before (input.Field f) = Some (field_range file before f)
 
--- the range for any file of that record length, and any cards before of which these lengths are kept
+-- the range for any file of that record length, and any cards before with these lengths
 abbrev pub TellsRange : {X : Type 0} → (Option FileSpec → List SpecCard → X) → Option ℕ → JoinedLengths → X → Type 0
 TellsRange range_of length lengths answer =
     (file : Option FileSpec) (before : List SpecCard) → length ≡ option_map (λ f. f.record_length) file → AreOpenLengths before lengths → answer ≡ range_of file before
@@ -59,13 +59,13 @@ TellsRange range_of length lengths answer =
 abbrev pub place_columns : List SpecCard → List SpecCard → SpecCard → Option ColumnRange
 place_columns cards before c = option_map_or (λ i. place_on_input (file_by (own_file before i) cards) before i) (input_on c.spec) (option_map (λ f. range.EndPosition) (output_field_on c.spec))
 
--- ---- F18: the entries per card, which ask for data
+-- ---- F18: the entries per card, which require data
 
 -- the columns of an E card that its data don't fit
 abbrev pub deck_columns : SpecCard → Option ColumnRange
 deck_columns c = option_map (λ e. range.EntriesPerCard) (extension_on c.spec)
 
--- ---- F9 and F12 are of several rooms
+-- ---- F9 and F12 are of several crates
 
 -- the columns where something is missing, or stands where nothing may
 abbrev pub missing_columns : List SpecCard → SpecCard → List SpecCard → Option ColumnRange

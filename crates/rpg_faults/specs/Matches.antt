@@ -1,4 +1,4 @@
--- What the match fields of the cards before a card come to.
+-- The match fields after the cards before a card.
 use Rattle.std.specs.Prelude.{◌≡◌, ℕ, List, [], ◌∷◌, ◌++◌, Bool, false, min, map, take, sum_by, Option, None, Some}
 use Rattle.std.specs.List.{list_any}
 use Rattle.std.specs.Option.{option_map}
@@ -22,7 +22,7 @@ first_of_types cards before = first_good_matches (take (group_count input_role b
 abbrev pub has_match_level : List InputFieldSpec → ℕ → Bool
 has_match_level fs level = list_any (is_at match_level level) fs
 
--- which levels a type's match fields have, and their columns; what is more counts as 65,535
+-- which levels a type's match fields have, and their columns; longer ones count as 65,535
 abbrev pub matches_of : List InputSpec → OpenMatches
 matches_of specs = record { levels = map (has_match_level (matched_fields specs)) levels; length = min (sum_by input_columns (matched_fields specs)) 65535 }
 
@@ -37,7 +37,7 @@ pub record AreMatches (cards before : List SpecCard) (m : Matches) : Type 0 wher
 
 -- ---- a type's match fields, one by one
 
--- so far each level stands once, with good columns
+-- so far each level appears once, with valid columns
 pub record AreGood (fs : List InputFieldSpec) (found : Option (List ℕ)) : Type 0 where
   pub columns : has_bad fs ≡ false
   pub once : has_twice fs ≡ false
@@ -52,11 +52,11 @@ AreWith fs f None = (rest : List InputFieldSpec) → good_matches (fs ++ f ∷ r
 abbrev pub AddsMatch : ℕ → ℕ → Option (List ℕ) → Option (List ℕ) → Type 0
 AddsMatch level columns old new = (fs : List InputFieldSpec) (f : InputFieldSpec) → AreGood fs old → f.match_level ≡ Some level → columns ≡ input_columns f → AreWith fs f new
 
--- those of the cards up to the next type, with fields that stand before
+-- those of the cards up to the next type, with earlier fields
 abbrev pub matches_up_to : List InputFieldSpec → List SpecCard → Option (List ℕ)
 matches_up_to fs cards = good_matches (fs ++ matched_fields (followers input_role cards))
 
--- what a further card makes of the lengths of the fields before it, whatever follows
+-- what one more card does to the lengths of the fields before it, whatever follows
 abbrev pub MakesOf : List InputFieldSpec → SpecCard → Option (List ℕ) → Further → Type 0
 MakesOf fs card found further.OtherType = (rest : List SpecCard) → found ≡ matches_up_to fs (card ∷ rest)
 MakesOf fs card found further.Bad = (rest : List SpecCard) → None ≡ matches_up_to fs (card ∷ rest)

@@ -1,4 +1,4 @@
--- F16: columns outside the record or the line, fields wider than their end, control fields and match fields that don't agree.
+-- F16: columns outside the record or the line, fields too wide for their end position, control fields and match fields that don't agree.
 use Rattle.std.specs.Prelude.{◌≡◌, ℕ, ◌+◌, ◌-◌, List, [], ◌∷◌, map, Bool, false, not, ◌&&◌, ◌||◌, ◌==◌, nat_eq, nat_lt, nat_le, sum_by, Option, None, Some, if◌then◌else◌}
 use Rattle.std.specs.Cmp.Lexicographic.{pointwise}
 use Rattle.std.specs.List.{filter, list_any, range_with_len}
@@ -22,7 +22,7 @@ use Rattle.rpg_sheet_specs.specs.declared.output.OutputField.{OutputField}
 
 -- ---- columns
 
--- nothing is held against the length of a file that is unknown
+-- no column is past the length of an unknown file
 abbrev pub is_past : Option FileSpec → ℕ → Bool
 is_past file column = option_map_or (λ f. nat_lt f.record_length column) file false
 
@@ -44,11 +44,11 @@ outside_on_input file (input.Type t) = bad_codes file t.codes
 outside_on_input file (input.And codes) = bad_codes file codes
 outside_on_input file (input.Field f) = outside_record file f
 
--- a field or constant takes more columns than there are up to its end
+-- a field or constant is wider than its end position allows
 abbrev pub is_wider : List SpecCard → OutputField → Bool
 is_wider cards f = option_map_or (λ w. nat_lt f.end w) (width cards f) false
 
--- the end is 0 or past the line, or too near
+-- the end position is 0 or past the line, or leaves too little room
 abbrev pub outside_line : List SpecCard → Option FileSpec → OutputField → Bool
 outside_line cards file f = f.end == 0 || (is_past file f.end || is_wider cards f)
 
@@ -74,7 +74,7 @@ joined_length level specs = sum_by input_columns (level_fields level specs)
 abbrev pub has_bad : List InputFieldSpec → Bool
 has_bad fs = list_any (λ f. input_columns f == 0) fs
 
--- that of a type that has the level, if all its columns are good
+-- the length of a type that has the level, if all its columns are valid
 abbrev pub good_length : List InputFieldSpec → Option ℕ
 good_length [] = None
 good_length (f ∷ fs) = if has_bad (f ∷ fs) then None else Some (sum_by input_columns (f ∷ fs))
@@ -88,7 +88,7 @@ abbrev pub first_length : ℕ → List (Group RecordType InputSpec) → Option �
 first_length level [] = None
 first_length level (g ∷ gs) = option_or (level_length level g.followers) (first_length level gs)
 
--- two lengths, and not the same
+-- two lengths that differ
 abbrev pub lengths_differ : Option ℕ → Option ℕ → Bool
 lengths_differ first own = option_map_or (λ m. option_map_or (λ n. not (m == n)) own false) first false
 
@@ -96,7 +96,7 @@ lengths_differ first own = option_map_or (λ m. option_map_or (λ n. not (m == n
 unfoldable pub levels : List ℕ
 levels = range_with_len 1 9
 
--- a type has other joined lengths than the first types with its levels: its fields stand after its card
+-- a type has other joined lengths than the first types with its levels: its fields follow its card
 abbrev pub has_other_lengths : List SpecCard → List SpecCard → Bool
 has_other_lengths before after = list_any (λ level. lengths_differ (first_length level (groups input_role before)) (level_length level (followers input_role after))) levels
 
@@ -104,7 +104,7 @@ has_other_lengths before after = list_any (λ level. lengths_differ (first_lengt
 abbrev pub open_specs : List SpecCard → List InputSpec
 open_specs before = option_map_or (λ g. g.followers) (open_group input_role before) []
 
--- the field with which a level's joined length passes 256
+-- the field that puts a level's joined length over 256
 abbrev pub passes_length : List SpecCard → InputFieldSpec → Bool
 passes_length before f =
     option_map_or (λ level. nat_le (joined_length level (open_specs before)) 256 && nat_lt 256 (joined_length level (open_specs before) + input_columns f)) f.level false
@@ -115,7 +115,7 @@ controls_badly before after (input.Type t) = has_other_lengths before after
 controls_badly before after (input.And codes) = false
 controls_badly before after (input.Field f) = passes_length before f
 
--- ---- match fields: a type has each level once, those of all its levels are joined, and each type that has some has the same
+-- ---- match fields: a type has each level at most once, those of all levels are joined, and all types that have any have the same
 
 -- the fields with a match level
 abbrev pub matched_fields : List InputSpec → List InputFieldSpec
@@ -134,7 +134,7 @@ abbrev pub has_twice : List InputFieldSpec → Bool
 has_twice [] = false
 has_twice (f ∷ fs) = repeats fs f || has_twice fs
 
--- the lengths of a type that has match fields, if no level stands twice and all columns are good
+-- the lengths of a type that has match fields, if no level appears twice and all columns are valid
 abbrev pub good_matches : List InputFieldSpec → Option (List ℕ)
 good_matches [] = None
 good_matches (f ∷ fs) = if has_bad (f ∷ fs) || has_twice (f ∷ fs) then None else Some (match_lengths (f ∷ fs))
@@ -144,11 +144,11 @@ abbrev pub first_good_matches : List (Group RecordType InputSpec) → Option (Li
 first_good_matches [] = None
 first_good_matches (g ∷ gs) = option_or (good_matches (matched_fields g.followers)) (first_good_matches gs)
 
--- two lists of lengths, and not the same
+-- two lists of lengths that differ
 abbrev pub matches_differ : Option (List ℕ) → Option (List ℕ) → Bool
 matches_differ first own = option_map_or (λ ms. option_map_or (λ ns. not (pointwise nat_eq ms ns)) own false) first false
 
--- a type has other match fields than the first type that has some
+-- a type has other match fields than the first type that has any
 abbrev pub has_other_matches : List SpecCard → List SpecCard → Bool
 has_other_matches before after = matches_differ (first_good_matches (groups input_role before)) (good_matches (matched_fields (followers input_role after)))
 
@@ -156,11 +156,11 @@ has_other_matches before after = matches_differ (first_good_matches (groups inpu
 abbrev pub open_matches : List SpecCard → List InputFieldSpec
 open_matches before = matched_fields (open_specs before)
 
--- the match field with which the length of all match fields passes 256
+-- the match field that puts the length of all match fields over 256
 abbrev pub passes_matches : List InputFieldSpec → InputFieldSpec → Bool
 passes_matches fs f = is_match_field f && (nat_le (sum_by input_columns fs) 256 && nat_lt 256 (sum_by input_columns fs + input_columns f))
 
--- after these a match field may not stand
+-- after these the match field isn't allowed
 abbrev pub refuses : List InputFieldSpec → InputFieldSpec → Bool
 refuses fs f = repeats fs f || passes_matches fs f
 
@@ -187,7 +187,7 @@ abbrev pub TellsOwnLength : List SpecCard → InputSpec → Option GroupFile →
 TellsOwnLength cards i file answer =
     (before : List SpecCard) → file ≡ option_map group_file (file_by (open_file input_role before) cards) → answer ≡ option_map (λ f. f.record_length) (file_by (own_file before i) cards)
 
--- the card asks for a place outside the record or the line, or joins fields badly
+-- the card has a column outside the record or the line, or joins fields badly
 abbrev pub misplaces : List SpecCard → List SpecCard → SpecCard → List SpecCard → Bool
 misplaces cards before c after =
     option_map_or (λ i. outside_on_input (file_by (own_file before i) cards) i || joins_badly before after i) (input_on c.spec) false

@@ -1,4 +1,4 @@
--- What a card breaks, and what a source as a whole breaks: a rule for each code.
+-- The rule of each code, for a card and for a source as a whole.
 use Rattle.std.specs.Prelude.{Bool, false, ◌||◌, List, ◌∷◌, ◌++◌}
 use Rattle.rpg_cards.specs.declared.spec_card.SpecCard.{SpecCard}
 use Rattle.rpg_faults.specs.declared.code.FaultCode.{FaultCode}
@@ -21,7 +21,7 @@ use Rattle.rpg_faults_operands.specs.Names.{lacks_name}
 use Rattle.rpg_faults_data.specs.Data.{breaks_data}
 use Rattle.rpg_faults.specs.Places.{misplaces}
 
--- what a card breaks, seen with the cards before it and those after it
+-- what a card breaks, given the cards before it and those after it
 unfoldable pub rule : FaultCode → Rule
 rule F1 before c after = lacks_name (before ++ c ∷ after) c after
 rule F2 before c after = redefines before c

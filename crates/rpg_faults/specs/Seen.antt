@@ -1,4 +1,4 @@
--- What the cards before a card come to.
+-- The state after the cards before a card.
 use Rattle.std.specs.Prelude.{◌≡◌, ◌≤◌, ◌++◌, List, length}
 use Rattle.rpg_cards.specs.Sheets.{AreSheets}
 use Rattle.rpg_cards.specs.declared.spec_card.SpecCard.{SpecCard}

@@ -1,4 +1,4 @@
--- What is kept of the cards before a card.
+-- The state that is kept of the cards before a card.
 use Rattle.std.specs.Prelude.{List}
 use Rattle.rpg_cards.specs.declared.spec_card.SpecCard.{SpecCard}
 use Rattle.rpg_faults_data.specs.Decks.{AreDecks}

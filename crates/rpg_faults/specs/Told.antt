@@ -1,4 +1,4 @@
--- Faults of cards as they are reported for a source, with the columns that they mark.
+-- Faults of cards as they are reported for a source, with the columns that they point at.
 use Rattle.std.specs.Prelude.{◌≡◌, ◌==◌, List, [], ◌∷◌, ◌++◌, Option, None, map, filter, if◌then◌else◌}
 use Rattle.rpg_cards.specs.declared.spec_card.SpecCard.{SpecCard}
 use Rattle.rpg_faults.specs.Every.{AreAllFaults}
@@ -13,7 +13,7 @@ use Rattle.rpg_faults.specs.declared.source_fault.SourceCode.TheVariants as sour
 use Rattle.rpg_faults_limits.specs.Files.{lacks_input}
 use Rattle.rpg_sheet_specs.specs.declared.column.ColumnFault.{ColumnFault}
 
--- what a fault's code speaks of on the card with its number
+-- the columns that a fault's code points at on the card with its number
 abbrev pub columns_in : List SpecCard → List SpecCard → Fault → Option ColumnFault
 columns_in before [] f = None
 columns_in before (c ∷ after) f = if c.number == f.card then fault_columns f.code before c after else columns_in (before ++ c ∷ []) after f
@@ -22,11 +22,11 @@ columns_in before (c ∷ after) f = if c.number == f.card then fault_columns f.c
 abbrev pub told_of : List SpecCard → Fault → CardFault
 told_of cards f = record { card = f.card; code = source_codes.Fault f.code; columns = columns_in [] cards f }
 
--- just the faults of these cards, each once, in the order of cards and codes
+-- exactly the faults of these cards, each once, in the order of cards and codes
 abbrev pub AreFaultsOf : List SpecCard → List CardFault → Type 0
 AreFaultsOf cards told = (faults : List Fault) × AreAllFaults cards faults × (told ≡ map (told_of cards) faults)
 
--- ---- how they are found: what the source as a whole breaks, then card by card, code by code
+-- ---- how they are computed: the faults of the source as a whole, then card by card, code by code
 
 -- a fault of a card, with its columns
 abbrev pub told_by : List SpecCard → SpecCard → List SpecCard → FaultCode → CardFault
@@ -45,7 +45,7 @@ told_from before (c ∷ after) = told_on before c after ++ told_from (before ++ 
 abbrev pub of_whole : CardFault
 of_whole = record { card = 0; code = source_codes.Fault F7; columns = None }
 
--- the faults that no card has
+-- the faults that belong to no card
 abbrev pub told_of_whole : List SpecCard → List CardFault
 told_of_whole cards = if lacks_input cards then of_whole ∷ [] else []
 

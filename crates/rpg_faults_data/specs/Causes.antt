@@ -39,7 +39,7 @@ pub record DataCard : Type 0 where
   pub number : ℕ
   pub text : List ℕ
 
--- the card of data with that number and that text
+-- the card of data with this number and text
 abbrev pub data_card : ℕ → List ℕ → DataCard
 data_card n text = record { number = n; text = text }
 
@@ -54,7 +54,7 @@ abbrev pub deck_cards : List SpecCard → List DataCard
 deck_cards [] = []
 deck_cards (c ∷ cs) = with_data_card c.number (data_on c.spec) (deck_cards cs)
 
--- ---- the entries of a table: each takes `width` columns of a card and stands in `len` of them, from the column `from` on
+-- ---- the entries of a table: each takes `width` columns of a card and is in `len` of them, from column `from` on
 
 -- an entry: its card, its first column and its text
 pub record PlacedEntry : Type 0 where
@@ -108,7 +108,7 @@ first_wrong t number before (e ∷ es) = option_or (wrong_entry t number before 
 abbrev pub of_table : ExtensionSpec → ℕ → List DataCard → ℕ → TableSpec → Option EntryCause
 of_table e per_card cards from t = first_wrong t 1 None (placed_entries e.entries per_card (data_columns e) from t.length cards)
 
--- that of its tables, which stand one after the other
+-- that of its tables, in sequence
 abbrev pub of_tables : ExtensionSpec → ℕ → List DataCard → ℕ → List TableSpec → Option EntryCause
 of_tables e per_card cards from [] = None
 of_tables e per_card cards from (t ∷ ts) = option_or (of_table e per_card cards from t) (of_tables e per_card cards (from + t.length) ts)
@@ -123,7 +123,7 @@ need_of e per_card = record { entries = e.entries; per_card = per_card; cards = 
 abbrev pub missing_deck : ExtensionSpec → ℕ → DataCause
 missing_deck e per_card = if per_card == 0 then cause.NoDeck else cause.Missing (need_of e per_card)
 
--- the entries per card don't fit the card, or the cards don't fit the entries; else an entry is wrong
+-- the entries per card don't fit the card, or the cards don't fit the entries; otherwise an entry is wrong
 abbrev pub of_deck : ExtensionSpec → ℕ → List DataCard → Option DataCause
 of_deck e per_card cards =
     if per_card == 0 then Some cause.NonePerCard

@@ -29,7 +29,7 @@ wanted cards = count_by wants_data cards
 abbrev pub deck_at : ℕ → List SpecCard → Option (List (List ℕ))
 deck_at n cards = option_map (λ g. g.followers) (slice_get (groups data_role cards) n)
 
--- ---- the entries of a table: each takes `width` columns of a card and stands in `len` of them, from the column `from` on
+-- ---- the entries of a table: each takes `width` columns of a card and is in `len` of them, from column `from` on
 
 -- the text of an entry on a data card
 abbrev pub entry_on : ℕ → ℕ → ℕ → List ℕ → ℕ → List ℕ
@@ -45,7 +45,7 @@ data_entries n per_card width from len cards = take n (flat_map (entries_on per_
 
 -- ---- entries that are bad or out of sequence
 
--- one that should be a number, and is none
+-- one that should be a number but isn't
 abbrev pub is_bad : Option ℕ → List ℕ → Bool
 is_bad None text = false
 is_bad (Some decimals) text = is_none (number_in text)
@@ -81,7 +81,7 @@ data_columns e = sum_by (λ (t : TableSpec). t.length) (tables_on e)
 abbrev pub cards_for : ℕ → ℕ → ℕ
 cards_for n per_card = div_ceil n per_card
 
--- the tables of an E card stand one after the other
+-- the tables of an E card, in sequence
 abbrev pub bad_tables : ExtensionSpec → ℕ → List (List ℕ) → ℕ → List TableSpec → Bool
 bad_tables e per_card cards from [] = false
 bad_tables e per_card cards from (t ∷ ts) =

@@ -1,4 +1,4 @@
--- The rules for a card, by the group that the card right before belongs to.
+-- The rules for a card, given the group of the previous card.
 use Rattle.std.specs.Prelude.{List, Bool, false, not, ◌&&◌, ◌||◌, Option, None, Some, is_none, is_some, if◌then◌else◌}
 use Rattle.std.specs.Option.{option_and_then, option_map, option_map_or}
 use Rattle.rpg_cards.specs.Calculations.{CalculationGroup, calculations, card_ending, depends, goes_on, group_end}
@@ -33,7 +33,7 @@ level_with group c = option_map (calculation_level group) (calculation_on c.spec
 
 -- ---- BEGSR and ENDSR of SR cards
 
--- whether it is an ENDSR, or else a BEGSR
+-- whether it is an ENDSR, or otherwise a BEGSR
 abbrev pub bracket_of : Calculation Key → Option Bool
 bracket_of g = if begins_subroutine g || ends g then Some (ends g) else None
 
@@ -41,17 +41,17 @@ bracket_of g = if begins_subroutine g || ends g then Some (ends g) else None
 abbrev pub bracket_in : ControlLevel → CalculationSpec → Option Bool
 bracket_in level k = if is_subroutine level && is_bracket (deed_of k) then Some (is_endsr (deed_of k)) else None
 
--- the same for the card with the operation, if a group ends on the card
+-- likewise for the card with the operation, if a group ends on the card
 abbrev pub bracket_at : Option ControlLevel → SpecCard → List SpecCard → Option Bool
 bracket_at group c after = option_and_then (λ k. bracket_in (calculation_level group k) k) (card_ending c after)
 
 -- ---- F9
 
--- F9 of the conditions, by whether a group is open and whether the next card continues it
+-- F9 of the conditions, given whether a group is open and whether the next card continues it
 abbrev pub bad_dependence : Bool → Bool → CalculationSpec → List SpecCard → Bool
 bad_dependence in_group on k after = ((on || (joins k.control_level && in_group)) && not (depends k)) || (depends k && not (may_depend (group_end k after)))
 
--- F9 of a C card, by whether a group is open
+-- F9 of a C card, given whether a group is open
 abbrev pub bad_card : Bool → CalculationSpec → List SpecCard → Bool
 bad_card in_group k after = bad_dependence in_group (goes_on after) k after || ((is_some k.length && is_none k.result_field) || bad_by_end (goes_on after) k)
 
@@ -61,6 +61,6 @@ bad_card in_group k after = bad_dependence in_group (goes_on after) k after || (
 abbrev pub labels_in : List SpecCard → List Label
 labels_in cards = labels (calculations cards)
 
--- F10 of a calculation: its GOTO or EXSR names what isn't given
+-- F10 of a calculation: its GOTO or EXSR names an undefined label or subroutine
 abbrev pub calculation_lacks_label : List SpecCard → CalculationSpec → Bool
 calculation_lacks_label cards k = option_map_or (λ n. not (is_given_as (labels_in cards) n)) (wants (deed_of k)) false

@@ -35,7 +35,7 @@ is_for_name content.Table = false
 abbrev pub is_unfit : Content → Factor → Bool
 is_unfit c f = is_for_name c && is_none (plain_name f)
 
--- a column is filled though it must be blank, blank though it must be filled, or not a plain name where a label goes
+-- a column is filled but must be blank, blank but must be filled, or not a plain name where a label goes
 abbrev pub misses : Column → Option Factor → Bool
 misses Blank f = is_some f
 misses (May c) f = option_map_or (is_unfit c) f false
@@ -66,7 +66,7 @@ has_more k = is_some k.operation || is_some k.factor_1 || is_some k.factor_2 || 
 abbrev pub may_depend : CalculationSpec → Bool
 may_depend last = option_map_or (λ o. (card_columns o).may_depend) last.operation true
 
--- of several cards each has conditions, and none has any if the group's operation may have none
+-- a card of several has no conditions, or a card has some although the group's operation allows none
 abbrev pub bad_conditions : Option CalculationGroup → CalculationSpec → List SpecCard → Bool
 bad_conditions group k after = ((goes_on after || (joins k.control_level && is_some group)) && not (depends k)) || (depends k && not (may_depend (group_end k after)))
 
@@ -74,7 +74,7 @@ bad_conditions group k after = ((goes_on after || (joins k.control_level && is_s
 abbrev pub bad_last : CalculationSpec → Bool
 bad_last k = option_map_or (bad_operation k) k.operation true
 
--- a card before the last has more than conditions, or the last card is bad
+-- a card before the last has more than conditions, or the last card is wrong
 abbrev pub bad_by_end : Bool → CalculationSpec → Bool
 bad_by_end true k = has_more k
 bad_by_end false k = bad_last k

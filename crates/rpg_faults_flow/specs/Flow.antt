@@ -1,4 +1,4 @@
--- F10, F11, F13, F14: labels, subroutines, and where control goes.
+-- F10, F11, F13, F14: labels, subroutines, and transfers of control.
 use Rattle.std.specs.Prelude.{ℕ, ◌==◌, List, [], ◌∷◌, ◌++◌, Bool, true, false, not, ◌&&◌, ◌||◌, Option, is_some}
 use Rattle.std.specs.List.{list_any}
 use Rattle.std.specs.Option.{option_and_then, option_map_or}
@@ -15,22 +15,22 @@ use Rattle.rpg_cards.specs.Names.{definitions, definitions_on, given_names, is_o
 use Rattle.rpg_cards.specs.declared.names.Definition.{Definition}
 use Rattle.rpg_cards.specs.declared.spec_card.SpecCard.{SpecCard}
 
--- ---- F10: GOTO a label, EXSR a subroutine that isn't there; a name that is defined twice is what it was first
+-- ---- F10: GOTO a label, EXSR a subroutine that isn't defined; a name that is defined twice is what it was first
 
 -- both or neither
 abbrev pub alike : Bool → Bool → Bool
 alike true b = b
 alike false b = not b
 
--- the name is given, as a label or as a subroutine, as the operation requires
+-- the name is defined, as a label or as a subroutine, as the operation requires
 abbrev pub is_given_as : List Label → Named → Bool
 is_given_as given n = option_map_or (λ (l : Label). alike l.named.is_subroutine n.is_subroutine) (label_named n.name given) false
 
--- a calculation's GOTO or EXSR names a label or a subroutine that isn't given
+-- a calculation's GOTO or EXSR names an undefined label or subroutine
 abbrev pub lacks_label : List Label → Calculation Key → Bool
 lacks_label given g = option_map_or (λ n. not (is_given_as given n)) (wants g.deed) false
 
--- F10: the calculation that ends on the card names a label or a subroutine that isn't given
+-- F10: the calculation that ends on the card names an undefined label or subroutine
 abbrev pub goes_nowhere : List SpecCard → List SpecCard → SpecCard → List SpecCard → Bool
 goes_nowhere cards before c after = option_map_or (lacks_label (labels (calculations cards))) (calculation_ending before c after) false
 
@@ -40,22 +40,22 @@ goes_nowhere cards before c after = option_map_or (lacks_label (labels (calculat
 abbrev pub is_defined : Name → List Definition → Bool
 is_defined name ds = list_any (is_of name) given_names || list_any (is_of name) ds
 
--- a label that is given before, or a field by then
+-- a label that is already defined, or is a field by then
 abbrev pub gives_again : List SpecCard → SpecCard → List SpecCard → Calculation Key → Bool
 gives_again before c after g =
     option_map_or (λ (n : Named). is_some (label_named n.name (labels (calculations_before before (c ∷ after)))) || is_defined n.name (definitions (before ++ c ∷ []))) (gives g.deed) false
 
--- a field that is a label before
+-- a field that is already a label
 abbrev pub defines_label : List Label → SpecCard → Bool
 defines_label given c = list_any (λ (d : Definition). is_some (label_named d.name given)) (definitions_on c.spec)
 
--- F11: the calculation that ends on the card gives a name again, or the card defines a name that is a label before
+-- F11: the calculation that ends on the card defines a name again, or the card defines a field whose name is a label
 abbrev pub names_twice : List SpecCard → SpecCard → List SpecCard → Bool
 names_twice before c after =
     option_map_or (gives_again before c after) (calculation_ending before c after) false
     || defines_label (labels (calculations_before before (c ∷ after))) c
 
--- ---- F13: GOTO to a label of another section; no fault where one of them is outside the sections
+-- ---- F13: GOTO to a label of another section; no fault if one of them is outside the sections
 
 -- two different sections
 abbrev pub are_apart : Section → Section → Bool

@@ -2,7 +2,7 @@
 use Rattle.std.specs.Prelude.{◌≡◌, List, ◌∷◌, ◌++◌, Bool, false}
 use Rattle.rpg_cards.specs.declared.spec_card.SpecCard.{SpecCard}
 
--- whether a card breaks the rule, by the cards before it, the card, and the cards after it
+-- whether a card breaks the rule, given the cards before it, the card, and the cards after it
 abbrev pub Rule : Type 0
 Rule = List SpecCard → SpecCard → List SpecCard → Bool
 

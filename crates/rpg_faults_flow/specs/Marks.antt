@@ -1,4 +1,4 @@
--- Which columns of a calculation card the faults of control point at.
+-- Which columns of a calculation card a fault of control flow points at.
 use Rattle.std.specs.Prelude.{ℕ, List, Bool, true, false, ◌&&◌, Option, is_some, is_none, if◌then◌else◌}
 use Rattle.std.specs.Option.{option_map, option_map_or}
 use Rattle.rpg_cards.specs.Calculations.{calculation_ending, card_ending, goes_on}
@@ -18,9 +18,10 @@ use Rattle.rpg_sheet_specs.specs.declared.indicator.ConditionSpec.{ConditionSpec
 use Rattle.rpg_sheet_specs.specs.declared.indicator.Three.{Three}
 use Rattle.rpg_sheet_specs.specs.declared.literal.Factor.TheVariants as factor
 
--- ---- F9: a length without a result field; what is missing or not allowed with the operation; else the conditions
+-- ---- F9: a length without a result field; what is missing or not allowed with the operation; otherwise the
+-- conditions
 
--- the first that is there, else where they are missing
+-- the first one, or the columns of missing ones
 abbrev pub shown_range : Three (Option ℕ) → ColumnRange
 shown_range t =
     if is_some t.first then range.ResultPlus
@@ -28,7 +29,7 @@ shown_range t =
     else if is_some t.third then range.ResultZero
     else range.ResultingIndicators
 
--- the first condition that is there, else the columns of all three
+-- the first condition, or the columns of all three
 abbrev pub condition_range : Three (Option ConditionSpec) → ColumnRange
 condition_range t =
     if is_some t.first then range.FirstCondition
@@ -69,13 +70,13 @@ calculation_range on k =
 abbrev pub calculation_columns : SpecCard → List SpecCard → Option ColumnRange
 calculation_columns c after = option_map (calculation_range (goes_on after)) (calculation_on c.spec)
 
--- ---- F10, F13, F14: where it goes
+-- ---- F10, F13, F14: the target
 
 -- factor 2, which names the label or the subroutine
 abbrev pub target_range : ColumnRange
 target_range = range.SecondFactor
 
--- ---- F11: the name that a label or a subroutine is given again, else the field that is a label before
+-- ---- F11: the repeated name of a label or a subroutine, otherwise the field that is already a label
 
 -- F11 of a card
 abbrev pub twice_range : List SpecCard → SpecCard → List SpecCard → ColumnRange
@@ -83,7 +84,7 @@ twice_range before c after =
     if option_map_or (gives_again before c after) (calculation_ending before c after) false then range.FirstFactor
     else range.ResultName
 
--- ---- F12: BEGSR or ENDSR; else the columns for the section or for AN and OR
+-- ---- F12: BEGSR or ENDSR; otherwise the columns for the section or for AND and OR
 
 -- F12 of a calculation card
 abbrev pub order_range : CalculationSpec → ColumnRange
@@ -93,7 +94,7 @@ order_range k = if is_bracket (deed_of k) then range.Operation else range.Contro
 abbrev pub calculation_order_columns : SpecCard → Option ColumnRange
 calculation_order_columns c = option_map order_range (calculation_on c.spec)
 
--- ---- F15: H where nothing is rounded, else MVR
+-- ---- F15: H where nothing is rounded, otherwise MVR
 
 -- F15 of a calculation card, with the last card of its group
 abbrev pub rounding_range : Option CalculationSpec → CalculationSpec → ColumnRange

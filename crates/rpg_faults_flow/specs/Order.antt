@@ -1,4 +1,4 @@
--- F12 of calculation cards: sections out of order, BEGSR and ENDSR that aren't paired, cards that need one before them.
+-- F12 of calculation cards: sections out of order, unpaired BEGSR and ENDSR, cards without the card that they continue.
 use Rattle.std.specs.Prelude.{ℕ, nat_lt, List, [], ◌∷◌, Bool, true, false, not, ◌&&◌, ◌||◌, Some, is_none}
 use Rattle.std.specs.List.{list_any}
 use Rattle.std.specs.Option.{option_map_or}
@@ -22,7 +22,7 @@ section_rank control.Subroutine = 2
 section_rank control.And = 0
 section_rank control.Or = 0
 
--- a section that comes earlier than one before
+-- a section that comes before that of an earlier card
 abbrev pub is_early : List SpecCard → CalculationSpec → Bool
 is_early before k = list_any (λ (j : CalculationSpec). nat_lt (section_rank k.control_level) (section_rank j.control_level)) (calculation_specs_in before)
 
@@ -30,7 +30,7 @@ is_early before k = list_any (λ (j : CalculationSpec). nat_lt (section_rank k.c
 abbrev pub is_bracket : Deed Key → Bool
 is_bracket d = is_begsr d || is_endsr d
 
--- a group of SR in 7-8 in no subroutine, whose operation is neither BEGSR nor ENDSR
+-- a group with SR in columns 7 and 8 outside all subroutines, whose operation is neither BEGSR nor ENDSR
 abbrev pub is_outside_subroutine : List (Calculation Key) → CalculationGroup → Bool
 is_outside_subroutine before g = is_subroutine g.first.control_level && (not (is_bracket (deed_of (last_card g))) && not (is_inside_subroutine before))
 

@@ -1,4 +1,4 @@
--- F15: H where nothing is rounded, and MVR if no division has left a remainder.
+-- F15: H on an operation that can't half-adjust, and MVR without a remainder from a division.
 use Rattle.std.specs.Prelude.{List, Bool, true, false, not, ◌&&◌, ◌||◌, Option}
 use Rattle.std.specs.Option.{option_map_or}
 use Rattle.rpg_cards.specs.Calculations.{card_ending, last_card, open_calculation_group}
@@ -32,11 +32,11 @@ may_half_adjust o = (card_columns o).may_half_adjust
 abbrev pub leaves_remainder : CalculationSpec → Bool
 leaves_remainder k = operation_passes is_division k && not k.half_adjust
 
--- the card right before is the last one of a division without H
+-- the previous card is the last one of a division without H
 abbrev pub follows_division : List SpecCard → Bool
 follows_division before = option_map_or (λ g. leaves_remainder (last_card g)) (open_calculation_group before) false
 
--- H on a card before the last, or if the operation doesn't round
+-- H on a card before the last, or on an operation that can't half-adjust
 abbrev pub rounds_nothing : CalculationSpec → Option CalculationSpec → Bool
 rounds_nothing k last = k.half_adjust && not (option_map_or (operation_passes may_half_adjust) last false)
 
@@ -44,7 +44,7 @@ rounds_nothing k last = k.half_adjust && not (option_map_or (operation_passes ma
 abbrev pub lacks_remainder : List SpecCard → CalculationSpec → Option CalculationSpec → Bool
 lacks_remainder before k last = option_map_or (operation_passes is_remainder) last false && (joins k.control_level || not (follows_division before))
 
--- H where nothing is rounded, or MVR without a division right before
+-- H where nothing is rounded, or MVR without a division right before it
 abbrev pub rounds_wrongly : List SpecCard → CalculationSpec → Option CalculationSpec → Bool
 rounds_wrongly before k last = rounds_nothing k last || lacks_remainder before k last
 

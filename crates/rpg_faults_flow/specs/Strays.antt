@@ -1,4 +1,4 @@
--- F12 of I and O cards: cards that need one before them.
+-- F12 of I and O cards: cards without the card that they continue or belong to.
 use Rattle.std.specs.Prelude.{◌-◌, List, length, slice_get, Bool, true, false, not, ◌||◌, Option, is_none}
 use Rattle.std.specs.Option.{option_and_then, option_map_or}
 use Rattle.rpg_cards.specs.Cards.{input_on, output_on}
@@ -21,7 +21,7 @@ takes_codes (input.Type t) = true
 takes_codes (input.And codes) = true
 takes_codes (input.Field f) = false
 
--- a type card or an AND card comes right before
+-- the previous card is a type card or an AND card
 abbrev pub follows_codes : List SpecCard → Bool
 follows_codes before = option_map_or takes_codes (option_and_then (λ (c : SpecCard). input_on c.spec) (card_right_before before)) false
 
@@ -40,7 +40,7 @@ takes_conditions (output.And t) = true
 takes_conditions (output.Or t) = true
 takes_conditions (output.Field f) = false
 
--- a record, AND or OR card comes right before
+-- the previous card is a record, AND or OR card
 abbrev pub follows_conditions : List SpecCard → Bool
 follows_conditions before = option_map_or takes_conditions (option_and_then (λ (c : SpecCard). output_on c.spec) (card_right_before before)) false
 

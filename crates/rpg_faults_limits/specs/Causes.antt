@@ -1,4 +1,4 @@
--- F6: which limit a card passes, and how many there are with it.
+-- F6: which limit a card exceeds, and the count with it.
 use Rattle.std.specs.Prelude.{ℕ, ◌&&◌, nat_le, nat_lt, List, [], ◌∷◌, ◌++◌, Bool, Option, None, Some, if◌then◌else◌}
 use Rattle.std.specs.Option.{option_and_then, option_or}
 use Rattle.rpg_cards.specs.Cards.{extension_on}
@@ -16,7 +16,7 @@ use Rattle.rpg_sheet_specs.specs.declared.extension.ExtensionSpec.{ExtensionSpec
 abbrev pub measure_of : Limit → (List SpecCard → ℕ) → ℕ → List SpecCard → SpecCard → Measure
 measure_of what measure most before c = record { limit = what; most = most; before = measure before; with = measure (before ++ c ∷ []) }
 
--- the limit is kept before the card and passed with it
+-- the count is within its limit before the card and over it with the card
 abbrev pub passes_with_card : Measure → Bool
 passes_with_card k = nat_le k.before k.most && nat_lt k.most k.with
 
@@ -24,7 +24,7 @@ passes_with_card k = nat_le k.before k.most && nat_lt k.most k.with
 abbrev pub of_count : Measure → Option LimitCause
 of_count k = if passes_with_card k then Some (Passed k.limit k.with) else None
 
--- the first count that passes its limit
+-- the first count that exceeds its limit
 abbrev pub first_past : List Measure → Option LimitCause
 first_past [] = None
 first_past (k ∷ ks) = option_or (of_count k) (first_past ks)
@@ -38,7 +38,7 @@ type_measures before c =
     ∷ measure_of limit.InputFields (of_type field_count) 500 before c
     ∷ []
 
--- which of these passes its limit
+-- which of these exceeds its limit
 abbrev pub on_types : List SpecCard → SpecCard → Option LimitCause
 on_types before c = first_past (type_measures before c)
 
@@ -51,7 +51,7 @@ line_measures before c =
     ∷ measure_of limit.OutputFields (of_line output_field_count) 200 before c
     ∷ []
 
--- which of these passes its limit
+-- which of these exceeds its limit
 abbrev pub on_lines : List SpecCard → SpecCard → Option LimitCause
 on_lines before c = first_past (line_measures before c)
 
@@ -72,7 +72,7 @@ storage_counts cards before c =
     ∷ measure_of limit.Fields (fields_up_to cards) 4000 before c
     ∷ []
 
--- which of these passes its limit
+-- which of these exceeds its limit
 abbrev pub on_storage : List SpecCard → List SpecCard → SpecCard → Option LimitCause
 on_storage cards before c = first_past (storage_counts cards before c)
 

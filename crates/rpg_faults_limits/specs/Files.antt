@@ -1,4 +1,4 @@
--- F7: files that are unknown, defined twice or of the wrong use. F9 of lines: spaces and skips for the disk file.
+-- F7: files that are unknown, described twice or of the wrong use. F9 of lines: spaces and skips for the disk file.
 use Rattle.std.specs.Prelude.{ℕ, List, Bool, not, ◌&&◌, ◌||◌, Option, None, Some, is_none, is_some, false, true}
 use Rattle.std.specs.Option.{option_and_then, option_map_or, option_or}
 use mathlib.Core.Bool.{beq}
@@ -22,22 +22,22 @@ longest_in_file Secondary = 9999
 longest_in_file Printer = 132
 longest_in_file Disk = 9999
 
--- the primary file's other input file is the secondary one, and the other way round
+-- the primary file's other input file is the secondary one, and the other way around
 abbrev pub other_input : FileUse → Option FileUse
 other_input Primary = Some Secondary
 other_input Secondary = Some Primary
 other_input Printer = None
 other_input Disk = None
 
--- the job ends once both input files are at their end: both files have E, or neither
+-- just one of the two files has E
 abbrev pub ends_unlike : FileSpec → FileSpec → Bool
 ends_unlike f g = not (beq f.ends_job g.ends_job)
 
--- one input file has E and the other one hasn't
+-- one input file has E and the other hasn't
 abbrev pub ends_apart : List SpecCard → FileSpec → Bool
 ends_apart before f = option_map_or (ends_unlike f) (option_and_then (λ u. file_for u before) (other_input (file_use f))) false
 
--- one file of each use; no two of one name
+-- one file of each use; no two with the same name
 abbrev pub bad_file : List SpecCard → FileSpec → Bool
 bad_file before f =
     is_some (file_named f.name before)
@@ -45,12 +45,12 @@ bad_file before f =
     || ends_apart before f
     || not (is_between 1 (longest_in_file (file_use f)) f.record_length)
 
--- A card names a file of this use. Only after another card of its kind may it leave the name out.
+-- A card names a file of this use. Only after another card of its kind may it omit the name.
 abbrev pub lacks_file : List SpecCard → (FileUse → Bool) → Bool → Option (List ℕ) → Bool
 lacks_file cards is_fit is_following None = not is_following
 lacks_file cards is_fit is_following (Some name) = option_map_or (λ f. not (is_fit (file_use f))) (file_named name cards) true
 
--- F7 of a card: its file is bad, or it names no file that it may have
+-- F7 of a card: its file is wrong, or it names no file of its use
 abbrev pub breaks_files : List SpecCard → List SpecCard → SpecCard → Bool
 breaks_files cards before c =
     option_map_or (bad_file before) (file_on c.spec) false

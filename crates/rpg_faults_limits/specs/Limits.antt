@@ -1,4 +1,4 @@
--- F6: limits that are passed, at the card with which a count or a sum passes.
+-- F6: limits that are exceeded, at the card that puts a count or a sum over one.
 use Rattle.std.specs.Prelude.{ℕ, ◌+◌, ◌==◌, Bool, true, false, not, ◌&&◌, ◌||◌, nat_le, nat_lt, List, [], ◌∷◌, ◌++◌, length, sum_by, count_by, fold, Option, is_some}
 use Rattle.std.specs.Option.{option_map_or}
 use Rattle.rpg_cards.specs.Calculations.{calculation_ending, calculations_before}
@@ -21,7 +21,7 @@ use Rattle.rpg_sheet_specs.specs.declared.output.OutputSpec.{OutputSpec}
 use Rattle.rpg_sheet_specs.specs.declared.output.OutputSpec.TheVariants as output
 use Rattle.rpg_text.specs.Texts.{is_between}
 
--- what is counted is within a limit before a card, and past it with the card
+-- a count is within its limit before a card, and over it with the card
 abbrev pub crosses : (List SpecCard → ℕ) → ℕ → List SpecCard → SpecCard → Bool
 crosses measure limit before c = nat_le (measure before) limit && nat_lt limit (measure (before ++ c ∷ []))
 
@@ -61,7 +61,7 @@ level_count g = count_by is_level_field g.followers
 abbrev pub field_count : Group RecordType InputSpec → ℕ
 field_count g = count_by is_input_field_card g.followers
 
--- of the open type
+-- for the open type
 abbrev pub of_type : (Group RecordType InputSpec → ℕ) → List SpecCard → ℕ
 of_type measure cards = in_open measure (open_group input_role cards)
 
@@ -108,7 +108,7 @@ alternative_count g = 1 + count_by is_or_line g.followers
 abbrev pub output_field_count : Group OutputRecord OutputSpec → ℕ
 output_field_count g = count_by is_output_field g.followers
 
--- of the open line
+-- for the open line
 abbrev pub of_line : (Group OutputRecord OutputSpec → ℕ) → List SpecCard → ℕ
 of_line measure cards = in_open measure (open_group output_role cards)
 
@@ -126,7 +126,7 @@ passes_on_lines before c =
 abbrev pub calculation_count : List SpecCard → ℕ
 calculation_count cards = count_by (λ c. is_some (calculation_on c.spec)) cards
 
--- the calculation that ends on the card is BEGSR of an SR card, and there are 100 before it
+-- the calculation that ends on the card is a BEGSR of an SR card, and 100 come before it
 abbrev pub passes_subroutines : List SpecCard → SpecCard → List SpecCard → Bool
 passes_subroutines before c after =
     begun_count (calculations_before before (c ∷ after)) == 100
@@ -158,15 +158,15 @@ constant_size c = size_of (constant_form c)
 abbrev pub constant_bytes : List SpecCard → ℕ
 constant_bytes cards = sum_by constant_size (constants cards)
 
--- fields are the names of all cards, and after them the constants: here those of the cards at the front
+-- fields are the names of all cards, then the constants: here those of the first cards
 abbrev pub fields_up_to : List SpecCard → List SpecCard → ℕ
 fields_up_to cards front = name_count cards + length (constants front)
 
--- the bytes of all names, and of the constants of the cards at the front
+-- the bytes of all names, and of the constants of the first cards
 abbrev pub bytes_up_to : List SpecCard → List SpecCard → ℕ
 bytes_up_to cards front = name_bytes cards + constant_bytes front
 
--- 4,000 fields, 65,535 bytes of storage; the names by themselves keep both limits
+-- 4,000 fields, 65,535 bytes of storage; the names alone keep both limits
 abbrev pub passes_storage : List SpecCard → List SpecCard → SpecCard → Bool
 passes_storage cards before c =
     crosses name_count 4000 before c
@@ -180,7 +180,7 @@ passes_storage cards before c =
 abbrev pub bad_entries_of : ExtensionSpec → Bool
 bad_entries_of e = not (is_between 1 9999 e.entries)
 
--- the same for a card, if it is an E card
+-- likewise for a card, if it is an E card
 abbrev pub bad_entries : SpecCard → Bool
 bad_entries c = option_map_or bad_entries_of (extension_on c.spec) false
 

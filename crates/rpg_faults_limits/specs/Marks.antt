@@ -1,4 +1,4 @@
--- Which columns of a card the faults of names, limits, files and order point at.
+-- Which columns of a card a fault of names, limits, files or order points at.
 use Rattle.std.specs.Prelude.{ℕ, List, Bool, false, slice_get, Option, None, Some, is_some, if◌then◌else◌}
 use Rattle.std.specs.Option.{option_map, option_map_or}
 use Rattle.rpg_cards.specs.Cards.{output_record_on}
@@ -22,9 +22,9 @@ use Rattle.rpg_sheet_specs.specs.declared.output.OutputSpec.TheVariants as outpu
 use Rattle.rpg_sheet_specs.specs.declared.spec.Spec.{Spec}
 use Rattle.rpg_sheet_specs.specs.declared.spec.Spec.TheVariants as spec
 
--- ---- F2: the name that is defined again; of an E card the first of two, where it is
+-- ---- F2: the name that is defined again; for an E card the first of two, if it is that one
 
--- the columns of the name that a card defines first
+-- the columns of the first name that a card defines
 abbrev pub name_columns : Spec → Option ColumnRange
 name_columns (spec.Header h) = None
 name_columns (spec.File f) = None
@@ -34,17 +34,17 @@ name_columns (spec.Calculation k) = Some range.ResultName
 name_columns (spec.Output o) = None
 name_columns (spec.Data d) = None
 
--- the first name that the card defines has another form before
+-- the first name that the card defines had another form before
 abbrev pub redefines_first : List SpecCard → SpecCard → Bool
 redefines_first before c = option_map_or (redefines_as (definitions before)) (slice_get (definitions_on c.spec) 0) false
 
--- F2 of a card: its first name, else the alternating one
+-- F2 of a card: its first name, otherwise the alternating one
 abbrev pub redefined_columns : List SpecCard → SpecCard → Option ColumnRange
 redefined_columns before c = if redefines_first before c then name_columns c.spec else Some range.AlternatingName
 
--- ---- F3: the decimals, where the length would do without them; else the length
+-- ---- F3: the decimals, if the length would be valid without them; otherwise the length
 
--- the decimals if the length by itself is good, else the length
+-- the decimals if the length alone is valid, otherwise the length
 abbrev pub size_range : ColumnRange → ColumnRange → ℕ → Option ℕ → ColumnRange
 size_range length decimals len d = if is_some (sized_form len (option_map (λ n. 0) d)) then decimals else length
 
@@ -52,7 +52,7 @@ size_range length decimals len d = if is_some (sized_form len (option_map (λ n.
 abbrev pub size_of_alternating : TableSpec → ColumnRange
 size_of_alternating t = size_range range.AlternatingLength range.AlternatingDecimals t.length t.decimals
 
--- F3 of an E card: the sizes of its table, else of the alternating one
+-- F3 of an E card: the sizes of its table, otherwise of the alternating one
 abbrev pub size_of_tables : ExtensionSpec → ColumnRange
 size_of_tables e =
     if bad_size_of_table e.table then size_range range.EntryLength range.EntryDecimals e.table.length e.table.decimals
@@ -72,13 +72,13 @@ size_columns (spec.Calculation k) = Some (size_of_result k)
 size_columns (spec.Output o) = None
 size_columns (spec.Data d) = None
 
--- ---- F6: the entries of a table; of all other limits the card as a whole is one too many
+-- ---- F6: the entries of a table; for any other limit the card as a whole is one too many
 
 -- F6 of a card: its entries; none for a limit that cards exceed together
 abbrev pub limit_columns : SpecCard → Option ColumnRange
 limit_columns c = if bad_entries c then Some range.Entries else None
 
--- ---- F7: of an F card the name, what makes it a second one of its use, whether it ends the job, or the record length
+-- ---- F7 of an F card: the name, what makes it the second one of its use, whether it ends the job, or the record length
 
 -- the columns that give a file its use
 abbrev pub use_range : FileUse → ColumnRange
@@ -87,7 +87,7 @@ use_range Secondary = range.FileType
 use_range Printer = range.Device
 use_range Disk = range.Device
 
--- F7 of an F card: its name, its use, E, else its record length
+-- F7 of an F card: its name, its use, E, otherwise its record length
 abbrev pub file_range : List SpecCard → FileSpec → ColumnRange
 file_range before f =
     if is_some (file_named f.name before) then range.FileName
@@ -119,9 +119,9 @@ first_movement m =
 abbrev pub movement_columns : SpecCard → Option ColumnRange
 movement_columns c = option_map (λ r. first_movement r.movement) (output_record_on c.spec)
 
--- ---- F12 of I and O cards: the name of a field that belongs to nothing; else the card as a whole
+-- ---- F12 of I and O cards: the name of a field that belongs to no type or line; otherwise the card as a whole
 
--- F12 of an I or O card: the field's name, and nothing of AND and OR cards
+-- F12 of an I or O card: the field's name, nothing for AND and OR cards
 abbrev pub stray_columns : Spec → Option ColumnRange
 stray_columns (spec.Header h) = None
 stray_columns (spec.File f) = None

@@ -14,16 +14,16 @@ use Rattle.rpg_symbols.specs.Fields.{same_form}
 
 -- ---- F2: a name that is defined again in another form, also by the alternating table of one card
 
--- a definition whose name has another form by its first good definition
+-- a definition whose form differs from that of its name's first good definition
 abbrev pub redefines_as : List Definition → Definition → Bool
 redefines_as before d = option_map_or (λ form. option_map_or (λ first. not (same_form first form)) (form_in (form_by d.name before)) false) d.form false
 
--- one of these does, each by those before it
+-- one of these does, given those before it
 abbrev pub redefine : List Definition → List Definition → Bool
 redefine before [] = false
 redefine before (d ∷ ds) = redefines_as before d || redefine (before ++ d ∷ []) ds
 
--- F2: the card defines a name that has another form before
+-- F2: the card defines a name that had another form before
 abbrev pub redefines : List SpecCard → SpecCard → Bool
 redefines before c = redefine (definitions before) (definitions_on c.spec)
 

@@ -1,4 +1,4 @@
--- What is known of the cards before a card.
+-- The state that is kept of the cards before a card.
 use Rattle.std.specs.Prelude.{◌≡◌, ℕ, ◌*◌, ◌≤◌, ⊤, Bool, false, List, [], ◌∷◌, ◌++◌, length, Option, is_some}
 use Rattle.std.specs.Option.{option_map_or}
 use Rattle.rpg_cards.specs.Calculations as calculations
@@ -59,7 +59,7 @@ is_of_subroutine g = is_subroutine g.first.control_level
 abbrev pub is_open_subroutine : Option calculations.CalculationGroup → Bool
 is_open_subroutine o = option_map_or is_of_subroutine o false
 
--- the group that the card right before belongs to is of an SR card
+-- the group of the previous card is of an SR card
 abbrev pub is_in_subroutine : List SpecCard → Bool
 is_in_subroutine before = is_open_subroutine (calculations.open_calculation_group before)
 
@@ -84,7 +84,7 @@ abbrev pub IsStorageWithNext : List SpecCard → List SpecCard → List SpecCard
 IsStorageWithNext cards before [] s = ⊤
 IsStorageWithNext cards before (c ∷ after) s = IsStorage cards (before ++ c ∷ []) s
 
--- ---- all that is known before a card, which is the first of the rest
+-- ---- the whole state before a card, which is the first of the rest
 
 -- all counts before a card are right
 pub record AreLimits (cards before rest : List SpecCard) (l : Limits) : Type 0 where

@@ -13,7 +13,8 @@ use Rattle.rpg_faults_limits.specs.declared.totals.Totals.{Totals}
 abbrev pub BeginsWith : {X : Type 0} → List X → List X → Type 0
 BeginsWith {X} xs front = (back : List X) × (xs ≡ front ++ back)
 
--- how many items there are, how many of them are not among the known ones nor like an earlier one, and the bytes of these with those of the known
+-- how many items there are, how many of them are neither among the known ones nor equal to an earlier one, and the bytes of these and of
+-- the known ones
 pub record HasTotals (X : Type 0) (same : X → X → Bool) (size : X → ℕ) (known items : List X) (t : Totals) : Type 0 where
   pub count : t.items ≡ length items
   pub number : t.number ≡ length (insert_all same known items)
@@ -26,7 +27,7 @@ pub record HasTotals (X : Type 0) (same : X → X → Bool) (size : X → ℕ) (
 abbrev pub HasNames : List Definition → Totals → Type 0
 HasNames items t = HasTotals Definition same_name definition_bytes given_names items t
 
--- the totals are those of these constants, equal ones once
+-- the totals are those of these constants, without duplicates
 abbrev pub HasConstants : List Constant → Totals → Type 0
 HasConstants items t = HasTotals Constant is_same constant_size [] items t
 

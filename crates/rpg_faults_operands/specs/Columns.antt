@@ -1,4 +1,4 @@
--- F9: high or low of a search without sequence, and output fields whose columns don't go together.
+-- F9: a search for high or low without sequence, and output fields whose columns don't go together.
 use Rattle.std.specs.Prelude.{List, Bool, true, false, not, ◌&&◌, ◌||◌, is_some, is_none}
 use Rattle.std.specs.Option.{option_map_or}
 use Rattle.rpg_cards.specs.Calculations.{card_ending}
@@ -25,17 +25,17 @@ searches shown.Search = true
 abbrev pub lacks_sequence : FieldForm → Bool
 lacks_sequence form = (is_array form.class || is_table form.class) && not form.is_ascending
 
--- high or low need entries in ascending sequence
+-- a search for high or low through entries that aren't in ascending sequence
 abbrev pub is_unordered : List SpecCard → CalculationSpec → OperationColumns → Bool
 is_unordered cards k t =
     searches t.indicators && (is_some k.resulting_indicators.first || is_some k.resulting_indicators.second)
     && option_map_or lacks_sequence (factor_form cards t.factor_2 k.factor_2) false
 
--- F9 of a calculation: LOKUP with high or low through what isn't in ascending sequence
+-- F9 of a calculation: LOKUP for high or low through entries that aren't in ascending sequence
 abbrev pub bad_search : List SpecCard → CalculationSpec → Bool
 bad_search cards k = option_map_or (λ o. is_unordered cards k (card_columns o)) k.operation false
 
--- without a field there is a constant, and neither code nor blank after
+-- an output card without a field has no constant, or has a code or blank-after
 abbrev pub bad_output_field : OutputField → Bool
 bad_output_field f = is_none f.operand && (is_some f.code || f.blank_after || is_none f.text)
 

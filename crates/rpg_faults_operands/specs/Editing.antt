@@ -1,4 +1,4 @@
--- F17: edit codes and words that don't fit; and how wide an output field is.
+-- F17: edit codes and words that don't fit; and the width of an output field.
 use Rattle.std.specs.Prelude.{ℕ, List, length, Bool, true, false, not, ◌&&◌, Option, None, Some, is_none, is_some, if◌then◌else◌}
 use Rattle.std.specs.Option.{option_and_then, option_map, option_map_or}
 use Rattle.rpg_cards.specs.Cards.{output_field_on}
@@ -20,12 +20,12 @@ use Rattle.rpg_faults_operands.specs.Operands.{output_form}
 
 -- ---- the meaning of the columns
 
--- the fill of a code: blanks if there is no text, none for a text that is no fill
+-- the fill of a code: blanks if there is no text, none for a text that isn't a fill
 abbrev pub fill_in : Option (List ℕ) → Option Fill
 fill_in None = Some fill.Blank
 fill_in (Some text) = fill_by text
 
--- how a field is edited, by its code and its text; none if there is a code and the text is no fill
+-- how a field is edited, by its code and its text; none if there is a code and the text isn't a fill
 abbrev pub how_by : Option EditCode → Option (List ℕ) → Option (How (List ℕ))
 how_by None None = Some Plain
 how_by None (Some word) = Some (Word word)
@@ -35,7 +35,7 @@ how_by (Some code) text = option_map (λ f. Code code f) (fill_in text)
 abbrev pub output_how : OutputField → Option (How (List ℕ))
 output_how f = how_by f.code f.text
 
--- ---- whether it fits
+-- ---- whether editing fits
 
 -- the code takes its fill
 abbrev pub has_fill : How (List ℕ) → Bool
@@ -57,7 +57,7 @@ if_suited form how = if suits form how then Some how else None
 abbrev pub fitting_how : FieldForm → OutputField → Option (How (List ℕ))
 fitting_how form f = option_and_then (if_suited form) (output_how f)
 
--- of a field without a form only the fill is known
+-- all that is tested for a field without a form is its fill
 abbrev pub unedited : Option FieldForm → OutputField → Bool
 unedited None f = option_map_or (λ how. not (has_fill how)) (output_how f) true
 unedited (Some form) f = is_none (fitting_how form f)

@@ -1,4 +1,4 @@
--- Operands that are surely good: none of F1, F4 and F5 is broken.
+-- Operands that certainly break neither F1, F4 nor F5.
 use Rattle.std.specs.Prelude.{◌≡◌, List, Bool, false, Option, Some}
 use Rattle.std.specs.List.{list_any}
 use Rattle.std.specs.Option.{option_and_then, option_map_or}
@@ -13,31 +13,31 @@ use Rattle.rpg_sheet_specs.specs.declared.entry.Entry.{Entry}
 use Rattle.rpg_sheet_specs.specs.declared.literal.Factor.{Factor}
 use Rattle.rpg_sheet_specs.specs.declared.operations.Column.{Column}
 
--- an operand, if there is one, is defined and well indexed
+-- an operand, if there is one, is defined and validly indexed
 pub record IsGoodOperand (cards : List SpecCard) (o : Option Operand) : Type 0 where
   pub name : option_map_or (names_nothing cards) o false ≡ false
   pub index : option_map_or (bad_index_of cards) o false ≡ false
 
--- an operand is good, and its form is known
+-- an operand is valid, and its form is known
 pub record IsGoodForm (cards : List SpecCard) (o : Option Operand) (known found : Option FieldForm) : Type 0 where
   pub operand : IsGoodOperand cards o
   pub form : found ≡ known
 
--- what stands in a factor of such a column is good, and this form is found for it
+-- the factor in such a column is valid, and this is its form
 abbrev pub IsGoodFactor : List SpecCard → Column → Option Factor → Option FieldForm → Type 0
 IsGoodFactor cards column f found = IsGoodForm cards (operand_in column (option_and_then factor_entry f)) (factor_form cards column f) found
 
--- what stands in the result field is good, and this form is found for it
+-- the result field is valid, and this is its form
 abbrev pub IsGoodResult : List SpecCard → Column → Option Entry → Option FieldForm → Type 0
 IsGoodResult cards column e found = IsGoodForm cards (operand_in column e) (result_form cards column e) found
 
--- all operands of a calculation are good
+-- all operands of a calculation are valid
 pub record IsGoodCalculation (cards : List SpecCard) (k : CalculationSpec) : Type 0 where
   pub names : list_any (names_nothing cards) (operands_listed (operands_of k)) ≡ false
   pub kinds : wrong_in_calculation cards k ≡ false
   pub indexes : list_any (bad_index_of cards) (operands_listed (operands_of k)) ≡ false
 
--- all operands of a card are good
+-- all operands of a card are valid
 pub record HasGoodOperands (cards : List SpecCard) (c : SpecCard) (after : List SpecCard) : Type 0 where
   pub names : lacks_name cards c after ≡ false
   pub kinds : wrong_operand cards c after ≡ false

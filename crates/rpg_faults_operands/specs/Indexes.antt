@@ -19,7 +19,7 @@ use Rattle.rpg_faults_operands.specs.Operands.{Operand, card_entry_form, operand
 abbrev pub can_index : FieldForm → Bool
 can_index form = is_index_form (Some form)
 
--- an array is no value: one of its entries is
+-- an array isn't a value; only its entries are
 abbrev pub needs_index : Content → FieldForm → Bool
 needs_index Value form = is_array form.class
 needs_index WholeArray form = false
@@ -46,7 +46,7 @@ is_searched_content Table = false
 is_searched_content Label = false
 is_searched_content Subroutine = false
 
--- an index field that LOKUP writes has room for the number of the last entry
+-- an index field that LOKUP writes is too short for the number of the last entry
 abbrev pub is_too_short : Content → FieldForm → FieldForm → Bool
 is_too_short content form field = is_searched_content content && is_array form.class && can_index field && not (nat_lt form.entries (10 ^ field.length))
 
@@ -55,7 +55,7 @@ abbrev pub bad_entry : Content → FieldForm → EntryIndex → Option FieldForm
 bad_entry content form (index.Literal n) field = not (is_between 1 form.entries n)
 bad_entry content form (index.Name x) field = option_map_or (is_too_short content form) field false
 
--- an index is missing, or is there and not allowed or out of range
+-- an index is missing, or isn't allowed, or is out of range
 abbrev pub misindexed : Content → Option EntryIndex → Option FieldForm → FieldForm → Bool
 misindexed content None field form = needs_index content form
 misindexed content (Some i) field form = not (takes_index content form) || bad_entry content form i field
@@ -64,7 +64,7 @@ misindexed content (Some i) field form = not (takes_index content form) || bad_e
 abbrev pub index_form : List SpecCard → Entry → Option FieldForm
 index_form cards e = option_and_then (λ x. form_in (form_of_name x cards)) (index_name e)
 
--- an index field that is no plain number without decimals
+-- an index field that isn't a plain number without decimals
 abbrev pub bad_index_field : Option FieldForm → Bool
 bad_index_field field = option_map_or (λ form. not (can_index form)) field false
 

@@ -35,7 +35,7 @@ first_result t = first_passing cannot_be_set range.ResultPlus range.ResultMinus 
 abbrev pub first_line_condition : List SpecCard → Three (Option ConditionSpec) → Option ColumnRange
 first_line_condition cards t = first_passing (bad_in_output cards) range.FirstLineCondition range.SecondLineCondition range.ThirdLineCondition t
 
--- that of a text field is for plus or minus
+-- that of a text field, for plus or minus
 abbrev pub text_indicator : InputFieldSpec → ColumnRange
 text_indicator f = if is_some f.indicators.first then range.InputPlus else range.InputMinus
 

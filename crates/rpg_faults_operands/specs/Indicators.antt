@@ -14,7 +14,7 @@ use Rattle.rpg_sheet_specs.specs.declared.output.OutputSpec.TheVariants as outpu
 use Rattle.rpg_sheet_specs.specs.declared.spec.Spec.{Spec}
 use Rattle.rpg_sheet_specs.specs.declared.spec.Spec.TheVariants as spec
 
--- one of three is there and passes
+-- one of three exists and passes
 abbrev pub any_of : {X : Type 0} → (X → Bool) → Three (Option X) → Bool
 any_of test t = option_map_or test t.first false || option_map_or test t.second false || option_map_or test t.third false
 
@@ -28,7 +28,7 @@ cannot_be_set n = (n == 100) || (n == 111) || (n == 129)
 
 -- ---- conditions
 
--- MR is for sources that match the records of their files
+-- MR is for sources with match fields
 abbrev pub may_name_mr : List SpecCard → Bool
 may_name_mr cards = has_match_field cards
 

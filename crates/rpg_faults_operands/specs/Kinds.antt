@@ -28,7 +28,7 @@ is_wrong_class Table form = not (is_table form.class)
 is_wrong_class Label form = false
 is_wrong_class Subroutine form = false
 
--- of the contents of a column
+-- likewise for the contents of a column
 abbrev pub has_wrong_class : Option Content → Option FieldForm → Bool
 has_wrong_class None form = false
 has_wrong_class (Some c) form = option_map_or (is_wrong_class c) form false
@@ -61,7 +61,7 @@ wrong_kinds Any f g r = false
 abbrev pub is_unwritable : FieldForm → Bool
 is_unwritable form = not (is_writable form.class)
 
--- a table that is found in has at least as many entries as what is searched
+-- a table that a search finds in has fewer entries than what is searched
 abbrev pub has_too_few : FieldForm → FieldForm → Bool
 has_too_few searched found = is_table found.class && (is_array searched.class || is_table searched.class) && nat_lt found.entries searched.entries
 
@@ -71,7 +71,7 @@ finds_too_few None r = false
 finds_too_few (Some g) None = false
 finds_too_few (Some g) (Some r) = has_too_few g r
 
--- a result field that takes a value is written, one that takes a table is found in
+-- a result field that takes a value must be writable; a table must have enough entries for the search
 abbrev pub wrong_result : Content → Option FieldForm → Option FieldForm → Bool
 wrong_result Value g r = option_map_or is_unwritable r false
 wrong_result WholeArray g r = false

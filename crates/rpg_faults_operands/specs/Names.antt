@@ -1,4 +1,4 @@
--- F1: a name that is used and that no card defines, before or after it.
+-- F1: a name that is used but that no card defines, before or after.
 use Rattle.std.specs.Prelude.{ℕ, List, Bool, false, ◌||◌, Option, None, Some}
 use Rattle.std.specs.List.{list_any}
 use Rattle.std.specs.Option.{option_and_then, option_map_or}

@@ -22,7 +22,7 @@ use Rattle.rpg_sheet_specs.specs.declared.output.OutputField.{OutputField}
 
 -- ---- columns for fields
 
--- a label or a subroutine is no field
+-- a label or a subroutine isn't a field
 abbrev pub is_field_content : Content → Bool
 is_field_content Value = true
 is_field_content WholeArray = true
@@ -43,7 +43,7 @@ field_content (Must c) = if_field c
 
 -- ---- operands
 
--- a field that is named, and what its column takes
+-- a named field, and what its column takes
 pub record Operand : Type 0 where
   pub content : Content
   pub field : Entry
@@ -77,7 +77,7 @@ no_operands = record { first = None; second = None; third = None }
 abbrev pub operands_of : CalculationSpec → Three (Option Operand)
 operands_of k = option_map_or (λ o. operands_by (card_columns o) k) k.operation no_operands
 
--- of the last card of a group, which has the operation
+-- the operands of the last card of a group, which has the operation
 abbrev pub operands_ending : SpecCard → List SpecCard → Three (Option Operand)
 operands_ending c after = option_map_or operands_of (card_ending c after) no_operands
 
@@ -85,11 +85,11 @@ operands_ending c after = option_map_or operands_of (card_ending c after) no_ope
 abbrev pub output_operand : OutputField → Option Operand
 output_operand f = option_map (operand_with Value) f.operand
 
--- the same for a card, if it has an output field
+-- likewise for a card, if it has an output field
 abbrev pub output_operand_on : SpecCard → Option Operand
 output_operand_on c = option_and_then output_operand (output_field_on c.spec)
 
--- those that are there, in the order of their columns
+-- the operands that exist, in the order of their columns
 abbrev pub operands_listed : Three (Option Operand) → List Operand
 operands_listed t = option_to_list t.first ++ option_to_list t.second ++ option_to_list t.third
 

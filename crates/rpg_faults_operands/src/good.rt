@@ -18,7 +18,7 @@ use rpg_cards::{Column, Content, Defined, IndexedCards, SpecCard, columns, last_
 use rpg_program::form::FieldForm;
 use rpg_sheet_specs::{CalculationSpec, Entry, Factor};
 
-/// Whether all names on a card are defined and its operands are good, so that it breaks neither F1, F4 nor F5.
+/// Whether all names on a card are defined and its operands are valid, so that it breaks neither F1, F4 nor F5.
 pub fn has_good_operands(source: &IndexedCards, card: &SpecCard, after: &[SpecCard]) -> bool
     ensures { OnTrue result (HasGoodOperands source.now card.now after.now) }
 {

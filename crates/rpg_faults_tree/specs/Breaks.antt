@@ -1,4 +1,4 @@
--- The cards that break a rule, by their numbers.
+-- The cards that break a rule, by number.
 use Rattle.std.specs.Prelude.{◌≡◌, ℕ, List, ◌∷◌, ◌++◌, true}
 use Rattle.rpg_cards.specs.declared.spec_card.SpecCard.{SpecCard}
 use Rattle.rpg_faults_flow.specs.Kept.{Rule}

@@ -14,11 +14,12 @@ pub record AreCounts (before rest : List SpecCard) (c : Counts) : Type 0 where
   pub labels : c.labels ≡ length (labels (calculations_before before rest))
   pub definitions : c.definitions ≡ length (definitions before)
 
--- a label or a subroutine's name is given on the card
+-- the card defines a label or a subroutine
 abbrev pub is_label_at : SpecCard → List SpecCard → Bool
 is_label_at c after = option_map_or (λ k. is_some (gives (deed_of k))) (card_ending c after) false
 
--- the answer is whether a label or a subroutine before a card of a source has the name, given how many labels and definitions are before the card
+-- the answer is whether a label or a subroutine before a card of a source has the name, given how many labels and definitions come before
+-- it
 abbrev pub TellsGiven : List SpecCard → Counts → Name → Bool → Type 0
 TellsGiven cards n name answer =
     (before after : List SpecCard) → (c : SpecCard) → cards ≡ before ++ c ∷ after → AreCounts before (c ∷ after) n

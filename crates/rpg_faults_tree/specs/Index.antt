@@ -1,4 +1,4 @@
--- Where the name of each label and subroutine is given first, and the calls that come back.
+-- Where each label and subroutine is first defined, and the recursive calls.
 use Rattle.std.specs.Prelude.{◌≡◌, ℕ, ◌+◌, ◌<◌, ◌==◌, List, ◌++◌, Contains, length, get_or, slice_index, Bool, ◌&&◌, ◌||◌, nat_eq, nat_le, nat_lt, ◌-◌, Option, None, Some, is_some, if◌then◌else◌}
 use Rattle.std.specs.Cmp.Lexicographic.{pointwise}
 use Rattle.std.specs.Int.{bit_at}
@@ -22,19 +22,19 @@ use Rattle.rpg_faults_tree.specs.declared.labels.Target.{Target}
 abbrev pub is_for : Name → Label → Bool
 is_for name l = pointwise nat_eq name l.named.name
 
--- a label as a target of control
+-- a label as the target of a GOTO or EXSR
 abbrev pub label_target : Label → Target
 label_target l = record { is_subroutine = l.named.is_subroutine; section = l.section }
 
--- a label, with its place among all that are given
+-- a label, with its place among all of them
 abbrev pub first_label : ℕ → Label → FirstLabel
 first_label i l = record { place = i; target = label_target l }
 
--- each name with the first label that is given it
+-- each name with its first label
 abbrev pub IsLabelIndex : List (Name × FirstLabel) → List Label → Type 0
 IsLabelIndex names ls = (name : Name) → lookup (pointwise nat_eq name) names ≡ first_at (is_for name) first_label 0 ls
 
--- the label is noted at its name, unless the name has one
+-- the label is noted under its name, unless the name has one
 abbrev pub NotesLabel : Name → FirstLabel → List (Name × FirstLabel) → List (Name × FirstLabel) → Type 0
 NotesLabel name label old new =
     (q : Name) → lookup (pointwise nat_eq q) new ≡ option_or (lookup (pointwise nat_eq q) old) (if pointwise nat_eq q name then Some label else None)
@@ -53,7 +53,7 @@ same_call p q = p.0 == q.0 && p.1 == q.1
 abbrev pub AreCycles : List Call → List Call → Type 0
 AreCycles found all = (p : Call) → list_any (same_call p) found ≡ (list_any (same_call p) all && reaches all p.1 p.0)
 
--- the labels of steps, and those of their calls that come back
+-- the labels of steps, and their recursive calls
 pub record AreLabelsOf (ss : List Step) (l : Labels) : Type 0 where
   pub index : IsLabelIndex l.names.entries (labels_of_steps ss)
   pub cycles : AreCycles l.cycles.items (calls_of_steps ss)

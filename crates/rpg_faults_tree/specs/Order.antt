@@ -38,7 +38,7 @@ is_loose s = is_subroutine (control_of s.group) && in_no_section s.section
 abbrev pub has_bracket : Step → Bool
 has_bracket s = is_bracket (group_deed s.group)
 
--- an AN or OR card that goes on with nothing, a section that belongs above one that stands above it, or SR in no subroutine
+-- an AN or OR card without a card to continue, a section that belongs before an earlier one, or SR outside all subroutines
 abbrev pub is_misplaced : ℕ → Step → Bool
 is_misplaced highest s = joins (control_of s.group) || (nat_lt (step_rank s) highest || (is_loose s && not (has_bracket s)))
 

@@ -20,11 +20,11 @@ use Rattle.rpg_faults_flow.specs.Kept.{Rule}
 abbrev pub Finds : (Tree → List ℕ) → Rule → Type 0
 Finds list r = (cards : List SpecCard) → IsInOrder 0 cards → (number : ℕ) → Contains (list (tree cards)) number ↔ BreaksRule r cards number
 
--- a GOTO to a label, or an EXSR of a subroutine, that isn't given
+-- a GOTO to a label, or an EXSR of a subroutine, that isn't defined
 abbrev pub step_goes_nowhere : List Label → Step → Bool
 step_goes_nowhere given s = option_map_or (λ n. not (is_given_as given n)) (wants (deed s)) false
 
--- of these steps, the cards with a GOTO or an EXSR to what isn't given
+-- of these steps, the cards with a GOTO or an EXSR to an undefined name
 abbrev pub lost_among : List Step → List ℕ
 lost_among ss = at_operations (λ s after. step_goes_nowhere (labels_of_steps ss) s) ss
 

@@ -1,4 +1,4 @@
--- What a counted reader or writer is to its callers.
+-- A counted reader or writer as its callers see it.
 use Rattle.std.specs.Prelude.{ℕ, ◌+◌, Result, Ok, Err}
 use Rattle.rpg_files.specs.declared.counting.Counted.{Counted}
 
@@ -15,6 +15,6 @@ abbrev pub faults_after : {X E : Type 0} → ℕ → Result X E → ℕ
 faults_after n (Ok x) = n
 faults_after n (Err e) = n + 1
 
--- how often one read or one write is tried: once, and again if it was interrupted, 999 more times in a row
+-- how often a read or a write is tried: once, and again if it was interrupted, up to 999 more times
 abbrev pub max_tries : ℕ
 max_tries = 1000

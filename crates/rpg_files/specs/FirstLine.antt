@@ -13,14 +13,15 @@ pub record IsFirstRecord (limit : ℕ) (bytes : List ℕ) (len line_len : ℕ) :
   pub good : is_good limit (take len bytes) ≡ true
   pub first : (more : List ℕ) → records (bytes ++ more) ≡ take len bytes ∷ records (drop line_len bytes ++ more)
 
--- The line has no end yet: these bytes are characters, no more than the limit, and perhaps a carriage return.
+-- The line has no end yet: these bytes are characters, no more than the limit, possibly followed by a carriage
+-- return.
 pub record IsIncomplete (limit : ℕ) (bytes : List ℕ) (scanned : ℕ) : Type 0 where
   pub short : scanned ≤ limit
   pub within : scanned ≤ length bytes
   pub characters : list_all is_character (take scanned bytes) ≡ true
   pub following : (drop scanned bytes ≡ []) ⊎ (drop scanned bytes ≡ 13 ∷ [])
 
--- what the bytes begin with: a record, a bad line, or one that isn't complete
+-- what the bytes begin with: a record, a bad line, or an incomplete one
 abbrev pub IsFirstLine : ℕ → List ℕ → FirstLine → Type 0
 IsFirstLine limit bytes (line.Record len line_len) = IsFirstRecord limit bytes len line_len
 IsFirstLine limit bytes line.Bad = (more : List ℕ) → BeginsBad limit (bytes ++ more)

@@ -1,4 +1,4 @@
--- The records of an input, what a reader and a writer did, and what is read of records.
+-- The records of an input, what a reader and a writer did, and how records are read.
 pub mod Answers
 pub mod Buffers
 pub mod Counting

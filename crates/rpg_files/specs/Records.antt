@@ -26,13 +26,13 @@ records (b ∷ bytes) =
 abbrev pub max_records : ℕ
 max_records = 10000000
 
--- ---- records that a program can take
+-- ---- records that a program accepts
 
 -- a record of characters that is no longer than the limit
 abbrev pub is_good : ℕ → List ℕ → Bool
 is_good limit r = nat_le (length r) limit && list_all is_character r
 
--- the first record of these bytes is none that a program can take
+-- the first record of these bytes is one that no program accepts
 abbrev pub BeginsBad : ℕ → List ℕ → Type 0
 BeginsBad limit bytes = (r : List ℕ) × (rest : List (List ℕ)) × (records bytes ≡ r ∷ rest) × (is_good limit r ≡ false)
 
@@ -46,8 +46,8 @@ without_return (b ∷ c ∷ bytes) = b ∷ without_return (c ∷ bytes)
 
 -- ---- the same, by lines
 
--- Lines, each with its line feed, and then a part without one: the records are the lines without the carriage return at
--- their end, and that part as it is, if it isn't empty. All bytes are such lines and such a part.
+-- Lines, each with its line feed, and then a part without one: the records are the lines without the carriage return at their end, and
+-- that part unchanged, if it isn't empty. All bytes consist of such lines and such a part.
 abbrev pub RecordsAreLines : Type 0
 RecordsAreLines = (lines : List (List ℕ)) (rest : List ℕ) → list_all is_line lines ≡ true → is_line rest ≡ true
     → records (flat_map with_line_feed lines ++ rest) ≡ map without_return lines ++ unless_empty rest

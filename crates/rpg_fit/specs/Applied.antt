@@ -1,4 +1,4 @@
--- What rules make of a deck, whatever each of them does. `leaves` says how a rule may leave a deck.
+-- The result of rules for a deck, whatever each of them does. `leaves` describes how a rule may change a deck.
 use Rattle.std.specs.Prelude.{◌≡◌, ℕ, true, List, [], ◌∷◌, MatchBool}
 use Rattle.rpg_fit_deck.specs.declared.editor.Editor.{Editor}
 use Rattle.rpg_fit_deck.specs.declared.sentence.Rule.{Rule}
@@ -9,7 +9,7 @@ use Rattle.rpg_fit_deck.specs.Stopping.{IsOf, IsSource, may_continue}
 abbrev pub AppliedInTurn : (Rule → Editor → Editor → Type 0) → Rule → Editor → Editor → Type 0
 AppliedInTurn leaves rule old new = MatchBool (may_continue old) (leaves rule old new) (new ≡ old)
 
--- rules one after the other
+-- rules in sequence
 abbrev pub Applied : (Rule → Editor → Editor → Type 0) → List Rule → Editor → Editor → Type 0
 Applied leaves [] old new = new ≡ old
 Applied leaves (rule ∷ rules) old new = (next : Editor) × AppliedInTurn leaves rule old next × Applied leaves rules next new

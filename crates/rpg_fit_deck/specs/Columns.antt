@@ -1,4 +1,4 @@
--- What stands in the columns of a card, which are counted from 1.
+-- The contents of a card's columns, which are counted from 1.
 use Rattle.std.specs.Prelude.{ℕ, ◌-◌, Bool, ◌==◌, ◌||◌, ◌&&◌, nat_le, List, [], ◌∷◌, slice_index_or, slice_range, if◌then◌else◌}
 use Rattle.rpg_text.specs.Texts.{all_blank, is_blank, trimmed}
 use Rattle.rpg_fit_deck.specs.declared.card.Card.{Card}
@@ -16,7 +16,7 @@ abbrev pub without_blanks : List ℕ → List ℕ
 without_blanks [] = []
 without_blanks (c ∷ text) = if is_blank c then without_blanks text else c ∷ text
 
--- what stands in columns, without the blanks on both sides
+-- the text in columns, trimmed of blanks
 unfoldable pub value_in_columns : Card → ℕ → ℕ → List ℕ
 value_in_columns card first last = without_blanks (trimmed (characters_in_columns card first last))
 

@@ -1,4 +1,4 @@
--- The cards of NEW, by those of the source and what becomes of each. A source's cards are its lines.
+-- The cards of NEW, from those of the source and what happened to each. A source's cards are its lines.
 use Rattle.std.specs.Prelude.{◌≡◌, ℕ, Bool, ◌==◌, ◌⊎◌, List, [], ◌∷◌, ◌++◌, map, vec_len, if◌then◌else◌}
 use Rattle.std.specs.List.{list_all}
 use Rattle.rpg_text.specs.Texts.{trimmed}
@@ -11,13 +11,13 @@ use Rattle.rpg_fit_deck.specs.declared.slot.Slot.{Slot}
 abbrev pub made_lines : List Made → List (List ℕ)
 made_lines cards = map (λ m. trimmed m.card.columns) cards
 
--- what stands at the place of a card
+-- what is at the place of a card
 abbrev pub lines_here : List ℕ → Here → List (List ℕ)
 lines_here card Kept = card ∷ []
 lines_here _ (Changed card) = trimmed card.columns ∷ []
 lines_here _ Gone = []
 
--- for each card of the source, in their order: the cards made before it, and what stands at its place
+-- for each card of the source, in their order: the cards inserted before it, and what is at its place
 abbrev pub new_cards : List (List ℕ) → List Slot → List (List ℕ)
 new_cards [] _ = []
 new_cards (card ∷ cards) [] = card ∷ new_cards cards []

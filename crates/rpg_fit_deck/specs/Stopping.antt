@@ -17,7 +17,7 @@ refusal_of editor = editor.refusal
 abbrev pub refusal_for : Editor → ℕ → Sentence → Refusal
 refusal_for editor card why = record { card = card; rule = editor.rule; why = why }
 
--- whether memory was refused
+-- whether memory ran out
 abbrev pub has_run_out : Editor → Bool
 has_run_out editor = editor.ran_out
 
@@ -37,7 +37,7 @@ IsSource source editor = (map (λ line. line.now) editor.lines.items ≡ lines s
 abbrev pub IsOf : Editor → Fitted → Type 0
 IsOf editor fitted = (fitted.slots ≡ editor.slots) × (fitted.end ≡ editor.end)
 
--- why there is no new deck: the first refusal, and nothing else if there is one
+-- why there is no new deck: the first rejection, and nothing else if there is one
 abbrev pub StopsFor : Option Refusal → Stopped → Type 0
 StopsFor refusal (Refused first) = refusal ≡ Some first
 StopsFor refusal TooMany = refusal ≡ None

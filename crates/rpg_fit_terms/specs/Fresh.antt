@@ -22,7 +22,7 @@ digits_of n =
 abbrev pub candidate : List ℕ → ℕ → ℕ → List ℕ
 candidate stem room n = cut (take (room - length (digits_of n)) stem ++ digits_of n)
 
--- a name that a card has, or that stands for something in every deck
+-- a name that a card has, or that is predefined
 abbrev pub is_taken : View → List ℕ → Bool
 is_taken view name = is_reserved name || is_name_used view name
 
@@ -34,7 +34,7 @@ NameIsTaken view stem room n = length (digits_of n) < room → is_taken view (ca
 abbrev pub AllTaken : View → List ℕ → ℕ → ℕ → Type 0
 AllTaken view stem room from = (n : ℕ) → from ≤ n → n < 10000 → NameIsTaken view stem room n
 
--- the same for names of a stem, and of those that are left
+-- likewise for names of a stem, and of those that are left
 abbrev pub IsTaken : View → FreshNames → ℕ → Type 0
 IsTaken view names n = NameIsTaken view (word_text names.stem) names.room n
 

@@ -1,4 +1,4 @@
--- Where indicators stand on cards.
+-- Where cards have indicators.
 use Rattle.std.specs.Prelude.{◌≡◌, ℕ, ◌+◌, ◌/◌, ◌%◌, ◌<◌, ◌≤◌, Bool, true, ◌==◌, ◌&&◌, not, List, [], ◌∷◌, if◌then◌else◌}
 use Rattle.std.specs.List.{list_any}
 use Rattle.rpg_fit_deck.specs.Columns.{column_of, form_letter, is_comment}
@@ -19,15 +19,15 @@ indicator_starts form =
 abbrev pub stands_at : Indicator → Card → ℕ → Bool
 stands_at indicator card column = (column_of card column == indicator.first) && (column_of card (column + 1) == indicator.second)
 
--- an indicator stands in some of a card's columns
+-- some of a card's columns have an indicator
 abbrev pub stands_in : Indicator → Card → List ℕ → Bool
 stands_in indicator card columns = list_any (λ column. stands_at indicator card column) columns
 
--- an indicator stands on a card that is no comment
+-- a card that isn't a comment has an indicator
 unfoldable pub is_indicator_on : Indicator → Card → Bool
 is_indicator_on indicator card = not (is_comment card) && stands_in indicator card (indicator_starts (form_letter card))
 
--- some card has an indicator
+-- any card has an indicator
 unfoldable pub is_indicator_used : View → Indicator → Bool
 is_indicator_used view indicator = list_any (λ seen. is_indicator_on indicator seen.card) view.cards.items
 

@@ -1,4 +1,4 @@
--- Where names stand on cards.
+-- Where cards have names.
 use Rattle.std.specs.Prelude.{ℕ, Bool, ◌==◌, ◌&&◌, ◌||◌, not, List, [], ◌∷◌, codes, nat_eq, if◌then◌else◌}
 use Rattle.std.specs.List.{after_first, before_first, list_any, starts_with}
 use Rattle.std.specs.Str.{bytes_eq}
@@ -43,19 +43,19 @@ is_prefix_in prefix operand = starts_with nat_eq (name_in operand) prefix || sta
 abbrev pub has_operand_in : (List ℕ → Bool) → Card → List Columns → Bool
 has_operand_in test card places = list_any (λ c. test (value_in_columns card c.first c.last)) places
 
--- so do those of a card that is no comment
+-- so do those of a card that isn't a comment
 abbrev pub card_has_operand : (List ℕ → Bool) → Card → Bool
 card_has_operand test card = not (is_comment card) && has_operand_in test card (operand_columns (form_letter card))
 
--- some card has a name
+-- any card has a name
 unfoldable pub is_name_used : View → List ℕ → Bool
 is_name_used view name = list_any (λ seen. card_has_operand (is_name_in name) seen.card) view.cards.items
 
--- some card has a name that begins with a text
+-- any card has a name that begins with a text
 unfoldable pub is_prefix_used : View → List ℕ → Bool
 is_prefix_used view prefix = list_any (λ seen. card_has_operand (is_prefix_in prefix) seen.card) view.cards.items
 
--- names that stand for something in every deck
+-- predefined names
 abbrev pub is_date_part : List ℕ → Bool
 is_date_part name = bytes_eq name (codes "UDAY") || bytes_eq name (codes "UMONTH") || bytes_eq name (codes "UYEAR")
 

@@ -1,4 +1,4 @@
--- What becomes of a rule's outcome.
+-- What happens to a rule's outcome.
 use Rattle.std.specs.Prelude.{◌≡◌, true, Some, unwrap_or}
 use Rattle.rpg_fit_deck.specs.declared.editor.Editor.{Editor}
 use Rattle.rpg_fit_deck.specs.Stopping.{has_run_out, refusal_for, refusal_of}

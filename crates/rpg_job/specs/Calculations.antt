@@ -28,7 +28,7 @@ use Rattle.rpg_job.specs.Lines.{meant_conditions, meant_index, meant_places}
 
 -- ---- operands: factor 1 in 18-27, factor 2 in 33-42, the result field in 43-48
 
--- the operand that a name with its index stands for
+-- the operand of a name with its index
 abbrev pub entry_named : Entry → Operand Key
 entry_named e = record { field = Named e.name; index = meant_index e.index }
 
@@ -139,7 +139,7 @@ asked_else (k ∷ ks) = if is_or_calculation k then (filled_conditions_on k ++ a
 
 -- ---- calculations
 
--- the AN and OR cards at the front of these cards
+-- the AN and OR cards that these cards begin with
 abbrev pub joined_after : List SpecCard → List CalculationSpec
 joined_after [] = []
 joined_after (c ∷ cs) = option_map_or (λ k. if is_continuation k.control_level then k ∷ joined_after cs else []) (calculation_on c.spec) []

@@ -20,7 +20,7 @@ use Rattle.rpg_sheet_specs.specs.declared.extension.TableSpec.{TableSpec}
 use Rattle.rpg_sheet_specs.specs.declared.spec.Spec.{Spec}
 use Rattle.rpg_job.specs.Cards.{cards_before}
 
--- a constant has the value that is written
+-- a constant has the value as written
 abbrev pub meant_constant : Constant → Value
 meant_constant (constant.Number n) = Number n.value
 meant_constant (constant.Text text) = Text text
@@ -87,7 +87,7 @@ all_stored cards = flat_map stored_on (zip (filter_map wanting (filter_map (λ c
 
 -- ---- entries, counted from 0
 
--- the columns of the n-th entry: each data card has as many entries or pairs as 33-35 says
+-- the columns of the n-th entry: each data card has as many entries or pairs as columns 33-35 say
 abbrev pub entry_text : Stored → List (List ℕ) → ℕ → Option (List ℕ)
 entry_text s [] n = None
 entry_text s (card ∷ deck) n = if nat_lt n s.per_card then Some (cols (n * s.width + s.before + 1) (n * s.width + s.before + s.table.length) card) else entry_text s deck (n - s.per_card)
@@ -101,9 +101,9 @@ entry_by (Some decimals) text = Number (unwrap_or (number_in text) (pos 0))
 abbrev pub meant_entry : Stored → ℕ → Option Value
 meant_entry s n = if nat_lt n s.entries then option_map (entry_by s.table.decimals) (entry_text s s.deck n) else None
 
--- ---- names: the n-th entry has its data, or zero or blanks where the name has none
+-- ---- names: the n-th entry has its data, or zero or blanks if the name has none
 
--- the first value of an entry of a name: by the data of a source, else zero or blanks
+-- the first value of an entry of a name: from the data of a source, otherwise zero or blanks
 abbrev pub meant_named_value : List SpecCard → List ℕ → FieldForm → ℕ → Option Value
 meant_named_value cards name form n =
     option_map_or (λ s. meant_entry s n) (find (λ (s : Stored). pointwise nat_eq name s.table.name) (all_stored cards)) (if nat_lt n form.entries then Some (meant_blank form.kind form.length) else None)

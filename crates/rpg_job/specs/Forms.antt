@@ -33,7 +33,7 @@ use Rattle.rpg_text.specs.Texts.{is_between}
 abbrev pub a_number : Class → ℕ → ℕ → FieldForm
 a_number c len decimals = record { kind = kind.Number; class = c; length = len; decimals = decimals; is_ascending = false; entries = 1 }
 
--- ---- a length and decimals: where the decimals are blank a text of 1 to 256 characters, else a number of 1 to 15 digits with at most 9
+-- ---- a length and decimals: if the decimals are blank a text of 1 to 256 characters, otherwise a number of 1 to 15 digits with at most 9
 -- decimals
 
 -- a form of that length: a text if the decimals are blank; none if the length is out of its limits
@@ -89,7 +89,7 @@ standing_form name = if pointwise nat_eq name (codes "UDATE") then Some (a_numbe
 abbrev pub form_given : List ℕ → Definition → Option FieldForm
 form_given name d = if pointwise nat_eq name d.name then d.form else None
 
--- a name has the form that the first card which defines it gives it
+-- a name has the form that the first card defining it gives it
 abbrev pub form_of_named : List SpecCard → List ℕ → Option FieldForm
 form_of_named cards name = option_or (standing_form name) (slice_get (filter_map (form_given name) (flat_map (λ c. given_on c.spec) cards)) 0)
 
@@ -102,14 +102,14 @@ form_of_constant (constant.Text text) = record { kind = kind.Text; class = class
 
 -- ---- the constants of a source: the literals in factors, and the texts in 45-70 of O cards, except the fill of an edit code
 
--- the constant is what the literal stands for
+-- the constant has the literal's value
 abbrev pub is_literal : Constant → Literal → Bool
 is_literal (constant.Number m) (literal.Number n) = int_eq m.value n.value && (m.length == n.length) && (m.decimals == n.decimals)
 is_literal (constant.Number m) (literal.Text t) = false
 is_literal (constant.Text s) (literal.Number n) = false
 is_literal (constant.Text s) (literal.Text t) = pointwise nat_eq s t
 
--- the constant stands in the factor
+-- the constant is in the factor
 abbrev pub is_in_factor : Constant → Option Factor → Bool
 is_in_factor c None = false
 is_in_factor c (Some (factor.Entry e)) = false
@@ -120,19 +120,19 @@ abbrev pub is_constant_of_text : Constant → List ℕ → Bool
 is_constant_of_text (constant.Number n) text = false
 is_constant_of_text (constant.Text t) text = pointwise nat_eq t text
 
--- the constant stands in the output field, which has no edit code
+-- the constant is in the output field, which has no edit code
 abbrev pub is_in_field : Constant → Option EditCode → Option (List ℕ) → Bool
 is_in_field c None text = option_map_or (is_constant_of_text c) text false
 is_in_field c (Some code) text = false
 
--- the constant stands on the O card
+-- the constant is on the O card
 abbrev pub is_on_output : Constant → OutputSpec → Bool
 is_on_output c (output.Record r) = false
 is_on_output c (output.And t) = false
 is_on_output c (output.Or t) = false
 is_on_output c (output.Field f) = is_in_field c f.code f.text
 
--- the constant stands on the card
+-- the constant is on the card
 abbrev pub is_on_card : Constant → Spec → Bool
 is_on_card c (spec.Header x) = false
 is_on_card c (spec.File x) = false
@@ -142,7 +142,7 @@ is_on_card c (spec.Calculation k) = is_in_factor c k.factor_1 || is_in_factor c 
 is_on_card c (spec.Output x) = is_on_output c x
 is_on_card c (spec.Data x) = false
 
--- the constant stands on one of the cards
+-- the constant is on one of the cards
 abbrev pub stands_on : List SpecCard → Constant → Bool
 stands_on cards c = list_any (λ card. is_on_card c card.spec) cards
 
@@ -154,7 +154,7 @@ meant_forms cards (Named name) = form_of_named cards name
 meant_forms cards (Fixed c) = if stands_on cards c then Some (form_of_constant c) else None
 meant_forms cards Nowhere = None
 
--- a text that stands on the cards is an edit word of its characters
+-- a text on the cards is an edit word of its characters
 abbrev pub meant_words : List SpecCard → Key → List ℕ
 meant_words cards (Named name) = []
 meant_words cards (Fixed (constant.Number n)) = []

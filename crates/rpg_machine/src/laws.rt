@@ -9,7 +9,7 @@ pub fn runs_are_one()
     ensures { RunsAreOne }
 {}
 
-/// A section that goes on leads to its end, and one that halts is at the instruction that halted.
+/// A section that continues leads to its end, and one that halts is at the instruction that halted.
 pub fn sections_stand_right()
     ensures { SectionsStandRight }
 {}

@@ -1,4 +1,4 @@
--- One input field with which nothing is wrong.
+-- One input field without a fault.
 use Rattle.std.specs.Prelude.{◌≡◌, ℕ, ◌≤◌, List, Option, length}
 use Rattle.std.specs.Ordering.{nat_cmp}
 use Rattle.std.specs.declared.cmp.Ordering.{Ordering}
@@ -22,13 +22,13 @@ order_of_text text = order_of (Text text)
 abbrev pub filled_field : Kind → InputField ℕ → List ℕ → Data nat_cmp → Ended nat_cmp
 filled_field k f text d = or_halt (value_read k text) 4 d (λ v. Gives (taken_in f.field f.shows v d))
 
--- the columns of an input field are some of a record of that many
+-- the columns of an input field are within a record of that length
 pub record HasColumns (input : InputField ℕ) (len : ℕ) : Type 0 where
   pub low : 1 ≤ input.from
   pub ordered : input.from ≤ input.to
   pub high : input.to ≤ len
 
--- an input field fills a field of that kind, of which this was found, and its columns are as long
+-- an input field fills a field of that kind, with this precomputed for it, and with as many columns
 pub record CanFill (forms : List FieldForm) (k : Kind) (input : InputField ℕ) (found : FixedInput) (part : List ℕ) : Type 0 where
   pub field : IsValue forms k input.field 1
   pub fixed : IsFixedInput forms input found

@@ -76,7 +76,7 @@ pub record ChangesValues (m n : Working) (entries : List (ℕ × ℕ)) : Type 0 
   pub rest : n ≡ fields_replaced n.world.data.fields m
   pub each : AreFieldEntries m.program.fields entries
 
--- the memory is of the program that it was of, and few pages were begun unless memory was refused
+-- the memory is of the program that it was of, and few pages were begun unless memory ran out
 pub record StaysNear {X E : Type 0} (result : Result X E) (m n : Working) : Type 0 where
   pub near : OnOk result (IsNear n.world.paper.here)
   pub program : n.program ≡ m.program

@@ -2,7 +2,7 @@
 use Rattle.std.specs.Prelude.{◌≡◌, ℕ, ◌-◌, ◌≤◌, List, length, drop, replicate}
 use Rattle.rpg_paper.specs.Paper.{Position}
 
--- at most two pages were begun since the line placed last, as a skip and a space after it may do; pages are counted from there
+-- at most two pages were begun since the line placed last, as by a skip and a space after it; pages are counted from there
 abbrev pub IsNear : Position → Type 0
 IsNear here = here.page ≤ 2
 

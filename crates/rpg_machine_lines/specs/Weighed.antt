@@ -1,4 +1,4 @@
--- The lines that are weighed for an output.
+-- The lines that count for an output.
 use Rattle.std.specs.Prelude.{Bool}
 use Rattle.rpg_program.specs.Weights.{is_at_detail, is_at_total, is_exception, is_in_cycle}
 use Rattle.rpg_program.specs.declared.line.Time.{Time}

@@ -1,5 +1,5 @@
--- What each operation of a C card does, an equation for each: what the result field and the indicators are, in terms of factor 1, factor 2 and
--- the result field of the card. Numbers are the columns of a C card.
+-- What each operation of a C card does, an equation for each: the result field and the indicators, in terms of factor 1, factor 2 and the
+-- result field of the card. Numbers are the columns of a C card.
 use Rattle.std.specs.Prelude.{◌≡◌, ℕ, ◌+◌, ◌-◌, ◌==◌, nat_lt, ℤ, pos, neg_ℤ, Bool, true, false, List, [], ◌∷◌, Option, None, Some, is_some, if◌then◌else◌}
 use Rattle.std.specs.FinSet as set
 use Rattle.std.specs.List.{list_all}
@@ -32,7 +32,7 @@ use Rattle.rpg_sheet_specs.specs.declared.calculation.CalculationSpec.{Calculati
 use Rattle.rpg_sheet_specs.specs.declared.calculation.Operation.{Operation}
 use Rattle.rpg_sheet_specs.specs.declared.calculation.Operation.TheVariants as op
 
--- a number with the other sign
+-- the negative of a number
 abbrev pub negative : Fraction → Fraction
 negative p = record p { top = neg_ℤ p.top }
 
@@ -40,9 +40,9 @@ negative p = record p { top = neg_ℤ p.top }
 abbrev pub is_zero : Fraction → Bool
 is_zero p = int_eq p.top (pos 0)
 
--- a C card, in the state that the calculations before it have left
+-- a C card, in the state that the earlier calculations left
 module _ (source : Source) (s : State) (k : CalculationSpec) where
-  -- ---- what stands on the card
+  -- ---- the contents of the card
 
   -- factor 1, 18-27
   abbrev pub factor_1 : Operand Key
@@ -64,7 +64,7 @@ module _ (source : Source) (s : State) (k : CalculationSpec) where
   abbrev pub table_operand : Option (Operand Key)
   table_operand = option_map entry_named k.result_field
 
-  -- the table that LOKUP takes an entry of
+  -- the table that LOKUP finds an entry of
   abbrev pub table_field : Option Key
   table_field = option_map (λ e. Named e.name) k.result_field
 
@@ -72,7 +72,7 @@ module _ (source : Source) (s : State) (k : CalculationSpec) where
   abbrev pub indicators : Shows
   indicators = meant_indicators k
 
-  -- ---- what that is now
+  -- ---- their present values
 
   -- the entry that an operand names
   abbrev pub operand_entry : Operand Key → Entry Key
@@ -118,17 +118,17 @@ module _ (source : Source) (s : State) (k : CalculationSpec) where
   abbrev pub found : Option Found
   found = found_in source.forms s.world.data (operand_entry factor_1) (operand_entry factor_2) indicators
 
-  -- what a division leaves: its quotient has the decimals of the result field
+  -- the remainder of a division: its quotient has the decimals of the result field
   abbrev pub remainder_left : Fraction
   remainder_left = left_over first (decimals_of (form factor_1_or_result)) second (decimals_of (form factor_2)) (decimals_of (form result))
 
-  -- ---- what comes of it
+  -- ---- the outcome
 
   -- the next calculation follows, with this data
   abbrev pub continues : Data key_cmp → MeantOutcome
   continues d = On (record s { world = with_data d s.world; next = s.next + 1 }) no_output
 
-  -- the job halts by that number
+  -- the job halts with that number
   abbrev pub halts : ℕ → MeantOutcome
   halts n = Stops n s no_output
 
@@ -144,15 +144,15 @@ module _ (source : Source) (s : State) (k : CalculationSpec) where
   abbrev pub assigning : MeantOutcome → MeantOutcome
   assigning = unless_out_of_range (factor_2 ∷ result ∷ [])
 
-  -- the same for the result field alone
+  -- likewise for the result field alone
   abbrev pub taking : MeantOutcome → MeantOutcome
   taking = unless_out_of_range (result ∷ [])
 
-  -- the same for both factors
+  -- likewise for both factors
   abbrev pub comparing : MeantOutcome → MeantOutcome
   comparing = unless_out_of_range (factor_1 ∷ factor_2 ∷ [])
 
-  -- the same for both factors and the table
+  -- likewise for both factors and the table
   abbrev pub searching : MeantOutcome → MeantOutcome
   searching = unless_out_of_range (factor_1 ∷ factor_2 ∷ option_to_list table_operand)
 

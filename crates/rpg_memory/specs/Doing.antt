@@ -5,7 +5,7 @@ use Rattle.rpg_program.specs.Ended.{Ended, ends_with}
 use Rattle.rpg_program.specs.Ends.{End, GoesOn, Halt, Wrong}
 use Rattle.rpg_memory.specs.Memory.{Working, data_put}
 
--- nothing is wrong: it goes on, or halts with a number from 1 to 4
+-- nothing is wrong: it continues, or halts with a number from 1 to 4
 abbrev pub IsRightEnd : End → Type 0
 IsRightEnd GoesOn = Unit {0}
 IsRightEnd (Halt k) = 1 ≤ k × k ≤ 4

@@ -43,7 +43,7 @@ class_of k = choice (classes_of k) class_number
 abbrev pub shortest : Class → ℕ
 shortest c = if is_date c then 6 else 1
 
--- the length that a field of that kind and class may have
+-- the greatest length of a field of that kind and class
 abbrev pub longest_field : Kind → Class → ℕ
 longest_field k c = if is_date c then 6 else length_limit k
 
@@ -64,16 +64,16 @@ sequences_of c = if may_have_entries c then false ∷ true ∷ [] else false ∷
 abbrev pub sequence_of : Class → ℕ → Result Bool Code
 sequence_of c = choice (sequences_of c) flag_number
 
--- the entries that a field of that class may have
+-- the most entries of a field of that class
 abbrev pub most_entries : Class → ℕ
 most_entries c = if may_have_entries c then 9999 else 1
 
--- the entries, whose bytes must fit in the storage that is left
+-- the entries, whose bytes must fit in the remaining storage
 abbrev pub entries_within : ℕ → ℕ → ℕ → ℕ → Result ℕ Code
 entries_within most len storage n =
     if is_between 1 most n then (if nat_le (len * n) storage then Ok n else Err PastLimit) else Err NotAllowed
 
--- kind, class, length, decimals, sequence, entries, with the storage that the fields before it leave
+-- kind, class, length, decimals, sequence, entries, within the storage that the earlier fields leave
 unfoldable pub field : ℕ → Format FieldForm
 field storage = row
     (λ p. record { kind = p.0; class = p.1.0; length = p.1.1.0; decimals = p.1.1.1.0; is_ascending = p.1.1.1.1.0; entries = p.1.1.1.1.1 })
@@ -85,7 +85,7 @@ field storage = row
     pair (byte (sequence_of c) flag_number) (λ is_ascending.
     two_bytes (entries_within (most_entries c) len storage) (λ n. n)))))))
 
--- a field takes the bytes of its entries from the storage that is left
+-- a field takes the bytes of its entries from the remaining storage
 abbrev pub storage_after : ℕ → FieldForm → ℕ
 storage_after storage f = storage - size_of f
 

@@ -1,4 +1,4 @@
--- The format of first values: those of each field, one for each entry, in as many bytes as the field is long.
+-- The format of first values: those of each field, one for each entry, each as long as the field.
 use Rattle.std.specs.Prelude.{◌≡◌, ℕ, ◌≤◌, ℤ, List, [], ◌∷◌, length, take, drop, nat_lt, if◌then◌else◌, Option, Some, None, Result, Ok, Err}
 use Rattle.std.specs.List.{list_all}
 use Rattle.std.specs.Str.{bytes_eq}
@@ -14,7 +14,7 @@ use Rattle.rpg_object_format.specs.Format.{Format, ends_early, ruled, times_with
 use Rattle.rpg_program.specs.Kept.{IsValueOf}
 use Rattle.rpg_text.specs.Texts.{is_character}
 
--- the number that a text was read as, if the text is the one that is written for it
+-- the number in a text, if the text is the one that is written for it
 abbrev pub as_written : List ℕ → Option ℤ → Result ℤ Code
 as_written text None = Err NotAllowed
 as_written text (Some n) = if bytes_eq text (zoned_text (length text) n) then Ok n else Err NotAllowed
@@ -24,7 +24,7 @@ abbrev pub as_value : Result ℤ Code → Result Value Code
 as_value (Ok n) = Ok (Number n)
 as_value (Err c) = Err c
 
--- the value of that kind that a text spells
+-- the value of that kind in a text
 abbrev pub first_value_in : Kind → List ℕ → Result Value Code
 first_value_in kinds.Number text = as_value (as_written text (number_in text))
 first_value_in kinds.Text text = if list_all is_character text then Ok (Text text) else Err NotAllowed
@@ -45,7 +45,7 @@ abbrev pub IsWrittenValue : Kind → ℕ → Value → Type 0
 IsWrittenValue kinds.Number len v = (1 ≤ len) × IsValueOf kinds.Number len v
 IsWrittenValue kinds.Text len v = IsValueOf kinds.Text len v
 
--- the value of an entry, in as many bytes as its field is long
+-- the value of an entry, as long as its field
 unfoldable pub value : Kind → ℕ → Format Value
 value k len = record {
   spelling = value_text len;
@@ -59,12 +59,12 @@ entries_format f = table f.entries (value f.kind f.length)
 
 -- ---- all fields
 
--- the values of the next field, none if there is no further one
+-- the values of the next field, none if there are no more
 abbrev pub next_entries : List FieldForm → Format (List Value)
 next_entries [] = table 0 (value kinds.Text 1)
 next_entries (f ∷ fs) = entries_format f
 
--- the fields after the one whose values come next
+-- the fields after the next one
 abbrev pub later_fields : List FieldForm → List Value → List FieldForm
 later_fields [] vs = []
 later_fields (f ∷ fs) vs = fs

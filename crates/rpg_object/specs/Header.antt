@@ -34,7 +34,7 @@ settings = row
     pair (number_where (is_between 0 9999)) (λ disk_length.
     two_bytes overflow_of indicator_number)))))
 
--- the most instructions that a program has
+-- the most instructions of a program
 abbrev pub most_instructions : ℕ
 most_instructions = 8192
 

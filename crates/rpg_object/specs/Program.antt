@@ -1,4 +1,4 @@
--- Whole object programs: the bytes that spell them, and the faults of other bytes.
+-- Whole object programs: the bytes that encode them, and the faults of other bytes.
 use Rattle.std.specs.Prelude.{◌≡◌, ℕ, ◌-◌, ◌≤◌, List, [], ◌∷◌, ◌++◌, length, drop, codes, Bool, true, false, ◌&&◌, ◌==◌, if◌then◌else◌, Option, Some, None, Result, Ok, Err}
 use Rattle.rpg_program.specs.Input.{TypeRow}
 use Rattle.rpg_program.specs.Values.{Value}
@@ -55,7 +55,7 @@ object_of p = record {
   subroutines = p.1.1.1.1.1.1.1;
 }
 
--- what the header has of files, allowance and overflow
+-- what the header says about files, allowance and overflow
 abbrev pub settings_of : Object → Settings
 settings_of p = record { allowance = p.allowance; record_length = p.record_length; printer_length = p.printer_length; disk_length = p.disk_length; overflow = p.overflow }
 
@@ -67,7 +67,7 @@ counts_of p = record { fields = length p.fields; types = length p.types; lines =
 abbrev pub header_of : Object → Header
 header_of p = record { version = p.version; settings = settings_of p; counts = counts_of p; secondary_length = p.secondary_length }
 
--- the tables of an object, one after the other
+-- the tables of an object, in order
 abbrev pub tables_of : Object → Tables
 tables_of p = (p.fields, (p.values, (p.types, (p.lines, (p.detail, (p.total, p.subroutines))))))
 
@@ -77,7 +77,7 @@ body = row object_of (λ p. (header_of p, tables_of p)) (pair header_format (λ 
 
 -- ---- whole objects
 
--- the characters that each object begins with
+-- the characters that every object begins with
 abbrev pub object_name : List ℕ
 object_name = codes "RPGOBJ"
 
@@ -96,13 +96,13 @@ begins_with [] bytes = true
 begins_with (x ∷ xs) [] = false
 begins_with (x ∷ xs) (b ∷ bytes) = x == b && begins_with xs bytes
 
--- the program that bytes spell, or their first fault
+-- the program that bytes encode, or their first fault
 unfoldable pub reading : List ℕ → Result Object Fault
 reading bytes = if begins_with object_name bytes then (body.reading (drop 6 bytes) >>= wholly_read) else Err (fault_at bytes NoObject)
 
 -- ---- faults by their offsets
 
--- the fault, and how many bytes stand before it
+-- the fault, and how many bytes come before it
 abbrev pub fault_in : List ℕ → Result Object Fault → Option (ℕ × Code)
 fault_in bytes (Ok p) = None
 fault_in bytes (Err f) = Some (length bytes - f.left, f.code)
@@ -111,6 +111,6 @@ fault_in bytes (Err f) = Some (length bytes - f.left, f.code)
 unfoldable pub first_fault : List ℕ → Option (ℕ × Code)
 first_fault bytes = fault_in bytes (reading bytes)
 
--- Bytes after a fault change neither its offset nor its code, unless they may complete a number or the name that is cut short.
+-- Appending bytes changes neither the offset nor the code of a fault, unless they may complete a number or the name that is cut short.
 abbrev pub FaultStays : List ℕ → List ℕ → Type 0
 FaultStays bytes more = (offset : ℕ) (code : Code) → first_fault bytes ≡ Some (offset, code) → (code ≡ CutShort → ⊥) → (code ≡ NoObject → 6 ≤ length bytes) → first_fault (bytes ++ more) ≡ Some (offset, code)

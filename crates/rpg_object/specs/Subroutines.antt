@@ -5,14 +5,14 @@ use Rattle.rpg_object_format.specs.Numbers.{any_number, count}
 use Rattle.rpg_program.specs.Object.{SubroutineRow}
 use Rattle.rpg_object_instructions.specs.Instructions.{instruction}
 
--- level, count, instructions, with the instructions that the sections before it leave
+-- level, count, instructions, within the instructions that the earlier sections leave
 unfoldable pub subroutine : ℕ → Format SubroutineRow
 subroutine left = row
     (λ p. record { level = p.0; instructions = p.1.1 })
     (λ s. (s.level, (length s.instructions, s.instructions)))
     (pair any_number (λ level. pair (count left) (λ n. table n instruction)))
 
--- a subroutine takes its instructions from those that are left
+-- a subroutine takes its instructions from the remaining ones
 abbrev pub left_after : ℕ → SubroutineRow → ℕ
 left_after left s = left - length s.instructions
 

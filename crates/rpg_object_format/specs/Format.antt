@@ -1,10 +1,10 @@
--- Formats of bytes, put together from numbers of one byte and of two, the higher byte first.
+-- Byte formats, built from numbers of one byte and of two in big-endian order.
 use Rattle.std.specs.Prelude.{◌≡◌, ℕ, zero, suc, ◌+◌, ◌*◌, ◌/◌, ◌%◌, ◌^◌, ◌<◌, List, [], ◌∷◌, ◌++◌, length, Result, Ok, Err}
 use Rattle.rpg_object_format.specs.declared.fault.Code.{Code}
 use Rattle.rpg_object_format.specs.declared.fault.Code.TheVariants.{CutShort}
 use Rattle.rpg_object_format.specs.declared.fault.Fault.{Fault}
 
--- how a value is spelled, which values it may hold, and what is read at the front of bytes, with what is left of them
+-- how a value is encoded, which values are allowed, and what is read at the start of bytes, with the rest of them
 pub record Format (X : Type 0) : Type 1 where
   pub spelling : X → List ℕ
   pub Holds : X → Type 0
@@ -18,17 +18,17 @@ abbrev pub ◌>>=◌ : {A B : Type 0} → Result A Fault → (A → Result B Fau
 (Ok x) >>= f = f x
 (Err e) >>= f = Err e
 
--- a fault of the number at the front of these bytes
+-- a fault of the number at the start of these bytes
 abbrev pub fault_at : List ℕ → Code → Fault
 fault_at bytes c = record { left = length bytes; code = c }
 
--- the bytes end in the middle of a number
+-- the bytes end inside a number
 abbrev pub ends_early : Fault
 ends_early = record { left = 0; code = CutShort }
 
--- ---- numbers. A rule takes a number to its value, or to its fault; a code takes it back.
+-- ---- numbers. A rule maps a number to its value, or to its fault; a code maps it back.
 
--- the value that was read, or the fault of the number at the front of these bytes
+-- the value that was read, or the fault of the number at the start of these bytes
 abbrev pub ruled : {X : Type 0} → List ℕ → List ℕ → Result X Code → Result (X × List ℕ) Fault
 ruled bytes rest (Ok x) = Ok (x, rest)
 ruled bytes rest (Err c) = Err (fault_at bytes c)
@@ -62,15 +62,15 @@ two_bytes rule code = record {
 
 -- ---- one after another
 
--- one more part, and the bytes that are left
+-- one more part, and the remaining bytes
 abbrev pub joined : {A B : Type 0} → A → B × List ℕ → Result ((A × B) × List ℕ) Fault
 joined a b = Ok ((a, b.0), b.1)
 
--- what the parts make, and the bytes that are left
+-- the value of the parts, and the remaining bytes
 abbrev pub made : {A X : Type 0} → (A → X) → A × List ℕ → Result (X × List ℕ) Fault
 made make a = Ok (make a.0, a.1)
 
--- a value, and after it another whose format the first may choose
+-- a value, followed by another whose format may depend on the first
 unfoldable pub pair : {A B : Type 0} → Format A → (A → Format B) → Format (A × B)
 pair f g = record {
   spelling = λ p. f.spelling p.0 ++ (g p.0).spelling p.1;
@@ -86,28 +86,28 @@ row make parts f = record {
   reading = λ bytes. f.reading bytes >>= made make;
 }
 
--- ---- rows, one after another
+-- ---- rows, in sequence
 
--- one more row in front, and the bytes that are left
+-- one more row in front, and the remaining bytes
 abbrev pub with_listed : {X : Type 0} → X → List X × List ℕ → Result (List X × List ℕ) Fault
 with_listed x xs = Ok (x ∷ xs.0, xs.1)
 
--- this many rows, each by what the ones before it have left
+-- this many rows, each depending on what the earlier ones left
 unfoldable pub read_times : {S X : Type 0} → (S → List ℕ → Result (X × List ℕ) Fault) → (S → X → S) → ℕ → S → List ℕ → Result (List X × List ℕ) Fault
 read_times read next zero s bytes = Ok ([], bytes)
 read_times read next (suc n) s bytes = read s bytes >>= λ x. read_times read next n (next s x.0) x.1 >>= with_listed x.0
 
--- each row holds, by what those before it left
+-- each row satisfies this, given what the earlier ones left
 abbrev pub AllAlong : {S X : Type 0} → (S → X → Type 0) → (S → X → S) → S → List X → Type 0
 AllAlong P next s [] = Unit {0}
 AllAlong P next s (x ∷ xs) = P s x × AllAlong P next (next s x) xs
 
--- the spellings of the rows, each by what those before it left
+-- the encodings of the rows, each given what the earlier ones left
 abbrev pub spelled_along : {S X : Type 0} → (S → X → List ℕ) → (S → X → S) → S → List X → List ℕ
 spelled_along spell next s [] = []
 spelled_along spell next s (x ∷ xs) = spell s x ++ spelled_along spell next (next s x) xs
 
--- n rows, where what a row may be depends on what those before it left
+-- n rows, where the allowed rows depend on what the earlier ones left
 unfoldable pub times_with : {S X : Type 0} → (S → Format X) → (S → X → S) → ℕ → S → Format (List X)
 times_with f next n s = record {
   spelling = spelled_along (λ t x. (f t).spelling x) next s;

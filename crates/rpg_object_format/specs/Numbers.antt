@@ -4,15 +4,15 @@ use Rattle.rpg_object_format.specs.declared.fault.Code.{Code}
 use Rattle.rpg_object_format.specs.declared.fault.Code.TheVariants.{NotAllowed, PastLimit}
 use Rattle.rpg_object_format.specs.Format.{Format, byte, two_bytes}
 
--- the numbers that a test takes
+-- the numbers that pass a test
 abbrev pub allowed : (ℕ → Bool) → ℕ → Result ℕ Code
 allowed test n = if test n then Ok n else Err NotAllowed
 
--- each number passes
+-- any number passes
 abbrev pub is_any_number : ℕ → Bool
 is_any_number n = true
 
--- the one of these that has the number
+-- the choice with this number
 abbrev pub choice : {K : Type 0} → List K → (K → ℕ) → ℕ → Result K Code
 choice [] number n = Err NotAllowed
 choice (k ∷ ks) number n = if number k == n then Ok k else choice ks number n
@@ -25,7 +25,7 @@ up_to limit n = if nat_le n limit then Ok n else Err PastLimit
 abbrev pub exactly : ℕ → Code → ℕ → Result (Unit {0}) Code
 exactly k c n = if n == k then Ok tt else Err c
 
--- a yes or no
+-- a flag as a number
 abbrev pub flag_number : Bool → ℕ
 flag_number false = 0
 flag_number true = 1
@@ -68,6 +68,6 @@ count limit = two_bytes (up_to limit) (λ n. n)
 abbrev pub only_byte : ℕ → Code → Format (Unit {0})
 only_byte k c = byte (exactly k c) (λ u. k)
 
--- two bytes that have one number alone
+-- two bytes that have only one allowed number
 abbrev pub only_number : ℕ → Code → Format (Unit {0})
 only_number k c = two_bytes (exactly k c) (λ u. k)

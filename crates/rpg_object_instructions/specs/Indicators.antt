@@ -12,7 +12,7 @@ use Rattle.rpg_object_instructions.specs.Shapes.{counted_rows}
 
 -- ---- indicators
 
--- none as 0, or 1 to 129
+-- 0 for none, or 1 to 129
 abbrev pub indicator_by_number : ℕ → Result (Option ℕ) Code
 indicator_by_number n = if n == 0 then Ok None else (if nat_le n 129 then Ok (Some n) else Err NotAllowed)
 
@@ -55,7 +55,7 @@ has_bit weight n = (n / weight) % 2 == 1
 abbrev pub bit : ℕ → Bool → ℕ
 bit weight is_on = if is_on then weight else 0
 
--- only an indicator that is there is negated
+-- only an existing indicator is negated
 abbrev pub may_negate : Option ℕ → Bool → Bool
 may_negate None is_negated = not is_negated
 may_negate (Some n) is_negated = true

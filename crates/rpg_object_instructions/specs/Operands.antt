@@ -12,7 +12,7 @@ use Rattle.rpg_object_instructions.specs.Shapes.{unused_number}
 abbrev pub index_by_number : ℕ → Index ℕ
 index_by_number n = if n == 0 then Blank else (if nat_le n 9999 then Literal n else Field (n - 10000))
 
--- an index as a number: 0 is none, above 10000 stand fields
+-- an index as a number: 0 for none, above 10,000 for a field
 abbrev pub index_number : Index ℕ → ℕ
 index_number Blank = 0
 index_number (Literal n) = n
@@ -33,9 +33,9 @@ operand = row
     (λ o. (o.field, o.index))
     (pair any_number (λ field. index))
 
--- ---- where there is no operand
+-- ---- no operand
 
--- the operand written if there is none: field 0 without an index
+-- the operand that encodes none: field 0 without an index
 abbrev pub no_operand : Operand ℕ
 no_operand = record { field = 0; index = Blank }
 
@@ -53,7 +53,7 @@ if_operand field (Field k) = Some (record { field = field; index = Field k })
 abbrev pub optional_of : Operand ℕ → Option (Operand ℕ)
 optional_of o = if_operand o.field o.index
 
--- an operand, or the row of none
+-- an operand, or the encoding of none
 abbrev pub operand_or_none : Option (Operand ℕ) → Operand ℕ
 operand_or_none None = no_operand
 operand_or_none (Some o) = o

@@ -10,11 +10,11 @@ use Rattle.rpg_object_format.specs.Numbers.{is_any_number, byte_where, count, on
 abbrev pub any_byte : Format ℕ
 any_byte = byte_where is_any_number
 
--- 0, if the byte isn't used
+-- 0 for an unused byte
 abbrev pub unused_byte : Format (Unit {0})
 unused_byte = only_byte 0 Unused
 
--- a number that isn't used is zero
+-- 0 for an unused number
 abbrev pub unused_number : Format (Unit {0})
 unused_number = only_number 0 Unused
 
@@ -32,11 +32,11 @@ row_where Is make parts f = record {
   reading = λ bytes. f.reading bytes >>= made make;
 }
 
--- only one value, as numbers that are always the same
+-- a single value, encoded as fixed numbers
 abbrev pub always : {X : Type 0} → X → Format (Unit {0}) → Format X
 always x numbers = row_where (λ y. y ≡ x) (λ u. x) (λ y. tt) numbers
 
--- a format if it is used; if it isn't, the value that means nothing, as these numbers
+-- a format if it is used, otherwise the value for an unused one, as these numbers
 abbrev pub where_used : {X : Type 0} → Bool → Format X → X → Format (Unit {0}) → Format X
 where_used true f nothing zeros = f
 where_used false f nothing zeros = always nothing zeros

@@ -15,7 +15,7 @@ use Rattle.rpg_text.specs.Texts.{is_between}
 use Rattle.rpg_object_instructions.specs.Indicators.{indicator_format, indicator_number, shows_format}
 use Rattle.rpg_object_instructions.specs.Shapes.{no_number, unused_byte, where_used}
 
--- ---- what version 2 has more
+-- ---- additions of version 2
 
 -- version 2
 abbrev pub is_two : Version → Bool

@@ -40,7 +40,7 @@ pub record HasPrinted (form : Standing) (lines : List Placed) (here : Position) 
 abbrev pub here_of : Standing → Position
 here_of form = record { page = form.begun; line = form.line }
 
--- the form, once it stands at a place
+-- the form at a place
 abbrev pub moved_to : Position → Standing → Standing
 moved_to to form = record { last = form.last; begun = to.page; line = to.line }
 
@@ -65,7 +65,7 @@ way_on_page (Some last) line = if line == last then 13 ∷ [] else replicate (li
 abbrev pub way_of : Standing → List ℕ
 way_of form = if form.begun == 0 then way_on_page form.last form.line else replicate form.begun 12 ++ replicate (form.line - 1) 10
 
--- bytes were added at the end, or memory for them was refused and those that were there still stand in front
+-- bytes were appended, or memory for them ran out and the earlier ones are still first
 pub record Adds {X E : Type 0} (result : Result X E) (old new bytes : List ℕ) : Type 0 where
   pub ok : OnOk result (new ≡ old ++ bytes)
   pub err : OnErr result (take (length old) new ≡ old)

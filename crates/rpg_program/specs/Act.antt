@@ -32,7 +32,7 @@ use Rattle.rpg_program.specs.declared.operation.Side.TheVariants.{Right, Left}
 
 -- ---- numbers
 
--- what an operator makes of two numbers, exactly
+-- the exact result of an operator for two numbers
 abbrev pub computed : Operator → Fraction → Fraction → Fraction
 computed Add p q = plus p q
 computed Subtract p q = minus p q
@@ -42,36 +42,36 @@ computed Multiply p q = times p q
 abbrev pub divided : Fraction → Fraction → Option Fraction
 divided p q = if int_eq q.top (pos 0) then None else Some (over p q)
 
--- with its sign turned, if asked
+-- negated, if requested
 abbrev pub assigned : Bool → ℤ → ℤ
 assigned negated n = if negated then neg_ℤ n else n
 
--- what a division of p, of pd decimals, by q, of qd decimals, leaves once its quotient has been cut to `dec` decimals
+-- the remainder of dividing p, with pd decimals, by q, with qd decimals, after its quotient is truncated to `dec` decimals
 abbrev pub left_over : Fraction → ℕ → Fraction → ℕ → ℕ → Fraction
 left_over p pd q qd dec = with_decimals (aligned_number false (rest_decimals pd qd dec) (rest_of p q dec)) (rest_decimals pd qd dec)
 
--- a result as a field of that form keeps it: decimals too many cut off or half adjusted, and without the digits too many on the left
+-- a result as a field of that form keeps it: extra decimals truncated or half adjusted, and without excess digits on the left
 abbrev pub stored_value : Bool → Option FieldForm → Fraction → ℤ
 stored_value half form n = stored_number half (decimals_of form) (length_of form) n
 
 -- ---- places
 
--- places over those of another text
+-- places that overwrite those of another text
 abbrev pub text_over : Side → List ℕ → List ℕ → List ℕ
 text_over Right source old = overlay_right source old
 text_over Left source old = overlay_left source old
 
--- the digits of a number of k digits over those of one of `len` digits
+-- the digits of a number of k digits, overwriting those of one of `len` digits
 abbrev pub number_over : Side → ℕ → ℤ → ℕ → ℤ → ℤ
 number_over Right k n len old = number_moved_right k n len old
 number_over Left k n len old = number_moved_left k n len old
 
--- f 1 to f n, added up
+-- the sum of f 1 to f n
 abbrev pub sum_to : (ℕ → ℤ) → ℕ → ℤ
 sum_to f zero = pos 0
 sum_to f (suc n) = sum_to f n +ℤ f (suc n)
 
--- from where a search goes
+-- where a search begins
 abbrev pub search_start : {K : Type 0} → Entry K → ℕ
 search_start e = if is_blank_index e.index then 1 else e.position
 
@@ -90,11 +90,11 @@ module _ {K : Type 0} (forms : K → Option FieldForm) where
   position_fault b table (Some f) = if holds_position forms b.index table f.position then None else Some Storage
 
 module _ {K : Type 0} {R : K → K → Ordering} where
-  -- a number is stored, and then the indicators are set by it
+  -- a number is stored, and then the indicators are set for it
   abbrev pub store : Data R → Entry K → Shows → ℤ → Data R
   store d r s n = record (set_value d r.field r.position (Number n)) { on = shown s (sign_of n) d.on }
 
-  -- an index field takes a position
+  -- a position is stored in an index field
   abbrev pub index_set : Index K → ℕ → Data R → Data R
   index_set Blank n d = d
   index_set (Literal m) n d = d
@@ -109,7 +109,7 @@ module _ {K : Type 0} {R : K → K → Ordering} (forms : K → Option FieldForm
   abbrev pub summed : Data R → Entry K → Fraction
   summed d b = with_decimals (sum_to (number_at d b.field) (entries_of (forms b.field))) (decimals_of (forms b.field))
 
-  -- a division leaves its remainder if it isn't half adjusted, else the one before
+  -- the remainder after a division: its own if it isn't half adjusted, otherwise the previous one
   abbrev pub remainder_after : Bool → Data R → Entry K → Entry K → Entry K → Fraction
   remainder_after half d a b r =
       if half then d.remainder
@@ -124,17 +124,17 @@ module _ {K : Type 0} {R : K → K → Ordering} (forms : K → Option FieldForm
   abbrev pub order_at : Data R → Entry K → Entry K → ℕ → Ordering
   order_at d a b n = order_by (kind_of (forms a.field)) d (entry_at b n) a
 
-  -- the characters of an entry of that kind: of a number those that are written for it
+  -- the characters of an entry of that kind: for a number its zoned text
   abbrev pub source_text : Kind → Data R → Entry K → List ℕ
   source_text kinds.Number d b = zoned_text (length_of (forms b.field)) (number_at d b.field b.position)
   source_text kinds.Text d b = characters_at d b.field b.position
 
-  -- an entry of that kind, moved to a number of `len` digits: a text goes over the text of the old number, and what comes out is read
+  -- an entry of that kind, moved to a number of `len` digits: a text overwrites the text of the old number, and the result is read
   abbrev pub number_after : Kind → Side → Data R → Entry K → ℕ → ℤ → Option ℤ
   number_after kinds.Number side d b len old = Some (number_over side (length_of (forms b.field)) (number_at d b.field b.position) len old)
   number_after kinds.Text side d b len old = number_in (text_over side (characters_at d b.field b.position) (zoned_text len old))
 
-  -- an entry of one kind, moved to a result of another or the same; a text that spells no number there is halt 4
+  -- an entry of one kind, moved to a result of another or the same; a text that isn't a number there is halt 4
   unfoldable pub moved : Kind → Kind → Side → Data R → Entry K → Entry K → Ended R
   moved from kinds.Number side d b r =
       or_halt (number_after from side d b (length_of (forms r.field)) (number_at d r.field r.position)) 4 d (λ n. Gives (set_value d r.field r.position (Number n)))
@@ -151,7 +151,7 @@ module _ {K : Type 0} {R : K → K → Ordering} (forms : K → Option FieldForm
   made_current_if_any None n d = d
   made_current_if_any (Some table) n d = made_current table n d
 
-  -- what is found goes to the index field, 1 if there is nothing; it becomes current in factor 2 and in the result's table
+  -- the position found is stored in the index field, 1 if there is none; it becomes current in factor 2 and in the result's table
   unfoldable pub with_found : Entry K → Option K → Option Found → Data R → Data R
   with_found b table None d = index_set b.index 1 d
   with_found b table (Some f) d = made_current_if_any table f.position (made_current b.field f.position (index_set b.index f.position d))
@@ -160,7 +160,7 @@ module _ {K : Type 0} {R : K → K → Ordering} (forms : K → Option FieldForm
   abbrev pub found_shown : Shows → Option Found → Data R → Data R
   found_shown s f d = record d { on = shown_if_any s (option_map (λ (x : Found). x.order) f) d.on }
 
-  -- the position goes where it belongs, and the indicators show what was found, unless it doesn't fit there
+  -- the position is stored, and the indicators show what was found, unless it doesn't fit there
   unfoldable pub looked_up : Data R → Entry K → Option K → Shows → Option Found → Ended R
   looked_up d b table s f = if_right (position_fault forms b table f) d (Gives (found_shown s f (with_found b table f d)))
 

@@ -14,6 +14,6 @@ abbrev pub first_value : Option (List Value) → Option Value
 first_value None = None
 first_value (Some vs) = slice_get vs 0
 
--- the characters of a field that is a text constant, of any other field none
+-- the characters of a field that is a text constant, none for any other field
 unfoldable pub word_at : Object → ℕ → List ℕ
 word_at p field = if is_text_constant (form_at p.fields field) then characters_of (first_value (values_at p.values field)) else []

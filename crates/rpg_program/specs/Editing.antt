@@ -1,4 +1,4 @@
--- The text that a value has in a line, and how wide it is.
+-- The text of a value in a line, and its width.
 use Rattle.std.specs.Prelude.{ℕ, List, [], Option, None, Some}
 use Rattle.rpg_edit_marks.specs.How.{edited, width_of}
 use Rattle.rpg_edit_marks.specs.declared.code.Fill.{Fill}

@@ -17,7 +17,7 @@ module _ {K : Type 0} {R : K → K → Ordering} where
   abbrev pub quiet : End → World R → Effect R
   quiet e w = record { ending = e; world = w; lines = []; records = [] }
 
-  -- goes on with that world, and outputs nothing
+  -- continues with this world, and outputs nothing
   abbrev pub Leaves : World R → Effect R
   Leaves w = quiet GoesOn w
 
@@ -25,13 +25,13 @@ module _ {K : Type 0} {R : K → K → Ordering} where
   abbrev pub after_output : Effect R → Effect R → Effect R
   after_output d e = record { ending = e.ending; world = e.world; lines = d.lines ++ e.lines; records = d.records ++ e.records }
 
-  -- an effect that goes on is followed by another
+  -- an effect that continues is followed by another
   abbrev pub go_on : End → Effect R → (World R → Effect R) → Effect R
   go_on GoesOn e go = after_output e (go e.world)
   go_on (Halt k) e go = e
   go_on (Wrong f) e go = e
 
-  -- the one and then the other, unless the one halts or is wrong
+  -- one and then the other, unless the first halts or is wrong
   abbrev pub then_go : Effect R → (World R → Effect R) → Effect R
   then_go e go = go_on e.ending e go
 

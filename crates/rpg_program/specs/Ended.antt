@@ -1,4 +1,5 @@
--- How an operation or an input field ends, and the data that it leaves: it sees no paper, and outputs nothing.
+-- How an operation or an input field ends, and the data that it leaves: it doesn't see the paper, and outputs
+-- nothing.
 use Rattle.std.specs.Prelude.{ℕ, Option, None, Some}
 use Rattle.std.specs.declared.cmp.Ordering.{Ordering}
 use Rattle.rpg_program.specs.Effect.{Effect, quiet}
@@ -15,17 +16,17 @@ module _ {K : Type 0} {R : K → K → Ordering} where
   abbrev pub ends_with : End → Data R → Ended R
   ends_with e d = record { ending = e; «data» = d }
 
-  -- goes on with that data
+  -- continues with that data
   abbrev pub Gives : Data R → Ended R
   Gives d = ends_with GoesOn d
 
-  -- what goes on is followed by what comes next
+  -- what continues is followed by what comes next
   abbrev pub followed_if : End → Ended R → (Data R → Ended R) → Ended R
   followed_if GoesOn o go = go o.data
   followed_if (Halt k) o go = o
   followed_if (Wrong f) o go = o
 
-  -- the one and then the other, unless the one halts or is wrong
+  -- one and then the other, unless the first halts or is wrong
   abbrev pub followed_by : Ended R → (Data R → Ended R) → Ended R
   followed_by o go = followed_if o.ending o go
 
@@ -39,6 +40,6 @@ module _ {K : Type 0} {R : K → K → Ordering} where
   if_right None d o = o
   if_right (Some f) d o = ends_with (Wrong f) d
 
-  -- what is done to the data, as an effect of a world: the paper stays as it is, and nothing is output
+  -- what is done to the data, as an effect on a world: the paper is unchanged, and nothing is output
   abbrev pub on_data : (Data R → Ended R) → World R → Effect R
   on_data f w = let o = f w.data in quiet o.ending (with_data o.data w)

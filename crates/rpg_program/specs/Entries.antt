@@ -16,7 +16,7 @@ in_range entries (pos n) = if nat_le 1 n && nat_le n entries then Some n else No
 in_range entries (negsuc n) = None
 
 module _ {K : Type 0} {R : K → K → Ordering} (forms : K → Option FieldForm) where
-  -- without an index the current entry of a table, and the first of any other field
+  -- without an index, the current entry of a table, and the first of any other field
   abbrev pub position_by : Fields R → K → Index K → Option ℕ
   position_by fields field Blank = Some (if is_table_form (forms field) then current_in fields field else 1)
   position_by fields field (Literal n) = Some n
@@ -26,6 +26,6 @@ module _ {K : Type 0} {R : K → K → Ordering} (forms : K → Option FieldForm
   unfoldable pub position_of : Fields R → Operand K → Option ℕ
   position_of fields o = position_by fields o.field o.index
 
-  -- the entry that it names, if it names one
+  -- the entry that it names, if any
   unfoldable pub entry_of : Fields R → Operand K → Entry K
   entry_of fields o = record { field = o.field; index = o.index; position = unwrap_or (position_of fields o) 0 }

@@ -11,7 +11,7 @@ abbrev pub form_at : List FieldForm → ℕ → Option FieldForm
 form_at fields zero = None
 form_at fields (suc n) = slice_get fields n
 
--- ---- words on kinds and classes
+-- ---- terms for kinds and classes
 
 -- two kinds are the same
 abbrev pub same_kind : Kind → Kind → Bool
@@ -19,7 +19,7 @@ same_kind kinds.Number kinds.Number = true
 same_kind kinds.Text kinds.Text = true
 same_kind k l = false
 
--- neither array nor table, and no constant or date
+-- neither an array nor a table, and neither a constant nor the date
 abbrev pub is_plain : Class → Bool
 is_plain classes.Plain = true
 is_plain c = false
@@ -54,9 +54,9 @@ is_writable c = true
 abbrev pub size_of : FieldForm → ℕ
 size_of form = form.length * form.entries
 
--- ---- words on the form that a field may have
+-- ---- terms for the form that a field may have
 
--- there is such a field
+-- the field exists
 abbrev pub has_field : Option FieldForm → Bool
 has_field None = false
 has_field (Some d) = true
@@ -81,22 +81,22 @@ abbrev pub entries_of : Option FieldForm → ℕ
 entries_of None = 0
 entries_of (Some d) = d.entries
 
--- there is such a field, and it is a table
+-- the field exists, and it is a table
 abbrev pub is_table_form : Option FieldForm → Bool
 is_table_form None = false
 is_table_form (Some d) = is_table d.class
 
--- there is such a field, and it is plain
+-- the field exists, and it is plain
 abbrev pub is_plain_form : Option FieldForm → Bool
 is_plain_form None = false
 is_plain_form (Some d) = is_plain d.class
 
--- there is such a field, and it may be written
+-- the field exists, and it may be written
 abbrev pub may_write : Option FieldForm → Bool
 may_write None = false
 may_write (Some d) = is_writable d.class
 
--- a plain number without decimals, as an index is and PAGE
+-- a plain number without decimals, as an index and PAGE are
 abbrev pub is_index_form : Option FieldForm → Bool
 is_index_form form = same_kind (kind_of form) kinds.Number && (is_plain_form form && decimals_of form == 0)
 

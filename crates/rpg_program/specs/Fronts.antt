@@ -1,4 +1,4 @@
--- What was output before isn't lost by what is output after it, whether that goes well or not.
+-- Earlier output isn't lost by later output, whether or not that succeeds.
 use Rattle.std.specs.Prelude.{◌≡◌, ◌++◌}
 use Rattle.rpg_program.specs.Put.{Bytes}
 

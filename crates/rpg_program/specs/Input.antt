@@ -1,4 +1,4 @@
--- Record types, and what their input fields do: columns of a record become values of fields.
+-- Record types, and what their input fields do: columns of a record are moved to fields.
 use Rattle.std.specs.Prelude.{ℕ, ◌+◌, ◌-◌, Bool, true, false, not, ◌&&◌, ◌||◌, ◌==◌, nat_le, List, [], ◌∷◌, length, slice_range, Option, None, Some, is_some, option_map, if◌then◌else◌}
 use Rattle.std.specs.List.{list_all}
 use Rattle.std.specs.declared.cmp.Ordering.{Ordering}
@@ -28,18 +28,18 @@ pub record TypeRow (K : Type 0) : Type 0 where
   pub inputs : List (InputField K)
   pub matches : List ControlField
 
--- the columns of a record that an input field takes; the first column is 1
+-- the columns of a record that an input field reads; the first column is 1
 abbrev pub record_part : {K : Type 0} → InputField K → List ℕ → List ℕ
 record_part f text = slice_range text (f.from - 1) f.to
 
--- the value that columns have for a field of that kind, if they have one
+-- the value of columns for a field of that kind, if they have one
 abbrev pub value_read : form.Kind → List ℕ → Option Value
 value_read kinds.Number text = option_map Number (number_in text)
 value_read kinds.Text text = Some (Text text)
 
 -- ---- what may be wrong
 
--- columns that are there, and as many as a plain field is long
+-- existing columns, as many as the length of a plain field
 abbrev pub fits_columns : {K : Type 0} → ℕ → InputField K → Option FieldForm → Bool
 fits_columns len f None = false
 fits_columns len f (Some d) = (nat_le 1 f.from && (nat_le f.from f.to && nat_le f.to len)) && (is_plain d.class && (f.to + 1 - f.from == d.length))
@@ -51,20 +51,20 @@ fits_shows kinds.Text s = not (is_some s.plus || is_some s.minus)
 
 -- ---- what it does
 
--- how a value compares with zero: for a text, only that it is blank can be shown
+-- how a value compares with zero: for a text, it can only be blank or not
 abbrev pub order_of : Value → Option Ordering
 order_of (Number n) = Some (sign_of n)
 order_of (Text text) = if list_all (λ c. c == 32) text then Some Equal else None
 
 module _ {K : Type 0} (forms : K → Option FieldForm) where
-  -- what is wrong with an input field, for records of that length; it is the same whatever they hold
+  -- what is wrong with an input field, for records of that length, whatever they contain
   unfoldable pub input_fault : ℕ → InputField K → Option Fault
   input_fault len f =
       if not (fits_columns len f (forms f.field)) then Some Storage
       else (if not (fits_shows (kind_of (forms f.field)) f.shows) then Some Kind else None)
 
 module _ {K : Type 0} {R : K → K → Ordering} where
-  -- a value is put into a plain field, and then the indicators are set by it
+  -- a value is stored in a plain field, and then the indicators are set for it
   abbrev pub taken_in : K → Shows → Value → Data R → Data R
   taken_in k s v d = record (set_value d k 1 v) { on = shown_if_any s (order_of v) d.on }
 

@@ -1,4 +1,4 @@
--- What the rows of an object program keep, in plain words.
+-- The limits of an object program's rows, in plain words.
 use Rattle.std.specs.Prelude.{◌≡◌, ◌≢◌, ℕ, ◌+◌, ◌^◌, ◌<◌, ◌≤◌, Bool, false, ◌||◌, List, [], ◌∷◌, length, All, Option, unsigned_abs}
 use Rattle.std.specs.Option.{ForSome}
 use Rattle.rpg_program.specs.Forms.{is_array, is_table, size_of}
@@ -70,7 +70,7 @@ abbrev pub AreDecimals : Kind → ℕ → ℕ → Type 0
 AreDecimals kinds.Number digits decimals = (decimals ≤ 9) × (decimals ≤ digits)
 AreDecimals kinds.Text characters decimals = decimals ≡ 0
 
--- only arrays and tables have more entries than one, and a sequence
+-- only arrays and tables have several entries, and a sequence
 abbrev pub may_have_entries : Class → Bool
 may_have_entries class = is_array class || is_table class
 
@@ -161,7 +161,7 @@ pub record IsOperandRow (o : Operand ℕ) : Type 0 where
   pub field : IsTwoBytes o.field
   pub index : IsIndexRow o.index
 
--- field 0 without an index is no operand
+-- field 0 without an index isn't an operand
 abbrev pub IsAnOperand : Operand ℕ → Type 0
 IsAnOperand o = o.field ≡ 0 → o.index ≢ Blank
 
@@ -250,7 +250,7 @@ pub record IsPlainType (t : TypeRow ℕ) : Type 0 where
   pub file : t.file ≡ Primary
   pub matches : t.matches ≡ []
 
--- what version 1 spells: no secondary file and no match fields
+-- what version 1 allows: no secondary file and no match fields
 pub record IsPlain (p : Object) : Type 0 where
   pub secondary : p.secondary_length ≡ 0
   pub types : All IsPlainType p.types

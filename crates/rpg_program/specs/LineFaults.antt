@@ -21,7 +21,7 @@ use Rattle.rpg_program.specs.declared.line.Source.TheVariants as sources
 abbrev pub is_spacing : Spacing → Bool
 is_spacing s = (nat_le s.space_before 3 && nat_le s.space_after 3) && (nat_le s.skip_before 66 && nat_le s.skip_after 66)
 
--- what is wrong with a line before its fields are looked at: no file, a space over 3, a skip over 66
+-- what is wrong with a line before its fields are checked: no file, a space over 3, a skip over 66
 unfoldable pub line_fault : ℕ → Spacing → Option Fault
 line_fault len s = if nat_le 1 len && is_spacing s then None else Some Storage
 
@@ -42,7 +42,7 @@ fits_source sources.Value form = true
 fits_source sources.Page form = is_index_form form && (length_of form == 4)
 
 module _ {K : Type 0} (forms : K → Option FieldForm) where
-  -- the constant that an edit word names is there
+  -- the constant that an edit word names exists
   abbrev pub has_word : Editing K → Bool
   has_word editings.Plain = true
   has_word (editings.Code code) = true
@@ -68,7 +68,7 @@ module _ {K : Type 0} (forms : K → Option FieldForm) (words : K → List ℕ) 
   abbrev pub has_room : ℕ → LineField K → Bool
   has_room len f = nat_le (field_width f) f.end && nat_le f.end len
 
-  -- everything that the field names is there
+  -- everything that the field names exists
   abbrev pub has_storage : ℕ → LineField K → Bool
   has_storage len f = (has_entry forms f.operand && has_word forms f.editing) && (has_room len f && may_change forms f)
 
@@ -78,7 +78,7 @@ module _ {K : Type 0} (forms : K → Option FieldForm) (words : K → List ℕ) 
       is_one_entry forms f.operand
       && (fits_editing (forms f.operand.field) f.editing f.fill && fits_source f.source (forms f.operand.field))
 
-  -- what is wrong with a field of a line of that length; it is the same whatever the values are
+  -- what is wrong with a field of a line of that length, whatever the values are
   unfoldable pub field_fault : ℕ → LineField K → Option Fault
   field_fault len f = if not (has_storage len f) then Some Storage else (if not (has_kinds f) then Some Kind else None)
 
@@ -90,8 +90,8 @@ module _ {K : Type 0} (forms : K → Option FieldForm) (words : K → List ℕ) 
   abbrev pub blanks_writable : LineField K → Bool
   blanks_writable f = not f.is_blanked || may_write (forms f.operand.field)
 
-  -- what the verifier's rules require of a field of a line: a good operand, PAGE as it must be, codes and words that fit, room, and blank
-  -- after on what may be written
+  -- what the verifier's rules require of a line's field: a valid operand, PAGE as required, codes and words that fit, room, and blank after
+  -- only on what may be written
   pub record KeepsFieldRules (len : ℕ) (f : LineField K) : Type 0 where
     pub operand : (has_entry forms f.operand && is_one_entry forms f.operand) ≡ true
     pub source : fits_source f.source (forms f.operand.field) ≡ true

@@ -26,7 +26,7 @@ use Rattle.rpg_program.specs.declared.line.Source.TheVariants as sources
 use Rattle.rpg_program.specs.declared.line.Time.{Time}
 use Rattle.rpg_program.specs.declared.line.Time.TheVariants as times
 
--- a line with its length, that of its file (0: no such file)
+-- a line with its length, that of its file (0 if it doesn't exist)
 pub record Line (K : Type 0) : Type 0 where
   pub file : File
   pub time : Time
@@ -46,14 +46,14 @@ abbrev pub names_overflow : Option ℕ → List Condition → Bool
 names_overflow None cs = false
 names_overflow (Some n) cs = names_indicator n cs
 
--- the passage that an alternative of a line counts at: that of overflow if it names the overflow indicator, else its line's own
+-- the pass at which an alternative of a line counts: that of overflow if it names the overflow indicator, otherwise its line's own
 unfoldable pub pass_of : Option ℕ → Time → List Condition → Pass
 pass_of overflow times.Heading cs = if names_overflow overflow cs then passes.OverflowDetail else passes.Detail
 pass_of overflow times.Detail cs = if names_overflow overflow cs then passes.OverflowDetail else passes.Detail
 pass_of overflow times.Total cs = if names_overflow overflow cs then passes.OverflowTotal else passes.Total
 pass_of overflow times.Exception cs = passes.Exception
 
--- two passages are the same
+-- two passes are the same
 abbrev pub is_pass : Pass → Pass → Bool
 is_pass passes.Detail passes.Detail = true
 is_pass passes.Total passes.Total = true
@@ -62,7 +62,7 @@ is_pass passes.OverflowDetail passes.OverflowDetail = true
 is_pass passes.Exception passes.Exception = true
 is_pass p q = false
 
--- the alternative counts at this passage, and all its conditions hold
+-- the alternative counts at this pass, and all its conditions hold
 abbrev pub is_met : Option ℕ → Pass → set.FinSet nat_cmp → Time → List Condition → Bool
 is_met overflow pass on time cs = is_pass (pass_of overflow time cs) pass && all_hold on cs
 
@@ -73,7 +73,7 @@ is_asked overflow pass on time alternatives = list_any (λ cs. is_met overflow p
 -- ---- the form
 
 module _ {K : Type 0} {R : K → K → Ordering} where
-  -- the form moves, and with a movement into the foot of its page, from line 60 on, the overflow indicator turns on
+  -- the form moves, and a movement into the bottom of its page, from line 60 on, turns the overflow indicator on
   unfoldable pub after_movement : Option ℕ → Position → World R → World R
   after_movement overflow to w =
       if turns_overflow_on w.paper.here to
@@ -84,7 +84,7 @@ module _ {K : Type 0} {R : K → K → Ordering} where
   abbrev pub after_space : Option ℕ → ℕ → World R → World R
   after_space overflow n w = after_movement overflow (spaced n w.paper.here) w
 
-  -- 0 is no skip
+  -- 0 means no skip
   abbrev pub after_skip : Option ℕ → ℕ → World R → World R
   after_skip overflow line w = if line == 0 then w else after_movement overflow (skipped line w.paper.here) w
 
@@ -111,11 +111,11 @@ module _ {K : Type 0} {R : K → K → Ordering} where
 
 -- ---- the text of a line
 
--- the part, ending at that place
+-- the part, ending at this place
 unfoldable pub laid_over : List ℕ → ℕ → List ℕ → List ℕ
 laid_over text end part = take (end - length part) text ++ part ++ drop end text
 
--- PAGE is one more, and after 9999 zero
+-- the next page number; zero after 9999
 unfoldable pub next_page : ℤ → ℤ
 next_page n = if int_eq n (pos 9999) then pos 0 else n +ℤ pos 1
 
@@ -125,18 +125,18 @@ blanked None = Number (pos 0)
 blanked (Some (Number n)) = Number (pos 0)
 blanked (Some (Text text)) = Text (replicate (length text) 32)
 
--- with blank after, the entry that was assembled is to be blanked
+-- with blank after, the entry is noted to be blanked later
 abbrev pub remembered : {K : Type 0} → Bool → K × ℕ → List (K × ℕ) → List (K × ℕ)
 remembered true entry entries = entries ++ entry ∷ []
 remembered false entry entries = entries
 
--- a line that is being assembled: the fields, of which PAGE changes, the text so far, and the entries that are to be blanked
+-- a line that is being assembled: the fields, of which PAGE changes, the text so far, and the entries to be blanked
 pub record Draft {K : Type 0} (R : K → K → Ordering) : Type 0 where
   pub fields : Fields R
   pub text : List ℕ
   pub to_blank : List (K × ℕ)
 
--- how assembling ended, and the line as far as it came
+-- how assembling ended, and the line so far
 pub record Drafted {K : Type 0} (R : K → K → Ordering) : Type 0 where
   pub ending : End
   pub draft : Draft R
@@ -146,7 +146,7 @@ module _ {K : Type 0} {R : K → K → Ordering} where
   abbrev pub drafted : End → Draft R → Drafted R
   drafted e d = record { ending = e; draft = d }
 
-  -- the fields become those
+  -- the fields replaced by these
   abbrev pub with_fields : Fields R → World R → World R
   with_fields fields w = with_data (record w.data { fields = fields }) w
 
@@ -154,7 +154,7 @@ module _ {K : Type 0} {R : K → K → Ordering} where
   abbrev pub blank_line : ℕ → World R → Draft R
   blank_line len w = record { fields = w.data.fields; text = replicate len 32; to_blank = [] }
 
-  -- PAGE is made one more before it is printed
+  -- PAGE is incremented before it is printed
   abbrev pub with_page_counted : Source → K × ℕ → Fields R → Fields R
   with_page_counted sources.Value entry fields = fields
   with_page_counted sources.Page entry fields = with_value entry (Number (next_page (number_of (value_in fields entry)))) fields
@@ -173,14 +173,14 @@ module _ {K : Type 0} {R : K → K → Ordering} where
   unless_faulty None d e = e
   unless_faulty (Some f) d e = drafted (Wrong f) d
 
-  -- a draft that goes on is passed to what follows
+  -- a draft that continues is passed to what follows
   abbrev pub go_on_with : End → Drafted R → (Draft R → Drafted R) → Drafted R
   go_on_with GoesOn d go = go d.draft
   go_on_with (Halt k) d go = d
   go_on_with (Wrong f) d go = d
 
 module _ {K : Type 0} {R : K → K → Ordering} where
-  -- once an overflow output has settled it, the indicator turns off, unless a later movement has turned it on again
+  -- after an overflow output the indicator is settled: it turns off, unless a later movement has turned it on again
   abbrev pub settled : Option ℕ → World R → World R
   settled overflow w = record {
     «data» = record w.data { on = if w.paper.was_overflow && not w.paper.has_turned_on then turned_off overflow w.data.on else w.data.on };
@@ -192,7 +192,7 @@ module _ {K : Type 0} {R : K → K → Ordering} where
   movements_watched w = record w { paper = record w.paper { was_overflow = true; has_turned_on = false } }
 
 module _ {K : Type 0} {R : K → K → Ordering} (forms : K → Option FieldForm) (words : K → List ℕ) where
-  -- the text of an entry is laid over the line; if the index is bad, halt 2
+  -- the text of an entry is written over the line; if the index is bad, halt 2
   abbrev pub laid : Draft R → LineField K → Option ℕ → Drafted R
   laid d f None = drafted (Halt 2) d
   laid d f (Some position) =
@@ -215,14 +215,14 @@ module _ {K : Type 0} {R : K → K → Ordering} (forms : K → Option FieldForm
   assembled on len [] d = drafted GoesOn d
   assembled on len (f ∷ fs) d = let one = with_field on len d f in go_on_with one.ending one (assembled on len fs)
 
-  -- the line is output, and then its entries are blanked, unless a field has stopped it
+  -- the line is output, and then its entries are blanked, unless a field has halted it
   abbrev pub put_out : Option ℕ → Line K → World R → End → Draft R → Effect R
   put_out overflow l w GoesOn d =
       then_go (put_on overflow l.file l.spacing d.text (with_fields d.fields w)) (λ v. Leaves (with_fields (blanked_all d.to_blank v.data.fields) v))
   put_out overflow l w (Halt k) d = quiet (Halt k) (with_fields d.fields w)
   put_out overflow l w (Wrong f) d = quiet (Wrong f) (with_fields d.fields w)
 
-  -- a line is assembled whole, and then output
+  -- a line is assembled, and then output
   unfoldable pub line_out : Option ℕ → Line K → World R → Effect R
   line_out overflow l w =
       unless_wrong (line_fault l.len l.spacing) w
@@ -233,11 +233,11 @@ module _ {K : Type 0} {R : K → K → Ordering} (forms : K → Option FieldForm
   where_asked true e w = e
   where_asked false e w = Leaves w
 
-  -- a line, if it is due at this passage
+  -- a line, if it is due in this pass
   unfoldable pub one_out : Option ℕ → Pass → Line K → World R → Effect R
   one_out overflow pass l w = where_asked (is_asked overflow pass w.data.on l.time l.alternatives) (line_out overflow l w) w
 
-  -- the lines of a passage, in order
+  -- the lines of a pass, in order
   unfoldable pub lines_out : Option ℕ → Pass → List (Line K) → World R → Effect R
   lines_out overflow pass [] w = Leaves w
   lines_out overflow pass (l ∷ ls) w = then_go (one_out overflow pass l w) (lines_out overflow pass ls)

@@ -1,4 +1,4 @@
--- An object program as its rows, apart from where their tables are in memory.
+-- An object program as its rows, independent of where their tables are in memory.
 use Rattle.std.specs.Prelude.{ℕ, Bool, not, ◌==◌, List, map, Option}
 use Rattle.rpg_program.specs.Input.{TypeRow}
 use Rattle.rpg_program.specs.Lines as lines
@@ -95,7 +95,7 @@ abbrev pub input_length : Object → InputFile → ℕ
 input_length p Primary = p.record_length
 input_length p Secondary = p.secondary_length
 
--- records of a file have a length if it is there
+-- the file exists if its records have a length
 abbrev pub has_file : Object → InputFile → Bool
 has_file p f = not (input_length p f == 0)
 

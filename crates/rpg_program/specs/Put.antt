@@ -1,5 +1,5 @@
--- What was output: lines and records, and their bytes. A form remembers of the lines before only which was placed
--- last, so its worlds count pages from there, and what is stated about an output holds for every line that may have been placed before.
+-- The output so far: lines and records, and their bytes. Of the lines before, a form remembers only the last one placed, so its worlds
+-- count pages from there, and what is stated about an output holds for every line that may have been placed before.
 use Rattle.std.specs.Prelude.{◌≡◌, ℕ, ◌+◌, List, [], ◌∷◌, ◌++◌, Option, option_map}
 use Rattle.std.specs.Ordering.{nat_cmp}
 use Rattle.std.specs.declared.cmp.Ordering.{Ordering}
@@ -36,7 +36,7 @@ pub record Held : Type 0 where
   pub last : Option ℕ
   pub world : World nat_cmp
 
--- what was held at the end is what an effect left after its lines, and their bytes were appended
+-- what is held at the end is what an effect left after its lines, and their bytes were appended
 pub record IsLeft (previous : Option Position) (after : Effect nat_cmp) (old : Bytes) (e : End) (v : Held) (new : Bytes) : Type 0 where
   pub ending : e ≡ after.ending
   pub world : on_paper (last_position_from previous after.lines) v.world ≡ after.world
@@ -47,7 +47,7 @@ pub record IsLeft (previous : Option Position) (after : Effect nat_cmp) (old : B
 pub record IsDone (effect : World nat_cmp → Effect nat_cmp) (w : Held) (old : Bytes) (e : End) (v : Held) (new : Bytes) : Type 0 where
   pub following : (previous : Option Position) → w.last ≡ line_of previous → IsLeft previous (effect (on_paper previous w.world)) old e v new
 
--- all that a job has output: the lines on its paper, from the top, and the records on its disk, with the bytes that were sent before
+-- everything that a job has output: the lines on its paper, from the top, and the records on its disk, with the bytes sent before
 pub record HasPut (sent : Bytes) (w : Held) (bytes : Bytes) (lines : List Placed) (records : List (List ℕ)) : Type 0 where
   pub last : w.last ≡ line_of (last_position lines)
   pub print : sent.print ++ bytes.print ≡ paper lines

@@ -6,14 +6,15 @@ use Rattle.rpg_program.specs.declared.operation.Operand.{Operand}
 use Rattle.rpg_program.specs.declared.row.Row.{Row}
 
 module _ {K : Type 0} (forms : K → Option FieldForm) where
-  -- nothing is wrong, whatever the values are: all that it names is there, of its kind, and what a search may find fits where it goes
+  -- nothing is wrong, whatever the values are: everything that it names exists, and is of the required kind, and any result of a search
+  -- fits
   pub record IsRightRow (r : Row (Operand K)) : Type 0 where
     pub storage : lacks_storage forms r ≡ false
     pub kinds : mixes_kinds forms r ≡ false
     pub positions : holds_positions forms r ≡ true
 
-  -- good operands, of the kinds of their columns, a result that may be written, no search high and low at once, a table for what
-  -- becomes current, and positions that fit
+  -- valid operands, of the kinds of their columns, a result that may be written, no search for both high and low, a table for what becomes
+  -- current, and positions that fit
   pub record KeepsRules (r : Row (Operand K)) : Type 0 where
     pub good : all_of (is_good_operand forms) r ≡ true
     pub kinds : all_of (has_kind forms) r ≡ true

@@ -36,7 +36,7 @@ module _ {O : Type 0} (form : O → Option FieldForm) where
   abbrev pub any : O → Option (Use O)
   any o = use_of shapes.One (kind_of (form o)) o
 
-  -- an entry of the kind that another has
+  -- an entry of the same kind as another
   abbrev pub like : O → O → Option (Use O)
   like a o = use_of shapes.One (kind_of (form a)) o
 
@@ -44,7 +44,7 @@ module _ {O : Type 0} (form : O → Option FieldForm) where
   abbrev pub numbers_use : O → Option (Use O)
   numbers_use o = use_of shapes.Whole kinds.Number o
 
-  -- a table or an array of the kind that another has
+  -- a table or an array of the same kind as another
   abbrev pub searched : O → O → Option (Use O)
   searched a o = use_of shapes.Searched (kind_of (form a)) o
 
@@ -65,7 +65,7 @@ module _ {O : Type 0} (form : O → Option FieldForm) where
   row_of (Move side b r) = record { factor1 = None; factor2 = any b; result = any r; marks = Unmarked }
   row_of (SetIndicators on s) = record { factor1 = None; factor2 = None; result = None; marks = Wanted s }
 
--- ---- what is required of the columns
+-- ---- requirements on the columns
 
 -- the operand of a column passes, if there is one
 abbrev pub all_used : {O : Type 0} → (Use O → Bool) → Option (Use O) → Bool
@@ -92,7 +92,7 @@ abbrev pub operand_shape : Shape → Shape
 operand_shape shapes.Table = shapes.One
 operand_shape s = s
 
--- a search for the next one above and for the next one below at once
+-- a search for both the next one above and the next one below
 abbrev pub is_two_sided : Marks → Bool
 is_two_sided (Sought s) = is_some s.plus && is_some s.minus
 is_two_sided m = false
@@ -103,22 +103,22 @@ is_table_as shapes.Table form = is_table_form form
 is_table_as s form = true
 
 module _ {K : Type 0} (forms : K → Option FieldForm) where
-  -- the entry of an array that a literal names is there, and the field that names another is there
+  -- the entry of an array that a literal names exists, or the field that an index names exists
   abbrev pub has_index : FieldForm → Index K → Bool
   has_index d Blank = true
   has_index d (Literal n) = not (is_array d.class) || (nat_le 1 n && nat_le n d.entries)
   has_index d (Field k) = has_field (forms k)
 
-  -- a field, and an index that is there
+  -- a field, and an existing index
   abbrev pub has_operand : Option FieldForm → Index K → Bool
   has_operand None index = false
   has_operand (Some d) index = has_index d index
 
-  -- the entry that an operand names is there
+  -- the entry that an operand names exists
   abbrev pub has_entry : Operand K → Bool
   has_entry o = has_operand (forms o.field) o.index
 
-  -- the entry that a column names is there
+  -- the entry that a column names exists
   abbrev pub is_there : Use (Operand K) → Bool
   is_there u = has_entry u.operand
 
@@ -135,12 +135,12 @@ module _ {K : Type 0} (forms : K → Option FieldForm) where
   has_shape shapes.Searched d index = if is_blank_index index then is_array d.class || is_table d.class else is_one d index
   has_shape shapes.Table d index = is_table d.class && is_blank_index index
 
-  -- the field is there, and the index is as the shape requires
+  -- the field exists, and the index is as the shape requires
   abbrev pub is_shaped : Option FieldForm → Shape → Index K → Bool
   is_shaped None s index = false
   is_shaped (Some d) s index = has_shape s d index
 
-  -- an operand is one entry, and no whole array
+  -- an operand is a single entry, not a whole array
   abbrev pub is_one_entry : Operand K → Bool
   is_one_entry o = is_shaped (forms o.field) shapes.One o.index
 
@@ -157,11 +157,11 @@ module _ {K : Type 0} (forms : K → Option FieldForm) where
   abbrev pub is_writable_use : Use (Operand K) → Bool
   is_writable_use u = may_write (forms u.operand.field)
 
-  -- it is a table, where an entry of it becomes current
+  -- it is a table, if an entry of it becomes current
   abbrev pub is_current_table : Use (Operand K) → Bool
   is_current_table u = is_table_as u.shape (forms u.operand.field)
 
-  -- it may be written, where something is stored in it
+  -- it may be written, if something is stored in it
   abbrev pub is_written : Use (Operand K) → Bool
   is_written u = not (is_stored u.shape) || is_writable_use u
 
@@ -169,11 +169,11 @@ module _ {K : Type 0} (forms : K → Option FieldForm) where
   abbrev pub has_kind : Use (Operand K) → Bool
   has_kind u = same_kind (kind_of (forms u.operand.field)) u.kind
 
-  -- it is a good operand: its field and its index are there, and the index is as its shape requires
+  -- it is a valid operand: its field and its index exist, and the index is as its shape requires
   abbrev pub is_good_operand : Use (Operand K) → Bool
   is_good_operand u = is_there u && is_shaped (forms u.operand.field) (operand_shape u.shape) u.operand.index
 
-  -- a field or an entry that isn't there, or a write if none is allowed
+  -- a field or an entry that doesn't exist, or a write that isn't allowed
   unfoldable pub lacks_storage : Row (Operand K) → Bool
   lacks_storage r = not (all_of is_there r && all_used is_written r.result)
 
@@ -208,6 +208,6 @@ module _ {K : Type 0} (forms : K → Option FieldForm) where
   is_searched shapes.Searched = true
   is_searched s = false
 
-  -- whatever a search finds fits its index field and the result's table
+  -- any result of a search fits its index field and the result's table
   unfoldable pub holds_positions : Row (Operand K) → Bool
   holds_positions r = all_used (λ u. not (is_searched u.shape) || holds_all r.result u) r.factor2

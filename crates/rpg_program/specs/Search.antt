@@ -13,7 +13,7 @@ same_order Equal Equal = true
 same_order Greater Greater = true
 same_order a b = false
 
--- from a position to the last one, in order
+-- the positions from one to the last, in order
 abbrev pub positions : ℕ → ℕ → List ℕ
 positions from last = range_with_len from (last + 1 - from)
 
@@ -27,14 +27,14 @@ abbrev pub if_asked : Option ℕ → Option Found → Option Found
 if_asked None f = None
 if_asked (Some indicator) f = f
 
--- the one, or where nothing was found the other
+-- one, or the other if nothing was found
 abbrev pub or_else : Option Found → Option Found → Option Found
 or_else None g = g
 or_else (Some f) g = Some f
 
--- `standing` is how the entry at a position compares with what is sought
+-- `standing` is how the entry at a position compares with the searched value
 module _ (standing : ℕ → Ordering) where
-  -- the entry at a position has that order relative to what is sought
+  -- the entry at a position has this order relative to the searched value
   abbrev pub stands : Ordering → ℕ → Bool
   stands order n = same_order order (standing n)
 
@@ -46,13 +46,13 @@ module _ (standing : ℕ → Ordering) where
   unfoldable pub last_one : Ordering → List ℕ → Option ℕ
   last_one order ns = find (stands order) (reverse ns)
 
-  -- of the greater ones the first and of the smaller ones the last, which are next to it in a table in ascending sequence
+  -- of the greater ones the first, of the smaller ones the last, which are next to it in ascending sequence
   abbrev pub nearest : Ordering → List ℕ → Option ℕ
   nearest Equal ns = first_one Equal ns
   nearest Greater ns = first_one Greater ns
   nearest Less ns = last_one Less ns
 
-  -- the nearest of the entries that EQ, HI or LO name; of several, EQ's comes first
+  -- the nearest of the entries that EQ, HI or LO name; EQ's has priority
   unfoldable pub search_of : Shows → List ℕ → Option Found
   search_of s ns =
       or_else (if_asked s.zero (found_as Equal (nearest Equal ns)))

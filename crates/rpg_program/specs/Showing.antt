@@ -30,11 +30,11 @@ named_off s on = turned_off s.zero (turned_off s.minus (turned_off s.plus on))
 abbrev pub all_on : Shows → set.FinSet nat_cmp → set.FinSet nat_cmp
 all_on s on = turned_on s.zero (turned_on s.minus (turned_on s.plus on))
 
--- of the indicators that are named only the one for this order is on afterwards
+-- of the named indicators, only the one for this order is on afterwards
 unfoldable pub shown : Shows → Ordering → set.FinSet nat_cmp → set.FinSet nat_cmp
 shown s order on = turned_on (indicator_for s order) (named_off s on)
 
--- all named indicators turn off, and where there is an order, its indicator turns on
+-- all named indicators turn off, and if there is an order, its indicator turns on
 unfoldable pub shown_if_any : Shows → Option Ordering → set.FinSet nat_cmp → set.FinSet nat_cmp
 shown_if_any s None on = named_off s on
 shown_if_any s (Some order) on = shown s order on

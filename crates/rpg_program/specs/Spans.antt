@@ -1,4 +1,4 @@
--- What is known of a section while its instructions are judged.
+-- What is needed of a section to check its instructions.
 use Rattle.std.specs.Prelude.{◌≡◌}
 use Rattle.rpg_program.specs.Object.{Object}
 use Rattle.rpg_program.specs.Sections.{first_place, level_of, place_after}

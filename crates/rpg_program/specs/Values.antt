@@ -1,4 +1,4 @@
--- What an entry of a field holds.
+-- The value of an entry of a field.
 use Rattle.std.specs.Prelude.{ℕ, ℤ, pos, List, [], Option, None, Some}
 use Rattle.std.specs.Ordering.{nat_cmp, ordering_then}
 use Rattle.std.specs.declared.cmp.Ordering.{Ordering}

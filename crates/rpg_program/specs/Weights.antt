@@ -1,4 +1,4 @@
--- What each thing weighs.
+-- The weights of lines, types and instructions.
 use Rattle.std.specs.Prelude.{ℕ, ◌+◌, Bool, true, false, List, [], ◌∷◌, length, Option, None, Some, if◌then◌else◌}
 use Rattle.rpg_program.specs.Forms.{entries_of}
 use Rattle.rpg_program.specs.Input.{TypeRow}
@@ -21,7 +21,7 @@ use Rattle.rpg_program.specs.declared.row.Use.{Use}
 abbrev pub line_weight : {K : Type 0} → Line K → ℕ
 line_weight l = 1 + length l.fields
 
--- the lines of the times that are meant
+-- the lines of the given times
 abbrev pub lines_weight : {K : Type 0} → (Time → Bool) → List (Line K) → ℕ
 lines_weight is_meant [] = 0
 lines_weight is_meant (l ∷ ls) = (if is_meant l.time then line_weight l else 0) + lines_weight is_meant ls
@@ -59,13 +59,13 @@ total_weight lines = lines_weight is_at_total lines
 abbrev pub overflow_weight : {K : Type 0} → List (Line K) → ℕ
 overflow_weight lines = lines_weight is_in_cycle lines
 
--- EXCPT puts all E lines out
+-- EXCPT outputs all E lines
 abbrev pub exceptions_weight : {K : Type 0} → List (Line K) → ℕ
 exceptions_weight lines = lines_weight is_exception lines
 
 -- ---- types
 
--- each code, control field, input field and match field of a type weighs one
+-- each code, control field, input field and match field of a type has weight one
 abbrev pub type_weight : {K : Type 0} → TypeRow K → ℕ
 type_weight t = length t.codes + length t.levels + length t.inputs + length t.matches
 
@@ -82,21 +82,21 @@ goes_through shapes.Whole = true
 goes_through shapes.Searched = true
 goes_through s = false
 
--- what EXCPT weighs besides itself, if all exception lines weigh so much
+-- the weight of EXCPT besides its own step, given that of all exception lines
 abbrev pub exceptions_of : {K : Type 0} → ℕ → Instruction K → ℕ
 exceptions_of exceptions Except = exceptions
 exceptions_of exceptions i = 0
 
 module _ {K : Type 0} (forms : K → Option FieldForm) where
-  -- what is gone through weighs its entries
+  -- the weight of an operand that the operation goes through is its number of entries
   abbrev pub use_weight : Option (Use (Operand K)) → ℕ
   use_weight None = 0
   use_weight (Some u) = if goes_through u.shape then entries_of (forms u.operand.field) else 0
 
-  -- an operation weighs one, and the entries that it goes through
+  -- an operation has weight one, plus the entries that it goes through
   unfoldable pub row_weight : Row (Operand K) → ℕ
   row_weight r = 1 + use_weight r.factor2
 
-  -- an instruction weighs one; LOKUP and XFOOT add entries, EXCPT the weight of all exception lines
+  -- an instruction has weight one; LOKUP and XFOOT add entries, EXCPT the weight of all exception lines
   unfoldable pub instruction_weight : ℕ → Instruction K → ℕ
   instruction_weight exceptions i = row_weight (instruction_columns forms i) + exceptions_of exceptions i

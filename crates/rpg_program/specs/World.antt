@@ -15,13 +15,13 @@ pub record Fields {K : Type 0} (R : K → K → Ordering) : Type 0 where
   pub values : map.FinMap (entry_cmp R) Value
   pub current : map.FinMap R ℕ
 
--- what operations and input see and change: the fields, the indicators that are on, and what the last division left
+-- what operations and input see and change: the fields, the indicators that are on, and the remainder of the last division
 pub record Data {K : Type 0} (R : K → K → Ordering) : Type 0 where
   pub fields : Fields R
   pub on : set.FinSet nat_cmp
   pub remainder : Fraction
 
--- what lines see and change besides: where the form is, and of overflow whether an overflow output was done that isn't settled
+-- what lines also see and change: where the form is, and for overflow whether there was an overflow output that isn't settled
 -- yet, and whether a movement has turned the indicator on since
 pub record Paper : Type 0 where
   pub here : Position
@@ -35,7 +35,7 @@ pub record World {K : Type 0} (R : K → K → Ordering) : Type 0 where
 
 -- ---- conditions
 
--- its indicator is on, or if it is negated off
+-- its indicator is on or, if negated, off
 abbrev pub holds : set.FinSet nat_cmp → Condition → Bool
 holds on c = if c.is_negated then not (set.contains on c.indicator) else set.contains on c.indicator
 
@@ -64,7 +64,7 @@ module _ {K : Type 0} {R : K → K → Ordering} where
   abbrev pub with_value : K × ℕ → Value → Fields R → Fields R
   with_value entry v fields = record fields { values = map.insert fields.values entry v }
 
-  -- the current entry of a table, at first the first one
+  -- the current entry of a table, at first its first one
   abbrev pub current_in : Fields R → K → ℕ
   current_in fields table = unwrap_or (map.get fields.current table) 1
 

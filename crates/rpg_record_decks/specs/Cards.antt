@@ -14,7 +14,7 @@ use Rattle.rpg_record_decks.specs.declared.fault.DeckFault.{DeckFault}
 abbrev pub max_cards : ℕ
 max_cards = 2000
 
--- the card of a line, by its number, or why it is refused
+-- the card of a line, with its number, or why it is rejected
 abbrev pub card_at : ℕ → List ℕ → Result DeckCard CardFault
 card_at n line =
     if nat_lt max_cards n then Err faults.TooMany

@@ -19,11 +19,11 @@ abbrev pub has_name : Option (List ℕ) → List ℕ → Bool
 has_name None card = bytes_eq (cols 16 16 card) (codes "P")
 has_name (Some name) card = bytes_eq (file_name card) name
 
--- the card of an input file that is meant
+-- the card of the input file to use
 abbrev pub is_meant : Option (List ℕ) → List ℕ → Bool
 is_meant name card = bytes_eq (cols 6 6 card) (codes "F") && bytes_eq (cols 15 15 card) (codes "I") && has_name name card
 
--- columns that rpg2 refuses
+-- columns that rpg2 rejects
 abbrev pub or_columns : {T : Type 0} → Result T ColumnFault → Result T CardFault
 or_columns (Ok x) = Ok x
 or_columns (Err fault) = Err (faults.Columns fault.column fault.last)

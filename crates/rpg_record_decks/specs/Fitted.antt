@@ -10,7 +10,7 @@ use Rattle.rpg_record_decks.specs.Cards.{max_cards}
 use Rattle.rpg_record_decks.specs.Edits.{number_columns, with_columns}
 use Rattle.rpg_record_decks.specs.declared.fitted.DigitColumns.{DigitColumns}
 
--- the columns of the digits of fields, which stand one after the other after this one
+-- the columns of the fields' digits, which follow this one in sequence
 abbrev pub digit_columns_after : ℕ → List NumberSeen → List DigitColumns
 digit_columns_after end [] = []
 digit_columns_after end (f ∷ fs) = record { card = f.card; first = counted (end + 1); last = counted (end + digits_seen f) } ∷ digit_columns_after (counted (end + digits_seen f)) fs
@@ -49,6 +49,6 @@ abbrev pub fitted_from : LayoutSeen → ℕ → List (List ℕ) → List (List �
 fitted_from layout n [] = []
 fitted_from layout n (line ∷ more) = changed (change_of layout n) line ∷ fitted_from layout (n + 1) more
 
--- the source, byte for byte but for these changes
+-- the source, byte for byte except for these changes
 abbrev pub fitted : LayoutSeen → List ℕ → List ℕ
 fitted layout source = join_with_byte 10 (fitted_from layout 1 (slice_split is_line_feed source))

@@ -1,4 +1,4 @@
--- What stands in the columns of a type's records.
+-- The contents of a type's columns.
 use Rattle.std.specs.Prelude.{ℕ, ◌-◌, ◌==◌, List, map, Bool, ◌&&◌, ◌||◌, not, is_some, if◌then◌else◌}
 use Rattle.std.specs.List.{list_any, range_with_len}
 use Rattle.rpg_records.specs.declared.column.Column.{Column}
@@ -20,11 +20,11 @@ hides k f = is_some f.form && covers k f
 abbrev pub shows_character : ℕ → FieldColumns → Bool
 shows_character k f = covers k f && not (f.has_decimals && k == f.last)
 
--- a code of any type stands there: a line is of the type that its codes say
+-- a code of any type is there: a line is of the type that its codes select
 abbrev pub is_code : List TypeRead → ℕ → Bool
 is_code types k = list_any (λ t. list_any (λ c. c.place == k - 1) t.codes) types
 
--- what fields have in a column, where a code stands or not
+-- what fields have in a column, given whether it has a code
 abbrev pub column_kind : Bool → List FieldColumns → ℕ → Column
 column_kind has_code fields k =
     if list_any (hides k) fields then columns.Number

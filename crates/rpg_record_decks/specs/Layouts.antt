@@ -60,6 +60,6 @@ file_meant words cards = find (λ c. is_meant (option_copied words.file) c.card)
 abbrev pub layout_by_cards : DeckWords → List DeckCard → Result LayoutSeen DeckFault
 layout_by_cards words cards = layout_of_file words.length words.are_lines cards (file_meant words cards)
 
--- The layout of the records of a deck's file, or the first card that is refused.
+-- The layout of the records of a deck's file, or the first card that is rejected.
 abbrev pub layout_by : DeckWords → List ℕ → Result LayoutSeen DeckFault
 layout_by words source = and_then (cards_of source) (layout_by_cards words)

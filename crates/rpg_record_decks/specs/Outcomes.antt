@@ -1,4 +1,4 @@
--- A result, or which card is refused and why.
+-- A result, or which card is rejected and why.
 use Rattle.std.specs.Prelude.{◌≡◌, ℕ, List, ◌++◌, Option, Some, None, Result, Ok, Err, ⊤}
 use Rattle.rpg_record_decks.specs.declared.fault.CardFault.{CardFault}
 use Rattle.rpg_record_decks.specs.declared.fault.DeckFault.{DeckFault}

@@ -22,7 +22,7 @@ types_done types = map type_read types.done.items
 abbrev pub type_now : Types → Option TypeRead
 type_now types = option_map type_read types.now
 
--- a card says the same after one type or none as after the other
+-- a card means the same after one type or none as after another
 abbrev pub GoOnAlike : InputSpec → Option TypeRead → Option TypeRead → Type 0
 GoOnAlike spec one other = (length : ℕ) (c : DeckCard) → type_after length one c spec ≡ type_after length other c spec
 

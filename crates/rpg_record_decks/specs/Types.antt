@@ -44,13 +44,13 @@ cards_of_file name before (c ∷ cs) =
     else if is_of_file name before c.card then c ∷ cards_of_file name true cs
     else cards_of_file name false cs
 
--- ---- what such a card says
+-- ---- the meaning of such a card
 
 -- P or B in 43: the bytes of the card's field are a number
 abbrev pub number_form_on : List ℕ → Option NumberForm
 number_form_on card = one_of ((codes "P", forms.Packed) ∷ (codes "B", forms.Binary) ∷ []) (cols 43 43 card)
 
--- what an I card says: rpg2 reads it with a blank in place of P or B
+-- the meaning of an I card: rpg2 reads it with a blank instead of P or B
 abbrev pub input_spec_of : List ℕ → Result InputSpec CardFault
 input_spec_of card = or_columns (input_card.reading (if is_some (number_form_on card) then with_columns 43 (32 ∷ []) card else card))
 
@@ -134,17 +134,17 @@ with_type_field n t f = and_then (unless_fault (option_and_then (number_fault f)
 
 -- ---- all cards
 
--- the type that a field's card goes on with, if there is one
+-- the type that a field's card continues, if there is one
 abbrev pub field_type : ℕ → Option TypeRead → FieldColumns → Result TypeRead CardFault
 field_type n None f = Err (faults.Columns 7 16)
 field_type n (Some t) f = with_type_field n t f
 
--- the type that an AND card goes on with, if there is one
+-- the type that an AND card continues, if there is one
 abbrev pub and_type : ℕ → Option TypeRead → Three (Option RecordCode) → Result TypeRead CardFault
 and_type length None three = Err (faults.Columns 14 16)
 and_type length (Some t) three = with_codes length t three
 
--- the type that a card begins, or goes on with
+-- the type that a card begins or continues
 abbrev pub type_after : ℕ → Option TypeRead → DeckCard → InputSpec → Result TypeRead CardFault
 type_after length now c (input.Type t) = with_codes length (new_type c.number) t.codes
 type_after length now c (input.And three) = and_type length now three

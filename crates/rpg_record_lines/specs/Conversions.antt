@@ -1,4 +1,4 @@
--- All records of an input, one after the other.
+-- All records of an input, in sequence.
 use Rattle.std.specs.Prelude.{◌≡◌, ℕ, zero, suc, ◌+◌, List, [], ◌++◌, drop, Option, Some, None, unwrap_or, Result, Ok, Err, IfSome}
 use Rattle.std.specs.Io.KnownBytes.{Appends}
 use Rattle.rpg_files.specs.Sending.{AppendsPrefix}
@@ -16,11 +16,11 @@ use Rattle.rpg_record_lines.specs.declared.frames.FrameFault.TheVariants as fram
 use Rattle.rpg_record_lines.specs.declared.frames.Framing.{Framing}
 use Rattle.rpg_record_lines.specs.declared.input.InputFault.TheVariants as inputs
 
--- what a record brings: a text, or none if it is left out; or why it is refused
+-- the result for a record: a text, or none if it is left out; or why it is rejected
 abbrev pub Made : Type 0
 Made = Result (Option (List ℕ)) RecordFault
 
--- how an input is converted: how its records stand, the most bytes of one, and what each brings
+-- how an input is converted: the delimiters of its records, the most bytes of one, and the result for each
 pub record ConversionSettings : Type 0 where
   pub framing : Framing
   pub most : ℕ
@@ -31,7 +31,7 @@ pub record InputPlace : Type 0 where
   pub counts : Counts
   pub offset : ℕ
 
--- what is written, and the counts at the end or the record that is refused
+-- what is written, and the counts at the end or the record that is rejected
 pub record Conversion : Type 0 where
   pub written : List ℕ
   pub ending : Result Counts ConversionFault
@@ -55,7 +55,7 @@ conversion_fault p fault = stops.Record (p.counts.records + p.counts.dropped + 1
 abbrev pub finished_at : InputPlace → Conversion
 finished_at p = record { written = []; ending = Ok p.counts }
 
--- a record that is refused
+-- a record that is rejected
 abbrev pub refused_at : InputPlace → RecordFault → Conversion
 refused_at p fault = record { written = []; ending = Err (conversion_fault p fault) }
 
@@ -76,7 +76,7 @@ at_made p (Err fault) next = refused_at p fault
 
 -- ---- all records
 
--- from a place on, where this many records may follow: one more is refused, and so is the first that brings nothing
+-- from a place on, where this many records may follow: one more is rejected, and so is the first without a result
 unfoldable pub conversion_from : ConversionSettings → ℕ → InputPlace → List ℕ → Conversion
 conversion_from way zero p input = at_cut p (next_cut way.framing way.most input) (λ used r. refused_at p faults.TooMany)
 conversion_from way (suc left) p input =

@@ -1,4 +1,4 @@
--- What stands next in an input.
+-- What comes next in an input.
 use Rattle.std.specs.Prelude.{ℕ, ◌+◌, ◌-◌, ◌*◌, ◌==◌, ◌&&◌, nat_le, nat_lt, Bool, if◌then◌else◌, List, drop, length, slice_index, take}
 use Rattle.std.specs.Io.BufRead.{ends_with_byte, strip_last, take_through}
 use Rattle.rpg_records.specs.Sizes.{counted}
@@ -7,7 +7,7 @@ use Rattle.rpg_record_lines.specs.declared.fault.RecordFault.TheVariants as faul
 use Rattle.rpg_record_lines.specs.declared.frames.Framing.{Framing}
 use Rattle.rpg_record_lines.specs.declared.frames.Framing.TheVariants as framings
 
--- a record, with how many bytes of the input it takes; no more bytes; or why what stands there is no record
+-- a record, with how many bytes of the input it takes; no more bytes; or why the bytes there aren't a record
 pub data Cut : Type 0 where
   Whole : ℕ → List ℕ → Cut
   Finished : Cut

@@ -1,4 +1,4 @@
--- Records as they stand in a file that is written.
+-- Records as they are written to a file.
 use Rattle.std.specs.Prelude.{ℕ, ◌+◌, ◌/◌, ◌%◌, List, [], ◌∷◌, ◌++◌, length}
 use Rattle.rpg_text.specs.Lines.{with_line_feed}
 use Rattle.rpg_record_lines.specs.declared.frames.Framing.{Framing}

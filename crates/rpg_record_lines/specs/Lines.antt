@@ -12,7 +12,7 @@ use Rattle.rpg_record_lines.specs.declared.fault.RecordFault.{RecordFault}
 use Rattle.rpg_record_lines.specs.declared.fault.RecordFault.TheVariants as faults
 use Rattle.rpg_records.specs.declared.layout.RecordType.{RecordType}
 
--- these columns, unless the byte at a place is no character
+-- these columns, unless the byte at a place isn't a character
 abbrev pub unless_bad : List ℕ → List ℕ → Option ℕ → TextOrFault
 unless_bad bytes columns None = Ok columns
 unless_bad bytes columns (Some place) = Err (faults.NoCharacter (place + 1) (slice_index bytes place))
@@ -31,7 +31,7 @@ type_and_then (Some t) next = next t
 abbrev pub other_line : RecordType → Option RecordType → RecordFault
 other_line t other = faults.OtherLine t.card (option_map card_of_type other)
 
--- columns and the digits of a record after them, if by these columns it is of its type once more
+-- columns, followed by the digits of a record, if these columns give the same type again
 abbrev pub line_after : List RecordType → List ℕ → RecordType → List ℕ → TextOrFault
 line_after types record_bytes t columns =
     if is_card t.card (first_type pages.Ascii false columns types) then joined_texts (Ok columns) (digits_of_fields record_bytes t.numbers.items)

@@ -53,7 +53,7 @@ bytes_of_digits forms.Binary k digits = bytes_of_binary_text k digits
 abbrev pub filled : ℕ → List ℕ → List ℕ
 filled n text = take n text ++ replicate (n - length text) 32
 
--- the digits of a field that stand from a place of a line on
+-- the digits of a field, from a place of a line on
 abbrev pub digits_at : List ℕ → ℕ → NumberField → List ℕ
 digits_at line place f = filled (field_digits f) (drop place line)
 
@@ -67,7 +67,7 @@ abbrev pub with_number : List ℕ → ℕ → List ℕ → NumberField → TextO
 with_number line place record_bytes f =
     if nat_le f.last (length record_bytes) then with_bytes f place record_bytes (bytes_of_digits f.form (field_size f) (digits_at line place f)) else Err faults.NoType
 
--- a record with the bytes of all digits, which stand one after the other from a place of a line on, to its end
+-- a record with the bytes of all digits, in sequence from a place of a line to its end
 abbrev pub with_numbers : List ℕ → List NumberField → ℕ → List ℕ → TextOrFault
 with_numbers line [] place record_bytes = if nat_lt place (length line) then Err (faults.TooLong (length line)) else Ok record_bytes
 with_numbers line (f ∷ fs) place record_bytes = text_and_then (with_number line place record_bytes f) (with_numbers line fs (counted (place + field_digits f)))

@@ -19,7 +19,7 @@ joined_texts (Ok text) (Ok more) = Ok (text ++ more)
 joined_texts (Ok text) (Err fault) = Err fault
 joined_texts (Err fault) rest = Err fault
 
--- what is there, or a fault
+-- what exists, or a fault
 abbrev pub some_or : {T E : Type 0} → E → Option T → Result T E
 some_or fault (Some x) = Ok x
 some_or fault None = Err fault

@@ -12,7 +12,7 @@ use Rattle.rpg_record_lines.specs.declared.fault.RecordFault.{RecordFault}
 use Rattle.rpg_record_lines.specs.declared.fault.RecordFault.TheVariants as faults
 use Rattle.rpg_records.specs.declared.layout.RecordType.{RecordType}
 
--- the bytes of characters, of which the first stands at a place; or the first that is none
+-- the bytes of characters, the first of which is at a place; or the first that isn't a character
 abbrev pub bytes_of_characters : Page → ℕ → List ℕ → TextOrFault
 bytes_of_characters page place [] = Ok []
 bytes_of_characters page place (c ∷ cs) =

@@ -11,7 +11,7 @@ use Rattle.rpg_record_lines.specs.declared.conversion.Counts.{Counts}
 abbrev pub no_counts : Counts
 no_counts = record { records = 0; dropped = 0 }
 
--- These are the counts and the texts of some records, in order: each brings its text, or none if it is left out.
+-- These are the counts and the texts of some records, in order: each results in its text, or none if it is left out.
 pub data AreTexts (text_of : List ℕ → Made) : Counts → List ℕ → Type 0 where
   NoTexts : AreTexts text_of no_counts []
   OneMore : (counts : Counts) (text r : List ℕ) (brought : Option (List ℕ)) → AreTexts text_of counts text → text_of r ≡ Ok brought
@@ -29,7 +29,7 @@ HaveWritten text_of before after counts = (text : List ℕ) × AreTexts text_of 
 abbrev pub HaveBegun : (List ℕ → Made) → Option (List ℕ) → Option (List ℕ) → Type 0
 HaveBegun text_of before after = (counts : Counts) × (text : List ℕ) × AreTexts text_of counts text × AppendsPrefix before after text
 
--- Whatever the input: what was written are whole texts of records, and the counts, or the number of the record that is refused, are theirs.
+-- Whatever the input, complete texts of records were written, and the counts, or the number of the rejected record, are theirs.
 -- Only if the writer failed, the last text may lack its end.
 abbrev pub WritesTexts : (List ℕ → Made) → Option (List ℕ) → Option (List ℕ) → Result Counts ConversionFault → Type 0
 WritesTexts text_of before after (Ok counts) = HaveWritten text_of before after counts

@@ -12,7 +12,7 @@ abbrev pub character_at : Page → Bool → List ℕ → ℕ → ℕ
 character_at page low_blank record_bytes place =
     if nat_lt place (length record_bytes) then column_character page low_blank columns.Text (slice_index record_bytes place) else 0
 
--- a code holds if its character stands there, or if it is negated another
+-- a code holds if its character is there or, if negated, another one
 abbrev pub code_fits_record : Page → Bool → List ℕ → Code → Bool
 code_fits_record page low_blank record_bytes code =
     if code.is_negated then not (character_at page low_blank record_bytes code.place == code.character) else character_at page low_blank record_bytes code.place == code.character

@@ -34,7 +34,7 @@ is_dropped (Some b) (x ∷ r) = x == b
 abbrev pub padded_to : Page → ℕ → List ℕ → List ℕ
 padded_to page n r = r ++ replicate (n - length r) (page_byte page 32)
 
--- a text is written as it stands in its file
+-- a text with the delimiters of its file
 abbrev pub made_text : (List ℕ → List ℕ) → TextOrFault → Made
 made_text standing (Ok text) = Ok (Some (standing text))
 made_text standing (Err fault) = Err fault
@@ -43,7 +43,7 @@ made_text standing (Err fault) = Err fault
 abbrev pub written_line : Option ℕ → Page → Bool → List RecordType → ℕ → List ℕ → Made
 written_line dropped page low_blank types n r = if is_dropped dropped r then Ok None else made_text with_line_feed (line_of_record page low_blank types (padded_to page n r))
 
--- the record of a line, as it stands in its file
+-- the record of a line, with the delimiters of its file
 abbrev pub record_text : Framing → Page → Bool → List RecordType → ℕ → List ℕ → Made
 record_text framing page low_blank types n line = made_text (frame framing) (record_of_line page low_blank types n line)
 
@@ -71,7 +71,7 @@ to_records layout format = record {
 abbrev pub line_text_by : Converter → List ℕ → Made
 line_text_by c r = made_text with_line_feed (line_by c (padded_to (page_of_records c) (converter_length c) r))
 
--- the record of a line, as it stands in its file
+-- the record of a line, with the delimiters of its file
 abbrev pub record_text_by : Framing → Converter → List ℕ → Made
 record_text_by framing c line = made_text (frame framing) (record_by c line)
 

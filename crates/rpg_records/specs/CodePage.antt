@@ -34,6 +34,6 @@ pub record IsOneToOne : Type 0 where
   pub back : (b : ℕ) → b < 256 → IsTrue (is_character (character_of b)) → byte_of (character_of b) ≡ b
   pub known : (b : ℕ) → b < 256 → is_character (character_of b) ≡ not (character_of b == 0)
 
--- by the bytes of the page the characters stand in the order of the collating sequence
+-- the bytes of the page order the characters by the collating sequence
 abbrev pub KeepsOrder : Type 0
 KeepsOrder = filter (λ c. not (c == 0)) page ≡ collating_sequence

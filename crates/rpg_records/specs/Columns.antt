@@ -1,4 +1,4 @@
--- A record's columns as characters, each by what stands there.
+-- A record's columns as characters, by the contents of each column.
 use Rattle.std.specs.Prelude.{◌≡◌, ℕ, ◌/◌, ◌%◌, ◌<◌, ◌==◌, ◌&&◌, Bool, if◌then◌else◌, List, [], ◌∷◌, slice_index}
 use Rattle.rpg_text.specs.Texts.{is_character}
 use Rattle.rpg_records.specs.CodePage.{byte_of, character_of, last_place_of}
@@ -17,11 +17,11 @@ abbrev pub last_place_character : Page → ℕ → ℕ
 last_place_character pages.Ebcdic b = last_place_of b
 last_place_character pages.Ascii b = page_character pages.Ascii b
 
--- a blank if a byte stands for no character
+-- a blank if a byte isn't a character
 abbrev pub blank_for_none : ℕ → ℕ
 blank_for_none c = if c == 0 then 32 else c
 
--- the character of a byte by what stands in its column
+-- the character of a byte by the contents of its column
 abbrev pub kind_character : Page → Column → ℕ → ℕ
 kind_character page columns.Text b = page_character page b
 kind_character page columns.LastPlace b = last_place_character page b
@@ -52,7 +52,7 @@ column_kind_number columns.LastPlace = 1
 column_kind_number columns.Number = 2
 column_kind_number columns.Unnamed = 3
 
--- the kind of columns of that number
+-- the kind of column with that number
 abbrev pub column_at : ℕ → Column
 column_at row = if row == 0 then columns.Text else (if row == 1 then columns.LastPlace else (if row == 2 then columns.Number else columns.Unnamed))
 

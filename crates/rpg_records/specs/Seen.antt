@@ -1,4 +1,4 @@
--- What a layout says, whatever room its lists take.
+-- What a layout describes, independent of its lists' memory.
 use Rattle.std.specs.Prelude.{ℕ, ◌+◌, ◌-◌, max, List, [], ◌∷◌, map, sum_by}
 use Rattle.rpg_records.specs.declared.column.Column.{Column}
 use Rattle.rpg_records.specs.Fields.{digit_count}
@@ -16,7 +16,7 @@ pub record NumberSeen : Type 0 where
   pub last : ℕ
   pub form : NumberForm
 
--- a record type: its card, its codes, what stands in each column, its packed and binary fields
+-- a record type: its card, its codes, the contents of each column, its packed and binary fields
 pub record TypeSeen : Type 0 where
   pub card : ℕ
   pub codes : List Code

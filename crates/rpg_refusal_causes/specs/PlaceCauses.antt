@@ -27,7 +27,7 @@ use Rattle.rpg_verify_rules.specs.PlaceRules.{are_marked, columns_of_kind, has_k
 use Rattle.rpg_verify_rules.specs.declared.rule.PlaceRule.{PlaceRule}
 use Rattle.rpg_verify_rules.specs.declared.rule.PlaceRule.TheVariants.{V16, V17, V18, V19, V20, V21, V22}
 
--- ---- which instruction stands at a place
+-- ---- the instruction at a place
 
 -- a section with its level, its first place and its end
 abbrev pub span_of : Object → Section → Span
@@ -56,7 +56,7 @@ placed_at p place = slice_get (all_placed p) place
 
 -- ---- which operand breaks a rule
 
--- it isn't there as it has to be; it is, and is of another kind; it may not be written; it is to become current, and is no table
+-- it doesn't exist as required; it is of another kind; it may not be written; it is to become current, but isn't a table
 abbrev pub operand_breaks : PlaceRule → Object → Instruction ℕ → Use (Operand ℕ) → Bool
 operand_breaks V16 p i u = not (is_good_operand (form_at p.fields) u)
 operand_breaks V17 p i u = is_good_operand (form_at p.fields) u && not (has_known_kind p i u)
@@ -119,7 +119,7 @@ abbrev pub found_cause : Object → Option (Use (Operand ℕ)) → Option (Use (
 found_cause p to None = None
 found_cause p to (Some u) = if is_searched (form_at p.fields) u.shape then entries_cause p to u (entries_named p u) else None
 
--- of operands that no smaller rule refuses: what is to become current is no table; else what is searched
+-- of operands that no lower-numbered rule rejects: what is to become current isn't a table; otherwise what is searched
 abbrev pub search_cause : Object → Instruction ℕ → Row (Operand ℕ) → Option RefusalCause
 search_cause p i r = option_or (instruction_operand_cause (operand_breaks V20 p i) r) (found_cause p r.result r.factor2)
 
@@ -130,7 +130,7 @@ abbrev pub target_cause : Span → Instruction ℕ → Option RefusalCause
 target_cause s (Branch is_taken_where cs target) = Some (causes.Target target s.first s.end)
 target_cause s i = None
 
--- the level of a subroutine that is there
+-- the level of an existing subroutine
 abbrev pub level_if_any : List SubroutineRow → ℕ → Option ℕ
 level_if_any ss n = option_map (λ (s : SubroutineRow). s.level) (slice_get ss n)
 

@@ -23,11 +23,11 @@ code_cause len n c = cause_if (not (is_code_in len c)) (causes.Code n c.position
 abbrev pub control_cause : ℕ → ℕ → ControlField → Option RefusalCause
 control_cause len n c = cause_if (not (is_control_in len c)) (causes.Control n c len)
 
--- an input field that isn't columns of a record of that length, or not as many as its field is long
+-- an input field that isn't within a record of that length, or not as long as its field
 abbrev pub input_cause : Object → ℕ → ℕ → InputField ℕ → Option RefusalCause
 input_cause p len n f = cause_if (not (is_input_in p len f)) (causes.Input n f len)
 
--- an input field with an indicator that it can't have
+-- an input field with an indicator that isn't allowed
 abbrev pub shown_cause : Object → ℕ → ℕ → InputField ℕ → Option RefusalCause
 shown_cause p len n f = cause_if (shows_wrongly p len f) (causes.Shown n f)
 

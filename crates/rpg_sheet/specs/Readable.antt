@@ -1,4 +1,4 @@
--- Whether the columns of a card are good.
+-- Whether the columns of a card are valid.
 use Rattle.std.specs.Prelude.{ℕ, List, Bool, Option, is_err}
 use Rattle.std.specs.Result.{result_err}
 use Rattle.rpg_sheet_specs.specs.declared.column.ColumnFault.{ColumnFault}

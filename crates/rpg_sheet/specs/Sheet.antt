@@ -71,7 +71,7 @@ fault_after earlier (line ∷ more) = option_or (option_map (fault_under earlier
 abbrev pub first_sheet_fault : List (List ℕ) → Option SheetFault
 first_sheet_fault all = fault_after [] all
 
--- what a refusal states about a source: nothing if memory ran out
+-- what a refusal states about a source: nothing if memory runs out
 abbrev pub IsSheetRefusal : SheetFault → List ℕ → Type 0
 IsSheetRefusal NoMemory text = Unit {0}
 IsSheetRefusal (At card code columns) text = first_sheet_fault (source text) ≡ Some (At card code columns)

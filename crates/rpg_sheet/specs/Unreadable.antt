@@ -12,7 +12,7 @@ use Rattle.rpg_sheet_specs.specs.Cards.{card_of}
 abbrev pub unreadable_by : List (List ℕ) → List ℕ → SheetCode → UnreadableCard
 unreadable_by earlier line code = record { card = length earlier + 1; code = code; columns = sheet_fault_columns (has_begun_data earlier) (card_of line) code }
 
--- a line that follows others, if it has a fault: with its lowest code
+-- a line after others, if it has a fault: with its lowest code
 abbrev pub unreadable_at : List (List ℕ) → List ℕ → List UnreadableCard
 unreadable_at earlier line = option_to_list (option_map (unreadable_by earlier line) (line_code earlier line))
 
@@ -25,6 +25,6 @@ unreadable_after earlier (line ∷ more) = if nat_lt 2000 (length earlier) then 
 abbrev pub unreadable_cards : List (List ℕ) → List UnreadableCard
 unreadable_cards all = unreadable_after [] all
 
--- as a refusal of its source reports it
+-- as it is reported for its source
 abbrev pub reported_fault : UnreadableCard → SheetFault
 reported_fault u = At u.card u.code u.columns

@@ -74,7 +74,7 @@ abbrev pub mapped : {X Y : Type 0} → (X → Y) → Result X ColumnFault → Re
 mapped f (Ok x) = Ok (f x)
 mapped f (Err e) = Err e
 
--- one more value for a function, or the first fault of both
+-- one more argument of a function, or the first fault of both
 abbrev pub applied : {X Y : Type 0} → Result (X → Y) ColumnFault → Result X ColumnFault → Result Y ColumnFault
 applied (Ok f) r = mapped f r
 applied (Err e) r = Err e
@@ -108,7 +108,7 @@ f ⊛ g = also f g
 abbrev pub ◌⊘◌ : {X Y : Type 0} → Columns X → Columns Y → Columns X
 f ⊘ g = past f g
 
--- the first table on the cards that pass a test, else the second
+-- the first table on the cards that pass a test, otherwise the second
 unfoldable pub where_card : {X : Type 0} → (List ℕ → Bool) → Columns X → Columns X → Columns X
 where_card test first second = record {
   reading = λ card. if test card then first.reading card else second.reading card;

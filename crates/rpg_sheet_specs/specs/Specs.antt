@@ -20,7 +20,7 @@ card_on form.Input = values spec.Input ⊛ input_card
 card_on form.Calculation = values spec.Calculation ⊛ calculation_card
 card_on form.Output = values spec.Output ⊛ output_card
 
--- what a card that is on no sheet means; `data_begun` says whether one before it begins data
+-- the meaning of a card that belongs to no sheet; `data_begun` says whether one before it begins data
 abbrev pub data_spec_of : Bool → List ℕ → Option DataSpec
 data_spec_of data_begun card =
     if ends_source card then None
@@ -28,7 +28,7 @@ data_spec_of data_begun card =
     else if data_begun then Some (data_spec.Card card)
     else None
 
--- what a card means: nothing where a column is bad, where it is skipped and where it ends the source
+-- what a card means: nothing if a column is bad, if it is skipped or if it ends the source
 abbrev pub spec_of : Bool → List ℕ → Option Spec
 spec_of data_begun card =
     if is_sheet data_begun card then option_and_then (λ sheet. result_ok ((card_on sheet).reading card)) (form_type card)

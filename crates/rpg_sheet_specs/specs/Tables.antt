@@ -163,7 +163,7 @@ type_card = values record_type
     ⊛ record_codes
     ⊘ blank 42 74
 
--- nothing is good there
+-- nothing is valid there
 abbrev pub nothing : {X : Type 0} → List ℕ → Option X
 nothing text = None
 
@@ -357,7 +357,7 @@ is_or_card card = all_blank (cols 7 13 card) && bytes_eq (cols 14 15 card) (code
 unfoldable pub line_or_field_card : Columns OutputSpec
 line_or_field_card = where_card is_field_card (values output.Field ⊛ output_field_card) (values output.Record ⊛ record_card)
 
--- an OR card among O cards, or one that is no AND card either
+-- an OR card among O cards, or one that isn't an AND card either
 unfoldable pub line_or_card : Columns OutputSpec
 line_or_card = where_card is_or_card (values output.Or ⊘ blank 16 16 ⊛ line_conditions) line_or_field_card
 

@@ -21,7 +21,7 @@ use Rattle.rpg_text.specs.Texts.{is_between, is_blank, all_blank, trimmed}
 
 -- ---- texts
 
--- without the blanks at the front
+-- without leading blanks
 abbrev pub right_part : List ℕ → List ℕ
 right_part text = drop (prefix_len is_blank text) text
 

@@ -10,7 +10,7 @@ is_between low high n = nat_le low n && nat_le n high
 abbrev pub is_character : ℕ → Bool
 is_character c = is_between 32 126 c
 
--- a question mark replaces what is no character, so that no control code reaches a terminal
+-- a question mark replaces any byte that isn't a character, so that no control code reaches a terminal
 abbrev pub printable : ℕ → ℕ
 printable c = if is_character c then c else 63
 

@@ -11,7 +11,7 @@ use Rattle.rpg_program.specs.declared.section.Section.{Section}
 use Rattle.rpg_verify.specs.Paths.{Stretch, costs_from}
 use Rattle.rpg_verify.specs.Weighing.{all_outputs_weight}
 
--- a section of a program with its place
+-- a section of a program, with its first place
 abbrev pub stretch : Object → Section → Stretch
 stretch p s = record { first = first_place p s; code = section_instructions p s }
 
@@ -19,7 +19,7 @@ stretch p s = record { first = first_place p s; code = section_instructions p s 
 abbrev pub costs_at : Object → ℕ → List (Instruction ℕ) → List ℕ
 costs_at p first code = costs_from (weight p) first code
 
--- of a place among those of a section that begins at `first`; 0 at its end and of any other
+-- the cost of a place among those of a section that begins at `first`; 0 at its end and for any other
 abbrev pub cost_in : ℕ → List ℕ → ℕ → ℕ
 cost_in first costs place = if nat_le first place then slice_index costs (place - first) else 0
 
@@ -31,57 +31,58 @@ cost p x = cost_in (first_place p x.section) (costs_at p (first_place p x.sectio
 abbrev pub first_cost : Object → ℕ → List (Instruction ℕ) → ℕ
 first_cost p first code = slice_index (costs_at p first code) 0
 
--- ---- the greatest cost that a spend leads to: of a branch's target not later than itself, or of a subroutine's first place
+-- ---- the greatest cost that a spend leads to: that of a branch's target not later than the branch, or of a subroutine's first place
 
--- the cost from where a branch back leads to
+-- the cost of a backward branch's target
 abbrev pub back_cost : ℕ → List ℕ → ℕ → Instruction ℕ → ℕ
 back_cost first costs place (Branch is_taken_where cs target) = if nat_le target place then cost_in first costs target else 0
 back_cost first costs place i = 0
 
--- of the instructions of a section from a place on
+-- for the instructions of a section from a place on
 abbrev pub most_back : ℕ → List ℕ → ℕ → List (Instruction ℕ) → ℕ
 most_back first costs place [] = 0
 most_back first costs place (i ∷ is) = max (back_cost first costs place i) (most_back first costs (place + 1) is)
 
--- of a section
+-- for a section
 abbrev pub most_at : Object → ℕ → List (Instruction ℕ) → ℕ
 most_at p first code = most_back first (costs_at p first code) first code
 
--- of a subroutine, which is called as well
+-- for a subroutine, which is also called
 abbrev pub most_called : Object → ℕ → List (Instruction ℕ) → ℕ
 most_called p first code = max (first_cost p first code) (most_at p first code)
 
--- of subroutines, the first of which begins at a place
+-- for subroutines, the first of which begins at a place
 abbrev pub most_in : Object → ℕ → List SubroutineRow → ℕ
 most_in p first [] = 0
 most_in p first (s ∷ ss) = max (most_called p first s.instructions) (most_in p (first + length s.instructions) ss)
 
--- of detail and total calculations
+-- for detail and total calculations
 abbrev pub main_most : Object → ℕ
 main_most p = max (most_at p 0 p.detail) (most_at p (length p.detail) p.total)
 
--- of the program
+-- for the program
 abbrev pub most : Object → ℕ
 most p = max (main_most p) (most_in p (length p.detail + length p.total) p.subroutines)
 
--- ---- all that a cycle can take
+-- ---- everything that a cycle can take
 
--- what detail and total calculations take at most, but for what is spent
+-- the greatest cost of detail and total calculations, without what is spent
 abbrev pub once : Object → ℕ
 once p = first_cost p 0 p.detail + first_cost p (length p.detail) p.total
 
--- the steps of a cycle at most: its lines and fields, each instruction once, and each branch back or call that the allowance pays for
+-- the most steps of a cycle: its lines and fields, each instruction once, and each backward branch or call that the allowance pays
+-- for
 unfoldable pub bound : Object → ℕ
 bound p = types_weight p.types + all_outputs_weight p + once p + p.allowance * most p
 
--- ---- the costs of all places, one after another
+-- ---- the costs of all places, in order
 
 -- the costs of these subroutines
 abbrev pub costs_in : Object → ℕ → List SubroutineRow → List ℕ
 costs_in p first [] = []
 costs_in p first (s ∷ ss) = costs_at p first s.instructions ++ costs_in p (first + length s.instructions) ss
 
--- of detail and total calculations
+-- those of detail and total calculations
 abbrev pub main_costs : Object → List ℕ
 main_costs p = costs_at p 0 p.detail ++ costs_at p (length p.detail) p.total
 

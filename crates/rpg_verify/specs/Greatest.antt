@@ -1,4 +1,4 @@
--- What path costs and the bound are, place by place.
+-- The meaning of path costs and of the bound, place by place.
 use Rattle.std.specs.Prelude.{ℕ, Bool, ◌<◌, ◌≤◌, ◌^◌}
 use Rattle.rpg_program.specs.declared.condition.Conditions.{Conditions}
 use Rattle.rpg_program.specs.declared.operation.Instruction.TheVariants.{Branch}
@@ -11,9 +11,9 @@ use Rattle.rpg_verify_rules.specs.Sound.{IsAt}
 use Rattle.rpg_verify.specs.Bound.{bound, cost, most, stretch}
 use Rattle.rpg_verify.specs.Paths.{IsCost}
 
--- Each place from its section's first on has the greatest sum of weights along a forward path from it, and `most` is no less than the
--- costs that a spend leads to: those of the targets of branches to a place not later than their own, and of first places of
--- subroutines that are called.
+-- The cost of each place of a section is the greatest sum of weights along a forward path from it, and `most` is no less than the costs
+-- that a spend leads to: those of targets of branches to a place not later than the branch, and of the first places of subroutines that are
+-- called.
 pub record AreGreatest (p : Object) : Type 0 where
   pub each : (x : Place) → first_place p x.section ≤ x.number → IsCost (weight p) (stretch p x.section) x.number (cost p x)
   pub back : (x : Place) (is_taken_where : Bool) (cs : Conditions) (target : ℕ) → IsAt p x (Branch is_taken_where cs target) → target ≤ x.number → cost p (record { section = x.section; number = target }) ≤ most p

@@ -4,7 +4,7 @@ use Rattle.rpg_program.specs.declared.operation.Instruction.{Instruction}
 use Rattle.rpg_program.specs.declared.operation.Instruction.TheVariants.{Act, Except, Branch, Call, Return}
 use Rattle.rpg_program.specs.Control.{always_goes}
 
--- a section with its place: its first place, and its instructions
+-- a section with its first place and its instructions
 pub record Stretch : Type 0 where
   pub first : ℕ
   pub code : List (Instruction ℕ)
@@ -13,8 +13,8 @@ pub record Stretch : Type 0 where
 abbrev pub at_place : Stretch → ℕ → Option (Instruction ℕ)
 at_place s place = if nat_le s.first place then slice_get s.code (place - s.first) else None
 
--- Whether a place can come right after another that has this instruction, and is later. After a call comes the next place, and
--- after a return none. After a jump without conditions comes only its target.
+-- Whether a place can come right after another one with this instruction, and is later. After a call comes the next place, and after a
+-- return none. After a jump without conditions comes only its target.
 abbrev pub Follows : ℕ → Instruction ℕ → ℕ → Type 0
 Follows place (Act a) next = next ≡ place + 1
 Follows place Except next = next ≡ place + 1
@@ -22,7 +22,7 @@ Follows place (Branch is_taken_where cs target) next = (place < next) × ((next 
 Follows place (Call s) next = next ≡ place + 1
 Follows place (Return s) next = ⊥
 
--- an instruction stands there
+-- there is an instruction at the place
 abbrev pub IsPlace : Stretch → ℕ → Type 0
 IsPlace s place = (i : Instruction ℕ) × (at_place s place ≡ Some i)
 
@@ -30,7 +30,7 @@ IsPlace s place = (i : Instruction ℕ) × (at_place s place ≡ Some i)
 abbrev pub Leads : Stretch → ℕ → ℕ → Type 0
 Leads s place next = (i : Instruction ℕ) × (at_place s place ≡ Some i) × Follows place i next
 
--- places of the section; each can come right after the one before
+-- places of the section, each of which can come right after the previous one
 abbrev pub IsPath : Stretch → List ℕ → Type 0
 IsPath s [] = Unit {0}
 IsPath s (x ∷ []) = IsPlace s x
@@ -41,17 +41,17 @@ abbrev pub IsFrom : ℕ → List ℕ → Type 0
 IsFrom place [] = Unit {0}
 IsFrom place (x ∷ xs) = x ≡ place
 
--- ---- how it is found: one pass from the last place down
+-- ---- how it is computed: one pass from the last place down
 
--- the cost of a later place, from the costs of the places after a place; after the end it is 0
+-- the cost of a later place, from the costs of the places after a place; 0 after the end
 abbrev pub cost_ahead : ℕ → List ℕ → ℕ → ℕ
 cost_ahead place costs next = if nat_lt place next then slice_index costs (next - (place + 1)) else 0
 
--- of the next place, if a branch can be passed
+-- the cost of the next place, if control can fall through a branch
 abbrev pub cost_passed : Bool → List ℕ → ℕ
 cost_passed always costs = if always then 0 else slice_index costs 0
 
--- the most that may follow an instruction, without going back
+-- the greatest cost that may follow an instruction, without going back
 abbrev pub cost_onward : ℕ → Instruction ℕ → List ℕ → ℕ
 cost_onward place (Act a) costs = slice_index costs 0
 cost_onward place Except costs = slice_index costs 0
@@ -75,7 +75,7 @@ module _ (weight : Instruction ℕ → ℕ) where
     pub above : (path : List ℕ) → IsPath s path → IsFrom place path → weight_along s path ≤ cost
     pub reached : (path : List ℕ) × IsPath s path × IsFrom place path × (weight_along s path ≡ cost)
 
-  -- the costs of places one after another
+  -- the costs of consecutive places
   abbrev pub with_cost : ℕ → Instruction ℕ → List ℕ → List ℕ
   with_cost place i costs = (weight i + cost_onward place i costs) ∷ costs
 
@@ -84,6 +84,6 @@ module _ (weight : Instruction ℕ → ℕ) where
   costs_from place [] = []
   costs_from place (i ∷ is) = with_cost place i (costs_from (place + 1) is)
 
-  -- the cost of each place of a section, in their order; 0 at its end and after it
+  -- the cost of each place of a section, in order; 0 at its end and after it
   abbrev pub AreCosts : Stretch → List ℕ → Type 0
   AreCosts s costs = (x : ℕ) → s.first ≤ x → IsCost s x (slice_index costs (x - s.first))

@@ -1,4 +1,4 @@
--- Subroutines while their instructions are judged.
+-- Subroutines while their instructions are checked.
 use Rattle.std.specs.Prelude.{ℕ, ◌+◌, length}
 use Rattle.rpg_program.specs.declared.rows.Subroutine.{Subroutine}
 use Rattle.rpg_program.specs.declared.section.Section.TheVariants as sections

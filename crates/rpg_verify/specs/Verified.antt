@@ -1,4 +1,4 @@
--- What a verified program keeps besides its rows, and what a refusal reports.
+-- What a verified program holds besides its rows, and what a rejection reports.
 use Rattle.std.specs.Prelude.{◌≡◌, ℕ, List}
 use Rattle.rpg_program.specs.Kept.{IsProgram}
 use Rattle.rpg_program.specs.Object.{Object}

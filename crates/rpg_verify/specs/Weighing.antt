@@ -1,4 +1,4 @@
--- What all output lines of a program weigh.
+-- The weight of all output lines of a program.
 use Rattle.std.specs.Prelude.{ℕ, ◌+◌, is_some, if◌then◌else◌}
 use Rattle.rpg_program.specs.Weights.{overflow_weight}
 use Rattle.rpg_program.specs.Object.{Object, lines_of}

@@ -1,4 +1,4 @@
--- Programs that keep all rules.
+-- Programs that obey all rules.
 use Rattle.rpg_program.specs.Object.{Object}
 use Rattle.rpg_verify_rules.specs.Least.{IsFaultless, IsLeast}
 use Rattle.rpg_verify_rules.specs.Rules.{broken, rule_number}

@@ -11,11 +11,11 @@ use Rattle.rpg_text.specs.Texts.{is_between}
 abbrev pub is_settable : ℕ → Bool
 is_settable n = is_between 1 99 n || (is_between 101 110 n || is_between 112 128 n)
 
--- what a record type may turn on: all that may be set but overflow
+-- what a record type may turn on: all that may be set, except overflow
 abbrev pub is_of_type : ℕ → Bool
 is_of_type n = is_between 1 99 n || (is_between 101 110 n || is_between 120 128 n)
 
--- it passes, if it is there
+-- it passes, if it exists
 abbrev pub if_any : {X : Type 0} → (X → Bool) → Option X → Bool
 if_any test None = true
 if_any test (Some x) = test x

@@ -29,17 +29,17 @@ form_put_out p f = form_at p.fields f.operand.field
 abbrev pub is_unspaced : Spacing → Bool
 is_unspaced s = (s.space_before == 0 && s.space_after == 0) && (s.skip_before == 0 && s.skip_after == 0)
 
--- the printer's form moves, a disk record has nothing to move
+-- the printer's form moves; a disk record allows no movement
 abbrev pub is_spaced_on : File → Spacing → Bool
 is_spaced_on Printer s = is_spacing s
 is_spaced_on Disk s = is_unspaced s
 
--- one entry that is there; PAGE is a plain number of 4 digits without decimals
+-- a single entry that exists; PAGE is a plain number of 4 digits without decimals
 abbrev pub is_field_there : Object → LineField ℕ → Bool
 is_field_there p f =
     (has_entry (form_at p.fields) f.operand && is_one_entry (form_at p.fields) f.operand) && fits_source f.source (form_put_out p f)
 
--- Codes and words edit only numbers, and codes only those that they fit. A fill goes only with a code that takes it.
+-- Codes and words edit only numbers, and codes only those that they fit. A fill is used only with a code that allows it.
 abbrev pub edits_form : Option FieldForm → Editing ℕ → Fill → Bool
 edits_form form Plain fill = is_blank_fill fill
 edits_form form (Code code) fill = same_kind (kind_of form) kinds.Number && fits_code (length_of form) (decimals_of form) code fill
@@ -59,25 +59,25 @@ is_word_for p digits (Word k) = is_text_constant (form_at p.fields k) && fits_wo
 abbrev pub is_field_worded : Object → LineField ℕ → Bool
 is_field_worded p f = is_word_for p (length_of (form_put_out p f)) f.editing
 
--- there is such a field, and it can't be edited so
+-- the field exists, and can't be edited this way
 abbrev pub lacks_editing : Object → LineField ℕ → Bool
 lacks_editing p f = is_field_there p f && not (is_field_edited p f)
 
--- there is such a field and it is edited as numbers are, by a word that it can't have
+-- the field exists and is edited as a number, by a word that doesn't fit
 abbrev pub lacks_word : Object → LineField ℕ → Bool
 lacks_word p f = is_field_there p f && (is_field_edited p f && not (is_field_worded p f))
 
--- there is such a field and it is edited well, so it has a width
+-- the field exists and is validly edited, so it has a width
 abbrev pub has_width : Object → LineField ℕ → Bool
 has_width p f = is_field_there p f && (is_field_edited p f && is_field_worded p f)
 
--- the edit word that it names, if it names one, is a text constant
+-- the edit word, if there is one, is a text constant
 abbrev pub names_text : Object → Editing ℕ → Bool
 names_text p Plain = true
 names_text p (Code code) = true
 names_text p (Word k) = is_text_constant (form_at p.fields k)
 
--- there is such a field and it is edited well, apart from whether a word fits: its width is known
+-- the field exists and is validly edited, except for whether a word fits: its width is known
 abbrev pub may_have_width : Object → LineField ℕ → Bool
 may_have_width p f = is_field_there p f && (is_field_edited p f && names_text p f.editing)
 
@@ -89,7 +89,7 @@ lacks_room p len f = has_width p f && not (has_room (form_at p.fields) (word_at 
 abbrev pub fits_line : Object → ℕ → LineField ℕ → Bool
 fits_line p len f = has_width p f && has_room (form_at p.fields) (word_at p) len f
 
--- it fits, and is blanked though it may not be written
+-- it fits, and is blanked although it may not be written
 abbrev pub blanks_wrongly : Object → ℕ → LineField ℕ → Bool
 blanks_wrongly p len f = not (blanks_writable (form_at p.fields) (word_at p) f) && fits_line p len f
 
@@ -97,11 +97,11 @@ blanks_wrongly p len f = not (blanks_writable (form_at p.fields) (word_at p) f) 
 abbrev pub is_field_asked : Version → LineField ℕ → Bool
 is_field_asked v f = all_asked v f.conditions
 
--- it fits and is blanked as it may be, and tests an indicator that it may not
+-- it fits and is validly blanked, but tests an indicator that isn't allowed
 abbrev pub asks_wrongly : Object → ℕ → LineField ℕ → Bool
 asks_wrongly p len f = not (is_field_asked p.version f) && (blanks_writable (form_at p.fields) (word_at p) f && fits_line p len f)
 
--- ---- whether a line breaks a rule; of a field each of V10 to V15 is silent where a smaller one refuses it
+-- ---- whether a line breaks a rule; V10 to V15 don't apply to a field that a lower-numbered one rejects
 
 -- the line breaks the rule
 unfoldable pub line_breaks : LineRule → Object → LineRow → Bool

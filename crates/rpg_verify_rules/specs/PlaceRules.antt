@@ -35,7 +35,7 @@ are_marked (Shown s) = are_settable s
 are_marked (Wanted s) = are_settable s && has_shows s
 are_marked (Sought s) = are_settable s && has_shows s
 
--- a search for the next one above or below
+-- a search for the next entry above or below
 abbrev pub is_ordered : Marks → Bool
 is_ordered (Sought s) = is_some s.plus || is_some s.minus
 is_ordered m = false
@@ -49,7 +49,7 @@ is_form_ascending (Some d) = d.is_ascending
 abbrev pub is_ascending : Object → Use (Operand ℕ) → Bool
 is_ascending p u = is_form_ascending (form_at p.fields u.operand.field)
 
--- a search is for equal ones, or in one direction through what is in ascending sequence
+-- a search is for equal entries, or in one direction through ascending entries
 abbrev pub is_searched_well : Object → Row (Operand ℕ) → Bool
 is_searched_well p r = not (is_two_sided r.marks) && (not (is_ordered r.marks) || all_used (is_ascending p) r.factor2)
 
@@ -58,19 +58,19 @@ abbrev pub are_asked : Version → Instruction ℕ → Bool
 are_asked v (Branch is_taken_where cs target) = all_asked v cs && (is_taken_where || has_conditions cs)
 are_asked v i = true
 
--- ---- where control goes
+-- ---- transfers of control
 
 -- a branch stays in its section
 abbrev pub stays_inside : Object → Section → Instruction ℕ → Bool
 stays_inside p s (Branch is_taken_where cs target) = is_place p (record { section = s; number = target })
 stays_inside p s i = true
 
--- a call leads to a subroutine of a higher level; if there is none of that number the level is 0, which no section is below
+-- a call leads to a subroutine of a higher level; if it doesn't exist the level is 0, which is above no section's
 abbrev pub calls_higher : Object → Section → Instruction ℕ → Bool
 calls_higher p s (Call n) = nat_lt (level_of p s) (level_of p (Subroutine n))
 calls_higher p s i = true
 
--- ---- operands that no smaller rule refuses
+-- ---- operands that no lower-numbered rule rejects
 
 -- the operand of a column, if it passes
 abbrev pub passing : {O : Type 0} → (Use O → Bool) → Option (Use O) → Option (Use O)
@@ -81,17 +81,17 @@ passing test (Some u) = if test u then Some u else None
 abbrev pub those_passing : {O : Type 0} → (Use O → Bool) → Row O → Row O
 those_passing test r = record { factor1 = passing test r.factor1; factor2 = passing test r.factor2; result = passing test r.result; marks = r.marks }
 
--- COMP and LOKUP require factor 2 to be of the kind of factor 1
+-- COMP and LOKUP require factor 2 to be of the same kind as factor 1
 abbrev pub compares : Instruction ℕ → Bool
 compares (Act (Compare a b s)) = true
 compares (Act (LookUp a b r s)) = true
 compares i = false
 
--- the required kinds are known: if factors are compared, factor 1 is good
+-- the required kinds are known: if factors are compared, factor 1 is valid
 abbrev pub knows_kinds : Object → Instruction ℕ → Bool
 knows_kinds p i = not (compares i) || all_used (is_good_operand (form_at p.fields)) (columns p i).factor1
 
--- the operand has the kind that its use asks for, if kinds are known here
+-- the operand has the kind that its use requires, if kinds are known here
 abbrev pub has_known_kind : Object → Instruction ℕ → Use (Operand ℕ) → Bool
 has_known_kind p i u = not (knows_kinds p i) || has_kind (form_at p.fields) u
 
@@ -102,11 +102,11 @@ passes p (Known i) = has_known_kind p i
 passes p Writable = is_writable_use (form_at p.fields)
 passes p Current = is_current_table (form_at p.fields)
 
--- the operands that V16 allows; of these, those that V17 allows; of these, with the result only where V18 allows it
+-- the operands that V16 allows; of these, those that V17 allows; of these, with the result only if V18 allows it
 abbrev pub good_columns : Object → Instruction ℕ → Row (Operand ℕ)
 good_columns p i = those_passing (is_good_operand (form_at p.fields)) (columns p i)
 
--- the operands that have the kind that is asked for
+-- the operands that have the required kind
 abbrev pub columns_of_kind : Object → Instruction ℕ → Row (Operand ℕ)
 columns_of_kind p i = those_passing (has_known_kind p i) (good_columns p i)
 
@@ -115,11 +115,11 @@ abbrev pub written_columns : Object → Instruction ℕ → Row (Operand ℕ)
 written_columns p i =
     record { factor1 = (columns_of_kind p i).factor1; factor2 = (columns_of_kind p i).factor2; result = passing (is_writable_use (form_at p.fields)) (columns_of_kind p i).result; marks = (columns_of_kind p i).marks }
 
--- what becomes current is a table, and what a search may find fits its index field and the table
+-- what becomes current is a table, and any result of a search fits its index field and the table
 abbrev pub holds_found : Object → Row (Operand ℕ) → Bool
 holds_found p r = all_of (is_current_table (form_at p.fields)) r && holds_positions (form_at p.fields) r
 
--- ---- whether an instruction of a section breaks a rule; V17 to V20 are silent on an operand that a smaller rule refuses
+-- ---- whether an instruction of a section breaks a rule; V17 to V20 don't apply to an operand that a lower-numbered rule rejects
 
 -- the instruction breaks the rule
 unfoldable pub place_breaks : PlaceRule → Object → Section → Instruction ℕ → Bool
@@ -150,22 +150,22 @@ places_judged r p = section_judged r p Detail ++ judged_after_detail r p
 
 -- ---- subroutines
 
--- a return of any subroutine
+-- a return from any subroutine
 abbrev pub is_return : Instruction ℕ → Bool
 is_return (Return n) = true
 is_return i = false
 
--- no return, or that subroutine's own
+-- no return, or one from that subroutine
 abbrev pub is_own : ℕ → Instruction ℕ → Bool
 is_own number (Return n) = n == number
 is_own number i = true
 
--- the last one is a return
+-- the last one, if any, is a return
 abbrev pub is_return_if_any : Option (Instruction ℕ) → Bool
 is_return_if_any None = false
 is_return_if_any (Some i) = is_return i
 
--- the last instruction returns
+-- the last instruction is a return
 abbrev pub ends_in_return : List (Instruction ℕ) → Bool
 ends_in_return code = is_return_if_any (slice_get code (length code - 1))
 
@@ -183,7 +183,7 @@ abbrev pub with_first : Bool → List Bool → List Bool
 with_first b [] = b ∷ []
 with_first b (x ∷ xs) = (b || x) ∷ xs
 
--- an instruction outside subroutines returns
+-- an instruction outside subroutines is a return
 abbrev pub has_stray_return : Object → Bool
 has_stray_return p = list_any is_return p.detail || list_any is_return p.total
 

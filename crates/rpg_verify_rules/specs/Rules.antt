@@ -1,5 +1,5 @@
--- The rules: for each, which rows of its table break it. Rows are counted from 0 in the table of the rule's kind. A rule doesn't
--- apply to an operand, a line's field or an input field that a smaller rule refuses. The lowest-numbered broken rule is returned, and a
+-- The rules: for each, which rows of its table break it. Rows are counted from 0 in the table of the rule's kind. A rule doesn't apply
+-- to an operand, a line's field or an input field that a lower-numbered rule rejects. The lowest-numbered broken rule is returned, and a
 -- program is accepted if no rule is broken.
 use Rattle.std.specs.Prelude.{ℕ, Bool, ◌&&◌, ◌==◌, List, [], ◌∷◌, ◌++◌, map, is_some, codes, decimal}
 use Rattle.rpg_program.specs.Object.{Object}
@@ -31,7 +31,7 @@ broken p (rules.Line r) = map (line_breaks r p) p.lines
 broken p (rules.Place r) = places_judged r p
 broken p (rules.Subroutine r) = subroutines_broken r p
 
--- the number of a rule, as V1 has it
+-- the number in a rule's name: 1 for V1
 abbrev pub rule_number : Rule → ℕ
 rule_number rules.Overflow = 1
 rule_number (rules.Line V2) = 2
@@ -64,7 +64,7 @@ rule_number (rules.Type V26) = 26
 abbrev pub rule_text : Rule → List ℕ
 rule_text rule = codes "V" ++ decimal (rule_number rule)
 
--- all rules, the least first
+-- all rules, in numeric order
 abbrev pub all_rules : List Rule
 all_rules =
     rules.Overflow ∷ rules.Line V2 ∷ rules.Type V3 ∷ rules.Type V4 ∷ rules.Type V5 ∷ rules.Type V6 ∷ rules.Type V7

@@ -1,4 +1,4 @@
--- What the rules give to whoever runs an accepted program.
+-- What the rules guarantee to whatever runs an accepted program.
 use Rattle.std.specs.Prelude.{◌≡◌, ℕ, ◌<◌, ◌≤◌, true, All, None, Some}
 use Rattle.std.specs.List.{sum}
 use Rattle.rpg_program.specs.Forms.{form_at}
@@ -23,7 +23,7 @@ use Rattle.rpg_verify_rules.specs.TypeRules.{all_measured, are_joined_as, are_on
 abbrev pub IsAt : Object → Place → Instruction ℕ → Type 0
 IsAt p x i = (first_place p x.section ≤ x.number) × (instruction_at p x ≡ Some i)
 
--- a branch leads to a place of its section, a call to a subroutine that is there and of a higher level, and a return is the section's own
+-- a branch leads to a place of its section, a call to an existing subroutine of a higher level, and a return is the section's own
 abbrev pub LeadsWell : Object → Section → Instruction ℕ → Type 0
 LeadsWell p s (Act a) = Unit {0}
 LeadsWell p s Except = Unit {0}
@@ -31,22 +31,23 @@ LeadsWell p s (Branch is_taken_where cs target) = is_place p (record { section =
 LeadsWell p s (Call n) = (has_subroutine p n ≡ true) × (level_of p s < level_of p (Subroutine n))
 LeadsWell p s (Return n) = (has_subroutine p n ≡ true) × (s ≡ Subroutine n)
 
--- an instruction of a section: nothing is wrong with its operands, whatever the values are, control goes where it may, and it sets and
--- tests indicators that may be set and tested
+-- an instruction of a section: nothing is wrong with its operands, whatever the values are, control goes only where it may, and it sets and
+-- tests only indicators that may be set and tested
 pub record IsSoundInstruction (p : Object) (s : Section) (i : Instruction ℕ) : Type 0 where
   pub operands : IsRightRow (form_at p.fields) (columns p i)
   pub control : LeadsWell p s i
   pub marks : are_marked (columns p i).marks ≡ true
   pub conditions : are_asked p.version i ≡ true
 
--- a line: its file is there, its movements are in range, none on the disk file, and nothing is wrong with its fields
+-- a line: its file exists, its movements are in range, with none on the disk file, and nothing is wrong with its fields
 pub record IsSoundLine (p : Object) (l : LineRow) : Type 0 where
   pub line : line_fault (file_length p l.file) l.spacing ≡ None
   pub spacing : is_spaced_on l.file l.spacing ≡ true
   pub fields : AreRight (form_at p.fields) (word_at p) (file_length p l.file) l.fields
 
--- a record type: its file is there, its columns are those of the file's records, its levels are as long in each type that has them,
--- nothing is wrong with its input fields, and its match fields are of one level each, as long as in each type that has some
+-- a record type: its file exists, its columns are those of the file's records, its levels have the same length in each type that has them,
+-- nothing is wrong with its input fields, and each of its match fields has a level of its own, with the same length in each type that has
+-- some
 pub record IsSoundType (p : Object) (t : TypeRow ℕ) : Type 0 where
   pub indicator : if_any is_of_type t.indicator ≡ true
   pub codes : All (λ c. is_code_in (input_length p t.file) c ≡ true) t.codes
@@ -60,7 +61,7 @@ pub record IsSoundType (p : Object) (t : TypeRow ℕ) : Type 0 where
   pub few_matched : sum (joined_widths t.matches) ≤ 256
   pub alike : are_joined_as (joined_widths (first_matches p.types)) t.matches ≡ true
 
--- what the rules give a machine
+-- what the rules guarantee to a machine
 pub record IsSound (p : Object) : Type 0 where
   pub each : (x : Place) (i : Instruction ℕ) → IsAt p x i → IsSoundInstruction p x.section i
   pub ended : (n : ℕ) → has_subroutine p n ≡ true → ends_in_return (section_instructions p (Subroutine n)) ≡ true

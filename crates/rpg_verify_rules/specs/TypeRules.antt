@@ -13,26 +13,26 @@ use Rattle.rpg_verify_rules.specs.Indicators.{are_settable, if_any, is_of_type}
 use Rattle.rpg_verify_rules.specs.declared.rule.TypeRule.{TypeRule}
 use Rattle.rpg_verify_rules.specs.declared.rule.TypeRule.TheVariants.{V3, V4, V5, V6, V7, V25, V26}
 
--- the position is one of a record of that length
+-- the position is within a record of that length
 abbrev pub is_code_in : ℕ → RecordCode → Bool
 is_code_in len c = is_between 1 len c.position
 
--- its columns are those of a record of that length, and not reversed
+-- its columns are within a record of that length, and not reversed
 abbrev pub is_control_in : ℕ → ControlField → Bool
 is_control_in len c = nat_le 1 c.from && (nat_le c.from c.to && nat_le c.to len)
 
 -- ---- the control fields of a level, joined
 
--- the columns of a control field of that level; none of another
+-- the columns of a control field of that level; 0 for another level
 abbrev pub columns_at : ℕ → ControlField → ℕ
 columns_at level c = if c.level == level then c.to + 1 - c.from else 0
 
--- the columns of all of that level; 0 if it has none
+-- the columns of all fields of that level; 0 if there are none
 abbrev pub joined_width : ℕ → List ControlField → ℕ
 joined_width level [] = 0
 joined_width level (c ∷ cs) = columns_at level c + joined_width level cs
 
--- the joined length in the first type that has the level; 0 if none has
+-- the joined length in the first type that has the level; 0 if none has it
 abbrev pub measure : ℕ → List (TypeRow ℕ) → ℕ
 measure level [] = 0
 measure level (t ∷ ts) = if joined_width level t.levels == 0 then measure level ts else joined_width level t.levels
@@ -41,7 +41,7 @@ measure level (t ∷ ts) = if joined_width level t.levels == 0 then measure leve
 abbrev pub measures : List (TypeRow ℕ) → List ℕ
 measures ts = measure 1 ts ∷ measure 2 ts ∷ measure 3 ts ∷ measure 4 ts ∷ measure 5 ts ∷ measure 6 ts ∷ measure 7 ts ∷ measure 8 ts ∷ measure 9 ts ∷ []
 
--- no such level, or as long as the measure, 256 at most
+-- no such level, or one with this length, 256 at most
 abbrev pub is_measured : ℕ → ℕ → Bool
 is_measured measure n = n == 0 || (nat_le n 256 && n == measure)
 
@@ -53,7 +53,7 @@ all_measured level (m ∷ n ∷ ms) cs = is_measured m (joined_width level cs) &
 
 -- ---- input fields
 
--- columns of a record of that length, as many as a plain field that is there is long
+-- columns of a record of that length, as many as the length of an existing plain field
 abbrev pub is_input_in : Object → ℕ → InputField ℕ → Bool
 is_input_in p len f = fits_columns len f (form_at p.fields f.field)
 
@@ -61,7 +61,7 @@ is_input_in p len f = fits_columns len f (form_at p.fields f.field)
 abbrev pub is_input_shown : Object → InputField ℕ → Bool
 is_input_shown p f = are_settable f.shows && fits_shows (kind_of (form_at p.fields f.field)) f.shows
 
--- its columns are such, and its indicators may not be shown: V7 is silent where V6 refuses it
+-- its columns are valid, and its indicators aren't: V7 doesn't apply if V6 rejects it
 abbrev pub shows_wrongly : Object → ℕ → InputField ℕ → Bool
 shows_wrongly p len f = not (is_input_shown p f) && is_input_in p len f
 
@@ -82,7 +82,7 @@ abbrev pub are_once : List ControlField → Bool
 are_once [] = true
 are_once (c ∷ cs) = not (list_any (is_of_level c.level) cs) && are_once cs
 
--- those of the first type that has some; none if no type has any
+-- those of the first type that has any; none if no type has any
 abbrev pub first_matches : List (TypeRow ℕ) → List ControlField
 first_matches [] = []
 first_matches (t ∷ ts) = if length t.matches == 0 then first_matches ts else t.matches
@@ -91,11 +91,11 @@ first_matches (t ∷ ts) = if length t.matches == 0 then first_matches ts else t
 abbrev pub are_joined_as : List ℕ → List ControlField → Bool
 are_joined_as widths cs = length cs == 0 || pointwise ◌==◌ (joined_widths cs) widths
 
--- of a record of that length, where the first ones of the program have these joined lengths; 256 columns at most
+-- match fields of a record of that length, given the joined lengths of the program's first ones; 256 columns at most
 abbrev pub are_matches : ℕ → List ℕ → List ControlField → Bool
 are_matches len widths cs = list_all (is_control_in len) cs && (are_once cs && (nat_le (sum (joined_widths cs)) 256 && are_joined_as widths cs))
 
--- ---- whether a type breaks a rule; its records have the length of those of its file
+-- ---- whether a type breaks a rule; its records have the length of its file's records
 
 -- the record type breaks the rule
 unfoldable pub type_breaks : TypeRule → Object → TypeRow ℕ → Bool

@@ -18,13 +18,13 @@ use Rattle.rpg_program.specs.declared.section.Section.{Section}
 use Rattle.rpg_program.specs.declared.section.Section.TheVariants as sections
 use Rattle.rpg_effect_renaming.specs.Naming.{Agree}
 
--- the section that a part becomes
+-- the section that a part compiles to
 abbrev pub part_section : Sections Key → Part → Section
 part_section c InDetail = sections.Detail
 part_section c InTotal = sections.Total
 part_section c (InSubroutine name) = sections.Subroutine (callee name c.subroutines)
 
--- the place of the n-th of these calculations, where the first one stands at a place; after them all the place after the last
+-- the place of the n-th of these calculations, given that of the first one; after them all the place after the last
 abbrev pub place_at : ℕ → List (Calculation Key) → ℕ → ℕ
 place_at place [] n = place
 place_at place (g ∷ gs) zero = place
@@ -34,17 +34,17 @@ place_at place (g ∷ gs) (suc n) = place_at (place + size g) gs n
 abbrev pub place_in : Object → Sections Key → Part → ℕ → ℕ
 place_in p c part n = place_at (first_place p (part_section c part)) (calculations_in c part) n
 
--- a configuration as the runs of an accepted program have it: no step from it is wrong
+-- a configuration as in the runs of an accepted program: no step from it is wrong
 abbrev pub IsRunnable : Object → Config → Type 0
 IsRunnable p d = IsSafe p d × FitsIn p.fields d.world.data
 
--- from one configuration the machine comes to another, and puts that out on the way
+-- from one configuration the machine reaches another, with this output on the way
 pub record Comes (p : Object) (c d : Config) (o : Output) : Type 0 where
   pub by : (k : ℕ) → (j : ℕ) × (run p j c ≡ put_before o (run p k d))
 
 module _ (p : Object) (source : Source) (number : Key → ℕ) where
-  -- values, indicators and all else, what is left of the allowance, and where they stand: at the first place of the next calculation, or
-  -- the section's end
+  -- values, indicators and everything else agree, the remaining allowance, and where they are: at the first place of the next
+  -- calculation, or the section's end
   pub record AgreeAt (s : State) (d : Config) : Type 0 where
     pub world : Agree source.forms number s.world d.world
     pub allowance : d.allowance ≡ s.allowance

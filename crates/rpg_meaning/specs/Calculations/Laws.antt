@@ -1,4 +1,4 @@
--- What it is that a program keeps the meaning of calculation cards.
+-- What it means that a program does what calculation cards mean.
 use Rattle.std.specs.Prelude.{◌≡◌, ℕ, Bool, true, false, [], Some, slice_get}
 use Rattle.std.specs.FinMap as map
 use Rattle.rpg_cards.specs.Deeds.{Acts, Begins, Calculation, Deed, Ends, Executes, GoesTo, Marks, Nothing, PutsOut}
@@ -26,19 +26,19 @@ stays_in_part (GoesTo l) = true
 stays_in_part (Executes n) = false
 stays_in_part (Ends l) = false
 
--- One calculation: from where they agree its code comes to where the cards come, or halts where they halt, and then they agree.
+-- One calculation: from where they agree its code leads to where the cards lead, or halts where they halt, and then they agree.
 abbrev pub KeepsCalculations : Object → Source → (Key → ℕ) → Type 0
 KeepsCalculations p source number =
     (s : State) (d : Config) (g : Calculation Key) → slice_get (calculations_in source.sections s.part) s.next ≡ Some g → stays_in_part g.deed ≡ true
     → AgreeAt p source number s d → MachineFollows p source number d (cards_step source s)
 
--- Whole sections, from anywhere in them: the cards come to an end, and the section comes to the same.
+-- Whole sections, from anywhere in them: if the cards reach an end, the section reaches the same.
 abbrev pub KeepsSections : Object → Source → (Key → ℕ) → Type 0
 KeepsSections p source number =
     (s : State) (d : Config) → AgreeAt p source number s d → AreOpen p source.sections d.cells s.part s.back
     → (e : MeantOutcome) × CardsCome source s e × Meets p source number d e
 
--- what the cards come to is what the section came to
+-- the cards reach the same end as the section
 abbrev pub EndsAs : Object → Source → (Key → ℕ) → MeantOutcome → End → Config → Output → Type 0
 EndsAs p source number (On t o) e d out = (e ≡ GoesOn) × (out ≡ o) × AgreeEnded p source number t d
 EndsAs p source number (Stops k t o) e d out = (e ≡ Halt k) × (out ≡ o) × AgreeEnded p source number t d
@@ -48,7 +48,7 @@ EndsAs p source number Over e d out = ⊥
 abbrev pub part_begun : Part → World key_cmp → ℕ → State
 part_begun part w allowance = record { world = w; part = part; next = 0; back = []; allowance = allowance }
 
--- Runs of the machine: whatever a run of the detail or total section comes to, the cards come to from a world that agrees.
+-- Runs of the machine: whatever end a run of the detail or total section reaches, the cards reach it from a world that agrees.
 abbrev pub KeepsRuns : Object → Source → (Key → ℕ) → Type 0
 KeepsRuns p source number =
     (part : Part) → part_has_end part ≡ true

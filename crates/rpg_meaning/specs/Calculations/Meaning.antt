@@ -1,4 +1,4 @@
--- What calculation cards mean, by names and labels: there are no field numbers, places or instructions in it.
+-- What calculation cards mean, by names and labels, without field numbers, places or instructions.
 use Rattle.std.specs.Prelude.{◌≡◌, ℕ, ◌+◌, ◌-◌, Bool, true, false, ◌&&◌, ◌==◌, nat_le, nat_lt, List, [], ◌∷◌, length, Option, None, Some, if◌then◌else◌, slice_get}
 use Rattle.std.specs.FinSet as set
 use Rattle.std.specs.List.{list_any}
@@ -33,9 +33,9 @@ all_cards_hold on (cs ∷ rest) = three_hold on cs && all_cards_hold on rest
 abbrev pub is_done : set.FinSet nat_cmp → Calculation Key → Bool
 is_done on g = level_holds on g.level && list_any (all_cards_hold on) g.alternatives
 
--- ---- what the cards have done
+-- ---- the state of the cards
 
--- what calculations stand among: what the cards of a source say by names
+-- the context of calculations: what the cards of a source say, by name
 pub record Source : Type 0 where
   pub sections : Sections Key
   pub forms : Key → Option FieldForm
@@ -43,8 +43,8 @@ pub record Source : Type 0 where
   pub overflow : Option ℕ
   pub lines : List (Line Key)
 
--- the values by name and all else that the cards change, the part that runs and which of its calculations is next, where open EXSRs
--- come back to, and what is left of the allowance
+-- the values by name and everything else that the cards change, the running part and which of its calculations is next, where open EXSRs
+-- return to, and the remaining allowance
 pub record State : Type 0 where
   pub world : World key_cmp
   pub part : Part
@@ -62,13 +62,13 @@ pub data MeantOutcome : Type 0 where
 abbrev pub at_next : State → ℕ → State
 at_next s n = record s { next = n }
 
--- what an effect makes of it
+-- the state after an effect
 abbrev pub after_effect : End → State → World key_cmp → Output → MeantOutcome
 after_effect GoesOn s w o = On (record s { world = w; next = s.next + 1 }) o
 after_effect (Halt k) s w o = Stops k (record s { world = w }) o
 after_effect other s w o = Over
 
--- what an effect on the world makes of a state
+-- the outcome of an effect on the world of a state
 abbrev pub affected : State → Effect key_cmp → MeantOutcome
 affected s e = after_effect e.ending s e.world (record { lines = e.lines; records = e.records })
 
@@ -76,7 +76,7 @@ affected s e = after_effect e.ending s e.world (record { lines = e.lines; record
 abbrev pub spending : State → State → MeantOutcome
 spending s t = if s.allowance == 0 then Stops 5 s no_output else On (record t { allowance = s.allowance - 1 }) no_output
 
--- to go to an earlier card costs one of the allowance
+-- going to an earlier card costs one of the allowance
 abbrev pub gone_to : State → ℕ → MeantOutcome
 gone_to s n = if nat_lt n s.next then spending s (at_next s n) else On (at_next s n) no_output
 
@@ -118,17 +118,17 @@ part_has_end (InSubroutine name) = false
 abbrev pub is_finished : Sections Key → State → Bool
 is_finished c s = part_has_end s.part && nat_le (length (calculations_in c s.part)) s.next
 
--- what is done after what was output before
+-- the outcome with earlier output before it
 abbrev pub told_before : Output → MeantOutcome → MeantOutcome
 told_before o (On t more) = On t (with_more o more)
 told_before o (Stops k t more) = Stops k t (with_more o more)
 told_before o Over = Over
 
--- Where the cards come to, one calculation after the other.
+-- Where the cards lead, one calculation after another.
 pub data CardsCome (source : Source) : State → MeantOutcome → Type 0 where
   -- detail or total calculations are after their last one
   AtEnd : (s : State) → is_finished source.sections s ≡ true → CardsCome source s (On s no_output)
   -- one calculation halts
   AtHalt : (s t : State) (o : Output) (k : ℕ) → is_finished source.sections s ≡ false → cards_step source s ≡ Stops k t o → CardsCome source s (Stops k t o)
-  -- one calculation goes on, and the rest follows
+  -- one calculation continues, and the rest follows
   Then : (s t : State) (o : Output) (rest : MeantOutcome) → is_finished source.sections s ≡ false → cards_step source s ≡ On t o → CardsCome source t rest → CardsCome source s (told_before o rest)

@@ -1,4 +1,4 @@
--- The number of the card that is next, from the part that runs and which of its calculations is next.
+-- The number of the next card, from the running part and which of its calculations is next.
 use Rattle.std.specs.Prelude.{◌≡◌, ℕ, ◌<◌, false, ◌&&◌, List, [], ◌∷◌, ◌++◌, Option, None, Some, is_some, slice_get, if◌then◌else◌}
 use Rattle.std.specs.List.{filter}
 use Rattle.std.specs.Option.{option_map, option_map_or, option_to_list}
@@ -21,7 +21,7 @@ abbrev pub numbered_group : Option (ℕ × CalculationGroup) → ℕ → Calcula
 numbered_group None number k = (number, alone k)
 numbered_group (Some e) number k = if joins k.control_level then (e.0, joined_group e.1 k) else (number, alone k)
 
--- the open group with its first card's number, once a card has been read
+-- the open group with its first card's number, after a card
 abbrev pub open_at : Option (ℕ × CalculationGroup) → SpecCard → Option (ℕ × CalculationGroup)
 open_at o c = option_map (numbered_group o c.number) (calculation_on c.spec)
 

@@ -1,4 +1,4 @@
--- The parts of calculations: control stays in one but for EXSR and ENDSR.
+-- The parts of calculations: control leaves one only by EXSR and ENDSR.
 use Rattle.std.specs.Prelude.{ℕ, suc, Bool, List, [], ◌∷◌, Option, if◌then◌else◌}
 use Rattle.rpg_cards.specs.Deeds.{Calculation}
 use Rattle.rpg_cards.specs.Keys.{Key, Name}
@@ -10,7 +10,7 @@ pub data Part : Type 0 where
   InTotal : Part
   InSubroutine : Option Name → Part  -- as EXSR names it
 
--- the subroutine of a name; nothing if there is none
+-- the subroutine with a name; none if there is none
 abbrev pub body_named : Option Name → List (Subroutine Key) → List (Calculation Key)
 body_named name [] = []
 body_named name (s ∷ ss) = if is_same_name name s.name then s.body else body_named name ss
@@ -21,11 +21,11 @@ calculations_in c InDetail = c.detail
 calculations_in c InTotal = c.total
 calculations_in c (InSubroutine name) = body_named name c.subroutines
 
--- it bears that label
+-- it has that label
 abbrev pub bears : Option Name → Calculation Key → Bool
 bears name g = is_same_name name (label_on g.deed)
 
--- where the first one with a label stands among these, counted from 0; after them all where there is none
+-- the place of the first one with a label among these, counted from 0; after them all if there is none
 abbrev pub label_position : Option Name → List (Calculation Key) → ℕ
 label_position name [] = 0
 label_position name (g ∷ gs) = if bears name g then 0 else suc (label_position name gs)

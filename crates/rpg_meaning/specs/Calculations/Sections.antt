@@ -16,12 +16,12 @@ use Rattle.rpg_program.specs.Sections.{level_of}
 use Rattle.rpg_program.specs.declared.section.Place.{Place}
 use Rattle.rpg_program.specs.declared.section.Section.TheVariants as sections
 
--- where an EXSR comes back to
+-- where an EXSR returns to
 abbrev pub return_place : Object → Sections Key → Part × ℕ → Place
 return_place p c b = record { section = part_section c b.0; number = place_in p c b.0 b.1 }
 
--- The cells are those of the open EXSRs: the running subroutine's leads after the last one, and so on; with none open detail or
--- total calculations run.
+-- The cells are those of the open EXSRs: the running subroutine's leads after the last one, and so on; if none is open, detail or total
+-- calculations run.
 abbrev pub AreOpen : Object → Sections Key → map.FinMap nat_cmp Place → Part → List (Part × ℕ) → Type 0
 AreOpen p c cells part [] = part_has_end part ≡ true
 AreOpen p c cells part (b ∷ bs) =

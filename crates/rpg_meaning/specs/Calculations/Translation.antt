@@ -1,4 +1,4 @@
--- Whether a program is what the cards stand for, as far as calculations go.
+-- Whether a program is the translation of the cards, as far as calculations go.
 use Rattle.std.specs.Prelude.{◌≡◌, All, ℕ, ◌<◌, List, [], ◌∷◌, length, map}
 use Rattle.std.specs.Ordering.{nat_cmp}
 use Rattle.rpg_cards.specs.Deeds.{Calculation}

@@ -1,5 +1,5 @@
--- Calls of subroutines by subroutines, all by one relation: `IsChainAmong` (rpg_cards, Plain), a chain of calls that ends in a subroutine. The test
--- of the rule on calls, the levels of the compiler and those of rpg_symbols are other words for the same chains.
+-- Calls of subroutines by subroutines, all by one relation: `IsChainAmong` (rpg_cards, Plain), a chain of calls that ends in a subroutine.
+-- The test of the rule on calls, the levels of the compiler and those of rpg_symbols are other terms for the same chains.
 use Rattle.std.specs.Prelude.{◌≡◌, ◌↔◌, ℕ, ◌+◌, ◌<◌, ◌≤◌, List, length, true}
 use Rattle.rpg_cards.specs.Calculations.{calculations}
 use Rattle.rpg_cards.specs.Calls.{calls, reaches}
@@ -18,7 +18,7 @@ pub record LeadsTo (ps : List Pair) (a s : ℕ) : Type 0 where
   pub chain : IsChainAmong ps s callers
   pub first : chain_start s callers ≡ a
 
--- no call leads back: what is called leads nowhere to its caller
+-- no call leads back: no chain leads from the callee to its caller
 abbrev pub NoCallLeadsBack : List Pair → Type 0
 NoCallLeadsBack ps = (a b : ℕ) → IsCallAmong a b ps → LeadsTo ps b a → ⊥
 

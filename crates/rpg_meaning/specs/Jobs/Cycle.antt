@@ -38,12 +38,12 @@ module _ (job : Job) where
   abbrev pub indicator_at : ℕ → Option ℕ
   indicator_at type = option_map_or (λ t. t.indicator) (slice_get job.types type) None
 
-  -- the bytes of a level in the last of these records whose type has it; they are given from the last to the first
+  -- the bytes of a level in the last of these records whose type has it; the records are given last first
   abbrev pub meant_last_bytes : ℕ → List Selected → Option (List ℕ)
   meant_last_bytes level [] = None
   meant_last_bytes level (s ∷ ss) = or_before (meant_last_bytes level ss) (level_bytes (levels_at s.type) s.text level)
 
-  -- the highest level that a record breaks, 0 if it breaks none
+  -- the highest level that a record breaks, 0 if none
   abbrev pub meant_broken_level : List Selected → Selected → ℕ
   meant_broken_level earlier s = highest_broken (λ level. differs (meant_last_bytes level earlier) (level_bytes (levels_at s.type) s.text level)) 9
 
@@ -55,7 +55,7 @@ module _ (job : Job) where
   abbrev pub meant_file_at : ℕ → InputFile
   meant_file_at type = option_map_or (λ t. t.file) (slice_get job.types type) Primary
 
-  -- the bytes of a record's match fields, from M9 down to M1, if its type has some
+  -- the bytes of a record's match fields, from M9 down to M1, if its type has any
   abbrev pub meant_match_value : Selected → Option (List ℕ)
   meant_match_value r = match_value_in (matches_at r.type) r.text
 
@@ -78,7 +78,7 @@ module _ (job : Job) where
   meant_any_control [] = false
   meant_any_control (s ∷ ss) = meant_any_control ss || is_any (levels_at s.type)
 
-  -- ---- 1 heading and detail lines of the cycle before, and at first those of the first page
+  -- ---- 1 heading and detail lines of the previous cycle, and at first those of the first page
 
   -- heading and detail lines
   abbrev pub meant_detail_lines : MeantPhase
@@ -92,7 +92,7 @@ module _ (job : Job) where
 
   -- ---- 3 the indicators of record types but LR, L1 to L9 and 1P turn off
 
-  -- the indicators of record types, but for LR
+  -- the indicators of record types, except LR
   abbrev pub type_indicators : List (TypeRow Key) → List ℕ
   type_indicators types = filter (λ n. not (n == last_record)) (filter_map (λ t. t.indicator) types)
 
@@ -107,15 +107,15 @@ module _ (job : Job) where
   record_length_in Primary = job.record_length
   record_length_in Secondary = job.secondary_length
 
-  -- characters, and no more than a record of the file has
+  -- characters, no more than the length of the file's records
   abbrev pub is_good_text : InputFile → List ℕ → Bool
   is_good_text f text = nat_le (length text) (record_length_in f) && list_all is_character text
 
-  -- a record's text, with blanks up to the length of its file
+  -- a record's text, padded with blanks to the length of its file
   abbrev pub meant_padded : InputFile → List ℕ → List ℕ
   meant_padded f text = text ++ replicate (record_length_in f - length text) 32
 
-  -- the first type of that file all of whose codes hold; the first of these has that number
+  -- the first type of that file all of whose codes hold; rows are numbered from here on
   abbrev pub type_of_text : InputFile → List ℕ → ℕ → List (TypeRow Key) → Option ℕ
   type_of_text f text n [] = None
   type_of_text f text n (t ∷ ts) = if same_file t.file f && list_all (code_holds text) t.codes then Some n else type_of_text f text (n + 1) ts
@@ -145,11 +145,11 @@ module _ (job : Job) where
   abbrev pub meant_take_in : List Selected → InputFile → Option (List ℕ) → MeantPhase
   meant_take_in earlier f next = meant_does (λ s. if meant_takes_in s.inputs f then read earlier f next s else (GoesOn, s))
 
-  -- its indicator goes on, and so do L1 to the highest level that it breaks
+  -- its indicator turns on, and so do L1 to the highest level that it breaks
   abbrev pub with_selected : List Selected → Selected → JobState → JobState
   with_selected earlier r s = record (with_turned (option_to_list (indicator_at r.type) ++ take (meant_broken_level earlier r) level_indicators) true s) { selected = Some r }
 
-  -- the record that waits in a file is selected: it waits no longer
+  -- the record that waits in a file is selected, and no longer waits
   abbrev pub meant_select_waiting : List Selected → InputFile → Option Selected → JobState → JobState
   meant_select_waiting earlier f None s = s
   meant_select_waiting earlier f (Some r) s = with_selected earlier r (record s { inputs = with_waiting f None s.inputs })
@@ -161,7 +161,7 @@ module _ (job : Job) where
   meant_chosen None (Some r) = Some Secondary
   meant_chosen (Some q) (Some r) = Some (first_of (meant_match_value q) (meant_match_value r))
 
-  -- if no record waits, LR and L1 to L9 go on
+  -- if no record waits, LR and L1 to L9 turn on
   abbrev pub meant_select_from : List Selected → Option InputFile → JobState → JobState
   meant_select_from earlier None s = with_turned (last_record ∷ level_indicators) true s
   meant_select_from earlier (Some f) s = meant_select_waiting earlier f (waiting_in s.inputs f) s
@@ -170,13 +170,13 @@ module _ (job : Job) where
   abbrev pub meant_select_one : List Selected → MeantPhase
   meant_select_one earlier = meant_does (λ s. (GoesOn, meant_select_from earlier (meant_chosen (waiting_in s.inputs Primary) (waiting_in s.inputs Secondary)) s))
 
-  -- if LR is on no record is read, and L1 to L9 go on
+  -- if LR is on no record is read, and L1 to L9 turn on
   abbrev pub meant_select_record : List Selected → Option (List ℕ) → Option (List ℕ) → MeantPhase
   meant_select_record earlier primary secondary s =
       meant_either (is_on_in last_record s) (meant_does (λ s. (GoesOn, with_turned level_indicators true s)))
       (meant_take_in earlier Primary primary andthen meant_take_in earlier Secondary secondary andthen meant_select_one earlier) s
 
-  -- ---- 5 total calculations and total lines, but not in the first cycle, and where types have control fields not before a record had some
+  -- ---- 5 total calculations and total lines, but not in the first cycle, nor, if types have control fields, before a record had some
 
   -- no total time: before the first record, or before the first one with control fields
   abbrev pub meant_is_bypassed : List Selected → JobState → Bool
@@ -194,7 +194,7 @@ module _ (job : Job) where
   abbrev pub meant_end_where_last : MeantPhase
   meant_end_where_last = meant_does (λ s. (if is_on_in last_record s || is_none s.selected then EndOfJob else GoesOn, s))
 
-  -- ---- 7 all lines of a new page, where the overflow indicator asks for one
+  -- ---- 7 all lines of a new page, if the overflow indicator is on
 
   -- the lines for overflow, if its indicator is on
   abbrev pub meant_overflow_lines : MeantPhase
@@ -202,14 +202,14 @@ module _ (job : Job) where
       meant_unless (λ s. not (option_map_or (λ n. is_on_in n s) job.source.overflow false))
       (by_effect (overflow_output job.source.forms job.source.words job.source.overflow job.source.lines))
 
-  -- ---- 8 MR shows whether the record has a match, and its columns become values of fields
+  -- ---- 8 MR shows whether the record has a match, and its columns are moved to fields
 
   -- a record of the other file that was read, selected earlier or waiting, has its match value
   abbrev pub meant_has_match : List Selected → Inputs → Selected → Bool
   meant_has_match earlier i r =
       meant_any_agrees (other_file (meant_file_at r.type)) (meant_match_value r) (with_record (waiting_in i (other_file (meant_file_at r.type))) earlier)
 
-  -- MR is on if the record has a match, and off if not
+  -- MR is on if the record has a match, otherwise off
   abbrev pub meant_show_match : List Selected → MeantPhase
   meant_show_match earlier = meant_does (λ s. (GoesOn, with_turned (matching_record ∷ []) (if_selected (meant_has_match earlier s.inputs) s.selected) s))
 
@@ -218,14 +218,14 @@ module _ (job : Job) where
   meant_fill_from None = meant_passes
   meant_fill_from (Some r) = by_effect (on_data (record_in job.source.forms r.text (meant_inputs_at r.type)))
 
-  -- the fields take what the record has
+  -- the fields get their values from the record
   abbrev pub meant_fill_fields : MeantPhase
   meant_fill_fields s = meant_fill_from s.selected s
 
   -- ---- 9 detail calculations
 
-  -- the whole cycle, after those that selected the earlier records, the last of these first, with the record that is next in each file, if
-  -- there is one
+  -- the whole cycle, after those that selected the earlier records, the last of these first, with the next record of each file, if there is
+  -- one
   abbrev pub MeantCycle : List Selected → Option (List ℕ) → Option (List ℕ) → MeantPhase
   MeantCycle earlier primary secondary =
       meant_detail_lines

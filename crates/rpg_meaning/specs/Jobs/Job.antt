@@ -1,4 +1,4 @@
--- What a whole job stands on: what the cards of a source say by names.
+-- The context of a whole job: what the cards of a source say, by name.
 use Rattle.std.specs.Prelude.{ℕ, List, Option}
 use Rattle.rpg_cards.specs.Keys.{Key, key_cmp}
 use Rattle.rpg_program.specs.Input.{TypeRow}
@@ -16,7 +16,8 @@ pub record Job : Type 0 where
   pub secondary_length : ℕ
   pub allowance : ℕ
 
--- a cycle under way: the values by name and all else that it changes, what is left of the allowance, the files, and the record that was selected
+-- a cycle in progress: the values by name and everything else that it changes, the remaining allowance, the files, and the record that was
+-- selected
 pub record JobState : Type 0 where
   pub world : World key_cmp
   pub allowance : ℕ

@@ -14,20 +14,20 @@ use Rattle.rpg_meaning.specs.Calculations.Laws as calculations
 use Rattle.rpg_meaning.specs.Calculations.Meaning.{CardsCome, MeantOutcome, On, Over, Source, Stops}
 use Rattle.rpg_meaning.specs.Calculations.Parts.{Part}
 
--- A phase leads from one state to another; it goes on or ends the job, and it outputs something.
+-- A phase leads from one state to another; it continues or ends the job, and it outputs something.
 abbrev pub MeantPhase : Type 1
 MeantPhase = JobState → PhaseEnd → JobState → Output → Type 0
 
--- a phase from where the one before has led, unless that ended the job
+-- a phase from where the previous one led, unless that ended the job
 abbrev pub meant_from_there : MeantPhase → PhaseEnd → JobState → Output → PhaseEnd → JobState → Output → Type 0
 meant_from_there Q GoesOn m put e t out = (more : Output) × Q m e t more × (out ≡ with_more put more)
 meant_from_there Q EndOfJob m put e t out = (e ≡ EndOfJob) × (t ≡ m) × (out ≡ put)
 meant_from_there Q (Halt k) m put e t out = (e ≡ Halt k) × (t ≡ m) × (out ≡ put)
 meant_from_there Q other m put e t out = ⊥
 
--- the one phase and then the other
+-- one phase, then the other
 infixr 5 ◌andthen◌
--- one phase after the other; the second is left out if the first ends the job
+-- one phase after the other; the second is skipped if the first ends the job
 abbrev pub ◌andthen◌ : MeantPhase → MeantPhase → MeantPhase
 (P andthen Q) s e t out = (f : PhaseEnd) × (m : JobState) × (put : Output) × P s f m put × meant_from_there Q f m put e t out
 
@@ -54,7 +54,7 @@ meant_unless test P s = meant_either (test s) meant_passes P s
 abbrev pub by_effect : (World key_cmp → Effect key_cmp) → MeantPhase
 by_effect f s e t out = (e ≡ phase_end (f s.world).ending) × (t ≡ record s { world = (f s.world).world }) × (out ≡ record { lines = (f s.world).lines; records = (f s.world).records })
 
--- calculations have come to an end, or to a halt
+-- calculations have reached an end or a halt
 abbrev pub Came : MeantOutcome → MeantPhase
 Came (On u o) s e t out = (e ≡ GoesOn) × (t ≡ record s { world = u.world; allowance = u.allowance }) × (out ≡ o)
 Came (Stops k u o) s e t out = (e ≡ Halt k) × (t ≡ record s { world = u.world; allowance = u.allowance }) × (out ≡ o)
@@ -74,11 +74,11 @@ is_on_in n s = set.contains s.world.data.on n
 abbrev pub any_on_in : List ℕ → JobState → Bool
 any_on_in ns s = list_any (λ n. set.contains s.world.data.on n) ns
 
--- the indicators on, once these are turned on or off
+-- the indicators that are on, after these are turned on or off
 abbrev pub turned_all : List ℕ → Bool → set.FinSet nat_cmp → set.FinSet nat_cmp
 turned_all [] is_on on = on
 turned_all (n ∷ ns) is_on on = turned_all ns is_on (indicators_turned n is_on on)
 
--- the state, once these indicators are turned on or off
+-- the state, after these indicators are turned on or off
 abbrev pub with_turned : List ℕ → Bool → JobState → JobState
 with_turned ns is_on s = record s { world = with_data (record s.world.data { on = turned_all ns is_on s.world.data.on }) s.world }

@@ -1,4 +1,4 @@
--- Whole runs by cards: cycles, each with the records that are next in the files that read one, until one ends the job.
+-- Whole runs by cards: cycles, each with the next records of the files that read one, until one ends the job.
 use Rattle.std.specs.Prelude.{◌≡◌, ℕ, ◌+◌, Bool, not, ◌&&◌, ◌||◌, List, [], Option, None}
 use Rattle.rpg_cards.specs.Keys.{key_cmp}
 use Rattle.rpg_cycle.specs.Ends.{PhaseEnd, GoesOn, EndOfJob, Halt}
@@ -29,20 +29,20 @@ meant_begun job w i = record { world = w; allowance = job.allowance; inputs = i;
 abbrev pub meant_needs : Job → JobState → InputFile → Bool
 meant_needs job s f = not (is_on_in last_record s || any_on_in halt_indicators s) && meant_takes_in job s.inputs f
 
--- what it takes of a file's records, and the records that are left after it
+-- what it reads of a file's records, and the remaining records
 abbrev pub meant_next : Job → JobState → InputFile → List (List ℕ) → Option (List ℕ)
 meant_next job s f rs = next_of (meant_needs job s f) rs
 
--- the records that are left, once the next cycle has read what it needs
+-- the remaining records, after the next cycle has read what it needs
 abbrev pub meant_left : Job → JobState → Records → Records
 meant_left job s rs = record { primary = rest_where_needed (meant_needs job s Primary) rs.primary; secondary = rest_where_needed (meant_needs job s Secondary) rs.secondary }
 
--- the next cycle from a state before it, with the record that is next in each file that reads one
+-- the next cycle from a state before it, with the next record of each file that reads one
 abbrev pub NextCycle : Job → List Selected → Records → World key_cmp → Inputs → PhaseEnd → JobState → Output → Type 0
 NextCycle job earlier rs w i =
     MeantCycle job earlier (meant_next job (meant_begun job w i) Primary rs.primary) (meant_next job (meant_begun job w i) Secondary rs.secondary) (meant_begun job w i)
 
--- the course of a run whose last cycle ends so
+-- the course of a run whose last cycle ends this way
 abbrev pub meant_last_cycle : PhaseEnd → Output → MeantCourse
 meant_last_cycle e out = record { ending = e; cycles = 1; output = out }
 
@@ -50,7 +50,7 @@ meant_last_cycle e out = record { ending = e; cycles = 1; output = out }
 abbrev pub with_meant_cycle : Output → MeantCourse → MeantCourse
 with_meant_cycle out rest = record { ending = rest.ending; cycles = 1 + rest.cycles; output = with_more out rest.output }
 
--- a run after earlier records (the last first), over the records that are left: one cycle after another
+-- a run after earlier records (the last first), over the remaining records: one cycle after another
 pub data MeantRuns (job : Job) : List Selected → Records → World key_cmp → Inputs → MeantCourse → Type 0 where
   -- a cycle comes to the end of the job
   AtEndOfJob : (earlier : List Selected) (rs : Records) (w : World key_cmp) (i : Inputs) (t : JobState) (out : Output)
@@ -58,7 +58,7 @@ pub data MeantRuns (job : Job) : List Selected → Records → World key_cmp →
   -- a cycle halts
   AtHalt : (earlier : List Selected) (rs : Records) (w : World key_cmp) (i : Inputs) (k : ℕ) (t : JobState) (out : Output)
       → NextCycle job earlier rs w i (Halt k) t out → MeantRuns job earlier rs w i (meant_last_cycle (Halt k) out)
-  -- a cycle goes on, and the rest follows
+  -- a cycle continues, and the rest follows
   Then : (earlier : List Selected) (rs : Records) (w : World key_cmp) (i : Inputs) (t : JobState) (out : Output) (rest : MeantCourse)
       → NextCycle job earlier rs w i GoesOn t out → MeantRuns job (with_record t.selected earlier) (meant_left job (meant_begun job w i) rs) t.world t.inputs rest
       → MeantRuns job earlier rs w i (with_meant_cycle out rest)

@@ -1,4 +1,4 @@
--- The job that a source and an allowance say, and what it is that a program does it.
+-- The job of a source and an allowance, and what it means that a program does it.
 use Rattle.std.specs.Prelude.{◌≡◌, ℕ, ℤ, List}
 use Rattle.rpg_cards.specs.Keys.{key_cmp}
 use Rattle.rpg_cards.specs.declared.spec_card.SpecCard.{SpecCard}
@@ -24,14 +24,14 @@ job_of cards allowance = record {
   allowance = allowance;
 }
 
--- the run of the program is the run of the cards: one end, as many cycles, and the same bytes
+-- the run of the program is the run of the cards: the same end, as many cycles, and the same bytes
 pub record IsMeant (cards : List SpecCard) (allowance : ℕ) (w : World key_cmp) (records : machine.Records) (course : machine.Course) (bytes : Bytes) : Type 0 where
   pub meant : MeantCourse
   pub run : IsMeantRun (job_of cards allowance) w records meant bytes
   pub ending : course.ending ≡ meant.ending
   pub cycles : course.cycles ≡ meant.cycles
 
--- each run of the program over records on a date is the run of the cards from what they start with
+-- each run of the program over records on a date is the run of the cards from the values that they start with
 abbrev pub RunsAreMeant : List SpecCard → ℕ → ℤ → Type 0
 RunsAreMeant cards allowance date =
     (w : World key_cmp) → IsStart cards date w

@@ -15,7 +15,7 @@ use Rattle.rpg_program.specs.declared.form.FieldForm.{FieldForm}
 use Rattle.rpg_job.specs.FirstValues.{meant_constant, meant_named_value}
 use Rattle.rpg_job.specs.Forms.{meant_forms, stands_on}
 
--- a name has its data, else zeros or blanks; a constant its own value. Entries are counted from 1
+-- a name has its data, otherwise zeros or blanks; a constant its own value. Entries are counted from 1
 abbrev pub meant_first_value : List SpecCard → Key → ℕ → Option Value
 meant_first_value cards k zero = None
 meant_first_value cards (Named name) (suc n) = option_and_then (λ form. meant_named_value cards name form n) (meant_forms cards (Named name))
@@ -31,7 +31,7 @@ takes_date form = option_map_or (λ f. is_date f.class) form false
 abbrev pub start_value : List SpecCard → ℤ → Key → ℕ → Option Value
 start_value cards date k n = if takes_date (meant_forms cards k) && n == 1 then Some (Number date) else meant_first_value cards k n
 
--- each constant that stands on the cards has the value that is written
+-- each constant on the cards has the value as written
 abbrev pub ConstantsStand : List SpecCard → World key_cmp → Type 0
 ConstantsStand cards w = (c : Constant) → stands_on cards c ≡ true → value_in w.data.fields (Fixed c, 1) ≡ Some (meant_constant c)
 
