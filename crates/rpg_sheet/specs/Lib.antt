@@ -1,6 +1,7 @@
 pub mod Codes
 pub mod Ranges
 pub mod Readable
+pub mod Rest
 pub mod Seen
 pub mod Sheet
 pub mod Unreadable

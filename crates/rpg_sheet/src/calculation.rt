@@ -1,11 +1,10 @@
 //! The calculation sheet (C).
 #![tactic(auto, unfolding(rpg_sheet_specs::specs::Columns::values, rpg_sheet_specs::specs::Columns::at_with, rpg_sheet_specs::specs::Columns::also, rpg_sheet_specs::specs::Columns::past, rpg_sheet_specs::specs::Columns::blank, rpg_sheet_specs::specs::Tables::calculation_card))]
 
-ghost use Rattle.std.specs.Prelude.{◌≡◌, [], codes, OnOk, IfErr};
-ghost use Rattle.rpg_sheet_specs.specs.Columns as columns;
-ghost use Rattle.rpg_sheet_specs.specs.Columns.{IsLeastColumn, ◌⊛◌};
+ghost use Rattle.std.specs.Prelude.{◌≡◌, [], OnOk, IfErr};
+ghost use Rattle.rpg_sheet.specs.Rest.{rest_of_calculation};
+ghost use Rattle.rpg_sheet_specs.specs.Columns.{IsLeastColumn};
 ghost use Rattle.rpg_sheet_specs.specs.Tables as tables;
-ghost use Rattle.rpg_sheet_specs.specs.Values as values;
 
 use crate::card::Card;
 use crate::columns::{at, conditions, indicators};
@@ -41,12 +40,7 @@ fn calculation_with(
     operation: Option<Operation>,
     factor_2: Option<Factor>,
 ) -> Result<CalculationSpec, ColumnFault>
-    ensures { result ≡ (columns.values (tables.calculation_spec control_level conditions factor_1 operation factor_2)
-        ⊛ columns.at 43 48 (values.blank_or values.entry)
-        ⊛ columns.at 49 51 (values.blank_or values.number)
-        ⊛ columns.at 52 52 (values.blank_or values.digits)
-        ⊛ columns.at 53 53 (values.marked (codes "H"))
-        ⊛ tables.three_indicators 54 55 56 57 58 59).reading card.now }
+    ensures { result ≡ (rest_of_calculation control_level conditions factor_1 operation factor_2).reading card.now }
 {
     let result_field = card.optional_entry(ranges::RESULT_NAME)?;
     let length = card.optional_number(ranges::RESULT_LENGTH)?;

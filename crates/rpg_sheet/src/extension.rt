@@ -1,11 +1,10 @@
 //! The extension sheet (E).
 #![tactic(auto, unfolding(rpg_sheet_specs::specs::Columns::values, rpg_sheet_specs::specs::Columns::at_with, rpg_sheet_specs::specs::Columns::also, rpg_sheet_specs::specs::Columns::past, rpg_sheet_specs::specs::Columns::blank, rpg_sheet_specs::specs::Columns::where_card, rpg_sheet_specs::specs::Tables::extension, rpg_sheet_specs::specs::Tables::alternating, rpg_sheet_specs::specs::Tables::alternating_table))]
 
-ghost use Rattle.std.specs.Prelude.{◌≡◌, [], codes, OnOk, IfErr};
-ghost use Rattle.rpg_sheet_specs.specs.Columns as columns;
-ghost use Rattle.rpg_sheet_specs.specs.Columns.{IsLeastColumn, ◌⊛◌, ◌⊘◌};
+ghost use Rattle.std.specs.Prelude.{◌≡◌, [], OnOk, IfErr};
+ghost use Rattle.rpg_sheet.specs.Rest.{rest_of_extension};
+ghost use Rattle.rpg_sheet_specs.specs.Columns.{IsLeastColumn};
 ghost use Rattle.rpg_sheet_specs.specs.Tables as tables;
-ghost use Rattle.rpg_sheet_specs.specs.Values as values;
 
 use crate::card::{Card, has_only_blanks};
 use rpg_sheet_specs::{ColumnFault, ExtensionSpec, TableSpec, Word, ranges};
@@ -30,11 +29,7 @@ fn extension_with(
     entries: u16,
     length: u16,
 ) -> Result<ExtensionSpec, ColumnFault>
-    ensures { result ≡ (columns.values (tables.extension_spec name entries_per_card entries length)
-        ⊘ columns.blank 43 43
-        ⊛ columns.at 44 44 (values.blank_or values.digits)
-        ⊛ columns.at 45 45 (values.marked (codes "A"))
-        ⊛ tables.alternating).reading card.now }
+    ensures { result ≡ (rest_of_extension name entries_per_card entries length).reading card.now }
 {
     card.blank(ranges::ENTRY_FORMAT)?;
     let decimals = card.optional_digit(ranges::ENTRY_DECIMALS)?;

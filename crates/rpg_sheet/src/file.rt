@@ -2,8 +2,8 @@
 #![tactic(auto, unfolding(rpg_sheet_specs::specs::Columns::values, rpg_sheet_specs::specs::Columns::at_with, rpg_sheet_specs::specs::Columns::also, rpg_sheet_specs::specs::Columns::past, rpg_sheet_specs::specs::Columns::blank, rpg_sheet_specs::specs::Columns::where_card, rpg_sheet_specs::specs::Values::blank_or, rpg_sheet_specs::specs::Tables::file, rpg_sheet_specs::specs::Tables::file_overflow, rpg_sheet_specs::specs::Tables::overflow, rpg_sheet_specs::specs::Tables::role))]
 
 ghost use Rattle.std.specs.Prelude.{◌≡◌, [], ◌∷◌, codes, if◌then◌else◌, OnOk, IfErr};
-ghost use Rattle.rpg_sheet_specs.specs.Columns as columns;
-ghost use Rattle.rpg_sheet_specs.specs.Columns.{IsLeastColumn, cols, ◌⊛◌, ◌⊘◌};
+ghost use Rattle.rpg_sheet.specs.Rest.{rest_of_file};
+ghost use Rattle.rpg_sheet_specs.specs.Columns.{IsLeastColumn, cols};
 ghost use Rattle.rpg_sheet_specs.specs.Tables as tables;
 ghost use Rattle.rpg_sheet_specs.specs.Values as values;
 ghost use Rattle.rpg_sheet_specs.specs.declared.file.FileRole.TheVariants as roles;
@@ -35,11 +35,7 @@ fn file_with(
     ends_job: bool,
     ascending: bool,
 ) -> Result<FileSpec, ColumnFault>
-    ensures { result ≡ (columns.values (tables.file_spec name role ends_job ascending)
-        ⊛ columns.at 24 27 values.number
-        ⊛ tables.file_overflow
-        ⊛ columns.at 40 46 tables.device_named
-        ⊘ columns.blank 47 74).reading card.now }
+    ensures { result ≡ (rest_of_file name role ends_job ascending).reading card.now }
 {
     let record_length = card.number(ranges::RECORD_LENGTH)?;
     let overflow = file_overflow(card)?;

@@ -2,10 +2,9 @@
 #![tactic(auto, unfolding(rpg_sheet_specs::specs::Columns::values, rpg_sheet_specs::specs::Columns::at_with, rpg_sheet_specs::specs::Columns::also, rpg_sheet_specs::specs::Columns::past, rpg_sheet_specs::specs::Columns::blank, rpg_sheet_specs::specs::Columns::where_card, rpg_sheet_specs::specs::Tables::input_card, rpg_sheet_specs::specs::Tables::type_or_field_card, rpg_sheet_specs::specs::Tables::type_card, rpg_sheet_specs::specs::Tables::type_and_card, rpg_sheet_specs::specs::Tables::and_codes, rpg_sheet_specs::specs::Tables::record_codes, rpg_sheet_specs::specs::Tables::field_card))]
 
 ghost use Rattle.std.specs.Prelude.{◌≡◌, [], OnOk, IfErr};
-ghost use Rattle.rpg_sheet_specs.specs.Columns as columns;
-ghost use Rattle.rpg_sheet_specs.specs.Columns.{IsLeastColumn, ◌⊛◌, ◌⊘◌};
+ghost use Rattle.rpg_sheet.specs.Rest.{rest_of_field};
+ghost use Rattle.rpg_sheet_specs.specs.Columns.{IsLeastColumn};
 ghost use Rattle.rpg_sheet_specs.specs.Tables as tables;
-ghost use Rattle.rpg_sheet_specs.specs.Values as values;
 
 use crate::card::{Card, has_only_blanks};
 use crate::columns::{at, indicators};
@@ -129,12 +128,7 @@ fn field_with(
     decimals: Option<u8>,
     name: Word<6>,
 ) -> Result<InputFieldSpec, ColumnFault>
-    ensures { result ≡ (columns.values (tables.input_field from to decimals name)
-        ⊛ columns.at 59 60 (values.blank_or tables.control_field_level)
-        ⊛ columns.at 61 62 (values.blank_or tables.match_field_level)
-        ⊘ columns.blank 63 64
-        ⊛ tables.three_indicators 65 66 67 68 69 70
-        ⊘ columns.blank 71 74).reading card.now }
+    ensures { result ≡ (rest_of_field from to decimals name).reading card.now }
 {
     let level = card.optional_level(b'L', ranges::INPUT_LEVEL)?;
     let match_level = card.optional_level(b'M', ranges::INPUT_MATCH)?;

@@ -4,8 +4,7 @@ ghost use Rattle.std.specs.Prelude.{◌≡◌, ◌≤◌, length, None, Some, ve
 ghost use Rattle.rpg_sheet_specs.specs.Cards as cards;
 ghost use Rattle.rpg_sheet_specs.specs.Specs.{data_spec_of, spec_of};
 ghost use Rattle.rpg_sheet.specs.Codes as codes;
-ghost use Rattle.rpg_sheet.specs.Seen.{sheet_code};
-ghost use Rattle.rpg_sheet.specs.Sheet.{sheet_fault_columns};
+ghost use Rattle.rpg_sheet.specs.Seen.{IsCardFault, sheet_code};
 ghost use Rattle.rpg_sheet.specs.declared.sheet.SheetCode.TheVariants.{S5};
 ghost use Rattle.rpg_sheet.specs.declared.sheet.SheetFault.TheVariants.{NoMemory};
 
@@ -166,7 +165,7 @@ impl Cards {
 /// begun.
 pub(crate) fn read(card: &Card, latest: u8, data_begun: bool) -> Result<Option<Spec>, CardFault>
     ensures ok { IfOk result (λ spec. (spec ≡ spec_of data_begun card.now) × (sheet_code latest data_begun card.now ≡ None)) }
-    ensures err { IfErr result (λ fault. (sheet_code latest data_begun card.now ≡ Some fault.code) × (fault.columns ≡ sheet_fault_columns data_begun card.now fault.code)) }
+    ensures err { IfErr result (IsCardFault latest data_begun card.now) }
 {
     if !card.is_sheet(data_begun) {
         return Ok(data(card, data_begun).map(Spec::Data));

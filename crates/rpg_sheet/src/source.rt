@@ -2,7 +2,7 @@
 
 ghost use Rattle.std.specs.Prelude.{◌≡◌, ℕ, ◌≤◌, ◌||◌, ◌∷◌, ◌++◌, List, [], None, Some, map, nat_lt, OnOk, IfOk, IfErr};
 ghost use Rattle.std.specs.Option.{option_or};
-ghost use Rattle.rpg_sheet.specs.Seen.{AreLinesSeen, code_seen, sheet_code};
+ghost use Rattle.rpg_sheet.specs.Seen.{HasSeen, code_seen, sheet_code};
 ghost use Rattle.rpg_sheet.specs.declared.sheet.SheetCode.TheVariants.{S6};
 ghost use Rattle.rpg_sheet.specs.Sheet as sheets;
 ghost use Rattle.rpg_sheet_specs.specs.Cards.{card_of};
@@ -37,7 +37,7 @@ impl Earlier {
     /// Returns the state after a line with these columns.
     pub(crate) fn with(self, columns: &[u8; 80]) -> Self
         requires { self.count ≤ 2000 }
-        ensures { (lines : List (List ℕ)) → (line : List ℕ) → columns.now ≡ card_of line → AreLinesSeen lines self.count self.latest self.data_begun → AreLinesSeen (lines ++ line ∷ []) result.count result.latest result.data_begun }
+        ensures { (lines : List (List ℕ)) → (line : List ℕ) → columns.now ≡ card_of line → HasSeen self lines → HasSeen result (lines ++ line ∷ []) }
     {
         Earlier {
             count: self.count + 1,

@@ -2,7 +2,7 @@
 
 ghost use Rattle.std.specs.Prelude.{◌≡◌, ℕ, ◌≤◌, ◌++◌, List, slice_get, IfOk, OnOk};
 ghost use Rattle.std.specs.Option.{option_map};
-ghost use Rattle.rpg_sheet.specs.Seen.{AreLinesSeen};
+ghost use Rattle.rpg_sheet.specs.Seen.{HasSeen};
 ghost use Rattle.rpg_sheet.specs.Sheet as sheets;
 ghost use Rattle.rpg_sheet.specs.Unreadable as every;
 ghost use Rattle.rpg_sheet_specs.specs.Cards.{card_of};
@@ -58,7 +58,7 @@ fn put_if_unreadable(
 ) -> Result<(), AllocError>
     requires few { earlier.count ≤ 2000 }
     requires columns { columns.now ≡ card_of line.now }
-    ensures { OnOk result ((lines : List (List ℕ)) → AreLinesSeen lines earlier.count earlier.latest earlier.data_begun → found.new.items ≡ found.old.items ++ every.unreadable_at lines line.now) }
+    ensures { OnOk result ((lines : List (List ℕ)) → HasSeen earlier lines → found.new.items ≡ found.old.items ++ every.unreadable_at lines line.now) }
 {
     match checked(earlier, line, columns) {
         Ok(_) => Ok(()),

@@ -1,0 +1,49 @@
+-- What is left of a card whose first columns are read: what these mean, and the columns after them.
+use Rattle.std.specs.Prelude.{ℕ, List, Bool, Option, codes}
+use Rattle.rpg_sheet_specs.specs.declared.calculation.CalculationSpec.{CalculationSpec}
+use Rattle.rpg_sheet_specs.specs.declared.calculation.ControlLevel.{ControlLevel}
+use Rattle.rpg_sheet_specs.specs.declared.calculation.Operation.{Operation}
+use Rattle.rpg_sheet_specs.specs.declared.extension.ExtensionSpec.{ExtensionSpec}
+use Rattle.rpg_sheet_specs.specs.declared.file.FileRole.{FileRole}
+use Rattle.rpg_sheet_specs.specs.declared.file.FileSpec.{FileSpec}
+use Rattle.rpg_sheet_specs.specs.declared.indicator.ConditionSpec.{ConditionSpec}
+use Rattle.rpg_sheet_specs.specs.declared.indicator.Three.{Three}
+use Rattle.rpg_sheet_specs.specs.declared.input.InputFieldSpec.{InputFieldSpec}
+use Rattle.rpg_sheet_specs.specs.declared.literal.Factor.{Factor}
+use Rattle.rpg_sheet_specs.specs.Columns.{Columns, values, at, blank, ◌⊛◌, ◌⊘◌}
+use Rattle.rpg_sheet_specs.specs.Tables.{alternating, calculation_spec, control_field_level, device_named, extension_spec, file_overflow, file_spec, input_field, match_field_level, three_indicators}
+use Rattle.rpg_sheet_specs.specs.Values.{blank_or, digits, entry, marked, number}
+
+-- an F card from its record length on
+abbrev pub rest_of_file : List ℕ → FileRole → Bool → Bool → Columns FileSpec
+rest_of_file name role ends_job ascending = values (file_spec name role ends_job ascending)
+    ⊛ at 24 27 number
+    ⊛ file_overflow
+    ⊛ at 40 46 device_named
+    ⊘ blank 47 74
+
+-- an E card from the entry's format on
+abbrev pub rest_of_extension : List ℕ → Option ℕ → ℕ → ℕ → Columns ExtensionSpec
+rest_of_extension name entries_per_card entries length = values (extension_spec name entries_per_card entries length)
+    ⊘ blank 43 43
+    ⊛ at 44 44 (blank_or digits)
+    ⊛ at 45 45 (marked (codes "A"))
+    ⊛ alternating
+
+-- an I card of a field from its control level on
+abbrev pub rest_of_field : ℕ → ℕ → Option ℕ → List ℕ → Columns InputFieldSpec
+rest_of_field from to decimals name = values (input_field from to decimals name)
+    ⊛ at 59 60 (blank_or control_field_level)
+    ⊛ at 61 62 (blank_or match_field_level)
+    ⊘ blank 63 64
+    ⊛ three_indicators 65 66 67 68 69 70
+    ⊘ blank 71 74
+
+-- a C card from its result field on
+abbrev pub rest_of_calculation : ControlLevel → Three (Option ConditionSpec) → Option Factor → Option Operation → Option Factor → Columns CalculationSpec
+rest_of_calculation level conditions factor_1 operation factor_2 = values (calculation_spec level conditions factor_1 operation factor_2)
+    ⊛ at 43 48 (blank_or entry)
+    ⊛ at 49 51 (blank_or number)
+    ⊛ at 52 52 (blank_or digits)
+    ⊛ at 53 53 (marked (codes "H"))
+    ⊛ three_indicators 54 55 56 57 58 59
