@@ -206,10 +206,12 @@ passed_stops A B (Ok x) s P Q f h g = absurd h
 passed_stops A B (Err x) s P Q f h g = memory_stops A B x P Q f (subst (λ (y : PhaseStop). IfStops {A = A} (Err y) P) (sym h) g)
 
 -- what is known of the machine is known where the job ended
-stops_memory : (A B : Type 0) (s : PhaseStop) (P : Type 0) (Q : JobEnd → Type 0) → ((e : JobEnd) → P → Q e) → UnlessNoMemory {A = A} (Err s) P → IfStops {A = B} (Err s) Q
-stops_memory A B (stops.Ends e) P Q f h = f e h
-stops_memory A B stops.NoMemory P Q f h = tt
+stops_with : (A B : Type 0) (s : PhaseStop) (M : Type 0) (P Q : JobEnd → Type 0) → ((e : JobEnd) → M → P e → Q e) → UnlessNoMemory {A = A} (Err s) M → IfStops {A = A} (Err s) P → IfStops {A = B} (Err s) Q
+stops_with A B (stops.Ends e) M P Q f m h = f e m h
+stops_with A B stops.NoMemory M P Q f m h = tt
 
-pub passed_known : (A B : Type 0) (r : Result B PhaseStop) (s : PhaseStop) (P : Type 0) (Q : JobEnd → Type 0) → ((e : JobEnd) → P → Q e) → IsErrAnd r (λ x. x ≡ s) → UnlessNoMemory {A = A} (Err s) P → IfStops r Q
-passed_known A B (Ok x) s P Q f h g = absurd h
-passed_known A B (Err x) s P Q f h g = stops_memory A B x P Q f (subst (λ (y : PhaseStop). UnlessNoMemory {A = A} (Err y) P) (sym h) g)
+pub passed_with : (A B : Type 0) (r : Result B PhaseStop) (s : PhaseStop) (M : Type 0) (P Q : JobEnd → Type 0) → ((e : JobEnd) → M → P e → Q e) → IsErrAnd r (λ x. x ≡ s) → UnlessNoMemory {A = A} (Err s) M →
+    IfStops {A = A} (Err s) P → IfStops r Q
+passed_with A B (Ok x) s M P Q f h m g = absurd h
+passed_with A B (Err x) s M P Q f h m g =
+    stops_with A B x M P Q f (subst (λ (y : PhaseStop). UnlessNoMemory {A = A} (Err y) M) (sym h) m) (subst (λ (y : PhaseStop). IfStops {A = A} (Err y) P) (sym h) g)

@@ -1,5 +1,5 @@
 -- How records are taken in, and how one is selected.
-use Rattle.std.proofs.Common.{◌≡◌, ℕ, ◌≤◌, ◌+◌, ◌*◌, suc, Bool, true, false, cond, not, ◌&&◌, List, [], ◌∷◌, length, slice_get, All, Option, None, Some, is_none, refl, sym, ap, ◌∙◌, subst, take, arith}
+use Rattle.std.proofs.Common.{◌≡◌, ℕ, ◌≤◌, ◌<◌, ◌+◌, ◌*◌, suc, Bool, true, false, cond, not, ◌&&◌, List, [], ◌∷◌, length, slice_get, All, Option, None, Some, is_none, Ok, Err, refl, sym, ap, ◌∙◌, subst, take, arith}
 use Rattle.std.proofs.lemmas.Bool.Decides.{nat_tests}
 use Rattle.std.specs.List.{list_all}
 use Rattle.std.specs.Option.{ForSome}
@@ -7,29 +7,35 @@ use Rattle.rpg_paper.specs.Paper.{Position, last_position_from}
 use Rattle.rpg_program.specs.declared.input.ControlField.{ControlField}
 use Rattle.rpg_program.specs.declared.input.InputFile.{InputFile}
 use Rattle.rpg_program.specs.declared.input.InputFile.TheVariants.{Primary, Secondary}
-use Rattle.rpg_cycle.proofs.Composing.{of_some, quietly}
-use Rattle.rpg_cycle.proofs.Spending.{keeps_reach}
-use Rattle.rpg_cycle.proofs.Turning.{all_keep, all_on, type_keeps, type_on}
+use Rattle.rpg_cycle.proofs.Composing.{memory_both, of_none, of_some, quietly}
+use Rattle.rpg_cycle.proofs.Spending.{costs_none, keeps_reach}
+use Rattle.rpg_cycle.proofs.Turning.{Keeps, all_keep, all_on, type_keeps, type_on}
 use Rattle.rpg_cycle.specs.Doing.{Does, Beside, holding, unselected, under_way}
-use Rattle.rpg_cycle.specs.Indicators.{is_on, last_record, level_indicators, with_all, with_levels, with_type}
+use Rattle.rpg_cycle.specs.Indicators.{is_on, last_record, level_indicators, with_all, with_levels, with_one, with_type}
+use Rattle.rpg_cycle_records.proofs.Recording.{filled_characters}
 use Rattle.rpg_cycle_records.specs.Earlier.{Left, Selected, file_of, last_of_file, match_fields, match_value, control_fields}
 use Rattle.rpg_cycle.specs.Ends.{GoesOn, Halt, PhaseEnd}
 use Rattle.rpg_cycle_records.specs.Fitting.{IsControlIn}
 use Rattle.rpg_cycle_records.specs.Identifying.{IsOf, IsOfNone, identified, is_good_record, padded, trial_weight}
-use Rattle.rpg_cycle_records.specs.Keeping.{left_of, selected_as}
+use Rattle.rpg_cycle_records.specs.Keeping.{left_of, renewed, renewed_by, seen_levels, seen_value, selected_as, value_following}
 use Rattle.rpg_cycle_records.specs.Levels.{broken_in, is_in_record}
 use Rattle.rpg_cycle_records.specs.Matching.{exceeds}
-use Rattle.rpg_cycle_records.specs.Waiting.{InputState, Inputs, chosen, input_at, with_file_over, takes_in, waiting_in, with_input, with_waiting}
-use Rattle.rpg_cycle_records.specs.Holding.{HoldsRecord, HoldsSelected, IsFileKept, input_state_of, inputs_of, kept_at, last_record_in, takes_from, text_in}
+use Rattle.rpg_cycle_records.specs.Waiting.{InputState, Inputs, chosen, input_at, other_file, with_file_over, takes_in, waiting_in, with_input, with_waiting}
+use Rattle.rpg_cycle_records.specs.Holding.{AreFilesKept, HoldsRecord, HoldsSelected, IsFileKept, input_state_of, inputs_of, kept_at, last_record_in, takes_from, text_in}
 use Rattle.rpg_cycle_records.specs.declared.files.KeptFile.{KeptFile}
 use Rattle.rpg_cycle_records.specs.declared.kept.Kept.{Kept}
+use Rattle.rpg_cycle_records.specs.declared.levels.LastBytes.{LastBytes}
+use Rattle.rpg_cycle_records.specs.declared.matching.LastValues.{LastValues}
 use Rattle.rpg_cycle.specs.Phases.{broken_level, without_output, done, either, read_record, select_from, select_one, select_record, select_waiting, take_in, type_indicator, with_config, ◌before◌}
-use Rattle.rpg_cycle.specs.Selecting.{HasRead, HasSelected, IsCompared, IsUntaken, TakesType}
-use Rattle.rpg_cycle.specs.Spending.{Spends, SpendsTakingIn}
+use Rattle.rpg_cycle.specs.Selecting.{HasRead, HasSelected, IsCompared, IsPicked, IsTakenUp, IsUntaken, LeavesFile, RenewsSeen, TakesType, with_seen}
+use Rattle.rpg_cycle.specs.Spending.{Spends, SpendsTakingIn, reach}
 use Rattle.rpg_cycle.specs.Stages.{job_end}
 use Rattle.rpg_cycle.specs.declared.ends.JobEnd.{JobEnd}
+use Rattle.rpg_cycle.specs.declared.ends.PhaseStop.{PhaseStop}
 use Rattle.rpg_machine.specs.Config.{Config, charged}
+use Rattle.rpg_machine.specs.Ready.{IsReady}
 use Rattle.rpg_machine.specs.Running.{Running, config_on}
+use Rattle.rpg_program.specs.Kept.{IsCharacter}
 use Rattle.rpg_program.specs.Object.{Object, has_file, input_length}
 use Rattle.rpg_verify.specs.Bound.{most}
 
@@ -188,14 +194,65 @@ taken_costs p f full t a b c one two =
       few = omega (arith, ap (λ (x : Running). x.config.steps) m, ap (λ (x : Running). x.config.allowance * most p) m);
     }
 
-pub few_steps : (p : Object) (f : InputFile) (full : List ℕ) (t : ℕ) (a b c : Running) → TakesType p f full a t b → c ≡ record b { config = charged (length (match_fields p t)) b.config } → length (match_fields p t) ≤ 9 →
+few_steps : (p : Object) (f : InputFile) (full : List ℕ) (t : ℕ) (a b c : Running) → TakesType p f full a t b → c ≡ record b { config = charged (length (match_fields p t)) b.config } → length (match_fields p t) ≤ 9 →
     c.config.steps ≤ a.config.steps + 20009
 few_steps p f full t a b c one two few =
     let m = ap (λ (x : Running). x.config.steps) (charged_so p f full t a b c one two) in omega (arith, m, one.few, few)
 
+-- how the file is left where it took nothing in
+pub leaves_none : (p : Object) (f : InputFile) (k : KeptFile) (a : Running) → IsFileKept p f k → LeavesFile p f a (Ok tt) k a
+leaves_none p f k a kept = record {
+  taken = record { program = refl; ready = λ h. h; few = more a.config.steps; kept = kept };
+  takes = record { text = []; row = None; own = of_none (λ t. file_of (slice_get p.types t) ≡ f); few = same (reach p a) (trial_weight f p.types []) };
+  output = refl;
+}
+  where
+    more : (n : ℕ) → n ≤ n + 20009
+    more n = omega arith
+
+    same : (n w : ℕ) → n ≤ n + (w + 0)
+    same n w = omega arith
+
+-- its end was read
+pub over_kept : (p : Object) (f : InputFile) (k : KeptFile) → IsFileKept p f k → IsFileKept p f (record k { is_over = true })
+over_kept p f k h = λ t e. let x = h t e in record { there = x.there; own = x.own; whole = x.whole; characters = x.characters; value = x.value }
+
+-- the record that was filled waits
+pub kept_waiting : (p : Object) (f : InputFile) (text full : List ℕ) (t : ℕ) (k : KeptFile) → is_good_record p f text ≡ true → full ≡ padded p f text → length full ≡ input_length p f → t < length p.types → file_of (slice_get p.types t) ≡ f →
+    k.waiting ≡ Some t → k.record.items ≡ full → seen_value k.value ≡ match_value p (record { type = t; text = full }) → IsFileKept p f k
+kept_waiting p f text full t k good filled whole there own waiting held value =
+    subst (λ (o : Option ℕ). ForSome o (λ n. HoldsRecord p f k n)) (sym waiting) (of_some (λ n. HoldsRecord p f k n) t (record {
+      there = there;
+      own = own;
+      whole = ap length held ∙ whole ∙ sym (ap (input_length p) own);
+      characters = subst (λ (xs : List ℕ). All IsCharacter xs) (sym (held ∙ filled)) (filled_characters p f text good);
+      value = value ∙ ap (λ (xs : List ℕ). match_value p (record { type = t; text = xs })) (sym held);
+    }))
+
+module _ (p : Object) (f : InputFile) (full : List ℕ) (t : ℕ) (a b c : Running) (one : TakesType p f full a t b) (two : c ≡ record b { config = charged (length (match_fields p t)) b.config }) where
+  same_output : c.output ≡ a.output
+  same_output = ap (λ (x : Running). x.output) (charged_so p f full t a b c one two)
+
+  -- where the record waits
+  pub leaves_waiting : (k : KeptFile) → length (match_fields p t) ≤ 9 → (IsReady b → IsReady c) → IsFileKept p f k → LeavesFile p f a (Ok tt) k c
+  leaves_waiting k few ready kept = record {
+    taken = record {
+      program = ap (λ (x : Running). x.program) (charged_so p f full t a b c one two);
+      ready = λ h. ready (one.ready h);
+      few = few_steps p f full t a b c one two few;
+      kept = kept;
+    };
+    takes = taken_costs p f full t a b c one two;
+    output = same_output;
+  }
+
+  -- where the job ended, or memory ran out
+  pub leaves_ended : (s : PhaseStop) (k : KeptFile) → LeavesFile p f a (Err s) k c
+  leaves_ended s k = record { taken = tt; takes = memory_both {A = Unit {0}} (Err s) _ (taken_costs p f full t a b c one two); output = same_output }
+
 -- ---- a waiting record is selected
 
-pub nothing_waits : (p : Object) (left : Left) (f : InputFile) (i : Inputs) (x : InputState) (text : List ℕ) (a : Running) → input_at i f ≡ x → x.waiting ≡ None → HasSelected p left f i a None text a (with_input f x i)
+nothing_waits : (p : Object) (left : Left) (f : InputFile) (i : Inputs) (x : InputState) (text : List ℕ) (a : Running) → input_at i f ≡ x → x.waiting ≡ None → HasSelected p left f i a None text a (with_input f x i)
 nothing_waits p left f i x text a is none = record {
   config = a.config;
   leads = λ previous.
@@ -203,6 +260,31 @@ nothing_waits p left f i x text a is none = record {
       ∙ ap (λ (j : Inputs). done GoesOn (under_way (config_on previous a.config) (unselected j))) (sym (put_back f i) ∙ ap (λ (y : InputState). with_input f y i) is);
   machine = refl;
 }
+
+-- so nothing was selected
+pub none_taken_up : (p : Object) (levels : List LastBytes) (values : LastValues) (k : KeptFile) (a : Running) → k.waiting ≡ None → IsTakenUp p levels values k a None levels values k a
+none_taken_up p levels values k a none = record {
+  goes = λ f left i at. nothing_waits p (with_seen levels values left) f i (input_state_of k) k.record.items a at (ap (λ (o : Option ℕ). selected_as o k.record.items) none);
+  row = sym none;
+  file = ap (λ (o : Option ℕ). let x : KeptFile = record k { waiting = o } in x) none;
+  program = refl;
+  ready = λ h. h;
+  left = λ left. refl;
+  spends = costs_none p 0 a;
+}
+
+-- levels and match values after a record
+pub renews : (p : Object) (t : ℕ) (text : List ℕ) (levels levels' : List LastBytes) (values values' : LastValues) → seen_levels levels' ≡ renewed (control_fields p t) text 9 (seen_levels levels) →
+    seen_value values'.primary ≡ value_following p Primary t text (seen_value values.primary) → seen_value values'.secondary ≡ value_following p Secondary t text (seen_value values.secondary) →
+    RenewsSeen p (Some t) text levels values levels' values'
+renews p t text levels levels' values values' bytes first second left =
+    ap (λ (xs : List (Option (List ℕ))). let l : Left = record left { bytes = xs; primary = seen_value values'.primary; secondary = seen_value values'.secondary } in l) bytes
+    ∙ ap (λ (v : Option (List ℕ)). let l : Left = record left { bytes = renewed (control_fields p t) text 9 (seen_levels levels); primary = v; secondary = seen_value values'.secondary } in l) first
+    ∙ ap (λ (v : Option (List ℕ)). let l : Left = record left {
+      bytes = renewed (control_fields p t) text 9 (seen_levels levels);
+      primary = value_following p Primary t text (seen_value values.primary);
+      secondary = v;
+    } in l) second
 
 -- what a selected record leads to
 abbrev compared_so : Object → Left → ℕ → List ℕ → Config → Config
@@ -256,7 +338,7 @@ text_of_file p k f None h = refl
 text_of_file p k f (Some n) h = ap (λ (g : InputFile). selected_as (Some n) (last_record_in k g)) (h n refl)
 
 -- the file's record was selected
-pub picks_from : (p : Object) (f : InputFile) (old now : Kept) (t : Option ℕ) (a b : Running) → chosen p (waiting_in (inputs_of old) Primary) (waiting_in (inputs_of old) Secondary) ≡ Some f →
+picks_from : (p : Object) (f : InputFile) (old now : Kept) (t : Option ℕ) (a b : Running) → chosen p (waiting_in (inputs_of old) Primary) (waiting_in (inputs_of old) Secondary) ≡ Some f →
     HasSelected p (left_of old) f (inputs_of old) a t (last_record_in now f) b (inputs_of now) → t ≡ (kept_at old f).waiting → IsFileKept p f (kept_at old f) →
     Does (select_one p (left_of old)) a (unselected (inputs_of old)) GoesOn b (holding (inputs_of now) t (text_in p now t))
 picks_from p f old now t a b is h same kept =
@@ -265,12 +347,89 @@ picks_from p f old now t a b is h same kept =
     (picks p (left_of old) f (inputs_of old) (inputs_of now) t (last_record_in now f) a b is h)
 
 -- and its file holds it still
-pub holds_from : (p : Object) (f : InputFile) (old now : Kept) (t : Option ℕ) → t ≡ (kept_at old f).waiting → kept_at now f ≡ record (kept_at old f) { waiting = None } → IsFileKept p f (kept_at old f) →
+holds_from : (p : Object) (f : InputFile) (old now : Kept) (t : Option ℕ) → t ≡ (kept_at old f).waiting → kept_at now f ≡ record (kept_at old f) { waiting = None } → IsFileKept p f (kept_at old f) →
     HoldsSelected p now t
 holds_from p f old now t same is kept = λ n e.
     let h = kept n (sym same ∙ e) in
     subst (λ (g : InputFile). HoldsRecord p g (kept_at now g) n) (sym h.own)
     (subst (λ (k : KeptFile). HoldsRecord p f k n) (sym is) (record { there = h.there; own = h.own; whole = h.whole; characters = h.characters; value = h.value }))
+
+-- what a file has, and what is kept of it
+state_at : (f : InputFile) (k : Kept) → input_at (inputs_of k) f ≡ input_state_of (kept_at k f)
+state_at Primary k = refl
+state_at Secondary k = refl
+
+text_at : (f : InputFile) (k : Kept) → (kept_at k f).record.items ≡ last_record_in k f
+text_at Primary k = refl
+text_at Secondary k = refl
+
+both_kept : (p : Object) (f : InputFile) (k : Kept) → IsFileKept p f (kept_at k f) → IsFileKept p (other_file f) (kept_at k (other_file f)) → AreFilesKept p k
+both_kept p Primary k h g = record { primary = h; secondary = g }
+both_kept p Secondary k h g = record { primary = g; secondary = h }
+
+kept_of : (p : Object) (k : Kept) (f : InputFile) → AreFilesKept p k → IsFileKept p f (kept_at k f)
+kept_of p k Primary h = h.primary
+kept_of p k Secondary h = h.secondary
+
+renewed_text : (p : Object) (k : Kept) (f : InputFile) (t : Option ℕ) (l : Left) → ForSome t (λ n. file_of (slice_get p.types n) ≡ f) → renewed_by p t (kept_at k f).record.items l ≡ renewed_by p t (text_in p k t) l
+renewed_text p k f None l h = refl
+renewed_text p k f (Some n) l h =
+    ap (λ (x : List ℕ). renewed_by p (Some n) x l) (text_at f k) ∙ ap (λ (g : InputFile). renewed_by p (Some n) (last_record_in k g) l) (sym (h n refl))
+
+-- what is left with these levels and match values
+pub left_renewed : (k : Kept) (levels : List LastBytes) (values : LastValues) {now : List LastBytes} → now ≡ levels →
+    (let l : Left = record { any = k.has_any; control = k.has_control; bytes = seen_levels now; primary = seen_value values.primary; secondary = seen_value values.secondary } in l) ≡ with_seen levels values (left_of k)
+left_renewed k levels values is =
+    ap (λ (xs : List LastBytes). let l : Left = record (left_of k) { bytes = seen_levels xs; primary = seen_value values.primary; secondary = seen_value values.secondary } in l) is
+
+-- the record that waited in the file that goes first was selected
+pub picked_from : (p : Object) (f : InputFile) (old now : Kept) (levels : List LastBytes) (values : LastValues) (t : Option ℕ) (a b : Running) →
+    chosen p (waiting_in (inputs_of old) Primary) (waiting_in (inputs_of old) Secondary) ≡ Some f → AreFilesKept p old →
+    left_of now ≡ with_seen levels values (left_of old) → inputs_of now ≡ with_input f (input_state_of (kept_at now f)) (inputs_of old) → kept_at now (other_file f) ≡ kept_at old (other_file f) →
+    IsTakenUp p old.levels.items old.values (kept_at old f) a t levels values (kept_at now f) b → IsPicked p old a t now b
+picked_from p f old now levels values t a b is kept left inputs other up = record {
+  goes = picks_from p f old now t a b is
+      (subst (λ (i : Inputs). HasSelected p (left_of old) f (inputs_of old) a t (last_record_in now f) b i) (sym inputs)
+      (subst (λ (x : List ℕ). HasSelected p (left_of old) f (inputs_of old) a t x b (with_input f (input_state_of (kept_at now f)) (inputs_of old))) (text_at f now)
+      (up.goes f (left_of old) (inputs_of old) (state_at f old))))
+      up.row mine;
+  ready = up.ready;
+  spends = up.spends;
+  held = holds_from p f old now t up.row up.file mine;
+  kept = both_kept p f now (subst (λ (k : KeptFile). IsFileKept p f k) (sym up.file) (of_none (λ n. HoldsRecord p f (record (kept_at old f) { waiting = None }) n)))
+      (subst (λ (k : KeptFile). IsFileKept p (other_file f) k) (sym other) (kept_of p old (other_file f) kept));
+  left = left ∙ up.left (left_of old) ∙ renewed_text p now f t (left_of old) (λ n e. (mine n (sym up.row ∙ e)).own);
+}
+  where
+    mine : IsFileKept p f (kept_at old f)
+    mine = kept_of p old f kept
+
+-- no record waits
+pub none_picked : (p : Object) (k : Kept) (a b : Running) → chosen p (waiting_in (inputs_of k) Primary) (waiting_in (inputs_of k) Secondary) ≡ None →
+    b ≡ record a { config = with_all level_indicators true (with_one last_record true a.config) } → (IsReady a → IsReady b) → AreFilesKept p k → IsPicked p k a None k b
+none_picked p k a b none is ready kept = record {
+  goes = quietly (λ c. select_from p (left_of k) (chosen p (waiting_in c.inputs Primary) (waiting_in c.inputs Secondary)) c) a b (unselected i) (unselected i) GoesOn all
+      (λ previous.
+      ap (λ (o : Option InputFile). select_from p (left_of k) o (under_way (config_on previous a.config) (unselected i))) none
+      ∙ ap (λ (c : Config). done GoesOn (under_way c (unselected i))) (sym (all_on previous level_indicators true (with_one last_record true a.config)))) is;
+  ready = ready;
+  spends = keeps_reach p 0 a b all is (record { steps = kept_steps.steps ∙ zero-right a.config.steps; allowance = kept_steps.allowance });
+  held = of_none _;
+  kept = kept;
+  left = refl;
+}
+  where
+    i : Inputs
+    i = inputs_of k
+
+    all : Config
+    all = with_all level_indicators true (with_one last_record true a.config)
+
+    kept_steps : Keeps (with_one last_record true a.config) all
+    kept_steps = all_keep level_indicators true (with_one last_record true a.config)
+
+    zero-right : (n : ℕ) → n ≡ n + 0
+    zero-right n = omega arith
 
 -- ---- phase 4
 

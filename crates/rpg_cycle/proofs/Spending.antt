@@ -19,6 +19,7 @@ use Rattle.std.specs.Option.{ForSome}
 use Rattle.rpg_program.specs.declared.input.InputFile.TheVariants.{Primary, Secondary}
 use Rattle.rpg_cycle_records.specs.Identifying.{code_holds, has_position, same_file, trial_weight}
 use Rattle.rpg_program.specs.declared.input.InputFile.{InputFile}
+use Rattle.rpg_cycle.specs.Indicators.{level_indicators, with_all}
 use Rattle.rpg_cycle.specs.Phases.{all_off, has_no_overflow}
 use Rattle.rpg_cycle.specs.Spending.{SpendsSelecting, Spends, SpendsTakingIn, compared_weight, cycle_weight, fields_weight, full_page_weight, matched_weight, phases_weight, reach, record_weight, section_cost, totals_weight}
 use Rattle.rpg_machine.specs.Config.{Config, charged}
@@ -46,6 +47,13 @@ same_reach p q a b is =
   where
     zero-right : (n : ℕ) → n ≡ n + 0
     zero-right n = omega arith
+
+-- nothing costs no more than anything
+pub costs_none : (p : Object) (n : ℕ) (a : Running) → Spends p n a a
+costs_none p n a = record { few = more (reach p a) n }
+  where
+    more : (x n : ℕ) → x ≤ x + n
+    more x n = omega arith
 
 -- an indicator costs nothing
 pub turns_free : (p : Object) (n : ℕ) (on : Bool) (a b : Running) → b ≡ with_indicator n on a → Spends p 0 a b
@@ -149,6 +157,13 @@ moved_is (Some t) = refl
 moved_row : (p : Object) (t : Option ℕ) → compared_weight p t + fields_weight p t ≤ moved_sum p.types
 moved_row p None = omega arith
 moved_row p (Some t) = let h = row_moved p.types t in let e = moved_is (slice_get p.types t) in omega (arith, h, e)
+
+-- nothing was taken in and nothing selected: only indicators turned on
+pub turned_paid : (p : Object) (a b : Running) → b ≡ record a { config = with_all level_indicators true a.config } → SpendsSelecting p None a b
+turned_paid p a b is = record { few = free (reach p a) (reach p b) (types_weight p.types) (ap (λ (r : Running). reach p r) is) }
+  where
+    free : (x y w : ℕ) → y ≡ x → y + 0 ≤ x + w
+    free x y w h = omega (arith, h)
 
 -- the primary's record was taken in
 pub taken_paid : (p : Object) (a b : Running) → SpendsTakingIn p Primary a b → Spends p (types_weight p.types) a b

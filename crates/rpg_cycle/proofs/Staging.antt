@@ -3,7 +3,7 @@ use Rattle.std.proofs.Common.{Result, Ok, Err, IfOk, ◌≡◌, ℕ, Bool, ◌+�
 use Rattle.std.specs.Result.{IsErrAnd}
 use Rattle.rpg_cycle.proofs.Composing.{ends, goes, goes_own, left_out, memory_both, memory_map, not_left_out, ok_map, ok_of_err, passed_map, passed_memory, passes_ends, same_program, stops_map}
 use Rattle.rpg_cycle.proofs.Growing.{and_grows}
-use Rattle.rpg_cycle.proofs.Spending.{and_less, and_then, of_same}
+use Rattle.rpg_cycle.proofs.Spending.{and_less, and_then, costs_none, of_same}
 use Rattle.rpg_cycle.specs.Doing.{Beside, Does, DoesAlone, DoesHolding}
 use Rattle.rpg_cycle.specs.Ends.{GoesOn, PhaseEnd, phase_end}
 use Rattle.rpg_cycle.specs.Phases.{Phase, detail_lines, halt_where_asked, set_off, unless, ◌before◌}
@@ -65,13 +65,6 @@ unspent p a = record { few = same (reach p a) }
   where
     same : (x : ℕ) → x ≤ x + 0
     same x = omega arith
-
--- it costs no more than anything
-pub costs_none : (p : Object) (n : ℕ) (a : Running) → Spends p n a a
-costs_none p n a = record { few = more (reach p a) n }
-  where
-    more : (x n : ℕ) → x ≤ x + n
-    more x n = omega arith
 
 -- room for phases is room for one
 pub can_do : {m : ℕ} {a : Running} → CanSpend m a → CanDo a

@@ -1,5 +1,5 @@
 -- What the parts of reading records, and of selecting one, do.
-use Rattle.std.specs.Prelude.{◌≡◌, ℕ, ◌+◌, ◌<◌, ◌≤◌, All, List, length, slice_get, Option, None, Some}
+use Rattle.std.specs.Prelude.{◌≡◌, ℕ, ◌+◌, ◌<◌, ◌≤◌, All, List, length, slice_get, Option, None, Some, Result, IfOk}
 use Rattle.std.specs.Option.{ForSome}
 use denote.Bor.{Bor}
 use Rattle.rpg_cycle_records.specs.Earlier.{Left, control_fields, file_of, last_of_file}
@@ -18,12 +18,14 @@ use Rattle.rpg_cycle_records.specs.declared.levels.LastBytes.{LastBytes}
 use Rattle.rpg_cycle_records.specs.declared.matching.LastValues.{LastValues}
 use Rattle.rpg_cycle_records.specs.declared.matching.MatchValue.{MatchValue}
 use Rattle.rpg_cycle.specs.Phases.{done, read_record, select_one, select_record, select_waiting, take_in, type_indicator}
-use Rattle.rpg_cycle.specs.Spending.{Spends, compared_weight}
-use Rattle.rpg_cycle.specs.Stages.{job_end}
+use Rattle.rpg_cycle.specs.Spending.{Spends, SpendsSelecting, SpendsTakingIn, compared_weight}
+use Rattle.rpg_cycle.specs.Stages.{UnlessNoMemory, job_end}
 use Rattle.rpg_cycle.specs.declared.ends.JobEnd.{JobEnd}
+use Rattle.rpg_cycle.specs.declared.ends.PhaseStop.{PhaseStop}
 use Rattle.rpg_paper.specs.Paper.{Position}
 use Rattle.rpg_program.specs.declared.input.ControlField.{ControlField}
 use Rattle.rpg_program.specs.declared.input.InputFile.{InputFile}
+use Rattle.rpg_program.specs.Weights.{types_weight}
 use Rattle.rpg_machine.specs.Config.{Config, charged}
 use Rattle.rpg_machine.specs.Ready.{IsReady}
 use Rattle.rpg_machine.specs.Running.{Running, config_on}
@@ -36,6 +38,7 @@ pub record TakesType (p : Object) (f : InputFile) (text : List ℕ) (old : Runni
   pub few : trial_weight f p.types text ≤ 20000
   pub there : t < length p.types
   pub machine : new ≡ record old { config = charged (trial_weight f p.types text) old.config }
+  pub ready : IsReady old → IsReady new
 
 -- the record is of no type
 pub record IsUntaken (p : Object) (f : InputFile) (text : List ℕ) (old : Running) (e : JobEnd) (new : Running) : Type 0 where
@@ -49,6 +52,7 @@ pub record IsCompared (indicator : Option ℕ) (fs : List ControlField) (text : 
   pub machine : new ≡ record old { config = with_levels (broken_in fs text bytes) (charged (length fs) (with_type indicator old.config)) }
   pub kept : now ≡ renewed fs text 9 bytes
   pub inside : All (IsControlIn (length text)) fs
+  pub ready : IsReady old → IsReady new
 
 -- a file was read and gave this record or none: the result, and what waits then, wherever the form is
 pub record HasRead (p : Object) (left : Left) (f : InputFile) (next : Option (List ℕ)) (before : Inputs) (old : Running) (e : PhaseEnd) (new : Running) (after : Inputs) : Type 0 where
@@ -124,37 +128,51 @@ abbrev pub SelectsRecord : Object → Kept → (primary secondary : Option (Bor 
 SelectsRecord p k primary secondary old t k' new =
     Does (select_record p (left_of k) (next_text primary) (next_text secondary)) old (unselected (inputs_of k)) GoesOn new (holding_kept p k' t)
 
--- the job ended there, and none was selected
-abbrev pub EndsSelecting : Object → Kept → (primary secondary : Option (Bor (List ℕ))) → Running → PhaseEnd → Running → Type 0
-EndsSelecting p k primary secondary old e new =
-    (i : Inputs) × Does (select_record p (left_of k) (next_text primary) (next_text secondary)) old (unselected (inputs_of k)) e new (unselected i)
+-- the job ended there, and none was selected, at this cost at most
+pub record EndsSelecting (p : Object) (k : Kept) (primary secondary : Option (Bor (List ℕ))) (old : Running) (e : PhaseEnd) (new : Running) : Type 0 where
+  pub inputs : Inputs
+  pub does : Does (select_record p (left_of k) (next_text primary) (next_text secondary)) old (unselected (inputs_of k)) e new (unselected inputs)
+  pub spends : Spends p (types_weight p.types) old new
 
 -- ---- what later phases rely on
 
 -- a record was read, if the file reads one: few steps were taken, and what is kept of the file fits the program
 pub record IsTakenIn (p : Object) (f : InputFile) (old : Running) (k' : KeptFile) (new : Running) : Type 0 where
+  pub program : new.program ≡ old.program
   pub ready : IsReady old → IsReady new
   pub few : new.config.steps ≤ old.config.steps + 20009
   pub kept : IsFileKept p f k'
 
+-- how reading a record leaves a file, whatever the record: what was read, what that cost, and that nothing was output
+pub record LeavesFile (p : Object) (f : InputFile) (old : Running) (r : Result (Unit {0}) PhaseStop) (k' : KeptFile) (new : Running) : Type 0 where
+  pub taken : IfOk r (λ _. IsTakenIn p f old k' new)
+  pub takes : UnlessNoMemory r (SpendsTakingIn p f old new)
+  pub output : new.output ≡ old.output
+
 -- the record that waits in a file, if any, no longer waits, and levels and match values were replaced by its own
 pub record IsTakenUp (p : Object) (levels : List LastBytes) (values : LastValues) (k : KeptFile) (old : Running) (t : Option ℕ) (levels' : List LastBytes) (values' : LastValues) (k' : KeptFile) (new : Running) : Type 0 where
+  pub goes : SelectsWaiting p levels values k old t k' new
   pub row : t ≡ k.waiting
   pub file : k' ≡ record k { waiting = None }
   pub program : new.program ≡ old.program
   pub ready : IsReady old → IsReady new
   pub left : RenewsSeen p t k'.record.items levels values levels' values'
+  pub spends : Spends p (compared_weight p t) old new
 
--- one of the waiting records was selected, or none: its control fields were paid for, and what is kept was replaced by its own
+-- one of the waiting records was selected, or none: its control fields were paid for, its file holds it, and what is kept was replaced by its own
 pub record IsPicked (p : Object) (k : Kept) (old : Running) (t : Option ℕ) (k' : Kept) (new : Running) : Type 0 where
+  pub goes : SelectsOne p k old t k' new
   pub ready : IsReady old → IsReady new
   pub spends : Spends p (compared_weight p t) old new
+  pub held : HoldsSelected p k' t
   pub kept : AreFilesKept p k'
   pub left : RenewsLeft p t k k'
 
--- a record was selected, or none, and everything is as the following phases require
-pub record IsChosen (p : Object) (k : Kept) (t : Option ℕ) (k' : Kept) (new : Running) : Type 0 where
+-- a record was selected, or none, and everything is as the phases that follow require
+pub record IsChosen (p : Object) (k : Kept) (primary secondary : Option (Bor (List ℕ))) (old : Running) (t : Option ℕ) (k' : Kept) (new : Running) : Type 0 where
+  pub goes : SelectsRecord p k primary secondary old t k' new
   pub ready : IsReady new
+  pub spends : SpendsSelecting p t old new
   pub held : HoldsSelected p k' t
   pub kept : AreFilesKept p k'
   pub left : RenewsLeft p t k k'

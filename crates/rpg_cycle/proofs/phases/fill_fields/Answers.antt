@@ -4,8 +4,7 @@ use Rattle.rpg_machine.specs.Running.{Did}
 use Rattle.rpg_cycle.proofs.Composing.{memory_both, ok_map, stops_map}
 use Rattle.rpg_cycle.proofs.Growing.{did_grow}
 use Rattle.rpg_cycle.proofs.Machining.{filled, nothing_filled}
-use Rattle.rpg_cycle.proofs.Spending.{fields_spend}
-use Rattle.rpg_cycle.proofs.Staging.{costs_none}
+use Rattle.rpg_cycle.proofs.Spending.{costs_none, fields_spend}
 use Rattle.rpg_cycle_records.specs.Holding.{text_in}
 use Rattle.rpg_cycle.specs.Ends.{GoesOn, phase_end}
 use Rattle.rpg_cycle.specs.Spending.{Spends, fields_weight}

@@ -1,15 +1,15 @@
-use Rattle.std.proofs.Common.{◌∙◌, ℕ, true, false, List, length, sym, ap, subst, refl}
+use Rattle.std.proofs.Common.{◌∙◌, ◌≤◌, ℕ, true, false, List, length, sym, ap, subst, refl}
 use Rattle.rpg_program.specs.declared.input.ControlField.{ControlField}
 use Rattle.rpg_program.specs.declared.halt.Halt.TheVariants as halts
 use Rattle.rpg_cycle.specs.Selecting.{TakesType}
 use Rattle.rpg_cycle.specs.declared.ends.JobEnd.TheVariants as jobs
 use Rattle.rpg_cycle.proofs.Composing.{passed_map}
-use Rattle.rpg_cycle.proofs.Selecting.{fields_inside, low_so, refused, taken_costs, too_low, untaken, waits, waits_so}
+use Rattle.rpg_cycle.proofs.Selecting.{fields_inside, kept_waiting, leaves_ended, leaves_waiting, low_so, refused, too_low, untaken, waits, waits_so}
 use Rattle.rpg_cycle_records.specs.Earlier.{match_value}
 use Rattle.rpg_cycle_records.specs.Holding.{input_state_of}
 use Rattle.rpg_cycle_records.specs.Keeping.{seen_value}
 use Rattle.rpg_cycle_records.specs.Waiting.{InputState, input_at}
-use Rattle.rpg_machine.specs.Running.{Running, with_charge}
+use Rattle.rpg_machine.specs.Running.{with_charge}
 use Rattle.rpg_cycle.proofs.selection.read.Goals as goal
 
 pub returns-then-not-can_take-clause-stops : goal.returns-then-not-can_take-clause-stops
@@ -35,10 +35,10 @@ returns-then-not-branch-clause-stops g c =
     (c.charge.ensures.charged ∙ ap (λ (fs : List ControlField). with_charge (length fs) c.take_type.new.machine) c.match_fields.ensures.value)
     (low_so _ (seen_value c.args.last.now) (match_value p (record { type = t; text = full })) c.in_ok-wait.field-0 false last c.in_ok-wait.ensures.waits c.if-not-branch.true) refl
 
-pub returns-then-not-branch-clause-takes : goal.returns-then-not-branch-clause-takes
-returns-then-not-branch-clause-takes g c =
-    taken_costs c.args.program.now c.args.file c.deref.result.now c.in_ok-row.row c.args.machine.now c.take_type.new.machine c.charge.new.self c.in_ok-row.ensures.goes
-    (c.charge.ensures.charged ∙ ap (λ (fs : List ControlField). with_charge (length fs) c.take_type.new.machine) c.match_fields.ensures.value)
+pub returns-then-not-branch-clause-leaves : goal.returns-then-not-branch-clause-leaves
+returns-then-not-branch-clause-leaves g c =
+    leaves_ended c.args.program.now c.args.file c.deref.result.now c.in_ok-row.row c.args.machine.now c.take_type.new.machine c.charge.new.self c.in_ok-row.ensures.goes
+    (c.charge.ensures.charged ∙ ap (λ (fs : List ControlField). with_charge (length fs) c.take_type.new.machine) c.match_fields.ensures.value) _ _
 
 pub returns-clause-goes : goal.returns-clause-goes
 returns-clause-goes g c =
@@ -53,10 +53,10 @@ returns-clause-goes g c =
     (low_so _ (seen_value c.args.last.now) (match_value p (record { type = t; text = full })) c.in_ok-wait.field-0 true last c.in_ok-wait.ensures.waits c.if-not-branch.false)
     (waits_so c.wait.new.self t full (input_at i c.args.file) (c.in_ok-wait.ensures.now c.if-not-branch.false) c.in_ok-wait.ensures.held (c.in_ok-wait.ensures.over ∙ sym (ap (λ (x : InputState). x.is_over) at)))
 
-pub returns-clause-takes : goal.returns-clause-takes
-returns-clause-takes g c =
-    taken_costs c.args.program.now c.args.file c.deref.result.now c.in_ok-row.row c.args.machine.now c.take_type.new.machine c.charge.new.self c.in_ok-row.ensures.goes
-    (c.charge.ensures.charged ∙ ap (λ (fs : List ControlField). with_charge (length fs) c.take_type.new.machine) c.match_fields.ensures.value)
-
-pub returns-clause-program : goal.returns-clause-program
-returns-clause-program g c = ap (λ (x : Running). x.program) c.charge.ensures.charged ∙ ap (λ (x : Running). x.program) c.in_ok-row.ensures.goes.machine
+pub returns-clause-leaves : goal.returns-clause-leaves
+returns-clause-leaves g c =
+    leaves_waiting c.args.program.now c.args.file c.deref.result.now c.in_ok-row.row c.args.machine.now c.take_type.new.machine c.charge.new.self c.in_ok-row.ensures.goes
+    (c.charge.ensures.charged ∙ ap (λ (fs : List ControlField). with_charge (length fs) c.take_type.new.machine) c.match_fields.ensures.value) _
+    (subst (λ (fs : List ControlField). length fs ≤ 9) c.match_fields.ensures.value c.match_fields.ensures.few) c.charge.ensures.ready
+    (kept_waiting c.args.program.now c.args.file c.args.text.now c.fill.new.room.items c.in_ok-row.row c.wait.new.self (sym c.can_take.ensures ∙ c.if-not-can_take.false) c.in_ok-fill.ensures.filled c.in_ok-fill.ensures.whole
+    c.in_ok-row.ensures.goes.there c.in_ok-row.ensures.goes.own (c.in_ok-wait.ensures.now c.if-not-branch.false) c.in_ok-wait.ensures.held c.in_ok-wait.ensures.value)

@@ -1,6 +1,6 @@
 use Rattle.std.proofs.Common.{◌∙◌, Some, sym, ap}
 use Rattle.rpg_cycle.proofs.Composing.{ok_map, stops_map}
-use Rattle.rpg_cycle.proofs.Selecting.{asked}
+use Rattle.rpg_cycle.proofs.Selecting.{asked, leaves_none, over_kept}
 use Rattle.rpg_cycle.specs.Doing.{next_text}
 use Rattle.rpg_cycle.specs.Ends.{GoesOn}
 use Rattle.rpg_cycle.specs.Stages.{job_end}
@@ -25,3 +25,12 @@ returns-clause-stops g c =
     (λ e h left i last at. asked p left f (next_text c.args.next) (Some c.in-Some.text.now) i i c.args.machine.now c.read.new.machine (job_end e)
     (ap (takes_from p f) at ∙ sym c.takes_in.ensures ∙ c.if-not-takes_in.false) (ap next_text c.in-Some.is) (h left i last))
     c.read.ensures.stops
+
+pub returns-then-not-takes_in-clause-leaves : goal.returns-then-not-takes_in-clause-leaves
+returns-then-not-takes_in-clause-leaves g c = leaves_none c.args.program.now c.args.file c.args.kept.now c.args.machine.now c.requires.kept
+
+pub returns-in_default-clause-leaves : goal.returns-in_default-clause-leaves
+returns-in_default-clause-leaves g c = leaves_none c.args.program.now c.args.file _ c.args.machine.now (over_kept c.args.program.now c.args.file c.args.kept.now c.requires.kept)
+
+pub returns-clause-leaves : goal.returns-clause-leaves
+returns-clause-leaves g c = c.read.ensures.leaves
