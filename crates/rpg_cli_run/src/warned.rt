@@ -7,7 +7,7 @@ use rpg_cards::SpecCard;
 use rpg_cli_answers::{Answer, Listener};
 use rpg_cli_warnings::{Warning, wanted_warnings, warning_messages};
 use rpg_cli_words::WarningWords;
-use rpg_faults::faultless_cards;
+use rpg_faults::{SourceFault, faultless_cards};
 use std::alloc::Global;
 
 /// Rejects a source for the first of these warnings, if the arguments deny them.
@@ -75,6 +75,7 @@ pub(crate) fn deny_warnings<L: Listener>(
 ) -> Result<(), Answer> {
     match faultless_cards(alloc, source) {
         Ok(cards) => judge_warnings(alloc, path, source, &cards, words, listener),
+        Err(SourceFault::NoMemory) if words.denies => Err(Answer::NoMemory),
         Err(_) => Ok(()),
     }
 }
