@@ -188,8 +188,13 @@ fn put_entries(
 
 /// Takes the file from an E card, and gives it as many entries as a data card has.
 fn take_over(editor: &mut Editor, shape: &TableShape, records: usize, seen: &Seen) {
+    let text = if records == 1 {
+        "% record of % stands after ** now; compile again when it changes"
+    } else {
+        "% records of % stand after ** now; compile again when they change"
+    };
     let sentence = Sentence::of_two(
-        "% records of % stand after ** now; compile again when they change",
+        text,
         Word::of_number(records),
         Word::of(seen.card.value(11, 18)),
     );
