@@ -47,7 +47,7 @@ impl Code {
     pub const fn sentence(self) -> &'static str {
         match self {
             Code::NoObject => "the first six bytes aren't RPGOBJ, or are missing",
-            Code::Version => "the version is another one",
+            Code::Version => "the version is neither 1 nor 2",
             Code::CutShort => "a number doesn't lie wholly inside the bytes",
             Code::LeftOver => "bytes are left over after the last table",
             Code::NotAllowed => "a value isn't among those that are allowed",

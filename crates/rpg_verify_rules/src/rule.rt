@@ -82,10 +82,10 @@ impl TypeRule {
                 "a record type turns on an indicator other than 01 to 99, L1 to L9, LR and H1 to H9"
             }
             TypeRule::V5 => {
-                "a control field isn't columns of the record, or those of its level have another joined length than in the first type that has it, or more than 256 columns"
+                "a control field isn't columns of the record, or the fields of its level together have more than 256 columns, or not as many as in the first type that has it"
             }
             TypeRule::V6 => {
-                "an input field isn't columns of the record, or not as many as a plain field that is there is long"
+                "an input field isn't columns of the record, or isn't for a plain field of the same length"
             }
             TypeRule::V7 => {
                 "an indicator of an input field can't be set, or a text has one for plus or minus"
@@ -116,7 +116,7 @@ impl LineRule {
             }
             LineRule::V13 =>
                 "a field's text ends outside the line, or is longer than what is before its end",
-            LineRule::V14 => "a field is blanked after it was put out that may not be written",
+            LineRule::V14 => "blank after is given for a field that may not be written",
             LineRule::V15 => "a field is conditioned by MR",
         }
     }
@@ -126,7 +126,7 @@ impl PlaceRule {
     const fn sentence(self) -> &'static str {
         match self {
             PlaceRule::V16 => "an operand isn't there, or has a bad index or none that it needs",
-            PlaceRule::V17 => "an operand is of another kind than the operation takes",
+            PlaceRule::V17 => "an operand isn't of a kind that the operation takes",
             PlaceRule::V18 => "a result may not be written",
             PlaceRule::V19 => "an indicator is missing, or isn't one that may stand there",
             PlaceRule::V20 => {
