@@ -52,7 +52,8 @@ fn write_write_fault(
     reason: Option<Reason>,
 ) {
     write_name(out, request, word);
-    write!(out, ": it can't be written after {sent} bytes");
+    let bytes = if sent == 1 { "byte" } else { "bytes" };
+    write!(out, ": it can't be written after {sent} {bytes}");
     write_reason(out, reason);
 }
 
@@ -113,7 +114,7 @@ fn write_bad_date(out: &mut TextWriter, words: &RunWords) {
         out.write_str("--date today: the system's clock can't be read\n");
         return;
     }
-    out.write_str("--date is six digits, as 112676, or today; it was '");
+    out.write_str("--date is six digits, as 112676, or today, today-dmy or today-ymd; it was '");
     out.write_shown(words.date_text().as_bytes());
     out.write_str("'\n");
 }

@@ -29,7 +29,9 @@ pub(crate) fn write_editing(out: &mut TextWriter, cause: &EditingCause) {
             write_digits(out, name, length, decimals);
         }
         Misfit::Word { places: None, .. } => {
-            out.write_str(": the word's $ stands right before its stop");
+            out.write_str(
+                ": the word's $ stands right before its stop (rpg2 fit rewrites it: A18)",
+            );
         }
         Misfit::Word {
             places: Some(places),
@@ -39,6 +41,9 @@ pub(crate) fn write_editing(out: &mut TextWriter, cause: &EditingCause) {
             let digits = noun(usize::from(places), "digit", "digits");
             out.fill_two(": the word has places for {} {}, and ", places, digits);
             write_digits(out, name, length, decimals);
+            if u16::from(places) > length {
+                out.write_str(" (rpg2 fit rewrites it: A17)");
+            }
         }
     }
 }

@@ -19,8 +19,11 @@ const fn use_name(serves_as: FileUse) -> &'static str {
 const THIRD_INPUT: &str =
     "; a second input file has S in 16, and a third isn't supported: merge two beforehand (docs/OLD_PROGRAMS.md)";
 
-const MORE_OUTPUT: &str =
-    "; more output files aren't supported: make a deck for each printer; rpg2 fit makes one of several disk files (A21)";
+const MORE_PRINTERS: &str =
+    "; more than one printer isn't supported: make a deck for each (docs/OLD_PROGRAMS.md)";
+
+const MORE_DISKS: &str =
+    "; more than one disk file isn't supported (rpg2 fit makes one of several: A21)";
 
 /// Writes that a use has a second file, and what to do.
 fn write_second(out: &mut TextWriter, spot: Spot<'_>, name: &[u8], first: &FileOnCard) {
@@ -45,7 +48,8 @@ fn write_second(out: &mut TextWriter, spot: Spot<'_>, name: &[u8], first: &FileO
             out.fill_one("; {} isn't PRINTER", own_device);
         }
         FileUse::Primary | FileUse::Secondary => out.write_str(THIRD_INPUT),
-        FileUse::Printer | FileUse::Disk => out.write_str(MORE_OUTPUT),
+        FileUse::Printer => out.write_str(MORE_PRINTERS),
+        FileUse::Disk => out.write_str(MORE_DISKS),
     }
 }
 

@@ -43,7 +43,7 @@ descending sequence isn't supported: sort the records in ascending order
  F 18-18 D
 records of varying length aren't supported: write F, and make lines of the records with rpg2 records --rdw (docs/OLD_PROGRAMS.md)
  F 19-19 V
-the record length is required here; 20-23 has the block length
+the record length is required here; 20-23 has the block length (rpg2 fit copies it for a printer or a card device: A2)
  F 24-27 ____
 keys and record addresses aren't supported: sort the records beforehand (docs/OLD_PROGRAMS.md)
  F 28-32

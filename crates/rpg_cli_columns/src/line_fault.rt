@@ -30,7 +30,9 @@ impl LineFault {
             LineFault::NoBlank => {
                 "after its first character, the form type, a line has a blank, and then COLUMN=TEXT for each text"
             }
-            LineFault::NoColumn => "a text has no column: it is written COLUMN=TEXT, as 32=TOT",
+            LineFault::NoColumn => {
+                "a text has no column: it is written COLUMN=TEXT, as 32=TOT; rpg2 cards --short makes such lines of cards"
+            }
             LineFault::BadColumn => { "a column is 1 to 80 and not 6, which has the form type" }
             LineFault::TooLong => "a text goes past column 80",
             LineFault::FilledTwice => "a column is filled twice",

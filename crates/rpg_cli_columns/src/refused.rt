@@ -102,9 +102,27 @@ fn has_small_letter(line: &[u8], columns: ColumnFault) -> bool {
     false
 }
 
+/// Whether columns that may have a text between apostrophes have the first apostrophe and no other.
+fn is_unclosed(line: &[u8], columns: ColumnFault) -> bool {
+    let ColumnFault { column, last } = columns;
+    if !matches!((column, last), (18, 27) | (33, 42) | (45, 70)) {
+        return false;
+    }
+    for place in column.saturating_add(1)..=last {
+        if character_at(line, usize::from(place)) == b'\'' {
+            return false;
+        }
+    }
+    character_at(line, usize::from(column)) == b'\''
+}
+
 /// Writes what the columns may hold.
 fn write_wanted(out: &mut TextWriter, line: &[u8], columns: ColumnFault, range: Option<Range>) {
     match range {
+        Some(_) if is_unclosed(line, columns) => {
+            out.fill_one("no closing apostrophe up to column {}", columns.last);
+            return;
+        }
         Some(range) => out.write_str(range.wanted),
         None => out.write_str("it must be blank on such a card"),
     }

@@ -121,9 +121,11 @@ pub(crate) fn sentence_of(letter: u8) -> &'static str {
             "a number has digits alone and ends in the last column, or the columns are blank"
         }
         b'D' => "a digit, or blank",
-        b'I' => { "an indicator is two characters, as 01, L1, LR or OF, or the columns are blank" }
+        b'I' => {
+            "an indicator is 01 to 99, L0 to L9, LR, MR, 1P, OA to OG, OV or H1 to H9, or the columns are blank"
+        }
         b'C' => {
-            "a condition is blank or N and then two characters, as 01, L1 or LR, or the columns are blank"
+            "a condition is blank or N and then an indicator (01 to 99, L0 to L9, LR, MR, 1P, OA to OG, OV, H1 to H9), or the columns are blank"
         }
         b'F' => {
             "a name with its index if it has one, a number, or a text between apostrophes, from the first column on"

@@ -109,7 +109,11 @@ fn write_no_character(out: &mut TextWriter, column: usize, byte: u8) {
 fn write_record_fault(out: &mut TextWriter, fault: RecordFault) {
     match fault {
         RecordFault::Cut { bytes } => {
-            write_count(out, "the input ends after {} bytes of it", bytes)
+            let sentence = match bytes {
+                1 => "the input ends after 1 byte of it",
+                _ => "the input ends after {} bytes of it",
+            };
+            write_count(out, sentence, bytes)
         }
         RecordFault::NoDescriptor { bytes } => {
             write_bytes(out, &bytes);

@@ -6,7 +6,7 @@ pub(crate) const BYTES: &str = "\
     %- a source in place of an object; an empty file\
     %- 52 50 47 4f 42 4a\
     %see whether SRC and OBJ, or OBJ and INPUT, were confused\
-    @B2%the version is another one%\
+    @B2%the version is neither 1 nor 2%\
     %- 00 03 after the name\
     %- 00 01, and 00 02 for a program with a secondary file or match fields\
     @B3%a number doesn't lie wholly inside the bytes%\

@@ -3,8 +3,8 @@
 /// The pages, in the order of their codes, each as [`crate::page::Page`] reads it.
 pub(crate) const FAULTS: &str = "\
     F1%a name is used that no card defines%cards\
-    %     O                         NONE      10\n     C                     Z-ADDAMMT      TOT\
-    %     O                         TOT       10\n     C                     Z-ADDAMT       TOT\
+    %     C                     Z-ADDAMMT      TOT\n     O                         NONE      10\
+    %     C                     Z-ADDAMT       TOT\n     O                         TOT       10\
     %a name is defined by an E card, by an input field, or by a calculation with a length\n(49-51) and that result field, wherever they stand. Look for a letter that differs, a name a\ncolumn too far left or right, and decimals (52) without a length\
     @F2%a name is defined again in another form%cards\
     %     C                     ADD  AMT       TOT     60\n     C                     Z-ADDAMT       UDATE   60\
@@ -27,7 +27,7 @@ pub(crate) const FAULTS: &str = "\
     %- at most 1,000 calculation cards; 4,000 names, and 4,000 fields with the constants; 65,535\n  bytes of fields, a byte a digit or character of each entry; 9,999 entries; 100 subroutines;\n  200 record types, each with 100 codes, 100 control fields and 500 fields; 1,000 lines, each\n  with 50 alternatives of 60 conditions and with 200 fields\
     %the card that passes the limit has the fault. Make two programs of it, or shorten a\ntable\
     @F7%a file is unknown, given twice, of the wrong use or length, or there is no input file%\
-    %- a file that no F card has, a second primary file, a printer of more than 132 places:\n\n     OPRNT    D        01\n     FOTHER   IP  F      80            READ40\n     FPRINT   O   F     133            PRINTER\
+    %- a file that no F card has, a second primary file, a printer of more than 132 places:\n\n     FOTHER   IP  F      80            READ40\n     FPRINT   O   F     133            PRINTER\n     OPRNT    D        01\
     %- one primary file, and at most one secondary file, one printer and one disk file; record types\n  name the input files and lines the others, the first of each by its name:\n\n     FPRINT   O   F     132            PRINTER\n     OPRINT   D        01\
     %compare the name with the F cards. Card 0 means that no F card is a primary file, as\nin an empty source. Of two input files both have E in 17 or neither\
     @F8%an indicator isn't allowed%cards\
@@ -71,6 +71,6 @@ pub(crate) const FAULTS: &str = "\
     %- an edit word has a blank, 0 or * for each digit, and no $ right before its stop:\n\n     O                         UDATE Y   10\n     O                         TOT       10 '     '\
     %the message says how many digits the code or word takes, and how many the number has.\ndocs/EDITING.md shows what each code and word makes of a number\
     @F18%a table's data are missing, too few, too many, bad or out of sequence%\
-    %- an E card with entries a card (33-35), and no ** card for it; too few or too many entries;\n  letters in a number; with A in 45 a later entry that is lower:\n\n     E                    TABA    3   3  2 0A\n**\n100530\
+    %- an E card with entries a card (33-35), and no ** card for it; too few or too many cards of\n  data; letters in a number; with A in 45 a later entry that is lower:\n\n     E                    TABA    3   3  2 0A\n**\n100530\
     %     E                    TABA    3   3  2 0A\n**\n102030\
-    %the message says how many cards of data are needed and how many there are, or\nwhich entry is wrong. The data come after the sheets, each table's after a ** card, in the\norder of the E cards. Only the last card may have fewer entries than 33-35 say";
+    %the message says how many cards of data are needed and how many there are, or\nwhich entry is wrong. The data come after the sheets, each table's after a ** card, in the\norder of the E cards. Only their cards are counted: entries that a card doesn't fill are blank,\nin a number 0, and what comes after the last entry is ignored";

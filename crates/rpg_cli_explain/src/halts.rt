@@ -13,7 +13,7 @@ pub(crate) const HALTS: &str = "\
     @halt 3%the record fits no record type%\
     %- where all record types have codes, a record that no type's codes fit, such as a blank line\
     %- a last record type without codes takes every record\
-    %look at the record in the message, or add a record type without codes and without\nlines\
+    %look at that record in its file: the message has its number. Or add a record type\nwithout codes and without lines\
     @halt 4%a numeric field holds a character that isn't a digit%\
     %- in the columns of a number: \"5O0\" (a letter O in the middle), \"-120\", \"1.50\"\n- a MOVE of such a text to a number\
     %- \"12 5\" is 1205 and \"35 \" is 350: blanks are zeros\n- the last column may have a letter for the sign: } and J to R are minus 0 to 9, { and A to I\n  plus 0 to 9. So \"50O\" is good too, and is -506\

@@ -14,10 +14,10 @@ pub(crate) const RULES: &str = "\
     @V4%a record type turns on an indicator other than 01 to 99, L1 to L9, LR and H1 to H9%rows\
     %- a record type that turns on OA, or L0\
     %- 1 to 99, L1 to L9, LR, H1 to H9, or none\
-    @V5%a control field isn't columns of the record, or those of its level have another joined length than in the first type that has it, or more than 256 columns%rows\
+    @V5%a control field isn't columns of the record, or the fields of its level together have more than 256 columns, or not as many as in the first type that has it%rows\
     %- a control field in columns 80 to 81; L1 in columns 1 to 4, where an earlier type has L1 in\n  columns 1 to 5\
     %- L1 in columns 2 to 6 there\
-    @V6%an input field isn't columns of the record, or not as many as a plain field that is there is long%rows\
+    @V6%an input field isn't columns of the record, or isn't for a plain field of the same length%rows\
     %- columns 1 to 5 into field 1, which has 6 digits\
     %- columns 1 to 6 into field 1\
     @V7%an indicator of an input field can't be set, or a text has one for plus or minus%rows\
@@ -41,7 +41,7 @@ pub(crate) const RULES: &str = "\
     @V13%a field's text ends outside the line, or is longer than what is before its end%rows\
     %- field 2, of 10 characters, that ends at place 9, or at 61\
     %- field 2 that ends at place 10, or at 60\
-    @V14%a field is blanked after it was put out that may not be written%rows\
+    @V14%blank after is given for a field that may not be written%rows\
     %- field 8, the date, with blank after\
     %- field 1 with blank after\
     @V15%a field is conditioned by MR%rows\
@@ -50,7 +50,7 @@ pub(crate) const RULES: &str = "\
     @V16%an operand isn't there, or has a bad index or none that it needs%rows\
     %- ADD with field 9, which is not there; ADD with field 3, an array, without an index; entry 6 of\n  field 3\
     %- ADD with entry 5 of field 3\
-    @V17%an operand is of another kind than the operation takes%rows\
+    @V17%an operand isn't of a kind that the operation takes%rows\
     %- ADD of field 2, a text, to field 1; COMP of field 1 with field 2\
     %- ADD of field 5 to field 1; MOVE of field 2 to field 1\
     @V18%a result may not be written%rows\

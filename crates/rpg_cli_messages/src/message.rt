@@ -263,6 +263,7 @@ fn write_count(out: &mut TextWriter, path: &str, faults: &[CardFault], most: u16
     let are_unread = are_unread(faults);
     out.write_shown(path.as_bytes());
     let sentence = match (are_unread, count) {
+        (true, 1) if most == 0 => ": 1 card can't be read",
         (true, 1) => ": this card can't be read",
         (true, _) => ": {} cards can't be read",
         (false, 1) => ": 1 fault",
@@ -279,7 +280,7 @@ fn write_count(out: &mut TextWriter, path: &str, faults: &[CardFault], most: u16
 /// Writes how many of the faults are listed.
 pub fn write_told(out: &mut TextWriter, most: u16) {
     let sentence = match most {
-        0 => ", none of them shown",
+        0 => ", none shown",
         _ => ", {} of them shown",
     };
     out.fill(sentence, &[most.into()]);

@@ -4,10 +4,11 @@ use crate::fields::counted;
 use crate::spot::{Spot, spot_at};
 use rpg_cli_text::{Piece, TextWriter};
 use rpg_object_format::fault::Code;
-use rpg_text::{first_line, is_blank};
+use rpg_text::first_line;
 use std::alloc::{AllocError, Global};
 
-const SOURCE: &str = "{}: {}: {}: this is a source: compile it first with rpg2 compile\n";
+const SOURCE: &str =
+    "{}: {}: {}: this is a source: compile it first with rpg2 compile, or run it with rpg2 go\n";
 
 /// The most bytes of a value that are shown.
 const MOST_SHOWN: usize = 32;
@@ -34,7 +35,7 @@ fn begins_source(bytes: &[u8]) -> bool {
     let is_card = match (line.get(5), line.get(6), line.get(14)) {
         (_, Some(b'*'), _) => true,
         (Some(b'F'), _, Some(b'I' | b'O')) => true,
-        (Some(b'H'), _, _) => is_blank(line.get(6..line.len().min(14)).unwrap_or(&[])),
+        (Some(b'H'), _, _) => true,
         _ => false,
     };
     is_card && is_numbering(line.get(..5).unwrap_or(&[]))

@@ -7,13 +7,13 @@ use rpg_cli_text::TextWriter;
 use std::alloc::{AllocError, Global};
 
 const PAGE_CONDITIONS: &str =
-    "PAGE has conditions: they decide whether it is printed, and don't set it back to 1 (docs/OLD_PROGRAMS.md)";
+    "PAGE has conditions: they decide whether it is printed, and don't set it back to 1 (rpg2 fit rewrites it: A16)";
 
 const SETS_HALT: &str =
     "SETON turns on {}: a halt indicator ends the job, and no operator can answer it (docs/OLD_PROGRAMS.md)";
 
 const SHORTER: &str =
-    "the result has {} digit{} before its point, and a factor {}: those on the left can be lost";
+    "the result has {} digit{} before its point, and a factor has {}: those on the left can be lost";
 
 /// Writes the places that a field shares with another card's.
 fn write_overlap(out: &mut TextWriter, first: usize, last: usize, card: u16) {

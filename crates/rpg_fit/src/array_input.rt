@@ -258,14 +258,14 @@ fn fill_field(
 
 /// Reports how many calculations fill an array or an entry.
 fn tell_filled(editor: &mut Editor, reading: &Reading, name: Word, count: usize) {
+    let text = if count == 1 {
+        "% is filled by % calculation under % at the front of detail"
+    } else {
+        "% is filled by % calculations under % at the front of detail"
+    };
     editor.tell(
         reading.seen.number,
-        Sentence::of_three(
-            "% is filled by % calculations under % at the front of detail",
-            name,
-            Word::of_number(count),
-            reading.indicator.word(),
-        ),
+        Sentence::of_three(text, name, Word::of_number(count), reading.indicator.word()),
     );
 }
 

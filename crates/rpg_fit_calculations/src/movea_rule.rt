@@ -200,7 +200,7 @@ impl Plan {
     ) -> Result<(), RuleStop> {
         let mut cards = before;
         self.push_moves(&mut cards, moves);
-        let told = told("MOVEA is % calculations", &cards);
+        let told = told("MOVEA is % calculation", "MOVEA is % calculations", &cards);
         replace(editor, group, &cards, told)
     }
 

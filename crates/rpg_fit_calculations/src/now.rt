@@ -41,6 +41,8 @@ pub(crate) fn replace(
 }
 
 /// Returns the sentence about calculations that replace one.
-pub(crate) fn told(text: &'static str, cards: &List<NewCard>) -> Sentence {
-    Sentence::about(text, Word::of_number(cards.as_slice().len()))
+pub(crate) fn told(one: &'static str, several: &'static str, cards: &List<NewCard>) -> Sentence {
+    let count = cards.as_slice().len();
+    let text = if count == 1 { one } else { several };
+    Sentence::about(text, Word::of_number(count))
 }

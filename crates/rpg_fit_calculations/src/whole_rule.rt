@@ -221,7 +221,11 @@ fn put_entries(
         let index = Word::of_number(place.saturating_add(1));
         cards.push(entry_card(now, base, index));
     }
-    let told = told("whole arrays: % calculations", &cards);
+    let told = told(
+        "whole arrays: % calculation",
+        "whole arrays: % calculations",
+        &cards,
+    );
     replace(editor, group, &cards, told)
 }
 

@@ -32,7 +32,11 @@ pub fn columns(alloc: Global, editor: &mut Editor) -> Result<(), RuleStop> {
 fn cut(editor: &mut Editor, seen: &Seen, draft: &mut Draft) {
     if seen.width > COLUMNS {
         let last = Word::of_number(seen.width);
-        let sentence = Sentence::about("columns 81 to % cut", last);
+        let sentence = if seen.width == COLUMNS + 1 {
+            Sentence::of("column 81 cut")
+        } else {
+            Sentence::about("columns 81 to % cut", last)
+        };
         draft.change(editor, 6, 6, &[seen.card.form()], sentence);
     }
 }
@@ -41,8 +45,8 @@ fn blank_spares(editor: &mut Editor, draft: &mut Draft) {
     match draft.card.form() {
         b'F' => {
             draft.blank(editor, 47, 52, "the symbolic device (47 to 52) blanked");
-            draft.blank(editor, 53, 53, "labels (53 to 53) blanked");
-            draft.blank(editor, 70, 70, "the unit (70 to 70) blanked");
+            draft.blank(editor, 53, 53, "labels (53) blanked");
+            draft.blank(editor, 70, 70, "the unit (70) blanked");
         }
         b'H' => {
             draft.blank(editor, 15, 15, "debug (15) blanked");

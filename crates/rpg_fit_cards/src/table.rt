@@ -189,8 +189,13 @@ fn put_entries(
 
 /// Removes the file from an E card, and sets its entries per record to those of a data card.
 fn take_over(editor: &mut Editor, shape: &TableShape, records: usize, seen: &Seen) {
+    let text = if records == 1 {
+        "% record of % stands after ** now; compile again when it changes"
+    } else {
+        "% records of % stand after ** now; compile again when they change"
+    };
     let sentence = Sentence::of_two(
-        "% records of % stand after ** now; compile again when they change",
+        text,
         Word::of_number(records),
         Word::of(seen.card.value(11, 18)),
     );

@@ -68,12 +68,12 @@ impl TableShape {
         let (given, entries) = (Word::of_number(records), Word::of_number(self.entries));
         if records > wanted {
             return Some(Sentence {
-                text: "% has % records, and % hold the % entries",
+                text: "% has % records, more than the % that its entries (%) fill",
                 words: [name, given, Word::of_number(wanted), entries],
             });
         }
         if records < wanted && self.is_ascending {
-            let text = "% has % records for % entries in ascending sequence";
+            let text = "% has too few records for ascending sequence: records %, entries %";
             return Some(Sentence::of_three(text, name, given, entries));
         }
         if self.width > COLUMNS {

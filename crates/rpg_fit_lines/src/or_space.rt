@@ -125,15 +125,12 @@ impl Split<'_> {
         editor: &mut Editor,
         parts: &[Part],
     ) -> Result<(), RuleStop> {
-        editor.tell(
-            self.card,
-            Sentence::about("% lines in place of one", Word::of_number(parts.len())),
-        );
         self.name_all(alloc, editor)?;
         let mut cards = List::new(alloc);
-        self.push_lines(alloc, &mut cards, parts)?;
+        let lines = self.push_lines(alloc, &mut cards, parts)?;
         put_cards(editor, self.line.head.at, cards.checked()?, self.card);
         self.line.remove(editor, self.card);
+        editor.tell(self.card, told(lines));
         Ok(())
     }
 
@@ -144,35 +141,39 @@ impl Split<'_> {
         Ok(())
     }
 
-    /// Appends the cards of the lines for the parts.
+    /// Appends the cards of the lines for the parts, and returns how many lines there are.
     fn push_lines(
         &self,
         alloc: Global,
         cards: &mut List<NewCard>,
         parts: &[Part],
-    ) -> Result<(), RuleStop> {
+    ) -> Result<usize, RuleStop> {
+        let mut lines: usize = 0;
         for part in parts {
-            self.push_line(alloc, cards, part)?;
+            if self.push_line(alloc, cards, part)? {
+                lines = lines.saturating_add(1);
+            }
         }
-        Ok(())
+        Ok(lines)
     }
 
-    /// Appends the cards of a part's line, unless it is never printed.
+    /// Appends the cards of a part's line and returns true, unless it is never printed.
     fn push_line(
         &self,
         alloc: Global,
         cards: &mut List<NewCard>,
         part: &Part,
-    ) -> Result<(), RuleStop> {
+    ) -> Result<bool, RuleStop> {
         let mut alternatives = List::new(alloc);
         self.push_alternatives(alloc, &mut alternatives, part)?;
         let alternatives = alternatives.checked()?;
         if alternatives.is_empty() {
-            return Ok(());
+            return Ok(false);
         }
         let spaces = spaces_at(self.line, part.first);
         let head = self.line.new_head().with(17, 22, spaces.text());
-        self.line.push_copy(cards, head, alternatives)
+        self.line.push_copy(cards, head, alternatives)?;
+        Ok(true)
     }
 
     /// Appends the alternatives of a part, so that they hold only if none of an earlier part does.
@@ -263,6 +264,15 @@ impl Split<'_> {
             return Err(RuleStop::because(self.card, "more than 2000 alternatives"));
         }
         Ok(())
+    }
+}
+
+/// Returns the sentence about `lines` lines that replace one.
+fn told(lines: usize) -> Sentence {
+    if lines == 1 {
+        Sentence::of("one line is left: its other alternatives never hold without an earlier one")
+    } else {
+        Sentence::about("% lines in place of one", Word::of_number(lines))
     }
 }
 

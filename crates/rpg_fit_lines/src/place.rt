@@ -64,10 +64,12 @@ impl Before {
         self.copy_all(editor, place, copies)?;
         self.highest = end_on(&place.card);
         editor.remove(place.at, place.number);
-        editor.tell(
-            place.number,
-            Sentence::about("*PLACE: % fields once more", Word::of_number(copies)),
-        );
+        let told = if copies == 1 {
+            "*PLACE: % field once more"
+        } else {
+            "*PLACE: % fields once more"
+        };
+        editor.tell(place.number, Sentence::about(told, Word::of_number(copies)));
         Ok(())
     }
 

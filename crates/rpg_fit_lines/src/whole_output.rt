@@ -185,7 +185,12 @@ impl Arrays<'_> {
                 new,
             });
         }
-        editor.tell(field.number, Sentence::of_two("%: % fields", name, entries));
+        let told = if array.entries == 1 {
+            "%: % field"
+        } else {
+            "%: % fields"
+        };
+        editor.tell(field.number, Sentence::of_two(told, name, entries));
         Ok(new)
     }
 }

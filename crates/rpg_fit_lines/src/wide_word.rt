@@ -184,11 +184,11 @@ impl Deck<'_> {
         }
         let card = field.card.with(39, 39, &[]).with(32, 37, name.text());
         editor.change(field.at, card, field.number);
-        let told = "% with % digits is %, for the places of its word";
+        let told = "% is printed from %, which has % digits, one for each place of its word";
         let places = Word::of_number(number.places);
         editor.tell(
             field.number,
-            Sentence::of_three(told, number.name, places, name),
+            Sentence::of_three(told, number.name, name, places),
         );
         Ok(())
     }

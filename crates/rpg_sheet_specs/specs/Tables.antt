@@ -163,7 +163,7 @@ type_card = values record_type
     ⊛ record_codes
     ⊘ blank 42 74
 
--- no text is valid there
+-- nothing is valid there
 abbrev pub nothing : {X : Type 0} → List ℕ → Option X
 nothing text = None
 
