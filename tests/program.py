@@ -1,5 +1,6 @@
 """rpg2 as a user runs it: its words, its two streams, its exit status."""
 
+import os
 import re
 import resource
 import signal
@@ -31,13 +32,16 @@ class Answer:
 
 @dataclass(frozen=True)
 class Limits:
-    """How many bytes a file takes that is written, and how much memory there is; None for any."""
+    """How many bytes a file takes that is written, and how much memory there is; None for any. And which standard streams are closed."""
 
     file: int | None = None
     memory: int | None = None
+    closed: tuple[int, ...] = ()
 
     def keep(self) -> None:
         """Keeps the limits from here on. A write past a file's end fails, and no signal comes of it."""
+        for stream in self.closed:
+            os.close(stream)
         if self.file is not None:
             signal.signal(signal.SIGXFSZ, signal.SIG_IGN)
             resource.setrlimit(resource.RLIMIT_FSIZE, (self.file, self.file))
@@ -45,7 +49,7 @@ class Limits:
             resource.setrlimit(resource.RLIMIT_AS, (self.memory, self.memory))
 
     def is_any(self) -> bool:
-        return self.file is not None or self.memory is not None
+        return self.file is not None or self.memory is not None or bool(self.closed)
 
 
 @dataclass(frozen=True)

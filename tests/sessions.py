@@ -118,6 +118,10 @@ class Session:
     def do_scarce(self, room: str, *words: str) -> bytes:
         return self.said(words, Limits(memory=int(room)))
 
+    def do_without(self, streams: str, *words: str) -> bytes:
+        """Runs rpg2 with standard streams closed, by their numbers."""
+        return self.said(words, Limits(closed=tuple(int(it) for it in streams)))
+
     def do_unheard(self, *words: str) -> bytes:
         """Runs rpg2 with a standard output that takes all but the last line."""
         with tempfile.TemporaryFile() as whole, tempfile.TemporaryFile() as part:
@@ -128,9 +132,9 @@ class Session:
             part.seek(0)
             return part.read() + answer.text + f"status {answer.status}\n".encode()
 
-    def do_to(self, device: str, *words: str) -> bytes:
-        """Runs rpg2 with a device as standard output: what it prints on standard error, and the status."""
-        with open(device, "wb") as out:
+    def do_to(self, name: str, *words: str) -> bytes:
+        """Runs rpg2 with standard output appended to a file, or on a device: what it prints on standard error, and the status."""
+        with open(self.path(name), "ab") as out:
             answer = self.program.run(list(words[1:]), self.folder, self.given, out=out)
         return answer.text + f"status {answer.status}\n".encode()
 

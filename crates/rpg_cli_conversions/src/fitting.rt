@@ -130,7 +130,10 @@ fn write_new_deck<R: Files + Print + AllocGlobal>(
 ) -> Result<(), CommandStop> {
     match words.new_deck {
         None => Ok(()),
-        Some(path) if is_standard(path) => Ok(show_new_deck(rt, new)?),
+        Some(path) if is_standard(path) => {
+            keep_files(rt, words, "/dev/stdout")?;
+            Ok(show_new_deck(rt, new)?)
+        }
         Some(path) => {
             keep_files(rt, words, path)?;
             Ok(named(FileWord::Fitted, write_bytes(rt, path, new))?)

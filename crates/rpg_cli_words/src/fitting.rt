@@ -64,20 +64,49 @@ fn are_switches(text: &str) -> bool {
     text.len() == 8
 }
 
+/// Whether an argument names a table file by this name.
+fn has_name(text: &str, name: &str) -> bool {
+    match table_of(text) {
+        Some(table) => table.name == name,
+        None => false,
+    }
+}
+
+/// Whether two of these arguments name a table file by this name.
+fn have_name_twice(texts: &[&str], name: &str) -> bool {
+    let mut is_named = false;
+    for text in texts {
+        if has_name(*text, name) {
+            if is_named {
+                return true;
+            }
+            is_named = true;
+        }
+    }
+    false
+}
+
+/// Returns what is wrong with the arguments for table files.
+fn fault_of_tables(texts: &[&str]) -> Option<&'static str> {
+    for text in texts {
+        let Some(table) = table_of(*text) else {
+            return Some("'--table <NAME=FILE>' has the name of a file on the cards, and a path");
+        };
+        if have_name_twice(texts, table.name) {
+            return Some("'--table <NAME=FILE>' can be given only once for each name");
+        }
+    }
+    None
+}
+
 /// Returns what is wrong with a value that clap accepts.
 pub(crate) fn fault_of(given: &ArgMatches) -> Option<&'static str> {
     match given.get_str("switches") {
         Some(text) if !are_switches(text) => {
-            return Some("'--switches <00000000>' has eight digits, each 0 or 1");
+            Some("'--switches <00000000>' has eight digits, each 0 or 1")
         }
-        _ => {}
+        _ => fault_of_tables(given.get_strs("table").unwrap_or(&[])),
     }
-    for text in given.get_strs("table").unwrap_or(&[]) {
-        if table_of(*text).is_none() {
-            return Some("'--table <NAME=FILE>' has the name of a file on the cards, and a path");
-        }
-    }
-    None
 }
 
 /// Returns the table files that the arguments name.
