@@ -1,7 +1,7 @@
 -- Whether a job has the date that its program uses.
 use Rattle.std.specs.Prelude.{◌≡◌, false, Option, None, Some, ⊤}
 use Rattle.rpg_cli_show_fields.specs.DateUse.{uses_date}
-use Rattle.rpg_cli_words.specs.declared.dates.DateWord.{DateWord}
+use Rattle.rpg_cli_values.specs.declared.date.DateWord.{DateWord}
 use Rattle.rpg_engine.specs.Object.{Object}
 
 -- without a date the program doesn't use it

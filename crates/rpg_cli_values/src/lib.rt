@@ -4,9 +4,11 @@
 mod calendar;
 mod code;
 mod codes;
+mod date;
 mod day;
 
 pub use calendar::may_be_date;
 pub use code::WarningCode;
 pub use codes::WarningCodes;
+pub use date::DateWord;
 pub use day::{DateOrder, Day};

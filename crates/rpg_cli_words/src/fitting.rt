@@ -56,45 +56,27 @@ fn table_of(text: &str) -> Option<TableWord<'_>> {
 
 /// Whether a text has a digit 0 or 1 for each switch.
 fn are_switches(text: &str) -> bool {
-    for digit in text.as_bytes() {
-        if !matches!(*digit, b'0' | b'1') {
-            return false;
-        }
-    }
-    text.len() == 8
+    let mut digits = text.as_bytes().iter();
+    text.len() == 8 && digits.all(|digit| matches!(*digit, b'0' | b'1'))
 }
 
-/// Whether an argument names a table file by this name.
-fn has_name(text: &str, name: &str) -> bool {
-    match table_of(text) {
-        Some(table) => table.name == name,
-        None => false,
-    }
-}
-
-/// Whether two of these arguments name a table file by this name.
-fn have_name_twice(texts: &[&str], name: &str) -> bool {
-    let mut is_named = false;
-    for text in texts {
-        if has_name(*text, name) {
-            if is_named {
-                return true;
-            }
-            is_named = true;
-        }
-    }
-    false
+/// Whether one of these arguments names a table file by this name.
+fn have_table(texts: &[&str], name: &str) -> bool {
+    let mut tables = texts.iter().copied().filter_map(table_of);
+    tables.any(|table| table.name == name)
 }
 
 /// Returns what is wrong with the arguments for table files.
 fn fault_of_tables(texts: &[&str]) -> Option<&'static str> {
-    for text in texts {
+    let mut rest = texts;
+    while let Some((text, following)) = rest.split_first() {
         let Some(table) = table_of(*text) else {
             return Some("'--table <NAME=FILE>' has the name of a file on the cards, and a path");
         };
-        if have_name_twice(texts, table.name) {
+        if have_table(following, table.name) {
             return Some("'--table <NAME=FILE>' can be given only once for each name");
         }
+        rest = following;
     }
     None
 }

@@ -1,10 +1,8 @@
-//! The commands of `rpg2` and their arguments, as data and as clap builds them, and the request of a command
-//! line.
+//! The commands of `rpg2` and their arguments, as data and as clap builds them, and the request of a command line.
 #![tactic(auto)]
 
 mod building;
 mod commands;
-mod dates;
 mod fitting;
 mod format;
 mod given;
@@ -15,7 +13,6 @@ mod records;
 mod request;
 mod warned;
 
-pub use dates::DateWord;
 pub use fitting::{FitWords, TableWord};
 pub use format::Format;
 pub use going::GoWords;
@@ -26,4 +23,5 @@ pub use request::{
     CheckWords, CompileWords, ExplainWords, FileWord, Refusal, Request, RunWords, SameFile, Shared,
     ShowWords, VerifyWords, is_standard, refuse_bytes, refuse_same_file, request_of,
 };
+pub use rpg_cli_values::DateWord;
 pub use warned::WarningWords;

@@ -4,7 +4,6 @@ ghost use Rattle.std.specs.Prelude.{◌<◌, ◌≤◌};
 
 use crate::building::{fault, matches_of};
 use crate::commands::cut;
-use crate::dates::DateWord;
 use crate::fitting::{self, FitWords, fit_words};
 use crate::format::{Format, format_of};
 use crate::given::{is_whole, needed};
@@ -15,6 +14,7 @@ use crate::records::{RecordsWords, fault_of, records_words};
 use crate::warned::{WarningWords, texts, warning_words};
 use clap::error::ErrorKind;
 use clap::{ArgMatches, Error};
+use rpg_cli_values::DateWord;
 use std::alloc::{AllocError, Global};
 
 /// What the arguments request.
@@ -444,12 +444,8 @@ fn same_file_error(alloc: Global, same: SameFile) -> Result<Error, AllocError> {
     let (written, earlier) = (same.written.text(), same.earlier.text());
     let (between, after) = same.shared.texts();
     let message = format!(in alloc; "'{written}' {between} '{earlier}'{after}")?;
-    fault(
-        alloc,
-        PROGRAM,
-        ErrorKind::ArgumentConflict,
-        message.as_str(),
-    )
+    let kind = ErrorKind::ArgumentConflict;
+    fault(alloc, PROGRAM, kind, message.as_str())
 }
 
 /// Rejects arguments that name the same file.

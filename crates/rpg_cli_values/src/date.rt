@@ -1,6 +1,6 @@
 //! The argument for the date of a job.
 
-use rpg_cli_values::DateOrder;
+use crate::day::DateOrder;
 
 /// The date of a job.
 #[derive(Clone, Copy)]
@@ -12,7 +12,8 @@ pub enum DateWord<'a> {
 }
 
 impl<'a> DateWord<'a> {
-    pub(crate) fn of(text: &'a str) -> DateWord<'a> {
+    /// Reads `today`, with the order of its parts, and takes anything else as it is written.
+    pub fn of(text: &'a str) -> DateWord<'a> {
         match text {
             "today" => DateWord::Today(DateOrder::MonthFirst),
             "today-dmy" => DateWord::Today(DateOrder::DayFirst),
