@@ -66,17 +66,24 @@ fn have_table(texts: &[&str], name: &str) -> bool {
     tables.any(|table| table.name == name)
 }
 
+/// Returns what is wrong with an argument for a table file, given those after it.
+fn fault_of_table(text: &str, following: &[&str]) -> Option<&'static str> {
+    match table_of(text) {
+        None => Some("'--table <NAME=FILE>' has the name of a file on the cards, and a path"),
+        Some(table) if have_table(following, table.name) => {
+            Some("'--table <NAME=FILE>' can be given only once for each name")
+        }
+        Some(_) => None,
+    }
+}
+
 /// Returns what is wrong with the arguments for table files.
 fn fault_of_tables(texts: &[&str]) -> Option<&'static str> {
-    let mut rest = texts;
-    while let Some((text, following)) = rest.split_first() {
-        let Some(table) = table_of(*text) else {
-            return Some("'--table <NAME=FILE>' has the name of a file on the cards, and a path");
-        };
-        if have_table(following, table.name) {
-            return Some("'--table <NAME=FILE>' can be given only once for each name");
+    for i in 0..texts.len() {
+        let fault = fault_of_table(texts[i], &texts[i + 1..]);
+        if fault.is_some() {
+            return fault;
         }
-        rest = following;
     }
     None
 }
