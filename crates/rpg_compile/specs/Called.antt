@@ -1,10 +1,11 @@
 -- Calls of subroutines by subroutines, with names by number, and levels by subroutine number.
-use Rattle.std.specs.Prelude.{ℕ, suc, List, [], ◌∷◌, ◌++◌, slice_index, Option, None, Some}
+use Rattle.std.specs.Prelude.{◌≡◌, ◌<◌, ℕ, suc, length, List, [], ◌∷◌, ◌++◌, slice_index, Option, None, Some}
 use Rattle.std.specs.Option.{option_map}
 use Rattle.rpg_cards.specs.Deeds.{Calculation, Deed}
 use Rattle.rpg_cards.specs.Keys.{Key, Name}
 use Rattle.rpg_cards.specs.Plain.{Pair, call_in}
 use Rattle.rpg_cards.specs.Sections.{Subroutine}
+use Rattle.rpg_compile_program.specs.Levels.{subroutine_level}
 
 module _ (number : Option Name → ℕ) where
   -- the subroutine that an EXSR calls
@@ -32,3 +33,7 @@ module _ (number : Option Name → ℕ) where
 -- the level of a subroutine in the list of levels
 abbrev pub level_at : List ℕ → ℕ → ℕ
 level_at levels s = slice_index levels s
+
+-- the list has the level of each subroutine
+abbrev pub AreLevels : List (Subroutine Key) → List ℕ → Type 0
+AreLevels subs levels = (s : ℕ) → s < length subs → level_at levels s ≡ subroutine_level subs s

@@ -1,5 +1,5 @@
 -- The tests on the cards of a group, and the alternatives that they make.
-use Rattle.std.specs.Prelude.{Bool, false, List, [], ◌∷◌, ◌++◌, if◌then◌else◌}
+use Rattle.std.specs.Prelude.{◌≡◌, ◌≤◌, ◌<◌, ℕ, length, take, drop, Bool, false, List, [], ◌∷◌, ◌++◌, if◌then◌else◌}
 use Rattle.std.specs.List.{flat_map}
 use Rattle.std.specs.Option.{option_map_or}
 use Rattle.rpg_cards.specs.Calculations.{is_or, tests_on}
@@ -28,3 +28,7 @@ alternatives_from so_far (c ∷ cs) = if begins_alternative c then so_far ∷ al
 abbrev pub alternatives_in : List SpecCard → List (List Conditions)
 alternatives_in [] = []
 alternatives_in (c ∷ cs) = alternatives_from (tests_at c) cs
+
+-- the second alternative begins at place n
+abbrev pub IsSecondAlternative : List SpecCard → ℕ → Type 0
+IsSecondAlternative cards n = (1 ≤ n) × (n < length cards) × (alternatives_in cards ≡ tests_in (take n cards) ∷ alternatives_in (drop n cards))

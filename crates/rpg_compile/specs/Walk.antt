@@ -1,8 +1,8 @@
 -- Groups of C cards, one after another.
-use Rattle.std.specs.Prelude.{◌≡◌, ℕ, suc, ◌+◌, length, Bool, false, List, [], ◌∷◌, Option, None, Some, drop, if◌then◌else◌}
-use Rattle.rpg_cards.specs.Calculations.{CalculationGroup, awaited_level, calculations, goes_on, last_card}
+use Rattle.std.specs.Prelude.{◌≡◌, ℕ, suc, ◌+◌, ◌<◌, length, Bool, false, List, [], ◌∷◌, Option, None, Some, drop, if◌then◌else◌}
+use Rattle.rpg_cards.specs.Calculations.{CalculationGroup, awaited_level, calculation_of, calculations, goes_on, last_card}
 use Rattle.rpg_cards.specs.Deeds.{Calculation, Deed}
-use Rattle.rpg_cards.specs.Keys.{Key}
+use Rattle.rpg_cards.specs.Keys.{Key, Name}
 use Rattle.rpg_cards.specs.Labels.{is_begsr}
 use Rattle.rpg_cards.specs.Sections.{Subroutine, is_detail, is_subroutine, is_total, of_control, subroutines_of, up_to_begin}
 use Rattle.rpg_cards.specs.Cards.{calculation_on, calculation_specs_in}
@@ -62,6 +62,28 @@ section_in part cards = part_cards part (of_control (belongs part) (calculations
 -- the subroutines of these cards
 abbrev pub subroutines_in : List SpecCard → List (Subroutine Key)
 subroutines_in cards = subroutines_of (of_control is_subroutine (calculations cards))
+
+-- ---- one after the other
+
+-- `next` is the first of what the cards have, and `rest`, which is shorter, has the others
+abbrev pub HasNext : {X : Type 0} → (List SpecCard → List X) → List SpecCard → X → List SpecCard → Type 0
+HasNext had cards next rest = (had cards ≡ next ∷ had rest) × (length rest < length cards)
+
+-- the next group of these cards, and the cards after it
+abbrev pub IsNextGroup : List SpecCard → CalculationGroup → List SpecCard → Type 0
+IsNextGroup cards g rest = HasNext calculations cards (calculation_of g) rest
+
+-- the next group of a section, and the cards after it
+abbrev pub IsNextInPart : Part → List SpecCard → CalculationGroup → List SpecCard → Type 0
+IsNextInPart part cards g rest = HasNext (section_in part) cards (calculation_of g) rest
+
+-- the subroutine of that name, from the cards after its BEGSR
+abbrev pub subroutine_after : Option Name → List SpecCard → Subroutine Key
+subroutine_after name cards = record { name = name; body = section_in Body cards }
+
+-- the name of the next subroutine, and the cards after its BEGSR
+abbrev pub IsNextSubroutine : List SpecCard → Option Name → List SpecCard → Type 0
+IsNextSubroutine cards name rest = HasNext subroutines_in cards (subroutine_after name rest) rest
 
 -- ---- sizes
 

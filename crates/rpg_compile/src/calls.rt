@@ -5,7 +5,6 @@ ghost use Rattle.rpg_cards.specs.Calculations.{calculations};
 ghost use Rattle.rpg_cards.specs.Deeds.{deed_of};
 ghost use Rattle.rpg_cards.specs.Plain.{ArePlain, calls_of};
 ghost use Rattle.rpg_cards.specs.Sections.{callee, sections_of};
-ghost use Rattle.rpg_compile_program.specs.Levels.{subroutine_level};
 ghost use Rattle.rpg_compile.specs.Called as called;
 ghost use Rattle.rpg_compile.specs.Numbers.{body_sizes, number_by};
 ghost use Rattle.rpg_compile.specs.Walk.{section_in, subroutines_in};
@@ -27,7 +26,7 @@ pub(crate) fn levels_of(
     requires numbers { (n : Option (List ℕ)) → number_by subroutines.now n ≡ callee n (subroutines_in cards.now) }
     requires few { body_sizes (subroutines_in cards.now) < 65536 }
     requires plain { ArePlain (sections_of (calculations cards.now)) }
-    ensures levels { IfOk result (λ levels. (s : ℕ) → s < length (subroutines_in cards.now) → called.level_at levels.items s ≡ subroutine_level (subroutines_in cards.now) s) }
+    ensures levels { IfOk result (λ levels. called.AreLevels (subroutines_in cards.now) levels.items) }
     ensures each_has { IfOk result (λ levels. length levels.items ≡ length (subroutines_in cards.now)) }
 {
     let (count, calls) = calls_of(alloc, subroutines, cards)?;

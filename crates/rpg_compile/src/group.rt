@@ -80,7 +80,7 @@ fn size_of(first: &CalculationSpec, cards: &[SpecCard]) -> u16
 /// Returns the next group, and the cards after it.
 pub(crate) fn next_group(cards: &[SpecCard]) -> Option<(CardGroup<'_>, &[SpecCard])>
     ensures { MatchOption result (calculations.calculations cards.now ≡ [])
-        (λ r. (calculations.calculations cards.now ≡ calculations.calculation_of r.0 ∷ calculations.calculations r.1.now) × (length r.1.now < length cards.now)) }
+        (λ r. walk.IsNextGroup cards.now r.0 r.1.now) }
 {
     let mut rest = cards;
     while let Some((card, following)) = rest.split_first() {

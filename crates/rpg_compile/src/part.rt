@@ -1,9 +1,7 @@
 //! The sections of calculations.
 
-ghost use Rattle.std.specs.Prelude.{◌≡◌, ◌∷◌, [], ◌<◌, length, option_copied, MatchOption};
-ghost use Rattle.rpg_cards.specs.Calculations.{calculation_of};
+ghost use Rattle.std.specs.Prelude.{◌≡◌, [], option_copied, MatchOption};
 ghost use Rattle.rpg_cards.specs.Deeds as deeds;
-ghost use Rattle.rpg_compile.specs.declared.part.Part.TheVariants as parts;
 ghost use Rattle.rpg_compile.specs.Walk as walk;
 
 use crate::group::{CardGroup, next_group};
@@ -47,7 +45,7 @@ impl Part {
 /// Returns the next group of a section, and the cards after it.
 pub(crate) fn next_in(part: Part, cards: &[SpecCard]) -> Option<(CardGroup<'_>, &[SpecCard])>
     ensures { MatchOption result (walk.section_in part cards.now ≡ [])
-        (λ r. (walk.section_in part cards.now ≡ calculation_of r.0 ∷ walk.section_in part r.1.now) × (length r.1.now < length cards.now)) }
+        (λ r. walk.IsNextInPart part cards.now r.0 r.1.now) }
 {
     let mut rest = cards;
     while let Some((group, following)) = next_group(rest) {
@@ -65,7 +63,7 @@ pub(crate) fn next_in(part: Part, cards: &[SpecCard]) -> Option<(CardGroup<'_>, 
 /// Returns the name of the next subroutine, and the cards after its BEGSR.
 pub(crate) fn next_subroutine(cards: &[SpecCard]) -> Option<(Option<&Name>, &[SpecCard])>
     ensures { MatchOption result (walk.subroutines_in cards.now ≡ [])
-        (λ r. (walk.subroutines_in cards.now ≡ record { name = option_copied r.0; body = walk.section_in parts.Body r.1.now } ∷ walk.subroutines_in r.1.now) × (length r.1.now < length cards.now)) }
+        (λ r. walk.IsNextSubroutine cards.now (option_copied r.0) r.1.now) }
 {
     let mut rest = cards;
     while let Some((group, following)) = next_group(rest) {

@@ -1,15 +1,14 @@
 //! The instructions of all sections.
 
-ghost use Rattle.std.specs.Prelude.{◌≡◌, ◌+◌, ◌<◌, ◌≤◌, ℕ, All, length, map, IfOk};
+ghost use Rattle.std.specs.Prelude.{◌≡◌, ◌+◌, ◌<◌, ◌≤◌, All, length, map, IfOk};
 ghost use Rattle.rpg_cards.specs.Calculations.{calculations};
 ghost use Rattle.rpg_cards.specs.Plain.{ArePlain};
 ghost use Rattle.rpg_cards.specs.Sections.{sections_of};
 ghost use Rattle.rpg_compile_program.specs.Code as code_of;
 ghost use Rattle.rpg_compile_program.specs.Whole as whole;
-ghost use Rattle.rpg_compile.specs.Called.{level_at};
-ghost use Rattle.rpg_compile.specs.Coding.{rows_of_subroutines};
+ghost use Rattle.rpg_compile.specs.Coding.{rows_at_levels, rows_of_section, rows_of_subroutines};
 ghost use Rattle.rpg_compile.specs.Marked.{IsMarked, IsMarkedRow};
-ghost use Rattle.rpg_compile.specs.Numbers.{body_sizes, number_by};
+ghost use Rattle.rpg_compile.specs.Numbers.{body_sizes};
 ghost use Rattle.rpg_compile.specs.Walk.{section_in, subroutines_in};
 ghost use Rattle.rpg_program.specs.Object.{subroutine_row};
 ghost use Rattle.rpg_compile_program.specs.Table.{key_number};
@@ -87,7 +86,7 @@ impl Writer<'_> {
         first: u16,
     ) -> Result<(Vec<Instruction<u16>>, u16), AllocError>
         requires { first + code_of.sizes (section_in part cards.now) < 65536 }
-        ensures code { IfOk result (λ r. r.0.items ≡ code_of.section_code (key_number self.old.table.now) (number_by self.old.subroutines) own first (section_in part cards.now)) }
+        ensures code { IfOk result (λ r. r.0.items ≡ rows_of_section self.old.table.now self.old.subroutines own first part cards.now) }
         ensures kept { IfOk result (λ r. All IsMarked r.0.items) }
         ensures end { IfOk result (λ r. r.1 ≡ first + code_of.sizes (section_in part cards.now)) }
         ensures table { self.new.table ≡ self.old.table }
@@ -115,7 +114,7 @@ impl Writer<'_> {
         requires few { length levels.now ≤ 100 }
         requires levels { length levels.now ≡ length (subroutines_in cards.now) }
         requires places { first + body_sizes (subroutines_in cards.now) < 65536 }
-        ensures rows { IfOk result (λ v. map subroutine_row v.items ≡ code_of.subroutines_code (key_number self.old.table.now) (number_by self.old.subroutines) (level_at levels.now) 0 first (subroutines_in cards.now)) }
+        ensures rows { IfOk result (λ v. map subroutine_row v.items ≡ rows_at_levels self.old.table.now self.old.subroutines levels.now first cards.now) }
         ensures kept { IfOk result (λ v. All IsMarkedRow (map subroutine_row v.items)) }
     {
         let mut rows = Vec::new(self.alloc);

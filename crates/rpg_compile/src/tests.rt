@@ -1,6 +1,6 @@
 //! The tests of a group of C cards: one for each card that has conditions.
 
-ghost use Rattle.std.specs.Prelude.{◌≡◌, ◌+◌, ◌++◌, ◌<◌, ◌≤◌, length, take, drop, map, [], ◌∷◌, OnOk, IfSome, MatchOption};
+ghost use Rattle.std.specs.Prelude.{◌≡◌, ◌+◌, ◌++◌, ◌<◌, length, map, [], ◌∷◌, OnOk, IfSome, MatchOption};
 ghost use Rattle.std.specs.Option.{option_to_list};
 ghost use Rattle.rpg_compile_program.specs.Code as code_of;
 ghost use Rattle.rpg_compile.specs.Tests as tests;
@@ -91,7 +91,7 @@ fn begins(card: &SpecCard) -> bool
 fn next_alternative(cards: &[SpecCard]) -> Option<usize>
     requires { 0 < length cards.now }
     ensures { MatchOption result (tests.alternatives_in cards.now ≡ tests.tests_in cards.now ∷ [])
-        (λ n. (1 ≤ n) × (n < length cards.now) × (tests.alternatives_in cards.now ≡ tests.tests_in (take n cards.now) ∷ tests.alternatives_in (drop n cards.now))) }
+        (λ n. tests.IsSecondAlternative cards.now n) }
 {
     for i in 1..cards.len() {
         if begins(&cards[i]) {

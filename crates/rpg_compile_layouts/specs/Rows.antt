@@ -1,12 +1,17 @@
 -- Lines at the numbers of their fields: by their headings and the cards after them.
-use Rattle.std.specs.Prelude.{ℕ, List, map, Option, None}
+use Rattle.std.specs.Prelude.{ℕ, List, map, false, Option, None}
 use Rattle.rpg_cards.specs.Keys.{Key}
 use Rattle.rpg_cards.specs.Groups.{followers, groups_from, output_role}
 use Rattle.rpg_cards.specs.declared.spec_card.SpecCard.{SpecCard}
 use Rattle.rpg_program.specs.Lines.{Line}
 use Rattle.rpg_program.specs.declared.condition.Condition.{Condition}
+use Rattle.rpg_edit_marks.specs.declared.code.Fill.TheVariants as fills
+use Rattle.rpg_program.specs.declared.condition.Conditions.{Conditions}
+use Rattle.rpg_program.specs.declared.line.Editing.TheVariants as editings
 use Rattle.rpg_program.specs.declared.line.File.{File}
 use Rattle.rpg_program.specs.declared.line.LineField.{LineField}
+use Rattle.rpg_program.specs.declared.line.Source.TheVariants as sources
+use Rattle.rpg_program.specs.declared.operation.Index.{Index}
 use Rattle.rpg_program.specs.Object.{LineRow}
 use Rattle.rpg_effect_renaming.specs.Naming.{renamed_field, renamed_line}
 use Rattle.rpg_sheet_specs.specs.declared.output.OutputField.{OutputField}
@@ -40,6 +45,18 @@ alternatives_after so_far cards = line_alternatives so_far (followers output_rol
 -- an output field with its name as a number
 abbrev pub field_row : Table → OutputField → LineField ℕ
 field_row t f = renamed_field (key_number t) (line_field_of f)
+
+-- an output field that is put out unedited
+abbrev pub unedited_row : ℕ → Index ℕ → ℕ → Conditions → LineField ℕ
+unedited_row field index end conditions = record {
+  source = sources.Value;
+  operand = record { field = field; index = index };
+  editing = editings.Plain;
+  fill = fills.Blank;
+  is_blanked = false;
+  end = end;
+  conditions = conditions;
+}
 
 -- the output fields on the cards after a line
 abbrev pub output_rows_after : Table → List SpecCard → List (LineField ℕ)

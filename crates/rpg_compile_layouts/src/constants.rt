@@ -4,6 +4,7 @@ ghost use Rattle.std.specs.Prelude.{◌≡◌, ◌++◌, All, map, IfOk, OnOk};
 ghost use Rattle.rpg_cards.specs.Insertions.{insert_all};
 ghost use Rattle.rpg_cards.specs.Constants as known;
 ghost use Rattle.rpg_program.specs.Values.{held};
+ghost use Rattle.rpg_compile_layouts.specs.Held.{held_values};
 ghost use Rattle.rpg_compile_program.specs.Data.{constant_value, constant_values};
 
 use indexmap::IndexSet;
@@ -45,7 +46,7 @@ pub(crate) fn add_constants(
     values: &mut Vec<Vec<Value>>,
 ) -> Result<(), AllocError>
     ensures forms { OnOk result (forms.new.items ≡ forms.old.items ++ map known.constant_form constants.now) }
-    ensures values { OnOk result (map (λ vs. map held vs.items) values.new.items ≡ map (λ vs. map held vs.items) values.old.items ++ map constant_values constants.now) }
+    ensures values { OnOk result (held_values values.new.items ≡ held_values values.old.items ++ map constant_values constants.now) }
     ensures kept { OnOk result (All known.IsConstant constants.now) }
 {
     let mut rest = constants;

@@ -2,7 +2,7 @@
 
 ghost use Rattle.std.specs.Prelude.{◌≡◌, ◌+◌, ◌≤◌, All, length, map, IfOk};
 ghost use Rattle.rpg_cards.specs.Constants.{IsConstant, constants};
-ghost use Rattle.rpg_program.specs.Values.{held};
+ghost use Rattle.rpg_compile_layouts.specs.Held.{held_values};
 ghost use Rattle.rpg_faults_flow.specs.Kept.{KeepsRule};
 ghost use Rattle.rpg_faults_limits.specs.Names.{bad_size};
 ghost use Rattle.rpg_symbols.specs.Fields.{storage};
@@ -34,7 +34,7 @@ pub fn fields_of(alloc: Global, cards: &[SpecCard]) -> Result<Fields, AllocError
     requires sizes { KeepsRule (λ before c after. bad_size c) cards.now }
     ensures table { IfOk result (λ f. f.table ≡ fields.table_of cards.now) }
     ensures forms { IfOk result (λ f. f.forms.items ≡ fields.forms (fields.table_of cards.now)) }
-    ensures values { IfOk result (λ f. map (λ vs. map held vs.items) f.values.items ≡ values_of cards.now) }
+    ensures values { IfOk result (λ f. held_values f.values.items ≡ values_of cards.now) }
     ensures kept { IfOk result (λ f. All IsConstant (constants cards.now)) }
 {
     let NameTable {
@@ -59,7 +59,7 @@ fn names_of(alloc: Global, cards: &[SpecCard]) -> Result<NameTable, AllocError>
     requires sizes { KeepsRule (λ before c after. bad_size c) cards.now }
     ensures symbols { IfOk result (λ t. t.symbols ≡ fields.defined_fields cards.now) }
     ensures forms { IfOk result (λ t. t.forms.items ≡ fields.name_forms (fields.defined_fields cards.now)) }
-    ensures values { IfOk result (λ t. map (λ vs. map held vs.items) t.values.items ≡ map (field_values (loaded cards.now)) (fields.defined_fields cards.now)) }
+    ensures values { IfOk result (λ t. held_values t.values.items ≡ map (field_values (loaded cards.now)) (fields.defined_fields cards.now)) }
 {
     let loaded = Loaded::of_cards(alloc, cards)?;
     let table = NameTable::of_cards(alloc, &loaded, cards)?;

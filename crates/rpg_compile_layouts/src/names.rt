@@ -2,7 +2,7 @@
 
 ghost use Rattle.std.specs.Prelude.{◌≡◌, ◌≤◌, [], ◌∷◌, codes, length, map, IfOk, OnOk};
 ghost use Rattle.rpg_cards.specs.Names.{definitions_on};
-ghost use Rattle.rpg_program.specs.Values.{held};
+ghost use Rattle.rpg_compile_layouts.specs.Held.{held_values};
 ghost use Rattle.rpg_compile_program.specs.Data.{field_values};
 ghost use Rattle.rpg_compile_program.specs.Table as fields;
 ghost use Rattle.rpg_symbols.specs.Fields.{given, storage};
@@ -33,7 +33,7 @@ impl NameTable {
         requires storage { storage (fields.defined_fields cards.now) ≤ 65535 }
         ensures symbols { IfOk result (λ t. t.symbols ≡ fields.defined_fields cards.now) }
         ensures forms { IfOk result (λ t. t.forms.items ≡ fields.name_forms (fields.defined_fields cards.now)) }
-        ensures values { IfOk result (λ t. map (λ vs. map held vs.items) t.values.items ≡ map (field_values loaded.now) (fields.defined_fields cards.now)) }
+        ensures values { IfOk result (λ t. held_values t.values.items ≡ map (field_values loaded.now) (fields.defined_fields cards.now)) }
     {
         let mut table = NameTable::given(alloc, loaded)?;
         for card in cards {
@@ -46,7 +46,7 @@ impl NameTable {
     fn given(alloc: Global, loaded: &Loaded) -> Result<Self, AllocError>
         ensures symbols { IfOk result (λ t. t.symbols ≡ given) }
         ensures forms { IfOk result (λ t. t.forms.items ≡ fields.name_forms given) }
-        ensures values { IfOk result (λ t. map (λ vs. map held vs.items) t.values.items ≡ map (field_values loaded.now) given) }
+        ensures values { IfOk result (λ t. held_values t.values.items ≡ map (field_values loaded.now) given) }
     {
         let Ok(symbols) = Symbols::new(alloc) else {
             return Err(AllocError);
@@ -70,12 +70,12 @@ impl NameTable {
         card: &SpecCard,
     ) -> Result<(), AllocError>
         requires same { self.old.forms.items ≡ fields.name_forms self.old.symbols }
-        requires values { map (λ vs. map held vs.items) self.old.values.items ≡ map (field_values loaded.now) self.old.symbols }
+        requires values { held_values self.old.values.items ≡ map (field_values loaded.now) self.old.symbols }
         requires few { length (fields.with_definitions self.old.symbols (definitions_on card.now.spec)) ≤ 4000 }
         requires room { storage (fields.with_definitions self.old.symbols (definitions_on card.now.spec)) ≤ 65535 }
         ensures symbols { OnOk result (self.new.symbols ≡ fields.with_definitions self.old.symbols (definitions_on card.now.spec)) }
         ensures forms { OnOk result (self.new.forms.items ≡ fields.name_forms self.new.symbols) }
-        ensures values { OnOk result (map (λ vs. map held vs.items) self.new.values.items ≡ map (field_values loaded.now) self.new.symbols) }
+        ensures values { OnOk result (held_values self.new.values.items ≡ map (field_values loaded.now) self.new.symbols) }
     {
         self.define_all(alloc, loaded, card.definitions().as_slice())
     }
@@ -87,12 +87,12 @@ impl NameTable {
         definitions: &[Definition],
     ) -> Result<(), AllocError>
         requires same { self.old.forms.items ≡ fields.name_forms self.old.symbols }
-        requires values { map (λ vs. map held vs.items) self.old.values.items ≡ map (field_values loaded.now) self.old.symbols }
+        requires values { held_values self.old.values.items ≡ map (field_values loaded.now) self.old.symbols }
         requires few { length (fields.with_definitions self.old.symbols definitions.now) ≤ 4000 }
         requires room { storage (fields.with_definitions self.old.symbols definitions.now) ≤ 65535 }
         ensures symbols { OnOk result (self.new.symbols ≡ fields.with_definitions self.old.symbols definitions.now) }
         ensures forms { OnOk result (self.new.forms.items ≡ fields.name_forms self.new.symbols) }
-        ensures values { OnOk result (map (λ vs. map held vs.items) self.new.values.items ≡ map (field_values loaded.now) self.new.symbols) }
+        ensures values { OnOk result (held_values self.new.values.items ≡ map (field_values loaded.now) self.new.symbols) }
     {
         for definition in definitions {
             self.define(alloc, loaded, definition)?;
@@ -108,12 +108,12 @@ impl NameTable {
         definition: &Definition,
     ) -> Result<(), AllocError>
         requires same { self.old.forms.items ≡ fields.name_forms self.old.symbols }
-        requires values { map (λ vs. map held vs.items) self.old.values.items ≡ map (field_values loaded.now) self.old.symbols }
+        requires values { held_values self.old.values.items ≡ map (field_values loaded.now) self.old.symbols }
         requires few { length (fields.with_definition self.old.symbols definition.now) ≤ 4000 }
         requires room { storage (fields.with_definition self.old.symbols definition.now) ≤ 65535 }
         ensures symbols { OnOk result (self.new.symbols ≡ fields.with_definition self.old.symbols definition.now) }
         ensures forms { OnOk result (self.new.forms.items ≡ fields.name_forms self.new.symbols) }
-        ensures values { OnOk result (map (λ vs. map held vs.items) self.new.values.items ≡ map (field_values loaded.now) self.new.symbols) }
+        ensures values { OnOk result (held_values self.new.values.items ≡ map (field_values loaded.now) self.new.symbols) }
     {
         match definition.form {
             Some(form) => self.define_name(alloc, loaded, &definition.name, form),
@@ -130,12 +130,12 @@ impl NameTable {
         form: FieldForm,
     ) -> Result<(), AllocError>
         requires same { self.old.forms.items ≡ fields.name_forms self.old.symbols }
-        requires values { map (λ vs. map held vs.items) self.old.values.items ≡ map (field_values loaded.now) self.old.symbols }
+        requires values { held_values self.old.values.items ≡ map (field_values loaded.now) self.old.symbols }
         requires few { length (fields.with_name self.old.symbols name.now form) ≤ 4000 }
         requires room { storage (fields.with_name self.old.symbols name.now form) ≤ 65535 }
         ensures symbols { OnOk result (self.new.symbols ≡ fields.with_name self.old.symbols name.now form) }
         ensures forms { OnOk result (self.new.forms.items ≡ fields.name_forms self.new.symbols) }
-        ensures values { OnOk result (map (λ vs. map held vs.items) self.new.values.items ≡ map (field_values loaded.now) self.new.symbols) }
+        ensures values { OnOk result (held_values self.new.values.items ≡ map (field_values loaded.now) self.new.symbols) }
     {
         match self.symbols.define(Name::new(name.as_slice()), form) {
             Ok(number) => {
@@ -159,7 +159,7 @@ fn given_values(
     date: &FieldForm,
     page: &FieldForm,
 ) -> Result<Vec<Vec<Value>>, AllocError>
-    ensures { IfOk result (λ v. map (λ vs. map held vs.items) v.items ≡ field_values loaded.now (codes "UDATE", date.now) ∷ field_values loaded.now (codes "PAGE", page.now) ∷ []) }
+    ensures { IfOk result (λ v. held_values v.items ≡ field_values loaded.now (codes "UDATE", date.now) ∷ field_values loaded.now (codes "PAGE", page.now) ∷ []) }
 {
     let date = loaded.values_of(alloc, &Name::new(b"UDATE"), date)?;
     let page = loaded.values_of(alloc, &Name::new(b"PAGE"), page)?;

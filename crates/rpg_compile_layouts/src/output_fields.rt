@@ -1,13 +1,10 @@
 //! The fields of lines.
 
-ghost use Rattle.std.specs.Prelude.{◌≡◌, false, All, None, IfOk};
+ghost use Rattle.std.specs.Prelude.{◌≡◌, All, None, IfOk};
 ghost use Rattle.rpg_cards.specs.Keys.{Fixed};
 ghost use Rattle.rpg_cards.specs.declared.constants.Constant.TheVariants.{Text};
-ghost use Rattle.rpg_program.specs.declared.line.Editing.TheVariants as editings;
-ghost use Rattle.rpg_program.specs.declared.line.Source.TheVariants as sources;
-ghost use Rattle.rpg_compile_layouts.specs.Rows.{field_row, output_rows_after};
+ghost use Rattle.rpg_compile_layouts.specs.Rows.{field_row, output_rows_after, unedited_row};
 ghost use Rattle.rpg_compile_layouts.specs.Within.{HasIndexRow};
-ghost use Rattle.rpg_edit_marks.specs.declared.code.Fill.TheVariants as fills;
 ghost use Rattle.rpg_program.specs.Kept.{AreConditions, IsEditingRow, IsIndexRow, IsLineFieldRow};
 ghost use Rattle.rpg_effect_renaming.specs.Naming.{renamed_editing, renamed_operand};
 ghost use Rattle.rpg_compile_program.specs.Lines as lines;
@@ -69,7 +66,7 @@ fn field_of(table: &FieldTable, field: &OutputField) -> LineField<u16>
 fn unedited(field: u16, index: Index<u16>, end: u16, conditions: Conditions) -> LineField<u16>
     requires index { IsIndexRow index }
     requires conditions { AreConditions conditions }
-    ensures value { result ≡ record { source = sources.Value; operand = record { field = field; index = index }; editing = editings.Plain; fill = fills.Blank; is_blanked = false; end = end; conditions = conditions } }
+    ensures value { result ≡ unedited_row field index end conditions }
     ensures kept { IsLineFieldRow result }
 {
     LineField {

@@ -9,7 +9,7 @@ use Rattle.rpg_cards.specs.Levels.{has_match_field}
 use Rattle.rpg_cards.specs.declared.files.FileUse.TheVariants as uses
 use Rattle.rpg_cards.specs.declared.spec_card.SpecCard.{SpecCard}
 use Rattle.rpg_compile_program.specs.Levels.{subroutine_level}
-use Rattle.rpg_compile_program.specs.Whole.{detail_code, subroutine_rows, total_code}
+use Rattle.rpg_compile_program.specs.Whole.{IsCodeOf, detail_code, subroutine_rows, total_code}
 use Rattle.rpg_program.specs.Input.{TypeRow}
 use Rattle.rpg_program.specs.Lines.{Line}
 use Rattle.rpg_program.specs.Object.{LineRow, Object}
@@ -18,12 +18,16 @@ use Rattle.rpg_program.specs.declared.rows.Version.TheVariants as versions
 use Rattle.rpg_effect_renaming.specs.Naming.{renamed_line, renamed_type}
 use Rattle.rpg_compile_program.specs.Data.{values_of}
 use Rattle.rpg_compile_program.specs.Lines.{lines_on, record_length_of}
-use Rattle.rpg_compile_program.specs.Table.{forms, key_number, table_of}
+use Rattle.rpg_compile_program.specs.Table.{forms, key_number, key_word, table_of}
 use Rattle.rpg_compile_program.specs.Types.{types_on}
 
 -- the number of each key
 abbrev pub key_numbers : List SpecCard → Key → ℕ
 key_numbers cards = key_number (table_of cards)
+
+-- the characters of each text constant, by its key
+abbrev pub key_words : List SpecCard → Key → List ℕ
+key_words cards = key_word (table_of cards)
 
 -- the record types of a source, by the numbers of their fields
 abbrev pub types_of : List SpecCard → List (TypeRow ℕ)
@@ -44,6 +48,10 @@ line_rows cards = map (numbered_line cards) (lines_on cards)
 -- the calculations of a source: detail, total and subroutines
 abbrev pub sections : List SpecCard → Sections Key
 sections cards = sections_of (calculations cards)
+
+-- the program has the code of the calculations of a source
+abbrev pub HasCodeOf : List SpecCard → Object → Type 0
+HasCodeOf cards p = IsCodeOf (key_numbers cards) (subroutine_level (sections cards).subroutines) (sections cards) p
 
 -- version 2 has a secondary file or match fields
 abbrev pub version_with : Bool → Bool → Version

@@ -4,14 +4,12 @@ ghost use Rattle.std.specs.Ordering.{nat_cmp};
 ghost use Rattle.std.specs.Prelude.{◌≡◌, ℕ, List, map};
 ghost use Rattle.rpg_cards.specs.Keys.{Key, key_cmp};
 ghost use Rattle.rpg_cards.specs.declared.spec_card.SpecCard.{SpecCard};
-ghost use Rattle.rpg_compile_program.specs.Levels.{subroutine_level};
-ghost use Rattle.rpg_compile_program.specs.Whole.{IsCodeOf};
 ghost use Rattle.rpg_program.specs.Forms.{form_at};
 ghost use Rattle.rpg_program.specs.Constants.{word_at};
 ghost use Rattle.rpg_program.specs.Object.{lines_of};
 ghost use Rattle.rpg_effect_renaming.specs.Naming.{IsRenaming, renamed_line};
 ghost use Rattle.rpg_compile_program.specs.Lines.{lines_on};
-ghost use Rattle.rpg_compile_program.specs.Program.{key_numbers, program_of, sections};
+ghost use Rattle.rpg_compile_program.specs.Program.{HasCodeOf, key_numbers, key_words, program_of};
 ghost use Rattle.rpg_verify_rules.specs.Accepted.{IsAccepted};
 ghost use Rattle.rpg_compile_program.specs.Ranges.{AreCards};
 ghost use Rattle.rpg_compile_program.specs.Rules.{KeepsCardRules};
@@ -25,8 +23,8 @@ pub fn numbers_are_a_renaming()
 /// The program's lines and words are those of the cards by name, and its code is that of their sections.
 pub fn programs_say_what_cards_say()
     ensures lines { (cards : List SpecCard) (allowance : ℕ) → lines_of (program_of cards allowance) ≡ map (renamed_line (key_numbers cards)) (lines_on cards) }
-    ensures words { (cards : List SpecCard) (allowance : ℕ) (k : Key) → word_at (program_of cards allowance) (key_numbers cards k) ≡ tables.key_word (tables.table_of cards) k }
-    ensures code { (cards : List SpecCard) (allowance : ℕ) → IsCodeOf (key_numbers cards) (subroutine_level (sections cards).subroutines) (sections cards) (program_of cards allowance) }
+    ensures words { (cards : List SpecCard) (allowance : ℕ) (k : Key) → word_at (program_of cards allowance) (key_numbers cards k) ≡ key_words cards k }
+    ensures code { (cards : List SpecCard) (allowance : ℕ) → HasCodeOf cards (program_of cards allowance) }
 {}
 
 /// The verifier accepts the program of cards that obey the rules of cards: it obeys all rules of programs.

@@ -1,8 +1,9 @@
 -- What a call that runs a job over its readers and writers promises.
 use Rattle.std.specs.Prelude.{◌≡◌, ℕ, ℤ, List, None, Option, Some, Result, IfErr, IfOk}
 use Rattle.rpg_cycle.specs.Starting.{date_in}
+use Rattle.rpg_files.specs.declared.counting.Counted.{Counted}
 use Rattle.rpg_program.specs.Object.{Object}
-use Rattle.rpg_engine.specs.Devices.{Lent, NoneFailed, OfRead, OfReaders, OfWriters}
+use Rattle.rpg_engine.specs.Devices.{Lent, NoneFailed, OfRead, OfReaders, OfWriters, both}
 use Rattle.rpg_engine.specs.Objects.{SpellsProgram}
 use Rattle.rpg_engine.specs.Refusing.{IsJobOf, IsToldOf, IsToldOfDate, MayRun}
 use Rattle.rpg_engine.specs.Reporting.{JobEndsWell, Reports, SendsParts}
@@ -54,6 +55,11 @@ module _ {R S P D : Type 0} (remaining : R → Option (List ℕ)) (others : S �
   -- the call runs an accepted program
   abbrev pub RunsProgram : Object → (date : List ℕ) → Lent (Readers R S) → Lent (Writers P D) → Result Report RunFault → Type 0
   RunsProgram p date readers writers result = IsProgramRun p date readers.entry.now readers.exit.now writers.entry.now writers.exit.now result
+
+  -- the same, with two readers that are lent separately
+  abbrev pub RunsProgramOver : Object → (date : List ℕ) → Lent (Counted R) → Lent (Counted S) → Lent (Writers P D) → Result Report RunFault → Type 0
+  RunsProgramOver p date primary secondary writers result =
+      IsProgramRun p date (both primary.entry.now secondary.entry.now) (both primary.exit.now secondary.exit.now) writers.entry.now writers.exit.now result
 
   -- the call runs the program of an object's bytes
   abbrev pub RunsObject : (object date : List ℕ) → Lent (Readers R S) → Lent (Writers P D) → Result Report RunFault → Type 0

@@ -6,7 +6,7 @@ ghost use Rattle.rpg_cycle.specs.Starting.{date_in};
 ghost use Rattle.rpg_program.specs.Object.{Object};
 ghost use Rattle.rpg_engine.specs.Devices.{CanCountFaults, NamesFault, TellsWhoseFault, both};
 ghost use Rattle.rpg_engine.specs.Reporting.{EachRunEndsWell, HasRunOnAnyDay};
-ghost use Rattle.rpg_engine.specs.Running.{IsProgramRun, RunsObject, RunsProgram};
+ghost use Rattle.rpg_engine.specs.Running.{RunsObject, RunsProgram, RunsProgramOver};
 
 use crate::fault::RunFault;
 use crate::files::{Readers, Writers};
@@ -61,8 +61,7 @@ fn run_through_files<R1: Read, R2: Read, W1: Write, W2: Write, W: Watcher>(
     watcher: &mut W,
 ) -> Result<Report, RunFault>
     requires { CanCountFaults (both primary.old secondary.old) writers.old }
-    ensures runs { IsProgramRun R1.remaining R2.remaining W1.contents W2.contents program.now date.now
-        (both primary.old secondary.old) (both primary.new secondary.new) writers.old writers.new result }
+    ensures runs { RunsProgramOver R1.remaining R2.remaining W1.contents W2.contents program.now date.now primary secondary writers result }
     ensures faults { NamesFault R1.remaining R2.remaining (both primary.old secondary.old) (both primary.new secondary.new) writers.old writers.new result }
 {
     runs_end_well();

@@ -1,10 +1,10 @@
 //! A run's output on its way to the writers. It is buffered in the job, so that a writer is called once for many cycles.
 
-ghost use Rattle.std.specs.Prelude.{◌≡◌, ◌-◌, ◌^◌, ◌<◌, ◌≤◌, ◌⊎◌, length, take, true, is_some, OnOk};
+ghost use Rattle.std.specs.Prelude.{◌≡◌, ◌-◌, ◌^◌, ◌<◌, ◌≤◌, ◌⊎◌, length, true, is_some, OnOk};
 ghost use Rattle.rpg_machine.specs.Running.{no_bytes};
 ghost use Rattle.rpg_files.specs.Counting.{faults_of};
 ghost use Rattle.rpg_engine.specs.Outputs.{bytes_with};
-ghost use Rattle.rpg_engine.specs.Sending.{CanSend, SendsTo, SendsToFile, SendsUnlessTo, SendsWaitingTo, StopsWithTo, state_of};
+ghost use Rattle.rpg_engine.specs.Sending.{CanSend, SendsTo, SendsToFile, SendsUnlessTo, SendsWaitingTo, StopsWithTo, state_of, waiting_bytes};
 ghost use Rattle.rpg_engine.specs.Streaming.{IsSureWhereAsked};
 
 use crate::fault::{CycleFault, RunFault};
@@ -196,7 +196,7 @@ pub(crate) fn fault_after<W1: Write, W2: Write>(
     requires lines { waiting.print ≤ length output.now.print.items }
     requires records { waiting.disk ≤ length output.now.disk.items }
     ensures { StopsWithTo W1.contents W2.contents fault cycles writers sent
-        (bytes_with (take waiting.print output.now.print.items) (take waiting.disk output.now.disk.items)) result }
+        (waiting_bytes waiting output.now.print.items output.now.disk.items) result }
 {
     match fault {
         CycleFault::Read { file, fault } => RunFault::Read { file, fault },

@@ -12,7 +12,7 @@ use Rattle.rpg_faults_data.specs.declared.wrong_entry.EntryCause.{EntryCause}
 use Rattle.rpg_faults_data.specs.declared.wrong_entry.EntryFault.{EntryFault}
 use Rattle.rpg_faults_data.specs.declared.wrong_entry.EntryFault.TheVariants.{Lower, NoNumber}
 use Rattle.rpg_faults_data.specs.Data.{cards_for, data_columns, entry_on, has_forms, has_table, is_bad, is_lower, wanted}
-use Rattle.rpg_faults_data.specs.declared.entries.Layout.{Layout}
+use Rattle.rpg_faults_data.specs.declared.layout.Layout.{Layout}
 use Rattle.rpg_sheet_specs.specs.declared.data.DataSpec.{DataSpec}
 use Rattle.rpg_sheet_specs.specs.declared.data.DataSpec.TheVariants as deck
 use Rattle.rpg_sheet_specs.specs.declared.extension.ExtensionSpec.{ExtensionSpec}

@@ -107,6 +107,10 @@ abbrev pub bad_data : List SpecCard → List SpecCard → ExtensionSpec → Opti
 bad_data cards before e None = has_table e
 bad_data cards before e (Some per_card) = option_map_or (λ texts. has_forms e && bad_deck e per_card texts) (deck_at (wanted before) cards) true
 
+-- the same, by the E card's own entries per card
+abbrev pub has_bad_data : List SpecCard → List SpecCard → ExtensionSpec → Bool
+has_bad_data cards before e = bad_data cards before e e.entries_per_card
+
 -- as many decks are before as E cards want
 abbrev pub are_taken : List SpecCard → List SpecCard → Bool
 are_taken cards before = nat_le (wanted cards) (group_count data_role before)
@@ -119,5 +123,5 @@ is_unwanted cards before (deck.Card text) = false
 -- the card breaks the rules of table data
 abbrev pub breaks_data : List SpecCard → List SpecCard → SpecCard → Bool
 breaks_data cards before c =
-    option_map_or (λ (e : ExtensionSpec). bad_data cards before e e.entries_per_card) (extension_on c.spec) false
+    option_map_or (λ (e : ExtensionSpec). has_bad_data cards before e) (extension_on c.spec) false
     || option_map_or (is_unwanted cards before) (data_on c.spec) false

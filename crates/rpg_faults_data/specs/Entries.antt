@@ -1,7 +1,11 @@
 -- Entries one by one, each after the one before it.
-use Rattle.std.specs.Prelude.{◌≤◌, List, [], ◌∷◌, ℕ, Bool, false, ◌&&◌, ◌||◌, Option, None, Some}
+use Rattle.std.specs.Prelude.{◌≤◌, List, [], ◌∷◌, ℕ, Bool, false, ◌&&◌, ◌||◌, Option, None, Some, map}
+use Rattle.std.specs.List.{range_with_len}
 use Rattle.std.specs.Option.{option_map_or}
-use Rattle.rpg_faults_data.specs.Data.{is_bad, is_lower}
+use Rattle.rpg_cards.specs.Groups.{data_role, followers}
+use Rattle.rpg_cards.specs.declared.spec_card.SpecCard.{SpecCard}
+use Rattle.rpg_faults_data.specs.Data.{data_entries, entry_on, is_bad, is_lower}
+use Rattle.rpg_faults_data.specs.declared.layout.Layout.{Layout}
 use Rattle.rpg_sheet_specs.specs.declared.extension.TableSpec.{TableSpec}
 
 -- bad, or in an ascending table lower than the entry before it
@@ -12,6 +16,14 @@ is_wrong t before x = is_bad t.decimals x || (t.ascending && option_map_or (λ b
 abbrev pub any_wrong : TableSpec → Option (List ℕ) → List (List ℕ) → Bool
 any_wrong t before [] = false
 any_wrong t before (x ∷ xs) = is_wrong t before x || any_wrong t (Some x) xs
+
+-- the texts of the first n entries on a data card, by their layout
+abbrev pub texts_on_card : Layout → List ℕ → ℕ → List (List ℕ)
+texts_on_card l card n = map (entry_on l.width l.from l.length card) (range_with_len 0 n)
+
+-- the texts of the first n entries on the cards after a `**` card, by their layout
+abbrev pub texts_in_deck : Layout → ℕ → List SpecCard → List (List ℕ)
+texts_in_deck l n following = data_entries n l.per_card l.width l.from l.length (followers data_role following)
 
 -- what a number is read from
 abbrev pub HasNumberSize : Option ℕ → ℕ → Type 0

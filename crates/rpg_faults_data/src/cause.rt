@@ -8,7 +8,7 @@ ghost use Rattle.rpg_faults_data.specs.Data as rules;
 
 use crate::data::{data_cards, data_columns, has_forms, has_table};
 use crate::decks::wants_data;
-use crate::entries::Layout;
+use crate::layout::Layout;
 use crate::wrong_entry::{EntryCause, first_wrong};
 use rpg_cards::{IndexedCards, SpecCard};
 use rpg_sheet_specs::{DataSpec, ExtensionSpec, Spec};

@@ -8,7 +8,8 @@ ghost use Rattle.rpg_faults_data.specs.Data as rules;
 ghost use Rattle.rpg_faults_data.specs.Decks.{AreDecks};
 
 use crate::decks::Decks;
-use crate::entries::{Layout, bad_entries};
+use crate::entries::bad_entries;
+use crate::layout::Layout;
 use rpg_cards::{IndexedCards, SpecCard, is_table, table_form};
 use rpg_sheet_specs::{DataSpec, ExtensionSpec, Spec};
 
@@ -30,7 +31,7 @@ pub fn breaks_data(
 }
 
 fn bad_data(decks: Decks, extension: &ExtensionSpec) -> bool
-    ensures { (cards before : List SpecCard) → AreDecks cards before decks.entry → result ≡ rules.bad_data cards before extension.now extension.now.entries_per_card }
+    ensures { (cards before : List SpecCard) → AreDecks cards before decks.entry → result ≡ rules.has_bad_data cards before extension.now }
 {
     match extension.entries_per_card {
         None => has_table(extension),

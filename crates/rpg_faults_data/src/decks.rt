@@ -1,11 +1,10 @@
 //! The data after the sheets: a `**` card with the data after it is a deck, and the E cards that want data take the decks in order.
 
 ghost use Rattle.std.specs.Prelude.{◌≡◌, [], ◌∷◌, ◌++◌, List, MatchOption};
-ghost use Rattle.std.specs.Option.{option_map};
-ghost use Rattle.rpg_cards.specs.Groups.{data_role, followers, groups};
+ghost use Rattle.rpg_cards.specs.Groups.{data_role, groups};
 ghost use Rattle.rpg_cards.specs.declared.spec_card.SpecCard.{SpecCard};
 ghost use Rattle.rpg_faults_data.specs.Data as rules;
-ghost use Rattle.rpg_faults_data.specs.Decks.{AreDecks, BeginsDeck, deck};
+ghost use Rattle.rpg_faults_data.specs.Decks.{AreDecks, BeginsDeck, IsNextDeck, deck};
 
 use rpg_cards::SpecCard;
 use rpg_sheet_specs::DataSpec;
@@ -51,7 +50,7 @@ impl<'a> Decks<'a> {
 
     /// Returns the cards after the `**` card of the deck that the next E card takes.
     pub(crate) fn next(self) -> Option<&'a [SpecCard]>
-        ensures { (cards before : List SpecCard) → AreDecks cards before self.entry → option_map (λ following. followers data_role following.now) result ≡ rules.deck_at (rules.wanted before) cards }
+        ensures { (cards before : List SpecCard) → AreDecks cards before self.entry → IsNextDeck cards before result }
     {
         after_next(self.rest)
     }

@@ -1,43 +1,14 @@
 //! The entries of a table on the cards of its deck.
 
-ghost use Rattle.std.specs.Prelude.{◌≡◌, ◌≤◌, ◌<◌, ◌+◌, ◌*◌, map, length, IfSome, option_copied};
-ghost use Rattle.std.specs.List.{last_or, range_with_len};
-ghost use Rattle.rpg_cards.specs.Groups.{data_role, followers};
+ghost use Rattle.std.specs.Prelude.{◌≡◌, ◌≤◌, length, IfSome, option_copied};
+ghost use Rattle.std.specs.List.{last_or};
 ghost use Rattle.rpg_faults_data.specs.Data as rules;
-ghost use Rattle.rpg_faults_data.specs.Entries.{HasNumberSize, any_wrong, is_wrong};
+ghost use Rattle.rpg_faults_data.specs.Entries.{HasNumberSize, any_wrong, is_wrong, texts_in_deck, texts_on_card};
 
+use crate::layout::Layout;
 use rpg_cards::SpecCard;
 use rpg_decimal::{compare_text, read_zoned};
 use rpg_sheet_specs::{DataSpec, TableSpec};
-
-/// Where the entries of a table are on each card of its deck.
-#[derive(Clone, Copy)]
-pub(crate) struct Layout {
-    pub per_card: usize,
-    /// How many columns each takes, including that of an alternating table.
-    pub width: usize,
-    /// The first column of the first, counted from 0.
-    pub from: usize,
-    pub length: usize,
-
-    ghost inside: { from + length ≤ width },
-    ghost fits: { per_card * width ≤ 80 },
-}
-
-impl Layout {
-    ghost use Rattle.rpg_faults_data.specs.Data.{entry_on};
-
-    /// Returns an entry on a card, by its number from 0.
-    pub(crate) fn entry(self, card: &[u8], number: usize) -> &[u8]
-        requires card { length card.now ≡ 80 }
-        requires number { number < self.per_card }
-        ensures value { result.now ≡ entry_on self.width self.from self.length card.now number }
-        ensures length { length result.now ≡ self.length }
-    {
-        let start = number * self.width + self.from;
-        &card[start..start + self.length]
-    }
-}
 
 /// Whether one of `entries` entries of a table is bad or, in an ascending table, lower than the one before it.
 pub(crate) fn bad_entries(
@@ -47,7 +18,7 @@ pub(crate) fn bad_entries(
     deck: &[SpecCard],
 ) -> bool
     requires { HasNumberSize table.now.decimals layout.length }
-    ensures { result ≡ rules.bad_table_data table.now (rules.data_entries entries layout.per_card layout.width layout.from layout.length (followers data_role deck.now)) }
+    ensures { result ≡ rules.bad_table_data table.now (texts_in_deck layout entries deck.now) }
 {
     let mut left = entries;
     let mut before = None;
@@ -79,7 +50,7 @@ pub(crate) fn last_entry<'a>(
     requires card { length card.now ≡ 80 }
     requires number { number ≤ layout.per_card }
     requires before { IfSome before (λ b. length b.now ≡ layout.length) }
-    ensures last { option_copied result ≡ last_or (option_copied before.entry) (map (rules.entry_on layout.width layout.from layout.length card.now) (range_with_len 0 number)) }
+    ensures last { option_copied result ≡ last_or (option_copied before.entry) (texts_on_card layout card.now number) }
     ensures length { IfSome result (λ b. length b.now ≡ layout.length) }
 {
     if number == 0 {
@@ -100,7 +71,7 @@ fn any_wrong(
     requires number { number ≤ layout.per_card }
     requires table { HasNumberSize table.now.decimals layout.length }
     requires before { IfSome before (λ b. length b.now ≡ layout.length) }
-    ensures { result ≡ any_wrong table.now (option_copied before.entry) (map (rules.entry_on layout.width layout.from layout.length card.now) (range_with_len 0 number)) }
+    ensures { result ≡ any_wrong table.now (option_copied before.entry) (texts_on_card layout card.now number) }
 {
     let mut before = before;
     for i in 0..number {

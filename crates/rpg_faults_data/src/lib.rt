@@ -5,6 +5,7 @@ mod cause;
 mod data;
 mod decks;
 mod entries;
+mod layout;
 mod wrong_entry;
 
 pub use cause::{DataCause, Need, data_cause};

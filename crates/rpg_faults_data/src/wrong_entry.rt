@@ -4,7 +4,8 @@ ghost use Rattle.std.specs.Prelude.{◌≡◌, ◌≤◌, None, length, IfSome, 
 ghost use Rattle.rpg_faults_data.specs.Causes as causes;
 ghost use Rattle.rpg_faults_data.specs.Entries.{HasNumberSize};
 
-use crate::entries::{Layout, is_bad, is_lower, last_entry};
+use crate::entries::{is_bad, is_lower, last_entry};
+use crate::layout::Layout;
 use rpg_cards::SpecCard;
 use rpg_sheet_specs::{DataSpec, TableSpec, Word};
 use rpg_symbols::Name;

@@ -10,7 +10,7 @@ use Rattle.rpg_cards.specs.Groups.{Group, input_role, open_group, output_role}
 use Rattle.rpg_cards.specs.Names.{definitions}
 use Rattle.rpg_cards.specs.declared.spec_card.SpecCard.{SpecCard}
 use Rattle.rpg_faults_limits.specs.Limits.{alternative_count, calculation_count, code_count, condition_count, field_count, in_open, level_count, output_field_count}
-use Rattle.rpg_faults_limits.specs.Totals.{HasConstants, HasNames}
+use Rattle.rpg_faults_limits.specs.Totals.{BeginsWith, HasConstants, HasNames}
 use Rattle.rpg_faults_limits.specs.declared.calculations.Calculations.{Calculations}
 use Rattle.rpg_faults_limits.specs.declared.lines.OpenLine.{OpenLine}
 use Rattle.rpg_faults_limits.specs.declared.state.Limits.{Limits}
@@ -83,6 +83,14 @@ pub record IsStorage (cards before : List SpecCard) (s : Storage) : Type 0 where
 abbrev pub IsStorageWithNext : List SpecCard → List SpecCard → List SpecCard → Storage → Type 0
 IsStorageWithNext cards before [] s = ⊤
 IsStorageWithNext cards before (c ∷ after) s = IsStorage cards (before ++ c ∷ []) s
+
+-- the source is `before` and then the rest, and the counts are those of `before`
+abbrev pub IsStorageBeforeRest : List SpecCard → List SpecCard → Storage → List SpecCard → Type 0
+IsStorageBeforeRest cards rest s before = (cards ≡ before ++ rest) × IsStorage cards before s
+
+-- the source begins with `before` and the card, and the counts are those of `before`
+abbrev pub IsStorageBeforeCard : List SpecCard → SpecCard → Storage → List SpecCard → Type 0
+IsStorageBeforeCard cards c s before = BeginsWith cards (before ++ c ∷ []) × IsStorage cards before s
 
 -- ---- the whole state before a card, which is the first of the rest
 

@@ -1,9 +1,8 @@
 //! The names and constants of cards, which use storage.
 
-ghost use Rattle.std.specs.Prelude.{◌≡◌, List, [], ◌∷◌, ◌++◌, ◌≤◌, length};
+ghost use Rattle.std.specs.Prelude.{List, [], ◌∷◌, ◌++◌, ◌≤◌, length};
 ghost use Rattle.rpg_cards.specs.declared.spec_card.SpecCard.{SpecCard};
-ghost use Rattle.rpg_faults_limits.specs.State.{IsStorage, IsStorageWithNext};
-ghost use Rattle.rpg_faults_limits.specs.Totals.{BeginsWith};
+ghost use Rattle.rpg_faults_limits.specs.State.{IsStorage, IsStorageBeforeCard, IsStorageBeforeRest, IsStorageWithNext};
 
 use crate::totals::{Totals, constants_with, names_of, names_with};
 use rpg_cards::{IndexedCards, SpecCard};
@@ -32,8 +31,8 @@ impl Storage {
     /// Returns the storage with the first of the rest, if there is one.
     pub(crate) fn with_next(&self, source: &IndexedCards, rest: &[SpecCard]) -> Self
         requires few { length source.now ≤ 2000 }
-        requires storage { (before : List SpecCard) × (source.now ≡ before ++ rest.now) × IsStorage source.now before self.now }
-        ensures { (before : List SpecCard) → source.now ≡ before ++ rest.now → IsStorage source.now before self.now → IsStorageWithNext source.now before rest.now result }
+        requires storage { (before : List SpecCard) × IsStorageBeforeRest source.now rest.now self.now before }
+        ensures { (before : List SpecCard) → IsStorageBeforeRest source.now rest.now self.now before → IsStorageWithNext source.now before rest.now result }
     {
         match rest.split_first() {
             None => *self,
@@ -44,8 +43,8 @@ impl Storage {
     /// Returns the storage with one more card.
     fn with(&self, source: &IndexedCards, card: &SpecCard) -> Self
         requires few { length source.now ≤ 2000 }
-        requires storage { (before : List SpecCard) × BeginsWith source.now (before ++ card.now ∷ []) × IsStorage source.now before self.now }
-        ensures { (before : List SpecCard) → BeginsWith source.now (before ++ card.now ∷ []) → IsStorage source.now before self.now → IsStorage source.now (before ++ card.now ∷ []) result }
+        requires storage { (before : List SpecCard) × IsStorageBeforeCard source.now card.now self.now before }
+        ensures { (before : List SpecCard) → IsStorageBeforeCard source.now card.now self.now before → IsStorage source.now (before ++ card.now ∷ []) result }
     {
         Storage {
             names: names_with(self.names, source, card),

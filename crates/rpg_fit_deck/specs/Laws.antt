@@ -1,14 +1,14 @@
 -- What holds of each deck that is rewritten, whatever the rules do.
-use Rattle.std.specs.Prelude.{◌≡◌, ◌≤◌, ℕ, true, false, List, ◌++◌, length}
+use Rattle.std.specs.Prelude.{◌≡◌, ◌≤◌, ℕ, true, false, List, length}
 use Rattle.std.specs.List.{flat_map}
 use Rattle.std.specs.Str.Lines.{lines}
 use Rattle.rpg_text.specs.Lines.{with_line_feed}
 use Rattle.rpg_fit_deck.specs.declared.fitted.Fitted.{Fitted}
-use Rattle.rpg_fit_deck.specs.New.{made_lines, new_cards, nothing_told, untold, IsPart}
+use Rattle.rpg_fit_deck.specs.New.{new_cards, nothing_told, rewritten, untold, IsPart}
 
 -- NEW's cards if there is a sentence
 abbrev pub cards_of_new : List ℕ → Fitted → List (List ℕ)
-cards_of_new source f = new_cards (lines source) f.slots.items ++ made_lines f.end.items
+cards_of_new source f = rewritten (lines source) f.slots.items f.end.items
 
 -- what a rewritten deck keeps of its source
 abbrev pub IsFitted : List ℕ → Fitted → Type 0

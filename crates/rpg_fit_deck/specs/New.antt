@@ -1,6 +1,7 @@
 -- The cards of NEW, from those of the source and what happened to each. A source's cards are its lines.
 use Rattle.std.specs.Prelude.{◌≡◌, ℕ, Bool, ◌==◌, ◌⊎◌, List, [], ◌∷◌, ◌++◌, map, vec_len, if◌then◌else◌}
-use Rattle.std.specs.List.{list_all}
+use Rattle.std.specs.List.{flat_map, list_all}
+use Rattle.rpg_text.specs.Lines.{with_line_feed}
 use Rattle.rpg_text.specs.Texts.{trimmed}
 use Rattle.rpg_fit_deck.specs.declared.here.Here.{Here}
 use Rattle.rpg_fit_deck.specs.declared.here.Here.TheVariants.{Kept, Changed, Gone}
@@ -22,6 +23,14 @@ abbrev pub new_cards : List (List ℕ) → List Slot → List (List ℕ)
 new_cards [] _ = []
 new_cards (card ∷ cards) [] = card ∷ new_cards cards []
 new_cards (card ∷ cards) (slot ∷ slots) = made_lines slot.before.items ++ lines_here card slot.here ++ new_cards cards slots
+
+-- NEW's cards if there is a sentence: those of the source, then those made at its end
+abbrev pub rewritten : List (List ℕ) → List Slot → List Made → List (List ℕ)
+rewritten cards slots end = new_cards cards slots ++ made_lines end
+
+-- these cards as a text
+abbrev pub rewritten_text : List (List ℕ) → List Slot → List Made → List ℕ
+rewritten_text cards slots end = flat_map with_line_feed (rewritten cards slots end)
 
 -- nothing has been noted at a card
 abbrev pub is_untold : Slot → Bool

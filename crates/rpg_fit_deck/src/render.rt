@@ -4,7 +4,7 @@ ghost use Rattle.std.specs.Prelude.{◌≡◌, ◌++◌, ◌≤◌, length, map,
 ghost use Rattle.std.specs.List.{flat_map};
 ghost use Rattle.std.specs.Str.Lines.{lines};
 ghost use Rattle.rpg_text.specs.Lines.{with_line_feed};
-ghost use Rattle.rpg_fit_deck.specs.New.{KeepsUntold, lines_here, made_lines, new_cards, nothing_told};
+ghost use Rattle.rpg_fit_deck.specs.New.{KeepsUntold, lines_here, made_lines, new_cards, nothing_told, rewritten, rewritten_text};
 
 use crate::here::Here;
 use crate::slot::{Made, Slot};
@@ -123,8 +123,8 @@ pub(crate) fn render<'b>(
     end: &'b [Made],
 ) -> Result<Rendered, RenderError>
     ensures as_it_was { IfOk result (λ done. nothing_told slots.now ≡ true → done.new.items ≡ source.now) }
-    ensures its_cards { IfOk result (λ done. nothing_told slots.now ≡ false → done.new.items ≡ flat_map with_line_feed (new_cards (lines source.now) slots.now ++ made_lines end.now)) }
-    ensures few_cards { IfOk result (λ done. nothing_told slots.now ≡ false → length (new_cards (lines source.now) slots.now ++ made_lines end.now) ≤ 2000) }
+    ensures its_cards { IfOk result (λ done. nothing_told slots.now ≡ false → done.new.items ≡ rewritten_text (lines source.now) slots.now end.now) }
+    ensures few_cards { IfOk result (λ done. nothing_told slots.now ≡ false → length (rewritten (lines source.now) slots.now end.now) ≤ 2000) }
     ensures cards { IfOk result (λ done. done.cards ≡ length (lines source.now)) }
     ensures few { IfOk result (λ done. done.cards ≤ 2000) }
 {
@@ -148,8 +148,8 @@ fn new_text<'b>(
     slots: &'b [Slot],
     end: &'b [Made],
 ) -> Result<Vec<u8>, RenderError>
-    ensures its_cards { IfOk result (λ new. new.items ≡ flat_map with_line_feed (new_cards (map (λ line. line.now) lines.now) slots.now ++ made_lines end.now)) }
-    ensures few_cards { IfOk result (λ _. length (new_cards (map (λ line. line.now) lines.now) slots.now ++ made_lines end.now) ≤ 2000) }
+    ensures its_cards { IfOk result (λ new. new.items ≡ rewritten_text (map (λ line. line.now) lines.now) slots.now end.now) }
+    ensures few_cards { IfOk result (λ _. length (rewritten (map (λ line. line.now) lines.now) slots.now end.now) ≤ 2000) }
 {
     let mut cards = cards_of(alloc, lines, slots)?;
     push_made(&mut cards, end)?;

@@ -1,5 +1,5 @@
 -- The contents of a type's columns.
-use Rattle.std.specs.Prelude.{ℕ, ◌-◌, ◌==◌, List, map, Bool, ◌&&◌, ◌||◌, not, is_some, if◌then◌else◌}
+use Rattle.std.specs.Prelude.{◌≡◌, ℕ, ◌-◌, ◌==◌, List, length, map, Bool, ◌&&◌, ◌||◌, not, is_some, if◌then◌else◌}
 use Rattle.std.specs.List.{list_any, range_with_len}
 use Rattle.rpg_records.specs.declared.column.Column.{Column}
 use Rattle.rpg_records.specs.declared.column.Column.TheVariants as columns
@@ -24,6 +24,10 @@ shows_character k f = covers k f && not (f.has_decimals && k == f.last)
 abbrev pub is_code : List TypeRead → ℕ → Bool
 is_code types k = list_any (λ t. list_any (λ c. c.place == k - 1) t.codes) types
 
+-- whether each column of a record has a code
+abbrev pub AreCodeColumns : (ℕ → Bool) → List Bool → Type 0
+AreCodeColumns has_code all = all ≡ map has_code (range_with_len 1 (length all))
+
 -- what fields have in a column, given whether it has a code
 abbrev pub column_kind : Bool → List FieldColumns → ℕ → Column
 column_kind has_code fields k =
@@ -32,12 +36,16 @@ column_kind has_code fields k =
     else if list_any (covers k) fields then columns.LastPlace
     else columns.Unnamed
 
+-- what fields have in each column of a record of this length, by the columns of codes
+abbrev pub column_kinds : (ℕ → Bool) → ℕ → List FieldColumns → List Column
+column_kinds has_code length fields = map (λ k. column_kind (has_code k) fields k) (range_with_len 1 length)
+
 -- a type with the contents of each column of a record of this length, by the columns of codes
 abbrev pub type_by : (ℕ → Bool) → ℕ → TypeRead → TypeSeen
 type_by has_code length t = record {
   card = t.card;
   codes = t.codes;
-  columns = map (λ k. column_kind (has_code k) t.fields k) (range_with_len 1 length);
+  columns = column_kinds has_code length t.fields;
   numbers = t.numbers;
 }
 

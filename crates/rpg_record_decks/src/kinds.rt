@@ -3,7 +3,7 @@
 ghost use Rattle.std.specs.Prelude.{◌≡◌, ℕ, Bool, IfOk, length, map, vec_len, ◌+◌, ◌==◌, ◌≤◌};
 ghost use Rattle.std.specs.List.{list_any, range_with_len};
 ghost use Rattle.rpg_records.specs.Seen.{type_seen};
-ghost use Rattle.rpg_record_decks.specs.Kinds.{covers, hides, is_code, column_kind, shows_character, type_by};
+ghost use Rattle.rpg_record_decks.specs.Kinds.{AreCodeColumns, covers, hides, is_code, column_kind, column_kinds, shows_character, type_by};
 ghost use Rattle.rpg_record_decks.specs.Reading.{type_read};
 
 use crate::fields::FieldColumns;
@@ -134,8 +134,8 @@ fn kinds(
     fields: &[FieldColumns],
 ) -> Result<Vec<Column>, AllocError>
     requires { length are_codes.now ≤ 65535 }
-    ensures { (f : ℕ → Bool) → are_codes.now ≡ map f (range_with_len 1 (length are_codes.now))
-        → IfOk result (λ all. all.items ≡ map (λ k. column_kind (f k) fields.now k) (range_with_len 1 (length are_codes.now))) }
+    ensures { (f : ℕ → Bool) → AreCodeColumns f are_codes.now
+        → IfOk result (λ all. all.items ≡ column_kinds f (length are_codes.now) fields.now) }
 {
     let mut all = Vec::new(alloc);
     for (place, is_code) in are_codes.iter().enumerate() {
@@ -151,7 +151,7 @@ pub(crate) fn record_type(
     kind: &TypeCards,
 ) -> Result<RecordType, AllocError>
     requires { length are_codes.now ≤ 65535 }
-    ensures { (f : ℕ → Bool) → are_codes.now ≡ map f (range_with_len 1 (length are_codes.now))
+    ensures { (f : ℕ → Bool) → AreCodeColumns f are_codes.now
         → IfOk result (λ t. type_seen t ≡ type_by f (length are_codes.now) (type_read kind.now)) }
 {
     let columns = kinds(alloc, are_codes, kind.fields.as_slice())?;

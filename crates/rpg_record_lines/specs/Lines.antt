@@ -1,5 +1,5 @@
 -- The line of a record.
-use Rattle.std.specs.Prelude.{ℕ, ◌+◌, ◌==◌, Bool, false, if◌then◌else◌, List, position, slice_index, Option, None, Some, option_map, Ok, Err}
+use Rattle.std.specs.Prelude.{◌≡◌, ℕ, ◌+◌, ◌==◌, Bool, false, if◌then◌else◌, List, position, slice_index, Option, None, Some, option_map, Ok, Err}
 use Rattle.rpg_text.specs.Texts.{trimmed}
 use Rattle.rpg_records.specs.Columns.{image}
 use Rattle.rpg_records.specs.declared.column.Column.{Column}
@@ -30,6 +30,10 @@ type_and_then (Some t) next = next t
 -- by these columns a record is of another type, or of none
 abbrev pub other_line : RecordType → Option RecordType → RecordFault
 other_line t other = faults.OtherLine t.card (option_map card_of_type other)
+
+-- these columns don't give the record's type again, and the fault says so
+abbrev pub IsOtherLine : RecordType → Option RecordType → RecordFault → Type 0
+IsOtherLine t other fault = (is_card t.card other ≡ false) × (fault ≡ other_line t other)
 
 -- columns, followed by the digits of a record, if these columns give the same type again
 abbrev pub line_after : List RecordType → List ℕ → RecordType → List ℕ → TextOrFault

@@ -3,7 +3,7 @@ use Rattle.std.specs.Prelude.{ℕ, ◌+◌, ◌-◌, ◌==◌, ◌++◌, Bool, f
 use Rattle.rpg_text.specs.Lines.{with_line_feed}
 use Rattle.rpg_records.specs.Columns.{page_byte}
 use Rattle.rpg_records.specs.declared.translation.Page.{Page}
-use Rattle.rpg_record_lines.specs.Conversions.{Made, InputPlace, TakesStep, ConversionSettings}
+use Rattle.rpg_record_lines.specs.Conversions.{Made, HasConverted, InputPlace, TakesStep, ConversionSettings}
 use Rattle.rpg_record_lines.specs.Converters.{is_low_blank_of, converter_length, line_by, page_of_records, record_by, converter_types}
 use Rattle.rpg_records.specs.Sizes.{longest_line}
 use Rattle.rpg_record_lines.specs.Frames.{frame}
@@ -91,6 +91,10 @@ way_by framing most maker = record { framing = framing; most = most; text_of = t
 -- the way that records go
 abbrev pub conversion_settings : {R : Type 0} → Maker → Frames R → ConversionSettings
 conversion_settings maker frames = way_by (framing_of frames) (most_of frames) maker
+
+-- the input of the frames was converted, if its bytes are known
+abbrev pub HasConvertedFrames : {R : Type 0} → (R → Option (List ℕ)) → Maker → Frames R → Option (List ℕ) → Option (List ℕ) → Result Counts ConversionFault → Type 0
+HasConvertedFrames remaining maker frames before after result = HasConverted (conversion_settings maker frames) (remaining_of remaining frames) before after result
 
 -- how far the input has been read
 abbrev pub input_place_at : {R : Type 0} → Counts → Frames R → InputPlace

@@ -4,7 +4,7 @@ ghost use Rattle.std.specs.Prelude.{◌≡◌, ◌+◌, ◌<◌, ◌≤◌, List
 ghost use Rattle.rpg_record_lines.specs.Conversions.{EndsFull, HasConverted, counts_after, conversion_fault, frame_stop, line_stop};
 ghost use Rattle.rpg_record_lines.specs.Inputs.{framing_of, most_of, offset_of, remaining_of};
 ghost use Rattle.rpg_record_lines.specs.Texts.{EndsAfter, WritesNext, WritesTexts};
-ghost use Rattle.rpg_record_lines.specs.Ways.{Steps, input_place_at, text_by, to_lines, to_records, way_by, conversion_settings};
+ghost use Rattle.rpg_record_lines.specs.Ways.{HasConvertedFrames, Steps, input_place_at, text_by, to_lines, to_records, way_by};
 
 use crate::fault::{LineFault, RecordFault};
 use crate::frames::{FrameFault, Frames, Framing, Next};
@@ -191,7 +191,7 @@ fn convert_all<R: Read + Drop, W: Write>(
     writer: &mut W,
 ) -> Result<Counts, ConversionFault>
     requires { offset_of frames.old ≡ 0 }
-    ensures known { HasConverted (conversion_settings maker.now frames.old) (remaining_of R.remaining frames.old) (W.contents writer.old) (W.contents writer.new) result }
+    ensures known { HasConvertedFrames R.remaining maker.now frames.old (W.contents writer.old) (W.contents writer.new) result }
     ensures any { WritesTexts (text_by maker.now) (W.contents writer.old) (W.contents writer.new) result }
 {
     let mut counts = Counts {

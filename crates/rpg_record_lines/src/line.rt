@@ -2,7 +2,7 @@
 
 ghost use Rattle.std.specs.Prelude.{◌≡◌, ◌==◌, false, true, length, position, Err, IfErr, IfSome, Ok, OnOk, option_map};
 ghost use Rattle.std.specs.List.{list_all};
-ghost use Rattle.rpg_record_lines.specs.Lines.{other_line, unless_bad};
+ghost use Rattle.rpg_record_lines.specs.Lines.{IsOtherLine, unless_bad};
 ghost use Rattle.rpg_record_lines.specs.Outcomes.{IsLineFaultOf};
 ghost use Rattle.rpg_record_lines.specs.Types.{card_of_type, character_at, code_fits_record, first_type, is_card, fits_type};
 ghost use Rattle.rpg_records.specs.Translations.{is_low_blank, page_of};
@@ -208,8 +208,7 @@ impl<'a> Converter<'a> {
     /// Checks that a record's characters give the same type again.
     fn check_type(&self, kind: &RecordType, columns: &[u8]) -> Result<(), RecordFault>
         ensures same { OnOk result (is_card kind.now.card (type_again self.now columns.now) ≡ true) }
-        ensures other { IfErr result (λ fault. (is_card kind.now.card (type_again self.now columns.now) ≡ false)
-            × (fault ≡ other_line kind.now (type_again self.now columns.now))) }
+        ensures other { IfErr result (IsOtherLine kind.now (type_again self.now columns.now)) }
     {
         let found = self.type_of_line(columns);
         if is_card(kind.card, found) {

@@ -1,8 +1,10 @@
 -- What it means that a program does what calculation cards mean.
-use Rattle.std.specs.Prelude.{◌≡◌, ℕ, Bool, true, false, [], Some, slice_get}
+use Rattle.std.specs.Prelude.{◌≡◌, ℕ, Bool, true, false, List, [], Some, slice_get}
 use Rattle.std.specs.FinMap as map
 use Rattle.rpg_cards.specs.Deeds.{Acts, Begins, Calculation, Deed, Ends, Executes, GoesTo, Marks, Nothing, PutsOut}
 use Rattle.rpg_cards.specs.Keys.{Key, key_cmp}
+use Rattle.rpg_cards.specs.declared.spec_card.SpecCard.{SpecCard}
+use Rattle.rpg_compile_program.specs.Program.{key_numbers, program_of}
 use Rattle.rpg_program.specs.Ends.{End, GoesOn, Halt}
 use Rattle.rpg_program.specs.World.{World}
 use Rattle.rpg_machine.specs.Config.{Config, Output}
@@ -12,6 +14,7 @@ use Rattle.rpg_meaning.specs.Calculations.Agreement.{AgreeAt, AgreeEnded, Machin
 use Rattle.rpg_meaning.specs.Calculations.Meaning.{CardsCome, MeantOutcome, On, Over, Source, State, Stops, cards_step, part_has_end}
 use Rattle.rpg_meaning.specs.Calculations.Parts.{Part, calculations_in}
 use Rattle.rpg_meaning.specs.Calculations.Sections.{AreOpen, Meets}
+use Rattle.rpg_meaning.specs.Calculations.Sources.{source_of}
 use Rattle.rpg_program.specs.Object.{Object}
 use Rattle.rpg_effect_renaming.specs.Naming.{Agree}
 
@@ -61,3 +64,7 @@ pub record KeepsMeaning (p : Object) (source : Source) (number : Key → ℕ) : 
   pub calculations : KeepsCalculations p source number
   pub sections : KeepsSections p source number
   pub runs : KeepsRuns p source number
+
+-- the program of a source, with that allowance, does what its calculation cards mean
+abbrev pub KeepsMeaningOfCards : List SpecCard → ℕ → Type 0
+KeepsMeaningOfCards cards allowance = KeepsMeaning (program_of cards allowance) (source_of cards) (key_numbers cards)

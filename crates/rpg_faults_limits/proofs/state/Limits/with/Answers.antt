@@ -7,7 +7,7 @@ pub with_next-requires-clause-storage : goal.with_next-requires-clause-storage
 with_next-requires-clause-storage c =
     let before = c.args.before.now in
     let card = c.args.card.now in
-    (_, c.requires.split ∙ sym (append_assoc before (card ∷ []) c.args.after.now), c.requires.limits.storage_with_next)
+    (_, (c.requires.split ∙ sym (append_assoc before (card ∷ []) c.args.after.now), c.requires.limits.storage_with_next))
 
 pub returns : goal.returns
 returns c =
@@ -17,7 +17,7 @@ returns c =
     let split = c.requires.split ∙ sym (append_assoc before (card ∷ []) c.args.after.now) in
     record {
       storage = c.requires.limits.storage_with_next;
-      storage_with_next = c.with_next.ensures _ split c.requires.limits.storage_with_next;
+      storage_with_next = c.with_next.ensures _ (split, c.requires.limits.storage_with_next);
       calculations = c.with.ensures;
       open_type = c.with-2.ensures.open;
       open_line = c.with-3.ensures.open;

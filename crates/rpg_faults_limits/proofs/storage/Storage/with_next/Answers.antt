@@ -8,10 +8,10 @@ pub with-requires-clause-storage : goal.with-requires-clause-storage
 with-requires-clause-storage c =
     let known = c.requires.storage in
     let first = c.in-Some.ensures.cases.0 in
-    (known.0, begins_split c.args.source.now known.0 c.in-Some.next.now _ (known.1 ∙ ap (λ (l : List SpecCard). known.0 ++ l) first), known.2)
+    (known.0, (begins_split c.args.source.now known.0 c.in-Some.next.now _ (known.1.0 ∙ ap (λ (l : List SpecCard). known.0 ++ l) first), known.1.1))
 
 pub returns-in-Some : goal.returns-in-Some
-returns-in-Some c = λ before split storage.
+returns-in-Some c = λ before seen.
     let first = c.in-Some.ensures.cases.0 in
     subst (λ (l : List SpecCard). IsStorageWithNext c.args.source.now before l c.with.result) (sym first)
-    (c.with.ensures before (begins_split c.args.source.now before c.in-Some.next.now _ (split ∙ ap (λ (l : List SpecCard). before ++ l) first)) storage)
+    (c.with.ensures before (begins_split c.args.source.now before c.in-Some.next.now _ (seen.0 ∙ ap (λ (l : List SpecCard). before ++ l) first), seen.1))
